@@ -30,9 +30,10 @@ verb_at t =
     (cond (bytes_eq t (codes "rm")) verb.Remove
     (cond (bytes_eq t (codes "show")) verb.Show
     (cond (bytes_eq t (codes "check")) verb.Check
+    (cond (bytes_eq t (codes "export")) verb.Export
     (cond (bytes_eq t (codes "serve")) verb.Serve
     (cond (bytes_eq t (codes "sync")) verb.Sync
-    (cond (bytes_eq t (codes "run")) verb.Run verb.Simulate))))))))
+    (cond (bytes_eq t (codes "run")) verb.Run verb.Simulate)))))))))
 
 verb_at-word : (v : Verb) → verb_at (word_of v) ≡ v
 unfolding verb_at
@@ -42,6 +43,7 @@ verb_at-word verb.MakeDir = refl
 verb_at-word verb.Remove = refl
 verb_at-word verb.Show = refl
 verb_at-word verb.Check = refl
+verb_at-word verb.Export = refl
 verb_at-word verb.Serve = refl
 verb_at-word verb.Sync = refl
 verb_at-word verb.Run = refl
@@ -73,6 +75,8 @@ values_given rows (line.Edit edit) has =
 values_given rows (line.Show file) has = (file_given rows (place.File file) has.0, tt)
 values_given rows (line.ShowPath place path) has = (file_given rows place has.0, tt)
 values_given rows (line.Check file) has = ((file.now, has), tt)
+values_given rows (line.Export file folder path existing) has =
+    ((file.now, has.0), ((folder.now, has.1), tt))
 values_given rows (line.Serve file address connections) has =
     ((file.now, has.0), ((address.now, has.1), tt))
 values_given rows (line.Sync archive left right) has =

@@ -1,6 +1,7 @@
 -- What a command and its values say of the words.
 use Rattle.std.specs.Prelude.{◌≡◌, ◌≢◌, ◌⊎◌, ◌↔◌, ◌<◌, ◌^◌, ℕ, List, [], ◌∷◌, Option, Some, None}
 use Rattle.std.specs.Prelude.{IsTrue, codes}
+use Rattle.std.specs.Borrow.{Bor}
 use Rattle.std.specs.Str.Parse.{IsNumeral, digits_value}
 use Rattle.clap.specs.Words.{IsAmong, Row, Text, fault_of, first_of, kind_of, matches_of}
 use Rattle.clap.specs.Words.{subcommand_of}
@@ -11,6 +12,8 @@ use Rattle.syn_words.specs.Verbs.{edit_verb, name_of, values_of, word_of}
 use Rattle.syn_words.specs.declared.error.LineError.{LineError}
 use Rattle.syn_words.specs.declared.error.LineError.TheVariants.{Usage, Value, Memory}
 use Rattle.syn_words.specs.declared.line.Change.{Change}
+use Rattle.syn_words.specs.declared.line.Existing.{Existing}
+use Rattle.syn_words.specs.declared.line.Existing.TheVariants.{Refused, Updated, Mirrored}
 use Rattle.syn_words.specs.declared.line.ImageKind.{ImageKind}
 use Rattle.syn_words.specs.declared.line.ImageKind.TheVariants.{Replica, Archive}
 use Rattle.syn_words.specs.declared.line.Line.{Line}
@@ -52,6 +55,17 @@ HasPlace rows (place.File file) =
 HasPlace rows (place.Served address) =
     HasText rows (name_of value.File) address.now × IsSet rows (codes "served")
 
+-- the text given for an id, or none where nothing is given
+abbrev pub MayHaveText : List Row → Text → Option (Bor Text) → Type 0
+MayHaveText rows id None = first_of id rows ≡ None
+MayHaveText rows id (Some text) = HasText rows id text.now
+
+-- what the flags of an export ask of a folder that has something
+abbrev pub HasExisting : List Row → Existing → Type 0
+HasExisting rows Refused = ¬ IsSet rows (codes "delete") × ¬ IsSet rows (codes "update")
+HasExisting rows Updated = ¬ IsSet rows (codes "delete") × IsSet rows (codes "update")
+HasExisting rows Mirrored = IsSet rows (codes "delete")
+
 -- the word of a kind
 abbrev pub kind_word : ImageKind → Text
 kind_word Replica = codes "replica"
@@ -64,6 +78,7 @@ verb_of (line.Edit edit) = edit_verb edit.change
 verb_of (line.Show file) = verb.Show
 verb_of (line.ShowPath place path) = verb.Show
 verb_of (line.Check file) = verb.Check
+verb_of (line.Export file folder path existing) = verb.Export
 verb_of (line.Serve file address connections) = verb.Serve
 verb_of (line.Sync archive left right) = verb.Sync
 verb_of (line.Run left right archive) = verb.Run
@@ -81,6 +96,9 @@ HasValues rows (line.Show file) = HasPlace rows (place.File file)
 HasValues rows (line.ShowPath place path) = HasPlace rows place
     × HasText rows (name_of value.Path) path.now
 HasValues rows (line.Check file) = HasText rows (name_of value.File) file.now
+HasValues rows (line.Export file folder path existing) =
+    HasText rows (name_of value.File) file.now × HasText rows (name_of value.Folder) folder.now
+    × MayHaveText rows (name_of value.Path) path × HasExisting rows existing
 HasValues rows (line.Serve file address connections) = HasText rows (name_of value.File) file.now
     × HasText rows (name_of value.Address) address.now
     × MayHaveNumber 64 rows (name_of value.Connections) connections

@@ -5,11 +5,11 @@ use Rattle.syn_words.specs.declared.line.Change.{Change}
 use Rattle.syn_words.specs.declared.line.Change.TheVariants as change
 use Rattle.syn_words.specs.declared.value.ValueName.{ValueName}
 use Rattle.syn_words.specs.declared.value.ValueName.TheVariants.{Command, Kind, Pair, User, File}
-use Rattle.syn_words.specs.declared.value.ValueName.TheVariants.{Path, Address, Connections}
+use Rattle.syn_words.specs.declared.value.ValueName.TheVariants.{Path, Folder, Address, Connections}
 use Rattle.syn_words.specs.declared.value.ValueName.TheVariants.{Archive, Left, Right, Script}
 use Rattle.syn_words.specs.declared.verb.Verb.{Verb}
 use Rattle.syn_words.specs.declared.verb.Verb.TheVariants.{Format, Put, MakeDir, Remove, Show}
-use Rattle.syn_words.specs.declared.verb.Verb.TheVariants.{Check, Serve, Sync, Run, Simulate}
+use Rattle.syn_words.specs.declared.verb.Verb.TheVariants.{Check, Export, Serve, Sync, Run, Simulate}
 
 -- the word of a command
 abbrev pub word_of : Verb → Text
@@ -19,6 +19,7 @@ word_of MakeDir = codes "mkdir"
 word_of Remove = codes "rm"
 word_of Show = codes "show"
 word_of Check = codes "check"
+word_of Export = codes "export"
 word_of Serve = codes "serve"
 word_of Sync = codes "sync"
 word_of Run = codes "run"
@@ -26,7 +27,8 @@ word_of Simulate = codes "simulate"
 
 -- all commands
 abbrev pub verbs : List Verb
-verbs = Format ∷ Put ∷ MakeDir ∷ Remove ∷ Show ∷ Check ∷ Serve ∷ Sync ∷ Run ∷ Simulate ∷ []
+verbs = Format ∷ Put ∷ MakeDir ∷ Remove ∷ Show ∷ Check ∷ Export ∷ Serve ∷ Sync ∷ Run ∷ Simulate
+    ∷ []
 
 -- the id of a value for `clap`
 abbrev pub name_of : ValueName → Text
@@ -36,6 +38,7 @@ name_of Pair = codes "PAIR"
 name_of User = codes "USER"
 name_of File = codes "FILE"
 name_of Path = codes "PATH"
+name_of Folder = codes "DIR"
 name_of Address = codes "ADDR"
 name_of Connections = codes "N"
 name_of Archive = codes "ARCHIVE"
@@ -51,6 +54,7 @@ values_of MakeDir = File ∷ User ∷ Path ∷ []
 values_of Remove = File ∷ User ∷ Path ∷ []
 values_of Show = File ∷ []
 values_of Check = File ∷ []
+values_of Export = File ∷ Folder ∷ []
 values_of Serve = File ∷ Address ∷ []
 values_of Sync = Archive ∷ Left ∷ Right ∷ []
 values_of Run = Left ∷ Right ∷ Archive ∷ []

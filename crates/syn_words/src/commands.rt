@@ -4,6 +4,7 @@ ghost use Rattle.clap.specs.Words.{app_of, rule_of, with_rule};
 ghost use Rattle.clap.specs.declared.Command.TheViews.{out-Command};
 ghost use Rattle.syn_words.specs.App.{flag_rule, option_rule, syn_app, top_app, verb_app};
 ghost use Rattle.syn_words.specs.App.{verbose_rule, with_options, word_app};
+ghost use Rattle.syn_words.specs.declared.verb.Verb.TheVariants.{Export};
 
 use crate::value::ValueName;
 use crate::verb::Verb;
@@ -16,8 +17,8 @@ An image is a file of 8 MiB. It holds a replica, which is a tree of files and di
 history of its edits, or an archive, which is what two replicas last agreed on. A pair is the number
 of the two replicas that are to be kept the same, and of their archive. A user is the number of
 somebody who edits. HOST:PORT is the name or the address of a machine, a colon and the number of a
-port, as in localhost:7070, where a server listens. syn reads and writes images alone, and no folder
-of yours.";
+port, as in localhost:7070, where a server listens. syn reads and writes images alone, but for the DIR of
+an export.";
 
 /// What the help says of the flag of each command.
 const VERBOSE: &str = "Explains a refusal in plain words, and tells each item of a session";
@@ -27,6 +28,12 @@ const SERVED: &str = "Asks the server at HOST:PORT, which stands in the place of
 
 /// What the help says of the flag by which a simulation tells its steps.
 const TRACE: &str = "Prints each message, stop and opening before the reports";
+
+/// What the help says of the flag by which an export changes a folder.
+const UPDATE: &str = "Writes what differs into a DIR that is there, and removes nothing";
+
+/// What the help says of the flag by which an export removes.
+const DELETE: &str = "As '--update', and removes from DIR what is not exported";
 
 /// A flag, whose id is its long name too.
 fn flag<'a>(alloc: Global, id: &'a str) -> Arg<'a>
@@ -112,6 +119,7 @@ fn with_optional<'a>(
             let path = Arg::new(alloc, "PATH").help(help);
             with_flag(alloc, command.arg(path)?, "served", SERVED)
         }
+        Verb::Export => with_export_options(alloc, command),
         Verb::Serve => {
             let help: &'a str = ValueName::Connections.help(verb);
             with_option(alloc, command, "N", "connections", help)
@@ -119,6 +127,21 @@ fn with_optional<'a>(
         Verb::Simulate => with_flag(alloc, command, "trace", TRACE),
         Verb::Format | Verb::Check | Verb::Sync | Verb::Run => Ok(command),
     }
+}
+
+/// The command with what may be left out of an export.
+fn with_export_options<'a>(
+    alloc: Global,
+    command: Command<'a>,
+) -> Result<Command<'a>, AllocError>
+    requires { (out-Command command).has_globals ≡ false }
+    ensures app { IfOk result (λ c. app_of c ≡ with_options Export (app_of command.entry)) }
+    ensures globals { IfOk result (λ c. (out-Command c).has_globals ≡ false) }
+{
+    let help: &'a str = ValueName::Path.help(Verb::Export);
+    let path = Arg::new(alloc, "PATH").help(help);
+    let updating = with_flag(alloc, command.arg(path)?, "update", UPDATE)?;
+    with_flag(alloc, updating, "delete", DELETE)
 }
 
 /// The whole command.

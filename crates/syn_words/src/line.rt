@@ -43,6 +43,17 @@ impl<'a> Place<'a> {
     }
 }
 
+/// What an export does with a folder that has something.
+#[derive(Clone, Copy, Debug, PartialEq, Eq)]
+pub enum Existing {
+    /// It is refused.
+    Refused,
+    /// What differs is written, and nothing is removed.
+    Updated,
+    /// What differs is written, and what is not exported is removed.
+    Mirrored,
+}
+
 /// An edit of a replica at a path, by a user.
 #[derive(Clone, Copy, Debug, PartialEq, Eq)]
 pub struct EditLine<'a> {
@@ -75,6 +86,13 @@ pub enum Line<'a> {
     /// Prints the numbers of the image in a file.
     Check {
         file: &'a str,
+    },
+    /// Writes what a directory of a replica has into a folder. With no path it is the root.
+    Export {
+        file: &'a str,
+        folder: &'a str,
+        path: Option<&'a str>,
+        existing: Existing,
     },
     /// Serves the replica in a file at the address, until so many connections were served.
     Serve {

@@ -1,14 +1,14 @@
 //! The line of each command, from the values that `clap` found.
 ghost use Rattle.std.specs.Prelude.{◌≡◌, IfOk, IfErr, None};
 ghost use Rattle.clap.specs.Words.{first_of, found_of, rows_of};
-ghost use Rattle.syn_words.specs.Reads.{HasNumber, HasPlace, HasText, IsNoNumber};
+ghost use Rattle.syn_words.specs.Reads.{HasExisting, HasNumber, HasPlace, HasText, IsNoNumber};
 ghost use Rattle.syn_words.specs.Reads.{MayHaveNumber, kind_word};
 ghost use Rattle.syn_words.specs.Verbs.{edit_verb, name_of};
 ghost use Rattle.syn_words.specs.inner.Lacking.{IsLack, IsLineOf};
 ghost use Rattle.syn_words.specs.declared.line.Change.{Change as Edits};
 
 use crate::error::LineError;
-use crate::line::{Change, EditLine, ImageKind, Line};
+use crate::line::{Change, EditLine, Existing, ImageKind, Line};
 use crate::value::ValueName;
 use crate::values::{image_kind, is_set, number, optional_text, place, text, user};
 use crate::verb::Verb;
@@ -26,6 +26,7 @@ pub(crate) fn line_of<'a>(verb: Verb, found: &ArgMatches<'a>) -> Result<Line<'a>
         Verb::Remove => edit_line(Change::Remove, found),
         Verb::Show => show_line(found),
         Verb::Check => check_line(found),
+        Verb::Export => export_line(found),
         Verb::Serve => serve_line(found),
         Verb::Sync => sync_line(found),
         Verb::Run => run_line(found),
@@ -120,6 +121,35 @@ fn check_line<'a>(found: &ArgMatches<'a>) -> Result<Line<'a>, LineError>
 {
     let file = text(found, ValueName::File)?;
     Ok(Line::Check { file })
+}
+
+fn export_line<'a>(found: &ArgMatches<'a>) -> Result<Line<'a>, LineError>
+    ensures ok { IfOk result (IsLineOf Verb.Export (rows_of (found_of found.now))) }
+    ensures lacks { IfErr result (IsLack Verb.Export (rows_of (found_of found.now))) }
+{
+    let file = text(found, ValueName::File)?;
+    let folder = text(found, ValueName::Folder)?;
+    let path = optional_text(found, ValueName::Path);
+    let existing = existing_given(found);
+    Ok(Line::Export {
+        file,
+        folder,
+        path,
+        existing,
+    })
+}
+
+/// What is asked of a folder that has something.
+fn existing_given(found: &ArgMatches<'_>) -> Existing
+    ensures { HasExisting (rows_of (found_of found.now)) result }
+{
+    if is_set(found, "delete") {
+        Existing::Mirrored
+    } else if is_set(found, "update") {
+        Existing::Updated
+    } else {
+        Existing::Refused
+    }
 }
 
 fn serve_line<'a>(found: &ArgMatches<'a>) -> Result<Line<'a>, LineError>

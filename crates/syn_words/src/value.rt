@@ -13,6 +13,7 @@ pub enum ValueName {
     User,
     File,
     Path,
+    Folder,
     Address,
     Connections,
     Archive,
@@ -33,6 +34,7 @@ impl ValueName {
             ValueName::User => "USER",
             ValueName::File => "FILE",
             ValueName::Path => "PATH",
+            ValueName::Folder => "DIR",
             ValueName::Address => "ADDR",
             ValueName::Connections => "N",
             ValueName::Archive => "ARCHIVE",
@@ -57,6 +59,7 @@ impl ValueName {
     pub(crate) fn help(self, verb: Verb) -> &'static str {
         match (self, verb) {
             (ValueName::File, _) => file_help(verb),
+            (ValueName::Path, Verb::Export) => "The directory to export: its root where none is given",
             (ValueName::Left, Verb::Sync) => "HOST:PORT of the server of the left replica",
             (ValueName::Right, Verb::Sync) => "HOST:PORT of the server of the right replica",
             _ => self.plain_help(),
@@ -72,6 +75,7 @@ impl ValueName {
             ValueName::User => "The number of the user who makes the edit, below 2^32",
             ValueName::File => "The file that has the image",
             ValueName::Path => "A path in the image: '.' for its root, else names parted by '/'",
+            ValueName::Folder => "The folder, which is missing or empty without '--update'",
             ValueName::Address => "HOST:PORT to listen at",
             ValueName::Connections => "Ends when N connections were served, below 2^64",
             ValueName::Archive => "The file that has the archive",
@@ -88,7 +92,7 @@ fn file_help(verb: Verb) -> &'static str {
         Verb::Put | Verb::MakeDir | Verb::Remove | Verb::Show => {
             "The file that has the image, or with '--served' HOST:PORT of its server"
         }
-        Verb::Serve => "The file that has the replica",
+        Verb::Export | Verb::Serve => "The file that has the replica",
         _ => "The file that has the image",
     }
 }

@@ -20,6 +20,8 @@ pub enum Verb {
     Show,
     /// Prints the numbers of an image.
     Check,
+    /// Writes a part of a replica into a folder.
+    Export,
     /// Serves a replica.
     Serve,
     /// Runs a session of two replicas that are served.
@@ -32,13 +34,14 @@ pub enum Verb {
 
 impl Verb {
     /// All commands, in the order of the help.
-    pub const ALL: [Verb; 10] = [
+    pub const ALL: [Verb; 11] = [
         Verb::Format,
         Verb::Put,
         Verb::MakeDir,
         Verb::Remove,
         Verb::Show,
         Verb::Check,
+        Verb::Export,
         Verb::Serve,
         Verb::Sync,
         Verb::Run,
@@ -56,6 +59,7 @@ impl Verb {
             Verb::Remove => "rm",
             Verb::Show => "show",
             Verb::Check => "check",
+            Verb::Export => "export",
             Verb::Serve => "serve",
             Verb::Sync => "sync",
             Verb::Run => "run",
@@ -73,6 +77,7 @@ impl Verb {
                 &[ValueName::File, ValueName::User, ValueName::Path]
             }
             Verb::Show | Verb::Check => &[ValueName::File],
+            Verb::Export => &[ValueName::File, ValueName::Folder],
             Verb::Serve => &[ValueName::File, ValueName::Address],
             Verb::Sync => &[ValueName::Archive, ValueName::Left, ValueName::Right],
             Verb::Run => &[ValueName::Left, ValueName::Right, ValueName::Archive],
@@ -93,6 +98,7 @@ impl Verb {
             }
             Verb::Show => "Prints an image, or a file or a directory of it",
             Verb::Check => "Opens an image, and prints its numbers",
+            Verb::Export => "Writes a replica, or a directory of it, into the folder DIR",
             Verb::Serve => "Serves the replica in FILE at ADDR, to users and to `syn sync`",
             Verb::Sync => "Runs one session of two replicas that are served, and prints its report",
             Verb::Run => "Runs one session of two replicas in files, and prints its report",
@@ -115,6 +121,7 @@ pub(crate) fn read_verb(word: &str) -> Option<Verb>
         "rm" => Some(Verb::Remove),
         "show" => Some(Verb::Show),
         "check" => Some(Verb::Check),
+        "export" => Some(Verb::Export),
         "serve" => Some(Verb::Serve),
         "sync" => Some(Verb::Sync),
         "run" => Some(Verb::Run),

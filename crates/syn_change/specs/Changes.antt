@@ -1,0 +1,39 @@
+-- What a list of edits makes of a tree.
+use Rattle.std.specs.Prelude.{◌≡◌, ◌≢◌, ◌⊎◌, List, fold, Option, Some, None, IsSome}
+use Rattle.std.specs.FinMap.{get}
+use Rattle.syn_model.specs.Path.{Path}
+use Rattle.syn_model.specs.Tree.{Tree, Content, Directory, File, Pair}
+use Rattle.syn_model.specs.Event.{Edit, Put, MakeDir, after_edit}
+
+-- the tree after the edits, one after the other
+abbrev pub after_edits : Tree → List Edit → Tree
+after_edits tree edits = fold after_edit tree edits
+
+-- the edits have gone on as the tree has
+abbrev pub GoesOn : Tree → List Edit → Tree → List Edit → Type 0
+GoesOn old edits new more = (tree : Tree) → after_edits tree edits ≡ old → after_edits tree more ≡ new
+
+-- the edit that puts or makes what is to stand at the path
+abbrev pub entry_edit : Pair → Edit
+entry_edit (path, Directory) = MakeDir path
+entry_edit (path, File contents) = Put path contents.bytes
+
+-- the pair stands there, and elsewhere nothing changed
+pub record IsPlaced (old : Tree) (pair : Pair) (new : Tree) : Type 0 where
+  pub there : get new pair.0 ≡ Some pair.1
+  pub elsewhere : (path : Path) → path ≢ pair.0 → get new path ≡ get old path
+
+-- what is added stands there, and where nothing is added all stays
+pub record IsOverlaid (old added new : Tree) : Type 0 where
+  pub there : (path : Path) (content : Content) → get added path ≡ Some content →
+      get new path ≡ Some content
+  pub elsewhere : (path : Path) → get added path ≡ None → get new path ≡ get old path
+
+-- it has nothing where nothing is wanted
+abbrev pub IsTrimmed : Tree → Tree → Type 0
+IsTrimmed wanted tree = (path : Path) → IsSome (get tree path) → IsSome (get wanted path)
+
+-- the same at one path, and elsewhere things only went
+pub record IsWithout (old wanted : Tree) (path : Path) (new : Tree) : Type 0 where
+  pub trimmed : IsSome (get new path) → IsSome (get wanted path)
+  pub less : (other : Path) → (get new other ≡ get old other) ⊎ (get new other ≡ None)

@@ -1,0 +1,8 @@
+//! The edits that make one tree another, planned on a copy before any of them is made.
+#![tactic(auto)]
+
+mod additions;
+mod plan;
+mod removals;
+
+pub use plan::{changes, copy_part, puts};

@@ -1,0 +1,51 @@
+//! The edits between two trees.
+ghost use Rattle.std.specs.Prelude.{◌≡◌, ◌≢◌, IfOk, IfErr, map};
+ghost use Rattle.syn_model.specs.Tree.{subtree};
+ghost use Rattle.syn_tree.specs.Edits.{edit_of};
+ghost use Rattle.syn_change.specs.Changes.{IsOverlaid, after_edits};
+
+use crate::additions::put_missing;
+use crate::removals::remove_extra;
+use std::alloc::Global;
+use syn_path::Path;
+use syn_tree::{Edit, Node, Tree, TreeError};
+
+/// The edits that make the old tree the wanted one: first what is removed, a directory with all
+/// below it, and then what is put and made, in path order. Equal trees need none.
+///
+/// Refused 11 where memory is refused.
+pub fn changes(alloc: Global, old: &Tree, wanted: &Tree) -> Result<Vec<Edit>, TreeError>
+    ensures { IfOk result (λ edits. after_edits old.now (map edit_of edits.items) ≡ wanted.now) }
+{
+    let mut work = copy_part(alloc, old, &Path::root(alloc))?;
+    let mut edits = Vec::new(alloc);
+    remove_extra(alloc, old, &mut work, &mut edits, wanted)?;
+    put_missing(alloc, &mut work, &mut edits, wanted)?;
+    Ok(edits)
+}
+
+/// The edits that put into the old tree what the other has, in path order, and remove nothing.
+///
+/// Refused 3 where a file would take the place of a directory, 4 where a directory would take the
+/// place of a file, 7 where the result would pass a limit, and 11 where memory is refused.
+pub fn puts(alloc: Global, old: &Tree, added: &Tree) -> Result<Vec<Edit>, TreeError>
+    ensures { IfOk result (λ edits.
+        IsOverlaid old.now added.now (after_edits old.now (map edit_of edits.items))) }
+{
+    let mut work = copy_part(alloc, old, &Path::root(alloc))?;
+    let mut edits = Vec::new(alloc);
+    put_missing(alloc, &mut work, &mut edits, added)?;
+    Ok(edits)
+}
+
+/// What is at and below the path, as a tree of its own.
+///
+/// Refused 5 where no directory is there, and 11 where memory is refused.
+pub fn copy_part(alloc: Global, tree: &Tree, path: &Path) -> Result<Tree, TreeError>
+    ensures { IfOk result (λ part. part ≡ subtree tree.now path.now) }
+{
+    match tree.subtree(alloc, path)? {
+        Some(Node::Dir(entries)) => Tree::from_entries(alloc, entries),
+        _ => Err(TreeError::Absent),
+    }
+}

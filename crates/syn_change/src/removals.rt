@@ -1,0 +1,64 @@
+//! What is to be removed, so that one tree has nothing that another lacks.
+ghost use Rattle.std.specs.Prelude.{◌≡◌, true, OnOk, map};
+ghost use Rattle.syn_model.specs.Tree.{is_present};
+ghost use Rattle.syn_tree.specs.Edits.{edit_of};
+ghost use Rattle.syn_change.specs.Changes.{GoesOn, IsTrimmed, IsWithout};
+
+use std::alloc::Global;
+use syn_path::Path;
+use syn_tree::{Edit, Found, Tree, TreeError};
+
+/// Plans and makes the removals of what the wanted tree has not, or has as another kind. Of what is
+/// removed with a directory nothing is removed by itself.
+///
+/// Refused 11 where memory is refused.
+pub(crate) fn remove_extra(
+    alloc: Global,
+    old: &Tree,
+    work: &mut Tree,
+    edits: &mut Vec<Edit>,
+    wanted: &Tree,
+) -> Result<(), TreeError>
+    requires { work.old ≡ old.now }
+    ensures trimmed { OnOk result (IsTrimmed wanted.now work.new) }
+    ensures edits { OnOk result (GoesOn work.old (map edit_of edits.old.items) work.new
+        (map edit_of edits.new.items)) }
+{
+    let _ = wanted.entries();
+    for entry in old.entries() {
+        remove_entry(alloc, work, edits, wanted, entry.path())?;
+    }
+    Ok(())
+}
+
+/// Plans and makes the removal of what is at the path, unless it is wanted there.
+fn remove_entry(
+    alloc: Global,
+    work: &mut Tree,
+    edits: &mut Vec<Edit>,
+    wanted: &Tree,
+    path: &Path,
+) -> Result<(), TreeError>
+    ensures without { OnOk result (IsWithout work.old wanted.now path.now work.new) }
+    ensures edits { OnOk result (GoesOn work.old (map edit_of edits.old.items) work.new
+        (map edit_of edits.new.items)) }
+{
+    let Some(there) = work.get(path) else {
+        return Ok(());
+    };
+    if is_wanted(&there, wanted, path) {
+        return Ok(());
+    }
+    edits.push(Edit::Remove(path.copy(alloc)?))?;
+    work.apply(alloc, Edit::Remove(path.copy(alloc)?))
+}
+
+/// The wanted tree has the same kind at the path.
+fn is_wanted(there: &Found<'_>, wanted: &Tree, path: &Path) -> bool
+    ensures { result ≡ true → is_present wanted.now path.now ≡ true }
+{
+    match wanted.get(path) {
+        Some(found) => found.is_directory() == there.is_directory(),
+        None => false,
+    }
+}
