@@ -1,0 +1,3 @@
+pub mod OverlayLemmas
+pub mod RemovalLemmas
+pub mod ResultLemmas

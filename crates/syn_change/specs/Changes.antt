@@ -1,5 +1,5 @@
 -- What a list of edits makes of a tree.
-use Rattle.std.specs.Prelude.{◌≡◌, ◌≢◌, ◌⊎◌, List, fold, Option, Some, None, IsSome}
+use Rattle.std.specs.Prelude.{◌≡◌, ◌≢◌, ◌⊎◌, List, fold, Some, None, IsSome}
 use Rattle.std.specs.FinMap.{get}
 use Rattle.syn_model.specs.Path.{Path}
 use Rattle.syn_model.specs.Tree.{Tree, Content, Directory, File, Pair}

@@ -23,6 +23,7 @@ pub(crate) fn put_missing(
     ensures edits { OnOk result (GoesOn work.old (map edit_of edits.old.items) work.new
         (map edit_of edits.new.items)) }
 {
+    let _ = work.entries();
     for entry in wanted.entries() {
         put_entry(alloc, work, edits, entry)?;
     }
