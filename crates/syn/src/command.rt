@@ -17,7 +17,8 @@ use std::time::Clock;
 use syn_command::{CommandError, Failure, Outcome, Status, print_meanings, report};
 use syn_file::HostFile;
 use syn_files::{
-    Between, NamedDisks, Telling, edit, print_image, print_numbers, run_session, serve_named, show,
+    Between, NamedDisks, Telling, edit, export, print_image, print_numbers, run_session,
+    serve_named, show,
 };
 use syn_words::{Line, LineError, read_words};
 
@@ -220,6 +221,16 @@ where
         Line::Show { file } => print_image(alloc, disks, file, output)?,
         Line::ShowPath { place, path } => show(rt, alloc, disks, *place, path, output)?,
         Line::Check { file } => print_numbers(alloc, disks, file, output)?,
+        Line::Export {
+            file,
+            folder,
+            path,
+            existing,
+        } => {
+            let path = path.unwrap_or(".");
+            let position = export(alloc, disks, files, file, path, folder, *existing)?;
+            writeln!(output, "ok {position}")?;
+        }
         Line::Serve {
             file,
             address,

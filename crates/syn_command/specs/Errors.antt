@@ -7,10 +7,11 @@ use Rattle.syn_standing.specs.Refusals.{refusal_of as of_replica}
 use Rattle.syn_archive.specs.Refusals.{refusal_of as of_archive}
 use Rattle.syn_refusal.specs.Refusals.{cause_of}
 use Rattle.syn_user.specs.Refusals.{refusal_of as of_user}
+use Rattle.syn_folder.specs.Refusals.{refusal_of as of_folder}
 use Rattle.syn_command.specs.declared.error.CommandError.{CommandError}
 use Rattle.syn_command.specs.declared.error.CommandError.TheVariants.{Path, Open, Replica, Archive}
 use Rattle.syn_command.specs.declared.error.CommandError.TheVariants.{Machine, Device, Longer}
-use Rattle.syn_command.specs.declared.error.CommandError.TheVariants.{Memory, Network, User}
+use Rattle.syn_command.specs.declared.error.CommandError.TheVariants.{Memory, Network, User, Folder}
 
 -- it is that of what refused
 abbrev pub refusal_of : CommandError → Refusal
@@ -21,6 +22,7 @@ refusal_of (Archive error) = of_archive error
 refusal_of (Machine refusal) = cause_of refusal
 refusal_of (Network refusal) = cause_of refusal
 refusal_of (User error) = of_user error
+refusal_of (Folder error) = of_folder error
 refusal_of (Device error) = why.Device
 refusal_of Longer = why.Device
 refusal_of Memory = why.Memory

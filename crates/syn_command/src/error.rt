@@ -8,6 +8,7 @@ use std::alloc::{AllocError, AllocFailed};
 use std::{fmt, io};
 use syn_archive::ArchiveError;
 use syn_file::OpenError;
+use syn_folder::FolderError;
 use syn_path::PathError;
 use syn_refusal::Refusal;
 use syn_show::ShowError;
@@ -32,6 +33,8 @@ pub enum CommandError {
     Network(Refusal),
     /// The server refuses what a user asks, or the connection to it failed.
     User(UserError),
+    /// A folder cannot be read or written, or not as it is asked.
+    Folder(FolderError),
     /// Standard input cannot be read, standard output cannot be written, or the file cannot be
     /// made.
     Device(io::Error),
@@ -53,6 +56,7 @@ impl CommandError {
             CommandError::Archive(error) => error.refusal(),
             CommandError::Machine(refusal) | CommandError::Network(refusal) => *refusal,
             CommandError::User(error) => error.refusal(),
+            CommandError::Folder(error) => error.refusal(),
             CommandError::Device(_) | CommandError::Longer => Refusal::Device,
             CommandError::Memory => Refusal::Memory,
         }
@@ -122,6 +126,16 @@ impl From<UserError> for CommandError {
 
     fn from(error: UserError) -> CommandError {
         CommandError::User(error)
+    }
+}
+
+impl From<FolderError> for CommandError {
+    ghost use Rattle.syn_command.specs.declared.error.CommandError.TheVariants.{Folder};
+
+    ghost from_gives = { λ error e. e ≡ Folder error };
+
+    fn from(error: FolderError) -> CommandError {
+        CommandError::Folder(error)
     }
 }
 

@@ -9,6 +9,7 @@ use crate::status::{Status, status_in};
 use std::io::Write;
 use syn_disk::DISK_SIZE;
 use syn_file::OpenError;
+use syn_folder::FolderError;
 use syn_refusal::Refusal;
 use syn_words::Line;
 
@@ -47,10 +48,15 @@ fn tell_failure<E: Write>(asked: Option<&Line<'_>>, failure: &Failure, errors: &
     }
 }
 
-/// The line of a refusal.
+/// The line of a refusal, and one of each thing of a folder that is in its way.
 fn refuse<E: Write>(error: &CommandError, errors: &mut E) {
     let number = error.number();
     let _ = writeln!(errors, "syn: refused {number} {error}");
+    if let CommandError::Folder(FolderError::Strange(strangers)) = error {
+        for stranger in strangers {
+            let _ = writeln!(errors, "syn: {stranger}");
+        }
+    }
 }
 
 /// What was refused, of which file or path, and what the system said of it, where it said
@@ -63,6 +69,7 @@ fn explain<E: Write>(line: &Line<'_>, error: &CommandError, errors: &mut E) {
         ),
         Line::Edit(edit) => write!(errors, "syn: {} in {}", edit.path, edit.place.as_str()),
         Line::ShowPath { place, path } => write!(errors, "syn: {path} in {}", place.as_str()),
+        Line::Export { file, folder, .. } => write!(errors, "syn: {file} into {folder}"),
         Line::Serve { file, address, .. } => write!(errors, "syn: {file} at {address}"),
         Line::Sync {
             archive,
@@ -78,7 +85,9 @@ fn explain<E: Write>(line: &Line<'_>, error: &CommandError, errors: &mut E) {
     };
     let plain = error.refusal().explanation();
     let _ = match error {
-        CommandError::Device(system) | CommandError::Open(OpenError::System(system)) => {
+        CommandError::Device(system)
+        | CommandError::Open(OpenError::System(system))
+        | CommandError::Folder(FolderError::System(system)) => {
             writeln!(errors, ": {plain} ({system})")
         }
         CommandError::Open(OpenError::Length(length)) => {
@@ -86,6 +95,9 @@ fn explain<E: Write>(line: &Line<'_>, error: &CommandError, errors: &mut E) {
                 errors,
                 ": {plain} (it has {length} bytes, an image {DISK_SIZE})"
             )
+        }
+        CommandError::Folder(FolderError::NotEmpty) => {
+            writeln!(errors, ": the folder is not empty")
         }
         CommandError::Longer => writeln!(errors, ": the file is longer than an image"),
         _ => writeln!(errors, ": {plain}"),

@@ -2,14 +2,16 @@
 //!
 //! An image lies on a disk that is opened by its name. What such a disk is, `NamedDisks` leaves
 //! open: the program's are files of the system. An image is shown, checked and edited, a replica is
-//! served to others, and a session runs between two replicas.
+//! served to others, written into a folder, and a session runs between two replicas.
 #![tactic(auto)]
 
+mod folders;
 mod images;
 mod named;
 mod network;
 mod sessions;
 
+pub use folders::export;
 pub use images::{edit, print_image, print_numbers, show};
 pub use named::NamedDisks;
 pub use network::serve_named;

@@ -17,8 +17,8 @@ An image is a file of 8 MiB. It holds a replica, which is a tree of files and di
 history of its edits, or an archive, which is what two replicas last agreed on. A pair is the number
 of the two replicas that are to be kept the same, and of their archive. A user is the number of
 somebody who edits. HOST:PORT is the name or the address of a machine, a colon and the number of a
-port, as in localhost:7070, where a server listens. syn reads and writes images alone, but for the DIR of
-an export.";
+port, as in localhost:7070, where a server listens. A folder of yours is read and written by
+commands that have DIR among their words, and by no others.";
 
 /// What the help says of the flag of each command.
 const VERBOSE: &str = "Explains a refusal in plain words, and tells each item of a session";
@@ -130,10 +130,7 @@ fn with_optional<'a>(
 }
 
 /// The command with what may be left out of an export.
-fn with_export_options<'a>(
-    alloc: Global,
-    command: Command<'a>,
-) -> Result<Command<'a>, AllocError>
+fn with_export_options<'a>(alloc: Global, command: Command<'a>) -> Result<Command<'a>, AllocError>
     requires { (out-Command command).has_globals ≡ false }
     ensures app { IfOk result (λ c. app_of c ≡ with_options Export (app_of command.entry)) }
     ensures globals { IfOk result (λ c. (out-Command c).has_globals ≡ false) }

@@ -59,7 +59,8 @@ impl ValueName {
     pub(crate) fn help(self, verb: Verb) -> &'static str {
         match (self, verb) {
             (ValueName::File, _) => file_help(verb),
-            (ValueName::Path, Verb::Export) => "The directory to export: its root where none is given",
+            (ValueName::Path, Verb::Export) =>
+                "The directory to export: its root where none is given",
             (ValueName::Left, Verb::Sync) => "HOST:PORT of the server of the left replica",
             (ValueName::Right, Verb::Sync) => "HOST:PORT of the server of the right replica",
             _ => self.plain_help(),

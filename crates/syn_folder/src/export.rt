@@ -1,0 +1,108 @@
+//! Writes a tree into a folder.
+ghost use Rattle.std.specs.Prelude.{◌≡◌, ◌⊎◌, map, OnOk, IfErr, None};
+ghost use Rattle.syn_change.specs.Changes.{IsOverlaid, after_edits};
+ghost use Rattle.syn_model.specs.Tree.{empty_directory};
+ghost use Rattle.syn_tree.specs.Edits.{edit_of};
+ghost use Rattle.syn_folder.specs.Refusals.{IsOfSystem};
+
+use crate::error::FolderError;
+use crate::folder::Folder;
+use crate::stranger::Stranger;
+use std::alloc::Global;
+use syn_change::{changes, puts};
+use syn_tree::{Edit, Tree};
+
+/// Writes the tree into a folder that is missing or empty.
+///
+/// Refused 4 where something stands in it, 9 where the system refuses it, and 11 where memory is
+/// refused. Only after 9 may a part be written.
+pub fn fill<F: Folder>(alloc: Global, wanted: &Tree, folder: &mut F) -> Result<(), FolderError>
+    ensures done { OnOk result (F.tree folder.new ≡ wanted.now) }
+    ensures refused { IfErr result (λ e. IsOfSystem e ⊎ (folder.new ≡ folder.old)) }
+{
+    if !folder.strangers().is_empty() || !folder.tree().entries().is_empty() {
+        return Err(FolderError::NotEmpty);
+    }
+    mirror(alloc, wanted, folder)
+}
+
+/// Makes the folder's tree the wanted one. What is not wanted is removed.
+///
+/// Refused 7 where something stands in the folder that can stand in no replica, 9 where the system
+/// refuses it, and 11 where memory is refused. Only after 9 may a part be written.
+pub fn mirror<F: Folder>(alloc: Global, wanted: &Tree, folder: &mut F) -> Result<(), FolderError>
+    ensures done { OnOk result (F.tree folder.new ≡ wanted.now) }
+    ensures refused { IfErr result (λ e. IsOfSystem e ⊎ (folder.new ≡ folder.old)) }
+{
+    let strange = copy_all(alloc, folder.strangers())?;
+    if !strange.is_empty() {
+        return Err(FolderError::Strange(strange));
+    }
+    let edits = changes(alloc, folder.tree(), wanted)?;
+    make_all(alloc, edits, folder)
+}
+
+/// Writes what the folder lacks of the wanted tree, or has otherwise. Nothing is removed.
+///
+/// Refused 3 where a file would take the place of a directory, 4 where a directory would take the
+/// place of a file, 7 where something that can stand in no replica is in the way or the folder
+/// would have more than a replica may, 9 where the system refuses it, and 11 where memory is
+/// refused. Only after 9 may a part be written.
+pub fn update<F: Folder>(alloc: Global, wanted: &Tree, folder: &mut F) -> Result<(), FolderError>
+    ensures done { OnOk result (IsOverlaid (F.tree folder.old) wanted.now (F.tree folder.new)) }
+    ensures refused { IfErr result (λ e. IsOfSystem e ⊎ (folder.new ≡ folder.old)) }
+{
+    let strange = in_the_way(alloc, wanted, folder.strangers())?;
+    if !strange.is_empty() {
+        return Err(FolderError::Strange(strange));
+    }
+    let edits = puts(alloc, folder.tree(), wanted)?;
+    make_all(alloc, edits, folder)
+}
+
+/// Makes the edits in the folder.
+fn make_all<F: Folder>(
+    alloc: Global,
+    edits: Vec<Edit>,
+    folder: &mut F,
+) -> Result<(), FolderError>
+    ensures made { OnOk result (F.tree folder.new
+        ≡ after_edits (F.tree folder.old) (map edit_of edits.items)) }
+    ensures system { IfErr result IsOfSystem }
+{
+    folder.found()?;
+    for edit in edits {
+        folder.make(alloc, edit)?;
+    }
+    Ok(())
+}
+
+/// Equal ones of their own.
+fn copy_all(alloc: Global, strangers: &[Stranger]) -> Result<Vec<Stranger>, FolderError>
+    ensures { IfErr result (λ e. ¬ IsOfSystem e) }
+{
+    let mut copies = Vec::new(alloc);
+    for stranger in strangers {
+        copies.push(stranger.copy(alloc)?)?;
+    }
+    Ok(copies)
+}
+
+/// Those at whose path something is wanted.
+fn in_the_way(
+    alloc: Global,
+    wanted: &Tree,
+    strangers: &[Stranger],
+) -> Result<Vec<Stranger>, FolderError>
+    ensures { IfErr result (λ e. ¬ IsOfSystem e) }
+{
+    let mut found = Vec::new(alloc);
+    for stranger in strangers {
+        if let Some(path) = &stranger.path {
+            if wanted.get(path).is_some() {
+                found.push(stranger.copy(alloc)?)?;
+            }
+        }
+    }
+    Ok(found)
+}

@@ -1,0 +1,60 @@
+//! What stands in a folder and can stand in no replica.
+
+use std::alloc::{AllocError, Global};
+use std::fmt;
+use syn_path::Path;
+
+/// Why something can stand in no replica.
+#[derive(Clone, Copy, Debug, PartialEq, Eq)]
+pub enum Strangeness {
+    /// Its name is none of a replica: longer than 64 bytes, or no UTF-8.
+    Name,
+    /// Its path has more than 16 names, or is too long.
+    Path,
+    /// It is neither a file nor a directory, but a symbolic link, say.
+    Kind,
+    /// It is a file of more than 16,384 bytes.
+    Size,
+}
+
+/// Something of a folder that can stand in no replica.
+#[derive(Debug, Drop)]
+pub struct Stranger {
+    /// Its path in the folder, as text. What is no UTF-8 of it is replaced.
+    pub text: String,
+    /// The same as a path, where it is one.
+    pub path: Option<Path>,
+    pub why: Strangeness,
+}
+
+impl Stranger {
+    /// An equal one of its own. Refused where memory is refused.
+    pub fn copy(&self, alloc: Global) -> Result<Stranger, AllocError> {
+        let text = String::from_str(alloc, self.text.as_str())?;
+        let path = match &self.path {
+            Some(path) => match path.copy(alloc) {
+                Ok(path) => Some(path),
+                Err(_) => return Err(AllocError),
+            },
+            None => None,
+        };
+        Ok(Stranger {
+            text,
+            path,
+            why: self.why,
+        })
+    }
+}
+
+/// The path, with what cannot be printed spelled out, and why it is strange.
+impl fmt::Display for Stranger {
+    fn fmt<W: fmt::Write>(&self, f: &mut fmt::Formatter<W>) -> fmt::Result {
+        let text = self.text.as_str();
+        match self.why {
+            Strangeness::Name => write!(f, "{text:?} is no name here"),
+            Strangeness::Path => write!(f, "{text:?} lies too deep, or its path is too long"),
+            Strangeness::Kind => write!(f, "{text:?} is neither a file nor a directory"),
+            Strangeness::Size => write!(f, "{text:?} has more than 16384 bytes"),
+        }
+    }
+}

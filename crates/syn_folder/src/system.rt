@@ -1,0 +1,95 @@
+//! A folder of the system.
+ghost use Rattle.std.specs.Prelude.{◌≡◌};
+
+use crate::error::FolderError;
+use crate::folder::Folder;
+use crate::stranger::Stranger;
+use std::alloc::Global;
+use std::fs::Files;
+use std::io;
+use syn_tree::{Edit, Tree};
+
+mod reading;
+mod writing;
+
+use reading::read_folder;
+
+/// A folder of the system, with what stands in it in memory.
+///
+/// No contract can say what the system's folder holds. One sentence is taken as given: as long as
+/// no call failed and nobody else changes it, it holds what is in memory. Each name is one of a
+/// replica, and no symbolic link in the folder is followed, so nothing outside of it is written.
+#[derive(Drop)]
+pub struct SystemFolder<'a, F> {
+    files: &'a F,
+    root: &'a str,
+    is_missing: bool,
+    /// What stands in it, as it was read and as it was written since.
+    tree: Tree,
+    strangers: Vec<Stranger>,
+}
+
+impl<'a, F: Files> SystemFolder<'a, F> {
+    /// Reads the folder at the path.
+    ///
+    /// Refused 9 where it cannot be read or is none, 7 where it has more than a replica may, and 11
+    /// where memory is refused.
+    pub fn open(alloc: Global, files: &'a F, root: &'a str) -> Result<Self, FolderError> {
+        let (tree, strangers) = read_folder(alloc, files, root)?;
+        Ok(SystemFolder {
+            files,
+            root,
+            is_missing: false,
+            tree,
+            strangers,
+        })
+    }
+
+    /// The same, where the folder may be missing. It is made as soon as something is written.
+    pub fn open_or_missing(
+        alloc: Global,
+        files: &'a F,
+        root: &'a str,
+    ) -> Result<Self, FolderError> {
+        match files.metadata(root) {
+            Err(error) if error.kind() == io::ErrorKind::NotFound => Ok(SystemFolder {
+                files,
+                root,
+                is_missing: true,
+                tree: Tree::new(alloc)?,
+                strangers: Vec::new(alloc),
+            }),
+            _ => SystemFolder::open(alloc, files, root),
+        }
+    }
+}
+
+impl<F: Files> Folder for SystemFolder<'_, F> {
+    ghost tree = { λ folder. folder.tree };
+
+    fn tree(&self) -> &Tree {
+        &self.tree
+    }
+
+    fn strangers(&self) -> &[Stranger] {
+        self.strangers.as_slice()
+    }
+
+    fn found(&mut self) -> Result<(), FolderError> {
+        if self.is_missing {
+            self.files.create_dir(self.root)?;
+            self.is_missing = false;
+        }
+        Ok(())
+    }
+
+    fn make(&mut self, alloc: Global, edit: Edit) -> Result<(), FolderError> {
+        writing::make(alloc, self.files, self.root, &self.tree, &edit)?;
+        match self.tree.apply(alloc, edit) {
+            Ok(()) => Ok(()),
+            Err(_) => Err(FolderError::System(io::Error::from(
+                io::ErrorKind::OutOfMemory,
+            ))),
+        }
+    }
+}

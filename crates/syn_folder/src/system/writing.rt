@@ -1,0 +1,120 @@
+//! Edits of a folder of the system.
+
+use crate::system::reading::{PART, place_of};
+use std::alloc::Global;
+use std::fs::{Files, OpenFile, OpenOptions};
+use std::io::{self, Write};
+use syn_path::{Name, Path};
+use syn_tree::{Content, Edit, Entry, Tree};
+
+/// Makes the edit in the folder, which holds the tree.
+pub(super) fn make<F: Files>(
+    alloc: Global,
+    files: &F,
+    root: &str,
+    tree: &Tree,
+    edit: &Edit,
+) -> io::Result<()> {
+    match edit {
+        Edit::Put(path, bytes) => {
+            check_above(alloc, files, root, path)?;
+            put(alloc, files, root, path, bytes)
+        }
+        Edit::MakeDir(path) => {
+            check_above(alloc, files, root, path)?;
+            files.create_dir(place_of(alloc, root, path.names())?.as_str())
+        }
+        Edit::Remove(path) => {
+            for entry in tree.below(path).iter().rev() {
+                remove(alloc, files, root, entry.path(), is_directory(entry))?;
+            }
+            let is_directory = match tree.get(path) {
+                Some(found) => found.is_directory(),
+                None => false,
+            };
+            remove(alloc, files, root, path, is_directory)
+        }
+    }
+}
+
+/// Whether a directory stands there.
+fn is_directory(entry: &Entry) -> bool {
+    match entry.standing() {
+        Content::File(_) => false,
+        Content::Dir => true,
+    }
+}
+
+/// Each directory above the path is one, and no symbolic link to one: else something would be
+/// written outside of the folder.
+fn check_above<F: Files>(alloc: Global, files: &F, root: &str, path: &Path) -> io::Result<()> {
+    let names = path.names();
+    for count in 1..names.len() {
+        let above = place_of(alloc, root, &names[..count])?;
+        if !files.symlink_metadata(above.as_str())?.is_dir() {
+            return Err(io::Error::from(io::ErrorKind::NotADirectory));
+        }
+    }
+    Ok(())
+}
+
+/// Writes the bytes into a file beside the path, and gives it the path's name: so the file is there
+/// whole, or is what it was.
+fn put<F: Files>(
+    alloc: Global,
+    files: &F,
+    root: &str,
+    path: &Path,
+    bytes: &[u8],
+) -> io::Result<()> {
+    let whole = place_of(alloc, root, path.names())?;
+    let mut part = place_of(alloc, root, above(path))?;
+    part.push('/')?;
+    part.push_str(PART)?;
+    // A part of an export that was cut off goes. It is no file of anybody's: see its name.
+    let _ = files.remove_file(part.as_str());
+    let moved = match write_new(files, part.as_str(), bytes) {
+        Ok(()) => files.rename(part.as_str(), whole.as_str()),
+        refused => refused,
+    };
+    if moved.is_err() {
+        let _ = files.remove_file(part.as_str());
+    }
+    moved
+}
+
+/// The names of the directory that the path is in.
+fn above(path: &Path) -> &[Name] {
+    match path.names() {
+        [] => path.names(),
+        [above @ .., _] => above,
+    }
+}
+
+/// Writes the bytes into a file that is new, so that no symbolic link is followed. The modes of
+/// files will be set here.
+fn write_new<F: Files>(files: &F, place: &str, bytes: &[u8]) -> io::Result<()> {
+    let mut file = OpenOptions::new()
+        .write(true)
+        .create_new(true)
+        .open(files, place)?;
+    file.write_all(bytes)?;
+    file.sync_data()
+}
+
+/// Removes a file, or a directory that is empty. What nobody has read stays, and is refused.
+fn remove<F: Files>(
+    alloc: Global,
+    files: &F,
+    root: &str,
+    path: &Path,
+    is_directory: bool,
+) -> io::Result<()> {
+    check_above(alloc, files, root, path)?;
+    let place = place_of(alloc, root, path.names())?;
+    if is_directory {
+        files.remove_dir(place.as_str())
+    } else {
+        files.remove_file(place.as_str())
+    }
+}
