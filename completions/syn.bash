@@ -19,11 +19,12 @@ _syn() {
     case $word/$last in
         :/* | =/* | */: | */= | */--connections) return ;;
     esac
-    local commands='format put mkdir rm show check export serve sync run simulate help'
+    local commands='format put mkdir rm show check export import serve sync run simulate help'
     case $command in
         '') options+=' -V --version' ;;
         put | mkdir | rm | show) options+=' --served' ;;
         export) options+=' --update --delete' ;;
+        import) options+=' --skip' ;;
         serve) options+=' --connections' ;;
         simulate) options+=' --trace' ;;
     esac
@@ -37,8 +38,8 @@ _syn() {
         put/0-served | mkdir/0-served | rm/0-served | show/0-served) action=(-A hostname) ;;
         serve/1 | sync/1 | sync/2) action=(-A hostname) ;;
         format/2 | put/0 | mkdir/0 | rm/0 | show/0 | check/0) action=(-f) ;;
-        export/1) action=(-d) ;;
-        export/0 | serve/0 | sync/0 | run/[012] | simulate/0) action=(-f) ;;
+        export/1 | import/2) action=(-d) ;;
+        export/0 | import/0 | serve/0 | sync/0 | run/[012] | simulate/0) action=(-f) ;;
         *) return ;;
     esac
     mapfile -t COMPREPLY < <(compgen "${action[@]}" -- "$word")

@@ -1,5 +1,5 @@
 # Completion of syn for fish: put this file into ~/.config/fish/completions.
-set -l commands format put mkdir rm show check export serve sync run simulate help
+set -l commands format put mkdir rm show check export import serve sync run simulate help
 set -l first "not __fish_seen_subcommand_from $commands"
 complete -c syn -f
 complete -c syn -s v -l verbose -d 'Explain a refusal, and tell each item of a session'
@@ -12,6 +12,7 @@ complete -c syn -n $first -a rm -d 'Remove what is at a path'
 complete -c syn -n $first -a show -d 'Print an image, or a part of it'
 complete -c syn -n $first -a check -d 'Open an image, and print its numbers'
 complete -c syn -n $first -a export -d 'Write a replica into a folder'
+complete -c syn -n $first -a import -d 'Make a replica what a folder is'
 complete -c syn -n $first -a serve -d 'Serve a replica, to users and to sessions'
 complete -c syn -n $first -a sync -d 'Run a session of two replicas that are served'
 complete -c syn -n $first -a run -d 'Run a session of two replicas in files'
@@ -27,7 +28,9 @@ complete -c syn -n '__fish_seen_subcommand_from export' -l update \
     -d 'Write what differs into a folder that is there'
 complete -c syn -n '__fish_seen_subcommand_from export' -l delete \
     -d 'As --update, and remove what is not exported'
+complete -c syn -n '__fish_seen_subcommand_from import' -l skip \
+    -d 'Leave out what can stand in no replica'
 complete -c syn -n '__fish_seen_subcommand_from simulate' -l trace \
     -d 'Draw each message, stop and record first'
 complete -c syn -F \
-    -n '__fish_seen_subcommand_from format put mkdir rm show check export serve sync run simulate'
+    -n '__fish_seen_subcommand_from format put mkdir rm show check export import serve sync run simulate'

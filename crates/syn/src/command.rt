@@ -17,8 +17,8 @@ use std::time::Clock;
 use syn_command::{CommandError, Failure, Outcome, Status, print_meanings, report};
 use syn_file::HostFile;
 use syn_files::{
-    Between, NamedDisks, Telling, edit, export, print_image, print_numbers, run_session,
-    serve_named, show,
+    Between, Imported, NamedDisks, Telling, edit, export, import, print_image, print_numbers,
+    run_session, serve_named, show,
 };
 use syn_words::{Line, LineError, read_words};
 
@@ -181,6 +181,25 @@ where
             let between = Between::Named { left, right };
             run_session(rt, alloc, disks, between, archive, telling, output, errors)?
         }
+        Line::Import {
+            file,
+            user,
+            folder,
+            path,
+            is_skipping,
+        } => {
+            let imported = Imported {
+                name: file,
+                user,
+                folder,
+                path: path.unwrap_or("."),
+                is_skipping,
+            };
+            let is_told = telling != Telling::Nothing;
+            let position = import(alloc, disks, files, &imported, is_told, errors)?;
+            writeln!(output, "ok {position}")?;
+            Outcome::Done
+        }
         _ => {
             carry_out_one(rt, alloc, line, files, disks, input, output)?;
             Outcome::Done
@@ -239,7 +258,7 @@ where
         Line::Simulate { script, is_traced } => {
             play_script(alloc, files, script, *is_traced, output)?;
         }
-        Line::Sync { .. } | Line::Run { .. } => {}
+        Line::Import { .. } | Line::Sync { .. } | Line::Run { .. } => {}
     }
     Ok(())
 }

@@ -5,4 +5,4 @@ mod additions;
 mod plan;
 mod removals;
 
-pub use plan::{changes, copy_part, puts};
+pub use plan::{changes, changes_at, copy_part, puts, with_part};

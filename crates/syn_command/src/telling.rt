@@ -70,6 +70,7 @@ fn explain<E: Write>(line: &Line<'_>, error: &CommandError, errors: &mut E) {
         Line::Edit(edit) => write!(errors, "syn: {} in {}", edit.path, edit.place.as_str()),
         Line::ShowPath { place, path } => write!(errors, "syn: {path} in {}", place.as_str()),
         Line::Export { file, folder, .. } => write!(errors, "syn: {file} into {folder}"),
+        Line::Import { file, folder, .. } => write!(errors, "syn: {folder} into {file}"),
         Line::Serve { file, address, .. } => write!(errors, "syn: {file} at {address}"),
         Line::Sync {
             archive,

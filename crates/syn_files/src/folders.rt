@@ -1,15 +1,16 @@
-//! Replicas of a name, written into folders.
+//! Replicas of a name, written into folders and made what folders are.
 ghost use Rattle.std.specs.Prelude.{IsErrAnd};
 ghost use Rattle.syn_path.specs.Paths.{NamesPath};
 ghost use Rattle.syn_model.specs.Path.{Path as ModelPath};
 ghost use Rattle.syn_command.specs.Errors.{IsOfPath};
 
-use crate::named::{NamedDisks, replica_to_read};
+use crate::named::{NamedDisks, replica_in, replica_to_read};
 use std::alloc::Global;
 use std::fs::Files;
+use std::io::Write;
 use syn_change::copy_part;
-use syn_command::CommandError;
-use syn_folder::{FolderError, SystemFolder, fill, mirror, update};
+use syn_command::{CommandError, import_part};
+use syn_folder::{Folder, FolderError, SystemFolder, all_known, fill, mirror, skipping, update};
 use syn_path::Path;
 use syn_tree::Tree;
 use syn_words::Existing;
@@ -37,6 +38,58 @@ pub fn export<N: NamedDisks, F: Files>(
         Err(error) => return Err(CommandError::Folder(FolderError::Tree(error))),
     }
     Ok(replica.position())
+}
+
+/// Makes what is at the path of the replica of that name what stands in the folder, by edits of the
+/// user, and answers the new position. Each edit is told to `errors` once it is made, where
+/// `is_told` says so, and what is skipped.
+///
+/// A text that names no path is refused. Else it is refused as the folder is read, 7 where
+/// something stands in it that can stand in no replica and nothing is to be skipped, as an opening
+/// is, and as the replica refuses the edits.
+pub fn import<N: NamedDisks, F: Files, E: Write>(
+    alloc: Global,
+    disks: &N,
+    files: &F,
+    line: &Imported<'_>,
+    is_told: bool,
+    errors: &mut E,
+) -> Result<u64, CommandError>
+    ensures { ((at : ModelPath) → ¬ NamesPath line.now.path.now at) → IsErrAnd result IsOfPath }
+{
+    let path = Path::parse(alloc, line.path)?;
+    let folder = SystemFolder::open(alloc, files, line.folder)?;
+    if !line.is_skipping {
+        all_known(alloc, &folder)?;
+    }
+    let mut replica = replica_in(alloc, disks, line.name)?;
+    if folder.strangers().is_empty() {
+        let part = folder.tree();
+        return import_part(alloc, &mut replica, line.user, &path, part, is_told, errors);
+    }
+    for stranger in folder.strangers() {
+        let _ = writeln!(errors, "syn: skipped {stranger}");
+    }
+    let part = skipping(alloc, &folder, replica.tree(), &path)?;
+    import_part(
+        alloc,
+        &mut replica,
+        line.user,
+        &path,
+        &part,
+        is_told,
+        errors,
+    )
+}
+
+/// What is imported: the folder, and the replica's name, where in it, and by which user.
+#[derive(Clone, Copy, Debug)]
+pub struct Imported<'a> {
+    pub name: &'a str,
+    pub user: u32,
+    pub folder: &'a str,
+    pub path: &'a str,
+    pub is_skipping: bool,
 }
 
 /// Writes the tree into the folder.

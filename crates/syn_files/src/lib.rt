@@ -11,7 +11,7 @@ mod named;
 mod network;
 mod sessions;
 
-pub use folders::export;
+pub use folders::{Imported, export, import};
 pub use images::{edit, print_image, print_numbers, show};
 pub use named::NamedDisks;
 pub use network::serve_named;

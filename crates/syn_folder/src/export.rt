@@ -61,11 +61,7 @@ pub fn update<F: Folder>(alloc: Global, wanted: &Tree, folder: &mut F) -> Result
 }
 
 /// Makes the edits in the folder.
-fn make_all<F: Folder>(
-    alloc: Global,
-    edits: Vec<Edit>,
-    folder: &mut F,
-) -> Result<(), FolderError>
+fn make_all<F: Folder>(alloc: Global, edits: Vec<Edit>, folder: &mut F) -> Result<(), FolderError>
     ensures made { OnOk result (F.tree folder.new
         ≡ after_edits (F.tree folder.old) (map edit_of edits.items)) }
     ensures system { IfErr result IsOfSystem }
@@ -78,7 +74,7 @@ fn make_all<F: Folder>(
 }
 
 /// Equal ones of their own.
-fn copy_all(alloc: Global, strangers: &[Stranger]) -> Result<Vec<Stranger>, FolderError>
+pub(crate) fn copy_all(alloc: Global, strangers: &[Stranger]) -> Result<Vec<Stranger>, FolderError>
     ensures { IfErr result (λ e. ¬ IsOfSystem e) }
 {
     let mut copies = Vec::new(alloc);

@@ -6,11 +6,13 @@
 mod error;
 mod export;
 mod folder;
+mod import;
 mod stranger;
 mod system;
 
 pub use error::FolderError;
 pub use export::{fill, mirror, update};
 pub use folder::Folder;
+pub use import::{all_known, skipping};
 pub use stranger::{Strangeness, Stranger};
 pub use system::SystemFolder;

@@ -87,9 +87,7 @@ impl<F: Files> Folder for SystemFolder<'_, F> {
         writing::make(alloc, self.files, self.root, &self.tree, &edit)?;
         match self.tree.apply(alloc, edit) {
             Ok(()) => Ok(()),
-            Err(_) => Err(FolderError::System(io::Error::from(
-                io::ErrorKind::OutOfMemory,
-            ))),
+            Err(_) => Err(FolderError::System(io::Error::from(io::ErrorKind::OutOfMemory))),
         }
     }
 }

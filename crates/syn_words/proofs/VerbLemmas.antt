@@ -4,7 +4,8 @@ use Rattle.std.proofs.Common.{Some, None, inl, inr, refl, sym, ap, subst, true�
 use Rattle.std.specs.Str.{bytes_eq}
 use Rattle.std.proofs.lemmas.Option.{none-some, same_Some}
 use Rattle.clap.specs.Words.{Row, Text, first_of}
-use Rattle.syn_words.specs.Reads.{AreGiven, HasPlace, HasValues, IsEdit, HasNumber, IsGiven}
+use Rattle.syn_words.specs.Reads.{AreGiven, HasPlace, HasUser, HasValues, IsEdit, HasNumber}
+use Rattle.syn_words.specs.Reads.{IsGiven}
 use Rattle.syn_words.specs.Reads.{IsNoNumber, IsNumber, IsOtherKind, IsPathless, IsWrong, IsWrongIn}
 use Rattle.syn_words.specs.Reads.{MayHaveNumber, NothingReads, kind_word, verb_of}
 use Rattle.syn_words.specs.Verbs.{edit_verb, name_of, values_of, word_of}
@@ -31,9 +32,10 @@ verb_at t =
     (cond (bytes_eq t (codes "show")) verb.Show
     (cond (bytes_eq t (codes "check")) verb.Check
     (cond (bytes_eq t (codes "export")) verb.Export
+    (cond (bytes_eq t (codes "import")) verb.Import
     (cond (bytes_eq t (codes "serve")) verb.Serve
     (cond (bytes_eq t (codes "sync")) verb.Sync
-    (cond (bytes_eq t (codes "run")) verb.Run verb.Simulate)))))))))
+    (cond (bytes_eq t (codes "run")) verb.Run verb.Simulate))))))))))
 
 verb_at-word : (v : Verb) → verb_at (word_of v) ≡ v
 unfolding verb_at
@@ -44,6 +46,7 @@ verb_at-word verb.Remove = refl
 verb_at-word verb.Show = refl
 verb_at-word verb.Check = refl
 verb_at-word verb.Export = refl
+verb_at-word verb.Import = refl
 verb_at-word verb.Serve = refl
 verb_at-word verb.Sync = refl
 verb_at-word verb.Run = refl
@@ -77,6 +80,8 @@ values_given rows (line.ShowPath place path) has = (file_given rows place has.0,
 values_given rows (line.Check file) has = ((file.now, has), tt)
 values_given rows (line.Export file folder path existing) has =
     ((file.now, has.0), ((folder.now, has.1), tt))
+values_given rows (line.Import file user folder path is_skipping) has =
+    ((file.now, has.0), ((has.1.0, has.1.1), ((folder.now, has.2), tt)))
 values_given rows (line.Serve file address connections) has =
     ((file.now, has.0), ((address.now, has.1), tt))
 values_given rows (line.Sync archive left right) has =
@@ -145,12 +150,25 @@ module _ (rows : List Row) where
   pair_right (line.Edit edit) is wrong has = no_edit edit.change verb.Format is refl
   pair_right _ is wrong has = cc
 
-  user_right : (l : Line) → IsEdit (verb_of l) → IsNoNumber 32 rows (name_of value.User) →
+  editor_right : (l : Line) → IsEdit (verb_of l) → IsNoNumber 32 rows (name_of value.User) →
       HasValues rows l → ⊥
   unfolding is_edit
-  user_right (line.Edit edit) is wrong has =
+  editor_right (line.Edit edit) is wrong has =
       no_number 32 rows (name_of value.User) edit.user wrong has.1
-  user_right _ is wrong has = no_edit is.0 _ (sym is.1) refl
+  editor_right _ is wrong has = no_edit is.0 _ (sym is.1) refl
+
+  importer_right : (l : Line) → verb_of l ≡ verb.Import → IsNoNumber 32 rows (name_of value.User) →
+      HasValues rows l → ⊥
+  unfolding is_edit
+  importer_right (line.Import file user folder path is_skipping) is wrong has =
+      no_number 32 rows (name_of value.User) user wrong has.1
+  importer_right (line.Edit edit) is wrong has = no_edit edit.change verb.Import is refl
+  importer_right _ is wrong has = cc
+
+  user_right : (l : Line) → HasUser (verb_of l) → IsNoNumber 32 rows (name_of value.User) →
+      HasValues rows l → ⊥
+  user_right l (inl is) wrong has = editor_right l is wrong has
+  user_right l (inr is) wrong has = importer_right l is wrong has
 
   connections_right : (l : Line) → verb_of l ≡ verb.Serve →
       IsNoNumber 64 rows (name_of value.Connections) → HasValues rows l → ⊥

@@ -7,7 +7,8 @@ use Rattle.syn_words.specs.declared.value.ValueName.{ValueName}
 use Rattle.syn_words.specs.declared.value.ValueName.TheVariants.{Path, Connections}
 use Rattle.syn_words.specs.declared.verb.Verb.{Verb}
 use Rattle.syn_words.specs.declared.verb.Verb.TheVariants.{Format, Put, MakeDir, Remove, Show}
-use Rattle.syn_words.specs.declared.verb.Verb.TheVariants.{Check, Export, Serve, Sync, Run, Simulate}
+use Rattle.syn_words.specs.declared.verb.Verb.TheVariants.{Check, Export, Import, Serve, Sync, Run}
+use Rattle.syn_words.specs.declared.verb.Verb.TheVariants.{Simulate}
 
 abbrev pub required_rule : Text → Rule
 required_rule id = record (new_rule id) { required = true }
@@ -46,6 +47,8 @@ with_options Check app = app
 with_options Export app = with_rule
     (with_rule (with_rule app (new_rule (name_of Path))) (flag_rule (codes "update")))
     (flag_rule (codes "delete"))
+with_options Import app =
+    with_rule (with_rule app (new_rule (name_of Path))) (flag_rule (codes "skip"))
 with_options Serve app = with_rule app (option_rule (name_of Connections) (codes "connections"))
 with_options Sync app = app
 with_options Run app = app

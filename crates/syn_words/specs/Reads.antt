@@ -79,6 +79,7 @@ verb_of (line.Show file) = verb.Show
 verb_of (line.ShowPath place path) = verb.Show
 verb_of (line.Check file) = verb.Check
 verb_of (line.Export file folder path existing) = verb.Export
+verb_of (line.Import file user folder path is_skipping) = verb.Import
 verb_of (line.Serve file address connections) = verb.Serve
 verb_of (line.Sync archive left right) = verb.Sync
 verb_of (line.Run left right archive) = verb.Run
@@ -99,6 +100,10 @@ HasValues rows (line.Check file) = HasText rows (name_of value.File) file.now
 HasValues rows (line.Export file folder path existing) =
     HasText rows (name_of value.File) file.now × HasText rows (name_of value.Folder) folder.now
     × MayHaveText rows (name_of value.Path) path × HasExisting rows existing
+HasValues rows (line.Import file user folder path is_skipping) =
+    HasText rows (name_of value.File) file.now × HasNumber 32 rows (name_of value.User) user
+    × HasText rows (name_of value.Folder) folder.now × MayHaveText rows (name_of value.Path) path
+    × (IsTrue is_skipping ↔ IsSet rows (codes "skip"))
 HasValues rows (line.Serve file address connections) = HasText rows (name_of value.File) file.now
     × HasText rows (name_of value.Address) address.now
     × MayHaveNumber 64 rows (name_of value.Connections) connections
@@ -147,12 +152,16 @@ IsPathless rows = IsSet rows (codes "served") × (first_of (name_of value.Path) 
 abbrev pub IsEdit : Verb → Type 0
 IsEdit v = (change : Change) × (v ≡ edit_verb change)
 
--- this value of the command is wrong: the KIND or the PAIR of a format, the USER of an edit, the
--- number of connections of a server, or the PATH that is missing to show what a server has
+-- the command has a user
+abbrev pub HasUser : Verb → Type 0
+HasUser v = IsEdit v ⊎ (v ≡ verb.Import)
+
+-- this value of the command is wrong: the KIND or the PAIR of a format, the USER of an edit or an
+-- import, the number of connections of a server, or the PATH that is missing to show what a server has
 abbrev pub IsWrong : Verb → List Row → ValueName → Type 0
 IsWrong v rows value.Kind = (v ≡ verb.Format) × IsOtherKind rows
 IsWrong v rows value.Pair = (v ≡ verb.Format) × IsNoNumber 64 rows (name_of value.Pair)
-IsWrong v rows value.User = IsEdit v × IsNoNumber 32 rows (name_of value.User)
+IsWrong v rows value.User = HasUser v × IsNoNumber 32 rows (name_of value.User)
 IsWrong v rows value.Connections =
     (v ≡ verb.Serve) × IsNoNumber 64 rows (name_of value.Connections)
 IsWrong v rows value.Path = (v ≡ verb.Show) × IsPathless rows

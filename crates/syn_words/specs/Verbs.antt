@@ -9,7 +9,8 @@ use Rattle.syn_words.specs.declared.value.ValueName.TheVariants.{Path, Folder, A
 use Rattle.syn_words.specs.declared.value.ValueName.TheVariants.{Archive, Left, Right, Script}
 use Rattle.syn_words.specs.declared.verb.Verb.{Verb}
 use Rattle.syn_words.specs.declared.verb.Verb.TheVariants.{Format, Put, MakeDir, Remove, Show}
-use Rattle.syn_words.specs.declared.verb.Verb.TheVariants.{Check, Export, Serve, Sync, Run, Simulate}
+use Rattle.syn_words.specs.declared.verb.Verb.TheVariants.{Check, Export, Import, Serve, Sync, Run}
+use Rattle.syn_words.specs.declared.verb.Verb.TheVariants.{Simulate}
 
 -- the word of a command
 abbrev pub word_of : Verb → Text
@@ -20,6 +21,7 @@ word_of Remove = codes "rm"
 word_of Show = codes "show"
 word_of Check = codes "check"
 word_of Export = codes "export"
+word_of Import = codes "import"
 word_of Serve = codes "serve"
 word_of Sync = codes "sync"
 word_of Run = codes "run"
@@ -27,8 +29,8 @@ word_of Simulate = codes "simulate"
 
 -- all commands
 abbrev pub verbs : List Verb
-verbs = Format ∷ Put ∷ MakeDir ∷ Remove ∷ Show ∷ Check ∷ Export ∷ Serve ∷ Sync ∷ Run ∷ Simulate
-    ∷ []
+verbs = Format ∷ Put ∷ MakeDir ∷ Remove ∷ Show ∷ Check ∷ Export ∷ Import ∷ Serve ∷ Sync ∷ Run
+    ∷ Simulate ∷ []
 
 -- the id of a value for `clap`
 abbrev pub name_of : ValueName → Text
@@ -55,6 +57,7 @@ values_of Remove = File ∷ User ∷ Path ∷ []
 values_of Show = File ∷ []
 values_of Check = File ∷ []
 values_of Export = File ∷ Folder ∷ []
+values_of Import = File ∷ User ∷ Folder ∷ []
 values_of Serve = File ∷ Address ∷ []
 values_of Sync = Archive ∷ Left ∷ Right ∷ []
 values_of Run = Left ∷ Right ∷ Archive ∷ []

@@ -35,6 +35,9 @@ const UPDATE: &str = "Writes what differs into a DIR that is there, and removes 
 /// What the help says of the flag by which an export removes.
 const DELETE: &str = "As '--update', and removes from DIR what is not exported";
 
+/// What the help says of the flag by which an import leaves something out.
+const SKIP: &str = "Leaves out what can stand in no replica, and tells it";
+
 /// A flag, whose id is its long name too.
 fn flag<'a>(alloc: Global, id: &'a str) -> Arg<'a>
     ensures rule { rule_of result ≡ flag_rule id.entry.now }
@@ -120,6 +123,11 @@ fn with_optional<'a>(
             with_flag(alloc, command.arg(path)?, "served", SERVED)
         }
         Verb::Export => with_export_options(alloc, command),
+        Verb::Import => {
+            let help: &'a str = ValueName::Path.help(verb);
+            let path = Arg::new(alloc, "PATH").help(help);
+            with_flag(alloc, command.arg(path)?, "skip", SKIP)
+        }
         Verb::Serve => {
             let help: &'a str = ValueName::Connections.help(verb);
             with_option(alloc, command, "N", "connections", help)

@@ -94,6 +94,15 @@ pub enum Line<'a> {
         path: Option<&'a str>,
         existing: Existing,
     },
+    /// Makes a directory of a replica what a folder is, by edits of the user. With no path it is the
+    /// root.
+    Import {
+        file: &'a str,
+        user: u32,
+        folder: &'a str,
+        path: Option<&'a str>,
+        is_skipping: bool,
+    },
     /// Serves the replica in a file at the address, until so many connections were served.
     Serve {
         file: &'a str,

@@ -27,6 +27,7 @@ pub(crate) fn line_of<'a>(verb: Verb, found: &ArgMatches<'a>) -> Result<Line<'a>
         Verb::Show => show_line(found),
         Verb::Check => check_line(found),
         Verb::Export => export_line(found),
+        Verb::Import => import_line(found),
         Verb::Serve => serve_line(found),
         Verb::Sync => sync_line(found),
         Verb::Run => run_line(found),
@@ -150,6 +151,32 @@ fn existing_given(found: &ArgMatches<'_>) -> Existing
     } else {
         Existing::Refused
     }
+}
+
+fn import_line<'a>(found: &ArgMatches<'a>) -> Result<Line<'a>, LineError>
+    ensures ok { IfOk result (IsLineOf Verb.Import (rows_of (found_of found.now))) }
+    ensures lacks { IfErr result (IsLack Verb.Import (rows_of (found_of found.now))) }
+{
+    let file = text(found, ValueName::File)?;
+    let user = importer_given(found)?;
+    let folder = text(found, ValueName::Folder)?;
+    let path = optional_text(found, ValueName::Path);
+    let is_skipping = is_set(found, "skip");
+    Ok(Line::Import {
+        file,
+        user,
+        folder,
+        path,
+        is_skipping,
+    })
+}
+
+fn importer_given(found: &ArgMatches<'_>) -> Result<u32, LineError>
+    ensures ok { IfOk result (HasNumber 32 (rows_of (found_of found.now))
+        (name_of ValueName.User)) }
+    ensures lacks { IfErr result (IsLack Verb.Import (rows_of (found_of found.now))) }
+{
+    user(text(found, ValueName::User)?)
 }
 
 fn serve_line<'a>(found: &ArgMatches<'a>) -> Result<Line<'a>, LineError>

@@ -59,8 +59,13 @@ impl ValueName {
     pub(crate) fn help(self, verb: Verb) -> &'static str {
         match (self, verb) {
             (ValueName::File, _) => file_help(verb),
-            (ValueName::Path, Verb::Export) =>
-                "The directory to export: its root where none is given",
+            (ValueName::Path, Verb::Export) => {
+                "The directory to export: its root where none is given"
+            }
+            (ValueName::Path, Verb::Import) => {
+                "Where the folder goes: to the root where no path is given"
+            }
+            (ValueName::Folder, Verb::Import) => "The folder that is read",
             (ValueName::Left, Verb::Sync) => "HOST:PORT of the server of the left replica",
             (ValueName::Right, Verb::Sync) => "HOST:PORT of the server of the right replica",
             _ => self.plain_help(),
@@ -93,7 +98,7 @@ fn file_help(verb: Verb) -> &'static str {
         Verb::Put | Verb::MakeDir | Verb::Remove | Verb::Show => {
             "The file that has the image, or with '--served' HOST:PORT of its server"
         }
-        Verb::Export | Verb::Serve => "The file that has the replica",
+        Verb::Export | Verb::Import | Verb::Serve => "The file that has the replica",
         _ => "The file that has the image",
     }
 }

@@ -22,6 +22,8 @@ pub enum Verb {
     Check,
     /// Writes a part of a replica into a folder.
     Export,
+    /// Makes a part of a replica what a folder is.
+    Import,
     /// Serves a replica.
     Serve,
     /// Runs a session of two replicas that are served.
@@ -34,7 +36,7 @@ pub enum Verb {
 
 impl Verb {
     /// All commands, in the order of the help.
-    pub const ALL: [Verb; 11] = [
+    pub const ALL: [Verb; 12] = [
         Verb::Format,
         Verb::Put,
         Verb::MakeDir,
@@ -42,6 +44,7 @@ impl Verb {
         Verb::Show,
         Verb::Check,
         Verb::Export,
+        Verb::Import,
         Verb::Serve,
         Verb::Sync,
         Verb::Run,
@@ -60,6 +63,7 @@ impl Verb {
             Verb::Show => "show",
             Verb::Check => "check",
             Verb::Export => "export",
+            Verb::Import => "import",
             Verb::Serve => "serve",
             Verb::Sync => "sync",
             Verb::Run => "run",
@@ -78,6 +82,7 @@ impl Verb {
             }
             Verb::Show | Verb::Check => &[ValueName::File],
             Verb::Export => &[ValueName::File, ValueName::Folder],
+            Verb::Import => &[ValueName::File, ValueName::User, ValueName::Folder],
             Verb::Serve => &[ValueName::File, ValueName::Address],
             Verb::Sync => &[ValueName::Archive, ValueName::Left, ValueName::Right],
             Verb::Run => &[ValueName::Left, ValueName::Right, ValueName::Archive],
@@ -99,6 +104,9 @@ impl Verb {
             Verb::Show => "Prints an image, or a file or a directory of it",
             Verb::Check => "Opens an image, and prints its numbers",
             Verb::Export => "Writes a replica, or a directory of it, into the folder DIR",
+            Verb::Import => {
+                "Makes a replica, or a directory of it, what the folder DIR is, by edits of USER"
+            }
             Verb::Serve => "Serves the replica in FILE at ADDR, to users and to `syn sync`",
             Verb::Sync => "Runs one session of two replicas that are served, and prints its report",
             Verb::Run => "Runs one session of two replicas in files, and prints its report",
@@ -122,6 +130,7 @@ pub(crate) fn read_verb(word: &str) -> Option<Verb>
         "show" => Some(Verb::Show),
         "check" => Some(Verb::Check),
         "export" => Some(Verb::Export),
+        "import" => Some(Verb::Import),
         "serve" => Some(Verb::Serve),
         "sync" => Some(Verb::Sync),
         "run" => Some(Verb::Run),

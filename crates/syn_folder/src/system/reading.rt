@@ -152,19 +152,23 @@ impl<F: Files> Reading<'_, '_, F> {
 }
 
 /// The names in the directory at the path, each with a zero byte behind it.
-fn read_names<F: Files>(
-    alloc: Global,
-    files: &F,
-    root: &str,
-    path: &Path,
-) -> io::Result<Vec<u8>> {
+fn read_names<F: Files>(alloc: Global, files: &F, root: &str, path: &Path) -> io::Result<Vec<u8>> {
     let mut place = place_of(alloc, root, path.names())?;
     // Behind the slash the system follows a symbolic link, which only the folder itself may be.
     if path.names().is_empty() {
         place.push('/')?;
     }
+    let mut dir = files.open_dir(place.as_str())?;
     let mut names = Vec::new(alloc);
-    files.open_dir(place.as_str())?.read_to_end(&mut names)?;
+    // The system wants room for the longest name at each read.
+    let mut chunk = [0; 4096];
+    for _ in 0..u64::MAX {
+        let count = dir.read(&mut chunk)?;
+        if count == 0 {
+            break;
+        }
+        names.extend_from_slice(&chunk[..count])?;
+    }
     Ok(names)
 }
 

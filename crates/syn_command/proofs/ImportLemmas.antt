@@ -1,0 +1,67 @@
+-- What the edits of an import leave.
+use Rattle.std.proofs.Common.{◌≡◌, ◌∙◌, ◌++◌, ◌∷◌, [], List, ℕ, map, fold, refl, sym, ap, subst}
+use Rattle.syn_change.specs.Changes.{after_edits}
+use Rattle.syn_model.specs.Event.{Edit, Event, Edited, after_event}
+use Rattle.syn_model.specs.History.{History, tree_of}
+use Rattle.syn_model.specs.Path.{Path}
+use Rattle.syn_model.specs.Standing.{Standing}
+use Rattle.syn_model.specs.Tree.{Tree, empty_directory, replace, subtree}
+use Rattle.syn_model.proofs.TreeLemmas.{subtree-replace}
+use Rattle.syn_disk.specs.declared.disk.Disk.{Ghosts}
+use Rattle.syn_replica.specs.Edits.{event_by}
+use Rattle.syn_replica.specs.Replica.{Stands, tree_shown}
+use Rattle.syn_replica.specs.declared.replica.Replica.{Replica}
+use Rattle.syn_tree.specs.Edits.{edit_of}
+use Rattle.syn_tree.specs.declared.edit.Edit.{Edit as Planned}
+use Rattle.syn_command.specs.Imports.{IsImported}
+
+-- the tree of a history with edits of a user behind it
+edits_after : (tree : Tree) (user : ℕ) (edits : List Edit) →
+    fold after_event tree (map (Edited user) edits) ≡ after_edits tree edits
+edits_after tree user [] = refl
+edits_after tree user (e ∷ es) = edits_after (after_event tree (Edited user e)) user es
+
+events_after : (tree : Tree) (front behind : History) →
+    fold after_event tree (front ++ behind) ≡ fold after_event (fold after_event tree front) behind
+events_after tree [] behind = refl
+events_after tree (e ∷ front) behind = events_after (after_event tree e) front behind
+
+pub tree_of-edits : (history : History) (user : ℕ) (edits : List Edit) →
+    tree_of (history ++ map (Edited user) edits) ≡ after_edits (tree_of history) edits
+unfolding tree_of
+tree_of-edits history user edits =
+    events_after empty_directory history (map (Edited user) edits)
+    ∙ edits_after (fold after_event empty_directory history) user edits
+
+-- the edits of the code as those of the model
+pub mapped : {A : Type 0} (f : A → Edit) (user : ℕ) (xs : List A) →
+    map (λ x. Edited user (f x)) xs ≡ map (Edited user) (map f xs)
+mapped f user [] = refl
+mapped f user (x ∷ xs) = ap (λ es. Edited user (f x) ∷ es) (mapped f user xs)
+
+module _ {D : Type 0} {disk : Ghosts D} (old new : Replica D disk) (user : ℕ) (path : Path)
+    (part : Tree) (edits : List Planned) (history : History)
+    (makes : after_edits (tree_shown old) (map edit_of edits) ≡ replace (tree_shown old) path part)
+    (stood : Stands old history) (stands : Stands new (history ++ map (event_by user) edits)) where
+  was : tree_shown old ≡ tree_of history
+  was = ap (λ (s : Standing). s.tree) stood.remembers.standing
+
+  made : after_edits (tree_of history) (map edit_of edits) ≡ replace (tree_of history) path part
+  made =
+      ap (λ (t : Tree). after_edits t (map edit_of edits)) (sym was)
+      ∙ (makes ∙ ap (λ (t : Tree). replace t path part) was)
+
+  pub is_imported : IsImported history user path part new
+  is_imported = record {
+    edits = map edit_of edits;
+    makes = made;
+    stands = subst (Stands new) (ap (λ es. history ++ es) (mapped edit_of user edits)) stands;
+  }
+
+  pub has_part : subtree (tree_shown new) path ≡ part
+  has_part =
+      let now : tree_shown new ≡ replace (tree_of history) path part =
+      ap (λ (s : Standing). s.tree) stands.remembers.standing
+      ∙ (ap (λ es. tree_of (history ++ es)) (mapped edit_of user edits)
+      ∙ (tree_of-edits history user (map edit_of edits) ∙ made)) in
+      ap (λ (t : Tree). subtree t path) now ∙ subtree-replace (tree_of history) path part

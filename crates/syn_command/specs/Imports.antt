@@ -1,0 +1,17 @@
+-- What an import makes of a replica.
+use Rattle.std.specs.Prelude.{◌≡◌, ◌++◌, ℕ, List, map}
+use Rattle.syn_change.specs.Changes.{after_edits}
+use Rattle.syn_disk.specs.declared.disk.Disk.{Ghosts}
+use Rattle.syn_model.specs.Event.{Edit, Edited}
+use Rattle.syn_model.specs.History.{History, tree_of}
+use Rattle.syn_model.specs.Path.{Path}
+use Rattle.syn_model.specs.Tree.{Tree, replace}
+use Rattle.syn_replica.specs.Replica.{Stands}
+use Rattle.syn_replica.specs.declared.replica.Replica.{Replica}
+
+-- it stands for the history with edits of the user, which put the part in its place
+pub record IsImported {D : Type 0} {disk : Ghosts D} (history : History) (user : ℕ) (path : Path)
+    (part : Tree) (new : Replica D disk) : Type 0 where
+  pub edits : List Edit
+  pub makes : after_edits (tree_of history) edits ≡ replace (tree_of history) path part
+  pub stands : Stands new (history ++ map (Edited user) edits)
