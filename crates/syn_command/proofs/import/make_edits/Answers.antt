@@ -1,7 +1,6 @@
 use Rattle.std.proofs.Common.{◌≡◌, ◌++◌, ◌∷◌, [], map, sym, ap, ◌∙◌, subst, append_assoc, append-nil, arith}
 use Rattle.std.proofs.lemmas.List.{map-append, nil_from_length}
 use Rattle.syn_model.specs.Event.{Event}
-use Rattle.syn_model.specs.History.{History}
 use Rattle.syn_replica.specs.Edits.{event_by}
 use Rattle.syn_replica.specs.Replica.{Stands}
 use Rattle.syn_tree.specs.declared.edit.Edit.{Edit}
