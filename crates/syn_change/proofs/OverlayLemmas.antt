@@ -1,5 +1,6 @@
 -- What is put into a tree stands there, and the rest stays.
-use Rattle.std.proofs.Common.{◌≡◌, ◌≢◌, ◌∙◌, Bool, true, false, cond, not, List, [], ◌∷◌, ◌++◌, fold, refl, sym, ap}
+use Rattle.std.proofs.Common.{◌≡◌, ◌≢◌, ◌∙◌, Bool, true, false, cond, not, List, [], ◌∷◌, ◌++◌}
+use Rattle.std.proofs.Common.{fold, refl, sym, ap}
 use Rattle.std.proofs.Common.{subst, Option, Some, None, is_some, append-nil, true≢false}
 use Rattle.std.specs.Ordering.{eq_by_cmp}
 use Rattle.std.proofs.lemmas.Option.{none-some}
@@ -11,7 +12,8 @@ use Rattle.syn_model.specs.Event.{Edit, after_edit}
 use Rattle.syn_model.specs.Refusal.{Refusal, Cause, first_cause, Root, NoParent, IsDirectory}
 use Rattle.syn_model.specs.Refusal.{Exists}
 use Rattle.syn_model.specs.Standing.{edit_refusal, full_causes}
-use Rattle.syn_model.proofs.PathLemmas.{same_path, path_itself, strip_prefix-is, strip_prefix-append}
+use Rattle.syn_model.proofs.PathLemmas.{same_path, path_itself, strip_prefix-is}
+use Rattle.syn_model.proofs.PathLemmas.{strip_prefix-append}
 use Rattle.syn_model.proofs.HistoryLemmas.{get-at_root, get-below_root}
 use Rattle.syn_model.proofs.TreeLemmas.{within, beside}
 use Rattle.syn_placed.specs.Pairs.{Pairs, rooted}

@@ -1,6 +1,7 @@
 -- What is removed is gone, and nothing else came.
 use Rattle.std.proofs.Common.{◌≡◌, ◌⊎◌, ◌∙◌, Bool, true, false, cond, [], ◌∷◌, ◌++◌, refl, sym, ap}
-use Rattle.std.proofs.Common.{subst, Option, Some, None, IsSome, is_some, append-nil, inl, inr, true≢false}
+use Rattle.std.proofs.Common.{subst, Option, Some, None, IsSome, is_some, append-nil, inl, inr}
+use Rattle.std.proofs.Common.{true≢false}
 use Rattle.std.specs.List.{AllByRecursion}
 use Rattle.std.specs.Ordering.{eq_by_cmp}
 use Rattle.std.specs.FinMap.{get, find, entries, get-empty, get-entries}

@@ -11,7 +11,8 @@ after_edits tree edits = fold after_edit tree edits
 
 -- the edits have gone on as the tree has
 abbrev pub GoesOn : Tree → List Edit → Tree → List Edit → Type 0
-GoesOn old edits new more = (tree : Tree) → after_edits tree edits ≡ old → after_edits tree more ≡ new
+GoesOn old edits new more =
+    (tree : Tree) → after_edits tree edits ≡ old → after_edits tree more ≡ new
 
 -- the edit that puts or makes what is to stand at the path
 abbrev pub entry_edit : Pair → Edit

@@ -60,12 +60,7 @@ pub fn puts(alloc: Global, old: &Tree, added: &Tree) -> Result<Vec<Edit>, TreeEr
 ///
 /// Refused 2 where the path's parent is no directory, 7 where the result would pass a limit, and 11
 /// where memory is refused.
-pub fn with_part(
-    alloc: Global,
-    tree: &Tree,
-    path: &Path,
-    part: &Tree,
-) -> Result<Tree, TreeError>
+pub fn with_part(alloc: Global, tree: &Tree, path: &Path, part: &Tree) -> Result<Tree, TreeError>
     ensures { IfOk result (λ whole. whole ≡ replace tree.now path.now part.now) }
 {
     let root = Path::root(alloc);

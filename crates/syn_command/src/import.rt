@@ -24,9 +24,10 @@ const LONGEST_RECORD: usize = 17_408;
 /// the new position. Where it is there already, no edit is made. Each edit is told to `errors` once
 /// it is made, where `is_told` says so.
 ///
-/// Refused 2 where the path's parent is no directory and 7 where the result would pass a limit,
-/// before any edit is made, and else as the replica refuses an edit: then the edits before it stand,
-/// and the same call makes the others. Room is made in the journal as it is needed.
+/// Before any edit is made it is refused 2 where the path's parent is no directory, and 7 where the
+/// result would pass a limit. Else it is refused as the replica refuses an edit: then the edits
+/// before that one stand, and the same call makes the others. Room is made in the journal as it is
+/// needed.
 pub fn import_part<D: Disk, E: Write>(
     alloc: Global,
     replica: &mut Replica<D>,

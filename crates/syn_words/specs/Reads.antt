@@ -157,7 +157,8 @@ abbrev pub HasUser : Verb → Type 0
 HasUser v = IsEdit v ⊎ (v ≡ verb.Import)
 
 -- this value of the command is wrong: the KIND or the PAIR of a format, the USER of an edit or an
--- import, the number of connections of a server, or the PATH that is missing to show what a server has
+-- import, the number of connections of a server, or the PATH that is missing to show what a server
+-- has
 abbrev pub IsWrong : Verb → List Row → ValueName → Type 0
 IsWrong v rows value.Kind = (v ≡ verb.Format) × IsOtherKind rows
 IsWrong v rows value.Pair = (v ≡ verb.Format) × IsNoNumber 64 rows (name_of value.Pair)

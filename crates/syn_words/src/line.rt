@@ -94,8 +94,8 @@ pub enum Line<'a> {
         path: Option<&'a str>,
         existing: Existing,
     },
-    /// Makes a directory of a replica what a folder is, by edits of the user. With no path it is the
-    /// root.
+    /// Makes a directory of a replica what a folder is, by edits of the user. With no path it is
+    /// the root.
     Import {
         file: &'a str,
         user: u32,

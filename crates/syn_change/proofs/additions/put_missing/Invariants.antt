@@ -8,5 +8,6 @@ use Rattle.syn_change.proofs.additions.put_missing.Given as goal
 
 abbrev pub invariant-loop-entry : goal.invariant-loop-entry
 invariant-loop-entry l =
-    ((q : Path) → get l.work q ≡ fold (placing q) (get l.initial.work q) (take l.entry-index l.entry-items))
+    ((q : Path) → get l.work q
+    ≡ fold (placing q) (get l.initial.work q) (take l.entry-index l.entry-items))
     × GoesOn l.initial.work (map edit_of l.initial.edits.items) l.work (map edit_of l.edits.items)

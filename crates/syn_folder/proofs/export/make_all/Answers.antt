@@ -1,4 +1,5 @@
-use Rattle.std.proofs.Common.{◌≡◌, ◌++◌, ◌∷◌, [], map, sym, ap, ◌∙◌, append_assoc, append-nil, arith}
+use Rattle.std.proofs.Common.{refl, ◌≡◌, ◌++◌, ◌∷◌, [], map, sym, ap, ◌∙◌, append_assoc, append-nil}
+use Rattle.std.proofs.Common.{arith}
 use Rattle.std.proofs.lemmas.List.{map-append, nil_from_length}
 use Rattle.std.proofs.lemmas.List.Sums.{fold_push}
 use Rattle.syn_model.specs.Event.{after_edit}
@@ -7,7 +8,10 @@ use Rattle.syn_tree.specs.Edits.{edit_of}
 use Rattle.syn_folder.proofs.export.make_all.Goals as goal
 
 pub loop-edit-init : goal.loop-edit-init
-loop-edit-init g c = record { whole = sym c.into_iter-edit-iterator.ensures.into_iter_gives.0; made = λ i. g.F.Folder.tree c.found.new.self }
+loop-edit-init g c = record {
+  whole = sym c.into_iter-edit-iterator.ensures.into_iter_gives.0;
+  made = refl;
+}
 
 pub loop-edit-preserved : goal.loop-edit-preserved
 loop-edit-preserved g c =

@@ -6,5 +6,6 @@ use Rattle.syn_folder.proofs.export.make_all.Given as goal
 abbrev pub invariant-loop-edit : goal.invariant-loop-edit
 invariant-loop-edit g l = record {
   whole : l.fn.edits.items ≡ l.yielded ++ l.edit-iterator.rest.items;
-  made : g.F.Folder.tree l.folder ≡ after_edits (g.F.Folder.tree l.initial.folder) (map edit_of l.yielded);
+  made : g.F.Folder.tree l.folder
+      ≡ after_edits (g.F.Folder.tree l.initial.folder) (map edit_of l.yielded);
 }
