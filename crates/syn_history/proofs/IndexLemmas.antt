@@ -29,7 +29,7 @@ use Rattle.syn_placed.proofs.RisingLemmas.{each-append, sorted_of}
 use Rattle.syn_placed.proofs.KeyedLemmas.{rises}
 use Rattle.syn_placed.proofs.KeyedParts.{IsFoundBy, found_any, any_found}
 use Rattle.syn_history.specs.Past.{tells}
-use Rattle.syn_history.specs.Index.{newest_first, last_positions, IsEarlier, IsIndexed, forgotten}
+use Rattle.syn_history.specs.Index.{newest_first, last_positions, IsEarlier, forgotten, without}
 use Rattle.syn_history.specs.Index.{entry_tells, is_touched_at}
 
 abbrev pair_of : Touch → Path × ℕ
@@ -88,21 +88,24 @@ pub last-push : (ts : List Touch) (t : Touch) →
     last_positions (ts ++ t ∷ []) ≡ map.insert (last_positions ts) t.path t.position
 last-push ts t = ap map.from_entries (newest_push ts t)
 
-few_entries : (es : List (Path × ℕ)) → map.len (map.from_entries {R = path_cmp} es) ≤ length es
-few_entries [] = omega (arith, map.len-empty path_cmp ℕ)
-few_entries (e ∷ es) =
-    let was : FinMap path_cmp ℕ = map.from_entries es in
-    let there = is_some (map.get was e.0) in
+-- one path more at most
+pub len-insert-le : (positions : FinMap path_cmp ℕ) (k : Path) (v : ℕ) →
+    map.len (map.insert positions k v) ≤ map.len positions + 1
+len-insert-le positions k v =
     omega (
       arith,
-      few_entries es,
-      map.len-insert path_total was e.0 e.1,
-      one_at_most there (map.len was),
+      map.len-insert path_total positions k v,
+      one_at_most (is_some (map.get positions k)) (map.len positions),
     )
   where
     one_at_most : (b : Bool) (n : ℕ) → cond b n (n + 1) ≤ n + 1
     one_at_most true n = omega arith
     one_at_most false n = omega arith
+
+few_entries : (es : List (Path × ℕ)) → map.len (map.from_entries {R = path_cmp} es) ≤ length es
+few_entries [] = omega (arith, map.len-empty path_cmp ℕ)
+few_entries (e ∷ es) =
+    omega (arith, few_entries es, len-insert-le (map.from_entries es) e.0 e.1)
 
 -- no more paths than touches
 pub len-last : (ts : List Touch) → map.len (last_positions ts) ≤ length ts
@@ -203,8 +206,7 @@ pub record StaysOf (capacity : ℕ) (older : List Touch) (touch : Touch) (droppe
     : Type 0 where
   pub stays : List Touch
   pub kept : keep_last capacity (older ++ touch ∷ []) ≡ stays ++ touch ∷ []
-  pub index : option_map_or (λ oldest. forgotten (last_positions older) oldest) dropped
-      (last_positions older) ≡ last_positions stays
+  pub index : without (last_positions older) dropped ≡ last_positions stays
   pub rising : AllPairs IsEarlier stays
   pub later : All (λ older. older.position < touch.position) stays
   pub few : length stays < capacity
@@ -264,14 +266,11 @@ stays_of capacity older touch dropped some few rising later is =
           stays_rest capacity older touch dropped some same rising later oldest
     ] refl is
 
--- the index of the older with the new one
-pub indexed_more : (stays : List Touch) (touch : Touch) → AllPairs IsEarlier stays →
+-- the rest with the new one
+pub rising_more : (stays : List Touch) (touch : Touch) → AllPairs IsEarlier stays →
     All (λ older. older.position < touch.position) stays →
-    IsIndexed (stays ++ touch ∷ []) (map.insert (last_positions stays) touch.path touch.position)
-indexed_more stays touch rising later = record {
-  rising = all_pairs_push IsEarlier stays touch rising later;
-  last = sym (last-push stays touch);
-}
+    AllPairs IsEarlier (stays ++ touch ∷ [])
+rising_more stays touch rising later = all_pairs_push IsEarlier stays touch rising later
 
 -- ---- what the index tells
 

@@ -1,11 +1,17 @@
 //! Where each path was touched last, so that a trail need not look at each touch.
-ghost use Rattle.std.specs.Prelude.{◌≡◌, ◌<◌, ◌&&◌, nat_le, length, take, IsTrue, ◌↔◌, true};
-ghost use Rattle.std.specs.FinMap.{entries};
+ghost use Rattle.std.specs.Prelude.{◌≡◌, ◌<◌, ◌≤◌, ◌+◌, ◌++◌, ◌&&◌, List, nat_le, length, take};
+ghost use Rattle.std.specs.Prelude.{IsTrue, ◌↔◌, true, OnOk, IfErr};
+ghost use Rattle.std.specs.Option.{ForSome};
+ghost use Rattle.std.specs.FinMap.{entries, len};
 ghost use Rattle.std.specs.List.{list_any};
 ghost use Rattle.syn_model.specs.Path.{IsPath, is_prefix};
+ghost use Rattle.syn_model.specs.Standing.{Touch as Touched, most_touches};
 ghost use Rattle.syn_history.specs.Index.{is_touched_at as touched_at, entry_tells, forgotten};
+ghost use Rattle.syn_history.specs.Index.{GoesOn, last_positions, without};
 
+use crate::error::HistoryError;
 use crate::touch::Touch;
+use std::alloc::Global;
 use syn_path::{Key, Name, Path};
 use syn_placed::{KeyMap, Slot};
 
@@ -63,8 +69,53 @@ fn is_touched_at(index: &Index, names: &[Name], since: u64) -> bool
     }
 }
 
+/// The index without the touch that was dropped, if any, and with the slot; none where there is no
+/// index or no slot. It takes no memory.
+pub fn index_after(
+    index: Option<Index>,
+    slot: Option<Slot<u64>>,
+    dropped: &Option<Touch>,
+) -> Option<Index>
+    requires { ForSome index (λ positions. len (without positions dropped.now) < most_touches) }
+    ensures { ForSome result (GoesOn index slot dropped.now) }
+{
+    let Some(mut index) = index else {
+        return None;
+    };
+    let Some(slot) = slot else {
+        return None;
+    };
+    forget_dropped(&mut index, dropped);
+    index.insert(slot);
+    Some(index)
+}
+
+/// Takes the touch that was dropped, if any, out of the index.
+fn forget_dropped(index: &mut Index, dropped: &Option<Touch>)
+    ensures { index.new ≡ without index.old dropped.now }
+{
+    match dropped {
+        None => {}
+        Some(oldest) => forget(index, oldest),
+    }
+}
+
+/// Adds touches that come after those of the index.
+pub fn add_later(alloc: Global, index: &mut Index, touches: &[Touch]) -> Result<(), HistoryError>
+    requires { len index.old + length touches.now ≤ most_touches }
+    ensures later { (earlier : List Touched) → index.old ≡ last_positions earlier
+        → OnOk result (index.new ≡ last_positions (earlier ++ touches.now)) }
+    ensures room { OnOk result (len index.new ≤ len index.old + length touches.now) }
+    ensures memory { IfErr result (λ e. e ≡ HistoryError.Memory) }
+{
+    for touch in touches {
+        index.insert(Slot::new(alloc, &touch.path().key(), touch.position())?);
+    }
+    Ok(())
+}
+
 /// Takes the touch out of the index, where it is the last of its path.
-pub fn forget(index: &mut Index, touch: &Touch)
+fn forget(index: &mut Index, touch: &Touch)
     ensures { index.new ≡ forgotten index.old touch.now }
 {
     let key = touch.path().key();

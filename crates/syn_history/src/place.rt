@@ -1,5 +1,6 @@
 //! A path that an event changes, with the memory that a trail takes for it.
 ghost use Rattle.std.specs.Prelude.{◌≡◌, IfOk, IfErr};
+ghost use Rattle.std.specs.Option.{ForSome};
 
 use crate::error::HistoryError;
 use std::alloc::Global;
@@ -7,41 +8,56 @@ use std::marker::Model;
 use syn_path::Path;
 use syn_placed::Slot;
 
-/// A path, with a slot for it in the index of a trail. Contracts see it as the path.
+/// A path, with a slot for it in the index of a trail that has one. Contracts see it as the path.
 #[derive(Debug, Drop)]
 pub struct Place {
     path: Path,
-    slot: Slot<u64>,
+    slot: Option<Slot<u64>>,
 }
 
 impl Model for Place {
     ghost use Rattle.std.specs.Prelude.{◌≡◌, List, ℕ};
+    ghost use Rattle.std.specs.Option.{ForSome};
 
     ghost Value = { List (List ℕ) };
 
     ghost view = { λ p. p.path };
 
-    ghost invariant = { λ p. p.slot.0 ≡ p.path };
+    ghost invariant = { λ p. ForSome p.slot (λ slot. slot.0 ≡ p.path) };
 }
 
 impl Place {
-    /// The path, ready to be recorded. Refused 11 where memory is refused.
-    pub fn of(alloc: Global, path: &Path) -> Result<Place, HistoryError>
+    /// The path, with a slot if that is wanted. Refused 11 where memory is refused.
+    pub fn of(alloc: Global, path: &Path, has_slot: bool) -> Result<Place, HistoryError>
         ensures path { IfOk result (λ place. place ≡ path.now) }
         ensures memory { IfErr result (λ e. e ≡ HistoryError.Memory) }
     {
+        let own = path.copy(alloc)?;
+        if !has_slot {
+            return Ok(Place {
+                path: own,
+                slot: None,
+            });
+        }
         let slot = Slot::new(alloc, &path.key(), 0)?;
-        let path = path.copy(alloc)?;
-        Ok(Place { path, slot })
+        Ok(Place {
+            path: own,
+            slot: Some(slot),
+        })
     }
 
     /// The path, and its slot for a touch at the position.
-    pub fn at(self, position: u64) -> (Path, Slot<u64>)
+    pub fn at(self, position: u64) -> (Path, Option<Slot<u64>>)
         ensures path { result.0 ≡ self }
-        ensures slot { result.1 ≡ (self, position) }
+        ensures slot { ForSome result.1 (λ slot. slot ≡ (self, position)) }
     {
-        let Place { path, mut slot } = self;
-        slot.set(position);
-        (path, slot)
+        let Place { path, slot } = self;
+        match slot {
+            None => (path, None),
+            Some(mut slot) => {
+                slot.set(position);
+                (path, Some(slot))
+            }
+        }
     }
 }

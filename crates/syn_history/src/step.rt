@@ -24,17 +24,19 @@ pub enum Step {
 }
 
 impl Step {
-    /// The step of the event. Refused 11 where memory is refused, and for no other cause; the begin
-    /// of a session takes none.
-    pub fn of(alloc: Global, event: &Event) -> Result<Step, HistoryError>
+    /// The step of the event, with a slot for its path if that is wanted. Refused 11 where memory
+    /// is refused, and for no other cause; the begin of a session takes none.
+    pub fn of(alloc: Global, event: &Event, has_slot: bool) -> Result<Step, HistoryError>
         ensures step { IfOk result (λ step. step ≡ step_of (event_of event.now)) }
         ensures memory { IfErr result (λ e. e ≡ HistoryError.Memory) }
     {
         match event {
-            Event::Edited { edit, .. } => Ok(Step::Edited(Place::of(alloc, edited_path(edit))?)),
+            Event::Edited { edit, .. } => {
+                Ok(Step::Edited(Place::of(alloc, edited_path(edit), has_slot)?))
+            }
             Event::Began { session } => Ok(Step::Began(*session)),
             Event::Replaced { token, path, .. } => {
-                Ok(Step::Replaced(*token, Place::of(alloc, path)?))
+                Ok(Step::Replaced(*token, Place::of(alloc, path, has_slot)?))
             }
         }
     }

@@ -4,7 +4,7 @@ ghost use Rattle.std.specs.Prelude.{◌≡◌, ◌≢◌, ◌↔◌, ◌⊎◌, 
 ghost use Rattle.std.specs.Prelude.{length};
 ghost use Rattle.std.specs.Prelude.{take, drop, option_map, All, IfOk, IfErr, IfSome, IfNone};
 ghost use Rattle.std.specs.Prelude.{IsTrue, OnOk, OnErr};
-ghost use Rattle.std.specs.List.{AllPairs, list_any};
+ghost use Rattle.std.specs.List.{list_any};
 ghost use Rattle.std.specs.Option.{ForSome, option_map_or};
 ghost use Rattle.circular_buffer.specs.Buffer.{buffer};
 ghost use Rattle.syn_model.specs.Event as model;
@@ -20,17 +20,17 @@ ghost use Rattle.syn_history.specs.Past.{past_of, past_after, past_touched, stan
 ghost use Rattle.syn_history.specs.Past.{IsLawful, tells, are_between, is_lawful, past_with};
 ghost use Rattle.syn_history.specs.Past.{is_of_session as is_session_of};
 ghost use Rattle.syn_history.specs.Trails.{step_of, past_from};
-ghost use Rattle.syn_history.specs.Index.{IsEarlier, IsIndexed, forgotten};
+ghost use Rattle.syn_history.specs.Index.{IsIndexed, last_positions};
 
 use crate::error::HistoryError;
 use crate::event::Event;
-use crate::index::{Index, MOST_TOUCHES, forget, is_touched};
+use crate::index::{Index, MOST_TOUCHES, add_later, index_after, is_touched};
 use crate::place::Place;
 use crate::step::Step;
 use crate::token::Token;
 use crate::touch::Touch;
 use circular_buffer::HeapCircularBuffer;
-use std::alloc::{AllocError, Global};
+use std::alloc::Global;
 use std::marker::Model;
 use syn_model::history_laws;
 use syn_path::Path;
@@ -62,8 +62,9 @@ pub struct Trail {
     /// The touches, the oldest first, with room for the most: no event takes memory for the list,
     /// and none moves another.
     touches: HeapCircularBuffer<Touch>,
-    /// Where each of their paths was touched last, with room for as many.
-    index: Index,
+    /// Where each of their paths was touched last, with room for as many; none while a journal is
+    /// read, when nobody asks.
+    index: Option<Index>,
     session: u64,
     token: Option<Token>,
 }
@@ -104,7 +105,7 @@ impl Trail {
             position: 0,
             floor: 0,
             touches,
-            index,
+            index: Some(index),
             session: 0,
             token: None,
         })
@@ -112,7 +113,7 @@ impl Trail {
 
     /// The trail of these parts, where they are lawful; else none. They are where the floor is not
     /// above the position, at most 4,096 touches rise from the floor on and before the position,
-    /// and the token is of a session from 1 to the one begun last.
+    /// and the token is of a session from 1 to the one begun last. It has no index yet.
     ///
     /// Refused 11 where memory is refused.
     pub fn from_parts(alloc: Global, parts: Parts) -> Result<Option<Trail>, HistoryError>
@@ -132,15 +133,30 @@ impl Trail {
         if !are_lawful(position, floor, &listed, session, &token) {
             return Ok(None);
         }
-        let (touches, index) = index_of(alloc, listed)?;
+        let mut touches = HeapCircularBuffer::with_capacity(alloc, MOST_TOUCHES)?;
+        for touch in listed {
+            touches.push_back(touch);
+        }
         Ok(Some(Trail {
             position,
             floor,
             touches,
-            index,
+            index: None,
             session,
             token,
         }))
+    }
+
+    /// Makes the index, where there is none, as after a journal was read: until then `touched`
+    /// looks at each touch. Refused 11 where memory is refused.
+    pub fn build_index(&mut self, alloc: Global) -> Result<(), HistoryError>
+        ensures same { self.new ≡ self.old }
+        ensures memory { IfErr result (λ e. e ≡ HistoryError.Memory) }
+    {
+        let _count = self.touches.len();
+        let index = index_of(alloc, &self.touches)?;
+        self.index = Some(index);
+        Ok(())
     }
 
     /// The number of events.
@@ -200,7 +216,13 @@ impl Trail {
         if since < self.floor || self.position < since {
             return Err(HistoryError::BelowFloor);
         }
-        Ok(is_touched(&self.index, path, since))
+        match &self.index {
+            Some(index) => Ok(is_touched(index, path, since)),
+            None => {
+                let (older, newer) = self.touches.as_slices();
+                Ok(any_tells(older, path, since) || any_tells(newer, path, since))
+            }
+        }
     }
 
     /// The step of the event, ready to be recorded, with all memory for it. The trail stays as it
@@ -216,7 +238,16 @@ impl Trail {
         if self.position == u64::MAX {
             return Err(HistoryError::Full);
         }
-        Step::of(alloc, event)
+        self.step(alloc, event)
+    }
+
+    /// The step of the event, for this trail, with no look at the position. Refused 11 where memory
+    /// is refused, and for no other cause; the begin of a session takes none.
+    pub fn step(&self, alloc: Global, event: &Event) -> Result<Step, HistoryError>
+        ensures step { IfOk result (λ step. step ≡ step_of (event_of event.now)) }
+        ensures memory { IfErr result (λ e. e ≡ HistoryError.Memory) }
+    {
+        Step::of(alloc, event, self.index.is_some())
     }
 
     /// Records the step of an event. It takes no memory.
@@ -245,7 +276,10 @@ impl Trail {
     {
         let (path, slot) = place.at(self.position);
         let touch = Touch::new(self.position, path);
-        self.floor = add_touch(&mut self.touches, &mut self.index, self.floor, touch, slot);
+        let index = self.index.take();
+        let (index, floor) = add_touch(&mut self.touches, index, self.floor, touch, slot);
+        self.index = index;
+        self.floor = floor;
         self.position += 1;
     }
 
@@ -266,68 +300,62 @@ impl Trail {
     }
 }
 
-/// The touches with their index, where they rise and are no more than 4,096. Refused where memory
-/// is refused.
-fn index_of(
-    alloc: Global,
-    listed: Vec<Touch>,
-) -> Result<(HeapCircularBuffer<Touch>, Index), AllocError>
-    requires few { length listed.items ≤ most_touches }
-    requires rising { AllPairs IsEarlier listed.items }
-    ensures touches { IfOk result (λ kept. kept.0 ≡ buffer listed.items most_touches) }
-    ensures indexed { IfOk result (λ kept. IsIndexed listed.items kept.1) }
+/// The index of the touches, which rise. Refused 11 where memory is refused.
+fn index_of(alloc: Global, touches: &HeapCircularBuffer<Touch>) -> Result<Index, HistoryError>
+    requires { length touches.now.items ≤ most_touches }
+    ensures index { IfOk result (λ index. index ≡ last_positions touches.now.items) }
+    ensures memory { IfErr result (λ e. e ≡ HistoryError.Memory) }
 {
-    let mut touches = HeapCircularBuffer::with_capacity(alloc, MOST_TOUCHES)?;
+    let (older, newer) = touches.as_slices();
     let mut index = KeyMap::new(alloc)?;
-    for touch in listed {
-        index.insert(Slot::new(alloc, &touch.path().key(), touch.position())?);
-        touches.push_back(touch);
-    }
-    Ok((touches, index))
+    add_later(alloc, &mut index, older)?;
+    add_later(alloc, &mut index, newer)?;
+    Ok(index)
 }
 
-/// Adds the touch with its slot, where the oldest goes if there are 4,096. The result is the floor
-/// then.
+/// Adds the touch, where the oldest goes if there are 4,096. The result is the index, with the slot
+/// if there are both, and the floor then.
 fn add_touch(
     touches: &mut HeapCircularBuffer<Touch>,
-    index: &mut Index,
+    index: Option<Index>,
     floor: u64,
     touch: Touch,
-    slot: Slot<u64>,
-) -> u64
+    slot: Option<Slot<u64>>,
+) -> (Option<Index>, u64)
     requires room { touches.old.capacity ≡ most_touches }
     requires brief { All (λ older. older.position < greatest) touches.old.items }
     requires few { length touches.old.items ≤ most_touches }
-    requires indexed { IsIndexed touches.old.items index.old }
+    requires indexed { IsIndexed touches.old.items index }
     requires later { All (λ older. older.position < touch.position) touches.old.items }
-    requires slot { slot ≡ (touch.path, touch.position) }
+    requires slot { ForSome slot (λ entry. entry ≡ (touch.path, touch.position)) }
     ensures touches { let all = touches.old.items ++ touch ∷ [] in touches.new
         ≡ buffer (drop (surplus most_touches all) all) most_touches }
-    ensures indexed { IsIndexed touches.new.items index.new }
-    ensures floor { let all = touches.old.items ++ touch ∷ [] in result
+    ensures indexed { IsIndexed touches.new.items result.0 }
+    ensures floor { let all = touches.old.items ++ touch ∷ [] in result.1
         ≡ above_last floor (take (surplus most_touches all) all) }
 {
     let _count = touches.len();
     let dropped = touches.push_back(touch);
-    let floor = drop_oldest(index, floor, dropped);
-    index.insert(slot);
-    floor
+    let index = index_after(index, slot, &dropped);
+    (index, floor_after(floor, &dropped))
 }
 
-/// Takes the touch that was dropped, if any, out of the index. The result is the floor then.
-fn drop_oldest(index: &mut Index, floor: u64, dropped: Option<Touch>) -> u64
-    requires { ForSome dropped (λ oldest. oldest.position < greatest) }
-    ensures index { index.new
-        ≡ option_map_or (λ oldest. forgotten index.old oldest) dropped index.old }
-    ensures floor { result ≡ option_map_or (λ oldest. oldest.position + 1) dropped floor }
+/// The floor, where this touch was dropped, if any.
+fn floor_after(floor: u64, dropped: &Option<Touch>) -> u64
+    requires { ForSome dropped.now (λ oldest. oldest.position < greatest) }
+    ensures { result ≡ option_map_or (λ oldest. oldest.position + 1) dropped.now floor }
 {
     match dropped {
         None => floor,
-        Some(oldest) => {
-            forget(index, &oldest);
-            oldest.position() + 1
-        }
+        Some(oldest) => oldest.position() + 1,
     }
+}
+
+/// One of the touches, from the position on, has a path that is the one, above it or below it.
+fn any_tells(touches: &[Touch], path: &Path, since: u64) -> bool
+    ensures { result ≡ list_any (tells since path.now) touches.now }
+{
+    touches.iter().any(|touch| since <= touch.position() && touch.path().comparable(path))
 }
 
 /// Parts like these are lawful.

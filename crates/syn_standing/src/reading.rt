@@ -103,6 +103,7 @@ fn replayed(alloc: Global, first: Standing, payloads: &[Vec<u8>]) -> Result<Stan
     for payload in payloads {
         add_payload(alloc, &mut standing, payload)?;
     }
+    standing.build_index(alloc)?;
     Ok(standing)
 }
 

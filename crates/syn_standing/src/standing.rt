@@ -71,6 +71,18 @@ impl Standing {
         Standing { tree, trail }
     }
 
+    /// Makes the index of the trail, where there is none, as after a journal was read: until then
+    /// `check_untouched` takes longer. Refused 11 where memory is refused.
+    pub fn build_index(&mut self, alloc: Global) -> Result<(), ReplicaError>
+        ensures same { self.new ≡ self.old }
+        ensures memory { IfErr result (λ e. e ≡ ReplicaError.Memory) }
+    {
+        match self.trail.build_index(alloc) {
+            Ok(()) => Ok(()),
+            Err(_) => Err(ReplicaError::Memory),
+        }
+    }
+
     /// The tree that the history leaves.
     pub fn tree(&self) -> &Tree
         ensures { result.now ≡ self.now.tree }
@@ -181,7 +193,7 @@ impl Standing {
         ensures refused { IfErr result (λ e. (refusal_of e ≡ Memory)
             ⊎ (refusal_at self.now (event_of event) ≡ Some (refusal_of e))) }
     {
-        let step = Step::of(alloc, &event)?;
+        let step = self.trail.step(alloc, &event)?;
         let change = self.change_by(alloc, event)?;
         self.check_position()?;
         Ok(Update { change, step })

@@ -1,15 +1,16 @@
-use Rattle.std.proofs.Common.{◌++◌, ◌∷◌, [], length, nat_lt, cond, None, slice_get}
-use Rattle.std.proofs.Common.{sym, ap, ◌∙◌, subst, arith, lit<}
-use Rattle.std.specs.Option.{option_map_or}
+use Rattle.std.proofs.Common.{◌++◌, ◌∷◌, [], ℕ, length, nat_lt, cond, None, slice_get, sym, ap}
+use Rattle.std.proofs.Common.{◌∙◌, subst, arith, lit<}
+use Rattle.std.specs.List.{AllPairs}
 use Rattle.std.specs.FinMap as map
 use Rattle.circular_buffer.specs.Buffer.{keep_last}
+use Rattle.syn_model.specs.Path.{Path}
 use Rattle.syn_model.specs.Standing.{most_touches}
-use Rattle.syn_history.specs.Index.{IsIndexed, last_positions, forgotten}
-use Rattle.syn_history.proofs.IndexLemmas.{stays_of, indexed_more, len-last}
+use Rattle.syn_history.specs.Index.{IsEarlier, last_positions, without}
+use Rattle.syn_history.proofs.IndexLemmas.{stays_of, rising_more, last-push, len-last}
 use Rattle.syn_history.proofs.trail.add_touch.Goals as goal
 
-pub insert-requires : goal.insert-requires
-insert-requires c =
+pub index_after-index-requires : goal.index_after-index-requires
+index_after-index-requires c x e =
     let old = c.args.touches.now in
     let touch = c.args.touch in
     let out = c.push_back-dropped.result in
@@ -18,9 +19,8 @@ insert-requires c =
     None (slice_get (old.items ++ touch ∷ []) 0)) c.requires.room in
     let s = stays_of most_touches old.items touch out (lit< tt) c.requires.few indexed.rising
     c.requires.later dropped in
-    let index = c.drop_oldest-floor.ensures.index ∙ (ap (λ m. option_map_or (λ oldest.
-    forgotten m oldest) out m) indexed.last ∙ s.index) in
-    (lit< tt, omega (arith, ap map.len index, len-last s.stays, s.few))
+    let rest = ap (λ m. without m out) (indexed.last x e) ∙ s.index in
+    omega (arith, ap map.len rest, len-last s.stays, s.few)
 
 pub returns-clause-indexed : goal.returns-clause-indexed
 returns-clause-indexed c =
@@ -32,12 +32,15 @@ returns-clause-indexed c =
     None (slice_get (old.items ++ touch ∷ []) 0)) c.requires.room in
     let s = stays_of most_touches old.items touch out (lit< tt) c.requires.few indexed.rising
     c.requires.later dropped in
-    let index = c.drop_oldest-floor.ensures.index ∙ (ap (λ m. option_map_or (λ oldest.
-    forgotten m oldest) out m) indexed.last ∙ s.index) in
     let kept = ap (λ b. b.items) c.push_back-dropped.ensures.items
     ∙ (ap (λ n. keep_last n (old.items ++ touch ∷ [])) c.requires.room ∙ s.kept) in
-    let new = c.insert.ensures ∙ (ap (λ m. map.insert m c.args.slot.0 c.args.slot.1) index
-    ∙ ap (λ slot. map.insert (last_positions s.stays) slot.0 slot.1) c.requires.slot) in
-    subst (λ xs. IsIndexed xs c.insert.new.self) (sym kept)
-    (subst (IsIndexed (s.stays ++ touch ∷ [])) (sym new)
-    (indexed_more s.stays touch s.rising s.later))
+    record {
+      rising = subst (AllPairs IsEarlier) (sym kept) (rising_more s.stays touch s.rising s.later);
+      last = λ new e.
+          let on = c.index_after-index.ensures new e in
+          let rest = ap (λ m. without m out) (indexed.last on.was on.old_is) ∙ s.index in
+          on.new_is ∙ (ap (λ m. map.insert m on.entry.0 on.entry.1) rest
+          ∙ (ap (λ (slot : Path × ℕ). map.insert (last_positions s.stays) slot.0 slot.1)
+          (c.requires.slot on.entry on.slot_is)
+          ∙ (sym (last-push s.stays touch) ∙ ap last_positions (sym kept))));
+    }

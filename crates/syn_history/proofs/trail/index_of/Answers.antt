@@ -1,52 +1,38 @@
-use Rattle.std.proofs.Common.{◌++◌, ◌∷◌, [], length, length-append, sym, ap, ap₂, ◌∙◌}
-use Rattle.std.proofs.Common.{append_assoc, arith, lit<, ℕ}
-use Rattle.syn_model.specs.Path.{Path}
-use Rattle.std.specs.FinMap as map
-use Rattle.circular_buffer.specs.Buffer.{keep_last}
+use Rattle.std.proofs.Common.{[], ℕ, length, length-append, ap, ◌∙◌, arith}
+use Rattle.std.specs.FinMap.{len, len-empty}
+use Rattle.syn_model.specs.Path.{path_cmp}
 use Rattle.syn_history.specs.Index.{last_positions}
-use Rattle.syn_history.proofs.IndexLemmas.{last-push, len-last}
-use Rattle.syn_history.proofs.TouchLemmas.{has_room}
 use Rattle.syn_history.proofs.trail.index_of.Goals as goal
 
-pub insert-requires : goal.insert-requires
-insert-requires c =
-    let read = c.loop-touch.yielded in
-    let rest = c.next.new.self.rest.items in
-    let whole = c.loop-touch.invariant.whole ∙ ap (λ xs. read ++ xs) c.in-Some.ensures.steps.0 in (
-      lit< tt,
-      omega (
-        arith,
-        ap map.len c.loop-touch.invariant.last,
-        len-last read,
-        ap length whole,
-        length-append read (c.in-Some.touch ∷ rest),
-        c.requires.few,
-      ),
+pub add_later-requires : goal.add_later-requires
+add_later-requires c =
+    let older = c.as_slices.result.0.now in
+    let newer = c.as_slices.result.1.now in
+    omega (
+      arith,
+      ap len c.in_ok-index.ensures,
+      len-empty path_cmp ℕ,
+      ap length c.as_slices.ensures,
+      length-append older newer,
+      c.requires,
     )
 
-pub loop-touch-preserved : goal.loop-touch-preserved
-loop-touch-preserved c =
-    let listed = c.args.listed.items in
-    let read = c.loop-touch.yielded in
-    let touch = c.in-Some.touch in
-    let rest = c.next.new.self.rest.items in
-    let capacity = c.loop-touch.touches.capacity in
-    let whole = c.loop-touch.invariant.whole ∙ ap (λ xs. read ++ xs) c.in-Some.ensures.steps.0 in
-    let room = has_room capacity read rest listed touch whole
-    (omega (arith, c.requires.few, c.loop-touch.invariant.room)) in
-    record {
-      whole = whole ∙ sym (append_assoc read (touch ∷ []) rest);
-      pushed =
-          ap (λ b. b.items) c.push_back.ensures.items
-          ∙ (ap (λ xs. keep_last capacity (xs ++ touch ∷ [])) c.loop-touch.invariant.pushed
-          ∙ room);
-      room = ap (λ b. b.capacity) c.push_back.ensures.items ∙ c.loop-touch.invariant.room;
-      last =
-          c.insert.ensures
-          ∙ (ap (λ m. map.insert m c.in_ok-new.field-0.0 c.in_ok-new.field-0.1)
-          c.loop-touch.invariant.last
-          ∙ (ap (λ (slot : Path × ℕ). map.insert (last_positions read) slot.0 slot.1)
-          c.in_ok-new.ensures
-          ∙ (ap₂ (map.insert (last_positions read)) (c.key.ensures ∙ c.path.ensures)
-          c.position.ensures.position ∙ sym (last-push read touch))));
-    }
+pub add_later-requires-2 : goal.add_later-requires-2
+add_later-requires-2 c =
+    let older = c.as_slices.result.0.now in
+    let newer = c.as_slices.result.1.now in
+    omega (
+      arith,
+      ap len c.in_ok-index.ensures,
+      len-empty path_cmp ℕ,
+      ap length c.as_slices.ensures,
+      length-append older newer,
+      c.requires,
+      c.in_ok-add_later.ensures.room,
+    )
+
+pub returns-clause-index : goal.returns-clause-index
+returns-clause-index c =
+    c.in_ok-add_later-2.ensures.later c.as_slices.result.0.now
+    (c.in_ok-add_later.ensures.later [] c.in_ok-index.ensures)
+    ∙ ap last_positions c.as_slices.ensures
