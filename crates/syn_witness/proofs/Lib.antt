@@ -20,6 +20,7 @@ pub mod MarkedLemmas
 pub mod RefusedLemmas
 pub mod RoomLemmas
 pub mod TurnLemmas
+pub mod TurnedLemmas
 pub mod CutOffLemmas
 pub mod ShortLemmas
 pub mod RefusedCalls

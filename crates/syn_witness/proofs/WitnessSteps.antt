@@ -29,7 +29,9 @@ use Rattle.syn_headline.specs.Network.{Which, Left, Right, Asks, Answers, Sent}
 use Rattle.syn_headline.specs.Acknowledged.{Ack, kept_in}
 use Rattle.syn_headline.specs.Planning.{Planned, Log}
 use Rattle.syn_headline.specs.Coordinator.{Exchange, Outstanding, Running, CoordinatorMachine, Call}
-use Rattle.syn_headline.specs.Coordinator.{no_call, Walk, Waits, MayAsk, AsksNext, HasPlan, IsDue}
+use Rattle.syn_headline.specs.Coordinator.{no_call, Walk, Waits, MayAsk, AsksNext, AsksOnce}
+use Rattle.syn_headline.specs.Coordinator.{HasPlan}
+use Rattle.syn_headline.specs.Coordinator.{IsDue}
 use Rattle.syn_headline.specs.Coordinator.{Keeps, writes, Advances, stands, keeps, past, settled}
 use Rattle.syn_headline.specs.Coordinator.{is_recorded, archive_layout, asked_of, asked_count}
 use Rattle.syn_headline.specs.Coordinator.{asking, hearing, advanced, start_of, sent_now, fault_of}
@@ -243,16 +245,15 @@ starts_so old session up arms none next lawful new is =
     )
 
 -- what is asked for next
-pub asks_several : (number_of : Which → ℕ → ℕ) (archive : Archive) (running : Running)
-    (left right : List Request) → AllByRecursion (MayAsk archive running Left) left →
+pub asks_several : (archive : Archive) (running : Running) (left right : List Request) →
+    AllByRecursion (MayAsk archive running Left) left →
     AllByRecursion (MayAsk archive running Right) right →
     AllByRecursion (IsLawfulRequest running.session) (left ++ right) →
     (asked_count (asking running left right) Left ≤ 2 ^ 32) →
     (asked_count (asking running left right) Right ≤ 2 ^ 32) →
-    AreNumbered number_of (asking running left right) → Waits (asking running left right) →
+    AsksOnce (asking running left right) → Waits (asking running left right) →
     AsksNext archive running left right
-asks_several number_of archive running left right may_left may_right lawful few few' numbered
-    waits =
+asks_several archive running left right may_left may_right lawful few few' once waits =
     record {
       may_left = All-from_recursion (MayAsk archive running Left) left may_left;
       may_right = All-from_recursion (MayAsk archive running Right) right may_right;
@@ -260,7 +261,7 @@ asks_several number_of archive running left right may_left may_right lawful few 
       numbers =
           λ side. elim side as (λ side. asked_count (asking running left right) side ≤ 2 ^ 32)
           [ Left ↦ few | Right ↦ few' ];
-      once = asks_once number_of (asking running left right) numbered;
+      once = once;
       waits = waits;
     }
 
@@ -276,7 +277,8 @@ pub asks_so : (number_of : Which → ℕ → ℕ) (archive : Archive) (running :
     × (length (asking running left right).left ≤ 1)
     × (length (asking running left right).right ≤ 1) → AsksNext archive running left right
 asks_so number_of archive running left right may_left may_right lawful few few' numbered waits =
-    asks_several number_of archive running left right may_left may_right lawful few few' numbered
+    asks_several archive running left right may_left may_right lawful few few'
+    (asks_once number_of (asking running left right) numbered)
     (waits.0, inl waits.1, inl waits.2)
 
 -- an answer that is not the last of an item

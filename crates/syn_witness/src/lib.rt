@@ -18,6 +18,7 @@ ghost use Rattle.syn_witness.specs.Refused.{ReopeningFails};
 ghost use Rattle.syn_witness.specs.Conflict.{ConflictIsReported};
 ghost use Rattle.syn_witness.specs.Removal.{RemovalIsCarried};
 ghost use Rattle.syn_witness.specs.Still.{FilesConflict, RemovedIsMarked, RoomIsMade};
+ghost use Rattle.syn_witness.specs.Turned.{ListingsAreTurned};
 ghost use Rattle.syn_witness.specs.Unstable.{VanishedIsUnstable};
 ghost use Rattle.syn_witness.specs.Witness.{OpenedIsStart, NewRoomIs, StopIsRecovered};
 ghost use Rattle.syn_witness.specs.Witness.{FailIsRefused, CheckpointIsCut, SilenceEnds};
@@ -60,7 +61,8 @@ pub fn witnesses()
 /// replacement of a session that is over; a start while a session runs, an edit that has no room
 /// before a checkpoint, and a start and a reopening whose device call fails; and sessions that
 /// carry nothing: of two files in conflict, of one that both sides removed, and of one whose record
-/// has no room before a checkpoint.
+/// has no room before a checkpoint. In one run two listings wait on a side at once, and the second
+/// is answered first.
 pub fn short_witnesses()
     ensures start { StartIsRecovered }
     ensures replacement { ReplacementIsRecovered }
@@ -76,6 +78,7 @@ pub fn short_witnesses()
     ensures files { FilesConflict }
     ensures removed { RemovedIsMarked }
     ensures room { RoomIsMade }
+    ensures turned { ListingsAreTurned }
 {}
 
 /// What no run does. Without a stop among the steps no machine goes down, and an edit takes its

@@ -6,6 +6,7 @@ use Rattle.syn_witness.proofs.RefusedCalls.{second_start_is_busy, full_is_compac
 use Rattle.syn_witness.proofs.RefusedCalls.{reopening_fails}
 use Rattle.syn_witness.proofs.TwoFilesLemmas.{files_conflict, room_is_made}
 use Rattle.syn_witness.proofs.BothRemovedLemmas.{removed_is_marked}
+use Rattle.syn_witness.proofs.TurnedLemmas.{listings_are_turned}
 use Rattle.syn_witness.proofs.short_witnesses.Goals as goal
 
 pub returns-clause-start : goal.returns-clause-start
@@ -49,3 +50,6 @@ returns-clause-room c = room_is_made
 
 pub returns-clause-removed : goal.returns-clause-removed
 returns-clause-removed c = removed_is_marked
+
+pub returns-clause-turned : goal.returns-clause-turned
+returns-clause-turned c = listings_are_turned
