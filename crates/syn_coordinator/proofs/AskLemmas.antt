@@ -1,28 +1,30 @@
 -- A session that asks for what comes next.
-use Rattle.std.proofs.Common.{◌≡◌, ◌≤◌, ◌<◌, ◌^◌, ◌⊎◌, ◌+◌, ℕ, suc, true, List, [], ◌∷◌, ◌++◌}
-use Rattle.std.proofs.Common.{length, Option, Some, None, refl, sym, ap, ap₂, ◌∙◌, subst, inl, inr}
-use Rattle.std.proofs.Common.{arith}
-use Rattle.std.specs.Prelude.{All, Contains, is_some}
+use Rattle.std.proofs.Common.{◌≡◌, ◌≤◌, ◌<◌, ◌^◌, ◌⊎◌, ◌+◌, ℕ, zero, suc, Bool, true, false, nat_lt}
+use Rattle.std.proofs.Common.{List, [], ◌∷◌, ◌++◌, length, get_or, refl, sym, ap, ap₂, ◌∙◌, subst}
+use Rattle.std.proofs.Common.{inl, inr, arith}
+use Rattle.std.specs.Prelude.{All, AllPairs, Contains}
 use Rattle.std.specs.List.{count_by}
+use Rattle.std.proofs.lemmas.Bool.Decides.{nat_tests}
 use Rattle.std.proofs.lemmas.List.{length-append}
 use Rattle.std.proofs.lemmas.List.Elements.{All-contains_itself, Contains-append_cases}
-use Rattle.std.proofs.lemmas.List.Elements.{Contains-push_cases}
-use Rattle.syn_headline.specs.Coordinator.{AsksNext, AsksOnce, MayAsk, Outstanding, Running, Waits}
+use Rattle.std.proofs.lemmas.List.Elements.{Contains-get_or}
+use Rattle.syn_headline.specs.Coordinator.{AreRising, AsksNext, AsksOnce, MayAsk, MayWait}
+use Rattle.syn_headline.specs.Coordinator.{Outstanding, Running, Waits}
 use Rattle.syn_headline.specs.Coordinator.{asked_count, asking, messages_to, numbered, outstanding}
 use Rattle.syn_headline.specs.Coordinator.{sent_now}
 use Rattle.syn_headline.specs.Network.{IsRepeat, Left, Right, Which, is_side}
 use Rattle.syn_headline.specs.Session.{WasAsked}
 use Rattle.syn_headline.specs.Side.{Begin, Fetch, IsLawfulBody, IsLawfulRequest, ListAt, Replace}
 use Rattle.syn_headline.specs.Side.{Request, Stage}
-use Rattle.syn_message.specs.declared.request.Request.{Request as Asked}
+use Rattle.syn_headline.proofs.Rising.{numbered-rising}
 use Rattle.syn_model.specs.Archive.{Archive}
-use Rattle.syn_session.specs.declared.requests.Waiting.{Waiting}
 use Rattle.syn_session.specs.declared.session.Asks.{Asks}
 use Rattle.syn_session.specs.declared.session.Session.{Session}
-use Rattle.syn_session.specs.Answering.{IsAskedOn, IsHeard, asks_of, messages_asked, requests_of}
+use Rattle.syn_session.specs.Answering.{IsAskedOn, IsHeard, asks_of, messages_asked}
 use Rattle.syn_session.specs.Hearing.{IsFresh}
-use Rattle.syn_session.specs.Sessions.{IsLine, waiting_of}
-use Rattle.syn_session.specs.Stages.{line_of}
+use Rattle.syn_session.specs.Sessions.{IsLine}
+use Rattle.syn_session.specs.Stages.{line_of, waiting_of}
+use Rattle.syn_session.proofs.WaitingLemmas.{below_more}
 
 -- two that ask for the same thing do so in either order
 pub repeat_back : (a b : Request) → IsRepeat a b → IsRepeat b a
@@ -59,30 +61,40 @@ length-numbered : (requests : List Request) (n : ℕ) → length (numbered n req
 length-numbered [] n = refl
 length-numbered (request ∷ more) n = ap suc (length-numbered more (suc n))
 
-few_requests : (next : Option Asked) → length (requests_of next) ≤ 1
-few_requests None = omega arith
-few_requests (Some request) = omega arith
-
-few_waiting : (waiting : Option Waiting) → length (waiting_of waiting) ≤ 1
-few_waiting None = omega arith
-few_waiting (Some one) = omega arith
-
-some_waiting : (waiting : Option Waiting) → is_some waiting ≡ true → length (waiting_of waiting) ≡ 1
-some_waiting None e = absurd (Rattle.std.proofs.lemmas.Bool.false≢true e)
-some_waiting (Some one) e = refl
+-- where a request stands that is numbered
+numbered_at : (count : ℕ) (requests : List Request) (one : Outstanding) →
+    Contains (numbered count requests) one → (i : ℕ) × (i < length requests)
+    × (one.number ≡ count + i) × ((d : Request) → get_or requests i d ≡ one.request)
+numbered_at count [] one has = absurd (none_in one has)
+numbered_at count (request ∷ more) one (zero, h, e) = (
+  0,
+  omega arith,
+  (let at = ap (λ (o : Outstanding). o.number) e in omega (arith, at)),
+  λ d. ap (λ (o : Outstanding). o.request) e,
+)
+numbered_at count (request ∷ more) one (suc k, h, e) =
+    let rest = numbered_at (suc count) more one (k, omega (arith, h), e) in (
+      suc rest.0,
+      (let less = rest.1 in omega (arith, less)),
+      (let at = rest.2 in omega (arith, at)),
+      rest.3,
+    )
 
 module _ (heard : Running) (old new : Session) (asks : Asks) (is : IsHeard old heard)
     (asked : (side : Which) → IsAskedOn (line_of old side) (line_of new side) (asks_of asks side))
     (number : new.number ≡ old.number)
-    (free : (side : Which) → (asks_of asks side ≡ []) ⊎ ((line_of old side).waiting ≡ None)) where
+    (may_wait : (side : Which) → MayWait (waiting_of (line_of old side)
+    ++ numbered (line_of old side).asked (asks_of asks side)))
+    (apart : (side : Which) → AllPairs (λ one another. ¬ IsRepeat one another)
+    (asks_of asks side)) where
   abbrev pub then_asking : Running
   then_asking = asking heard (asks_of asks Left) (asks_of asks Right)
 
   waits_on : (side : Which) → outstanding heard side ++ numbered (asked_count heard side)
-      (asks_of asks side) ≡ waiting_of (line_of new side).waiting
+      (asks_of asks side) ≡ waiting_of (line_of new side)
   waits_on side =
       ap₂ (λ w n. w ++ numbered n (asks_of asks side)) (is.line side).waits (is.line side).count
-      ∙ sym ((asked side).waits (free side))
+      ∙ sym (asked side).waits
 
   outstanding_on : (side : Which) → outstanding then_asking side
       ≡ outstanding heard side ++ numbered (asked_count heard side) (asks_of asks side)
@@ -119,37 +131,30 @@ module _ (heard : Running) (old new : Session) (asks : Asks) (is : IsHeard old h
 
   pub line_asked : (side : Which) → IsLine (line_of new side) then_asking side
   line_asked side =
+      let was = is.line side in
       record {
         waits = outstanding_on side ∙ waits_on side;
         count = count_on side;
         few = few_on side;
+        rising =
+            subst AreRising (sym (asked side).waits)
+            (numbered-rising (waiting_of (line_of old side)) (line_of old side).asked
+            (asks_of asks side) was.rising was.below);
+        below =
+            subst (λ w. All (λ one. one.number < (line_of new side).asked) w)
+            (sym (asked side).waits) (subst (λ n. All (λ one. one.number < n)
+            (waiting_of (line_of old side)
+            ++ numbered (line_of old side).asked (asks_of asks side))) (sym (asked side).count)
+            (below_more (waiting_of (line_of old side)) (line_of old side).asked
+            (asks_of asks side) was.below));
+        may = subst MayWait (sym (asked side).waits) (may_wait side);
       }
 
   -- what was asked by then was asked before, or is asked now
   data AskedBy (side : Which) (n : ℕ) (a : Request) : Type 0 where
     before : WasAsked heard side n a → AskedBy side n a
-    now : n ≡ asked_count heard side → Contains (asks_of asks side) a → AskedBy side n a
-
-  one_numbered : (next : Option Asked) (count n : ℕ) (a : Request) (k : ℕ) →
-      (let waits : Outstanding = record { number = n; request = a; resent = k } in
-      Contains (numbered count (requests_of next)) waits) →
-      (n ≡ count) × Contains (requests_of next) a
-  one_numbered None count n a k has = absurd (none_in _ has)
-  one_numbered (Some request) count n a k has =
-      elim (Contains-push_cases [] _ _ has)
-      as (λ _. (n ≡ count) × Contains (requests_of (Some request)) a) [
-        | inl never ↦ absurd (none_in _ never)
-        | inr is ↦ (
-          sym (ap (λ (o : Outstanding). o.number) is),
-          subst (λ r. Contains (requests_of (Some request)) r)
-              (ap (λ (o : Outstanding). o.request) is)
-              (Rattle.std.proofs.lemmas.List.Elements.Contains-push [] _),
-        )
-      ]
-
-  next_on : (side : Which) → (next : Option Asked) × (asks_of asks side ≡ requests_of next)
-  next_on Left = (asks.left, refl)
-  next_on Right = (asks.right, refl)
+    now : (i : ℕ) → i < length (asks_of asks side) → n ≡ asked_count heard side + i →
+        ((d : Request) → get_or (asks_of asks side) i d ≡ a) → AskedBy side n a
 
   asked_by : (side : Which) (n : ℕ) (a : Request) → WasAsked then_asking side n a → AskedBy side n a
   asked_by side n a (inl taken) = before (inl taken)
@@ -160,12 +165,45 @@ module _ (heard : Running) (old new : Session) (asks : Asks) (is : IsHeard old h
       Contains l waits) (outstanding_on side) has)) as (λ _. AskedBy side n a) [
         | inl was ↦ before (inr (k, was))
         | inr is_new ↦
-            let next = next_on side in
-            let one = one_numbered next.0 (asked_count heard side) n a k
-            (subst (λ l. let waits : Outstanding = record { number = n; request = a; resent = k } in
-            Contains (numbered (asked_count heard side) l) waits) next.1 is_new) in
-            now one.0 (subst (λ l. Contains l a) (sym next.1) one.1)
+            let at = numbered_at (asked_count heard side) (asks_of asks side)
+            (record { number = n; request = a; resent = k }) is_new in
+            now at.0 at.1 at.2 at.3
       ]
+
+  -- two that are asked for now are not the same
+  not_twice : (side : Which) (i j : ℕ) (a b : Request) → i < j → j < length (asks_of asks side) →
+      ((d : Request) → get_or (asks_of asks side) i d ≡ a) →
+      ((d : Request) → get_or (asks_of asks side) j d ≡ b) → IsRepeat a b → ⊥
+  not_twice side i j a b first less at_i at_j repeat =
+      apart side i j a first less
+      (subst (λ q. IsRepeat q (get_or (asks_of asks side) j a)) (sym (at_i a))
+      (subst (IsRepeat a) (sym (at_j a)) repeat))
+
+  same_place : (side : Which) (i j : ℕ) (a b : Request) → i < length (asks_of asks side) →
+      j < length (asks_of asks side) → ((d : Request) → get_or (asks_of asks side) i d ≡ a) →
+      ((d : Request) → get_or (asks_of asks side) j d ≡ b) → IsRepeat a b → i ≡ j
+  same_place side i j a b less_i less_j at_i at_j repeat = by (compared i j)
+    where
+      compared : (i j : ℕ) → (i < j) ⊎ ((j < i) ⊎ (i ≡ j))
+      compared i j = by_tests (nat_lt i j) (nat_lt j i) refl refl
+        where
+          below : (m n : ℕ) → nat_lt m n ≡ true → m < n
+          below m n e = grind (arith, nat_tests)
+
+          equal : (m n : ℕ) → nat_lt m n ≡ false → nat_lt n m ≡ false → m ≡ n
+          equal m n e f = grind (arith, nat_tests)
+
+          by_tests : (a b : Bool) → nat_lt i j ≡ a → nat_lt j i ≡ b →
+              (i < j) ⊎ ((j < i) ⊎ (i ≡ j))
+          by_tests true b e f = inl (below i j e)
+          by_tests false true e f = inr (inl (below j i f))
+          by_tests false false e f = inr (inr (equal i j e f))
+
+      by : (i < j) ⊎ ((j < i) ⊎ (i ≡ j)) → i ≡ j
+      by (inl first) = absurd (not_twice side i j a b first less_j at_i at_j repeat)
+      by (inr (inl second)) =
+          absurd (not_twice side j i b a second less_i at_j at_i (repeat_back a b repeat))
+      by (inr (inr same)) = same
 
   module _ (fresh : (side : Which) (request : Request) → Contains (asks_of asks side) request →
       IsFresh heard side request) where
@@ -173,11 +211,21 @@ module _ (heard : Running) (old new : Session) (asks : Asks) (is : IsHeard old h
     asks_once side m n a b was_m was_n repeat =
         by (asked_by side m a was_m) (asked_by side n b was_n)
       where
+        among : (i : ℕ) (r : Request) → i < length (asks_of asks side) →
+            ((d : Request) → get_or (asks_of asks side) i d ≡ r) → Contains (asks_of asks side) r
+        among i r less at =
+            subst (Contains (asks_of asks side)) (at r)
+            (Contains-get_or (asks_of asks side) i r less)
+
         by : AskedBy side m a → AskedBy side n b → m ≡ n
         by (before x) (before y) = is.once side m n a b x y repeat
-        by (before x) (now e has) = absurd (fresh side b has m a x repeat)
-        by (now e has) (before y) = absurd (fresh side a has n b y (repeat_back a b repeat))
-        by (now e has) (now f had) = e ∙ sym f
+        by (before x) (now j less e at) =
+            absurd (fresh side b (among j b less at) m a x repeat)
+        by (now i less e at) (before y) =
+            absurd (fresh side a (among i a less at) n b y (repeat_back a b repeat))
+        by (now i less_i e at_i) (now j less_j f at_j) =
+            e ∙ (ap (λ k. asked_count heard side + k)
+            (same_place side i j a b less_i less_j at_i at_j repeat) ∙ sym f)
 
     -- it has asked for that
     pub heard_asking : IsHeard new then_asking
@@ -192,7 +240,8 @@ module _ (heard : Running) (old new : Session) (asks : Asks) (is : IsHeard old h
 
     module _ (archive : Archive) (may : (side : Which) (request : Request) → Contains
         (asks_of asks side) request → MayAsk archive heard side request × IsLawfulBody request)
-        (some : (is_some new.left.waiting ≡ true) ⊎ (is_some new.right.waiting ≡ true)) where
+        (some : (side : Which)
+        × (1 ≤ length (waiting_of (line_of old side)) + length (asks_of asks side))) where
       each : (side : Which) (P : Request → Type 0) →
           ((request : Request) → Contains (asks_of asks side) request → P request) →
           All P (asks_of asks side)
@@ -206,22 +255,26 @@ module _ (heard : Running) (old new : Session) (asks : Asks) (is : IsHeard old h
             | inr has ↦ (subst (λ n. n < 2 ^ 64) (sym is.number) is.lawful, (may Right _ has).1)
           ]
 
-      length_on : (side : Which) → length (outstanding then_asking side) ≤ 1
-      length_on side =
-          subst (λ n. n ≤ 1) (sym (ap length (line_asked side).waits))
-          (few_waiting (line_of new side).waiting)
+      may_on : (side : Which) → MayWait (outstanding then_asking side)
+      may_on side = subst MayWait (sym (line_asked side).waits) (line_asked side).may
+
+      some_on : (side : Which) →
+          1 ≤ length (waiting_of (line_of old side)) + length (asks_of asks side) →
+          1 ≤ length (outstanding then_asking side)
+      some_on side more =
+          let long = ap length ((line_asked side).waits ∙ (asked side).waits) in
+          let both = length-append (waiting_of (line_of old side))
+          (numbered (line_of old side).asked (asks_of asks side)) in
+          let same = length-numbered (asks_of asks side) (line_of old side).asked in
+          omega (arith, long, both, same, more)
+
+      one_waits : (side : Which) → 1 ≤ length (outstanding then_asking side) →
+          1 ≤ length then_asking.left + length then_asking.right
+      one_waits Left more = omega (arith, more)
+      one_waits Right more = omega (arith, more)
 
       waits_then : Waits then_asking
-      waits_then = (
-        elim some as (λ _. 1 ≤ length then_asking.left + length then_asking.right) [
-          | inl left ↦ let one = ap length (line_asked Left).waits
-              ∙ some_waiting new.left.waiting left in omega (arith, one)
-          | inr right ↦ let one = ap length (line_asked Right).waits
-              ∙ some_waiting new.right.waiting right in omega (arith, one)
-        ],
-        inl (length_on Left),
-        inl (length_on Right),
-      )
+      waits_then = (one_waits some.0 (some_on some.0 some.1), may_on Left, may_on Right)
 
       -- so that it may go on with that
       pub asks_next : AsksNext archive heard (asks_of asks Left) (asks_of asks Right)

@@ -1,12 +1,13 @@
 -- A session that has made its plan, or goes on in it, behind an answer.
 use Rattle.std.proofs.Common.{◌≡◌, ℕ, false, ◌||◌, List, [], ◌∷◌, ◌++◌, Option, Some, None, refl}
-use Rattle.std.proofs.Common.{sym, ap, ◌∙◌, subst}
-use Rattle.std.specs.Prelude.{option_map, unwrap_or}
+use Rattle.std.proofs.Common.{sym, ap, ◌∙◌, subst, ◌≤◌, arith, length, map}
+use Rattle.std.specs.Prelude.{Contains}
+use Rattle.std.proofs.lemmas.List.{length-map}
 use Rattle.std.proofs.lemmas.List.Elements.{Contains-push}
 use Rattle.std.proofs.lemmas.Option.{none-some}
 use Rattle.syn_disk.specs.declared.disk.Disk.{Ghosts}
 use Rattle.syn_headline.specs.Coordinator.{Exchange, HasPlan, Running, fault_of, hearing}
-use Rattle.syn_headline.specs.Coordinator.{is_not_dir, is_unstable, makes, stays}
+use Rattle.syn_headline.specs.Coordinator.{Outstanding, is_not_dir, is_unstable, makes, stays}
 use Rattle.syn_headline.specs.Network.{Left, Right, Which, other}
 use Rattle.syn_headline.specs.Side.{Begin, Fetch, Listed, ListAt, NotDir, Replace, Request, Stage}
 use Rattle.syn_headline.specs.Side as said
@@ -27,10 +28,10 @@ use Rattle.syn_session.specs.declared.course.Course.{Course}
 use Rattle.syn_session.specs.declared.line.Line.{Line}
 use Rattle.syn_coordinator.specs.declared.ended.Ended.{Ended}
 use Rattle.syn_coordinator.specs.declared.ended.Ended.TheVariants.{Early}
-use Rattle.syn_session.specs.declared.requests.Waiting.{Waiting}
 use Rattle.syn_session.specs.declared.session.Session.{Session}
 use Rattle.syn_session.specs.Answering.{IsAnswering, IsHeard, exchange_of}
-use Rattle.syn_coordinator.specs.inner.Taking.{asks_to, TakesEnd, TakesOn, TakesSo}
+use Rattle.syn_coordinator.specs.inner.Taking.{TakesEnd, TakesOn, TakesSo}
+use Rattle.syn_session.specs.declared.session.Asks.TheVariants.{One}
 use Rattle.syn_coordinator.specs.inner.Carrying.{CarriesOn, EndsCarrying}
 use Rattle.syn_coordinator.specs.inner.Carrying as carrying
 use Rattle.syn_session.specs.Hearing.{HasHeard, IsScanned, behind}
@@ -38,19 +39,19 @@ use Rattle.syn_session.specs.Plans.{Plan}
 use Rattle.syn_session.specs.Sessions.{IsLine, IsSession, IsStage, Tells}
 use Rattle.syn_coordinator.specs.inner.Settling.{AsksSo, EndsSo, IsQuiet}
 use Rattle.syn_session.specs.Stages.{Carries, IsAskedBefore, IsCarrying, IsCourse, IsOfScan}
-use Rattle.syn_session.specs.Stages.{Reached, asks_now, found_on, line_of, plan_in, reached_by}
+use Rattle.syn_session.specs.Stages.{Reached, found_on, line_of, plan_in, reached_by, requests_on}
+use Rattle.syn_session.specs.Stages.{waiting_of}
 use Rattle.syn_coordinator.specs.inner.Taking as taking
 use Rattle.syn_coordinator.specs.inner.Walking.{ComesToAsk, Ends, IsAtItem}
 use Rattle.syn_session.specs.Passing.{first_reached}
 use Rattle.syn_session.proofs.AnswerLemmas.{heard_so, unstable_then}
 use Rattle.syn_coordinator.proofs.CarryLemmas.{asks_course, ends_course}
-use Rattle.syn_session.proofs.TellingLemmas.{asked_first, by_sides, or_false, scans_further}
+use Rattle.syn_session.proofs.TellingLemmas.{by_sides, or_false, scans_further}
 use Rattle.syn_session.proofs.TellingLemmas.{tells_heard}
 use Rattle.syn_coordinator.proofs.MakingLemmas.{made_of, makes_plan}
-use Rattle.syn_session.proofs.SessionLemmas.{asks_first}
+use Rattle.syn_session.proofs.WaitingLemmas.{alone_is, asked_has, only_in}
 use Rattle.syn_coordinator.proofs.TakeLemmas.{hears_end}
 use Rattle.syn_coordinator.proofs.TriedLemmas.{tries_none}
-use Rattle.syn_message.specs.Requests.{request_of}
 
 -- ---- whatever its plan, a session is heard alike
 
@@ -64,8 +65,8 @@ heard_with session course heard h =
     line Right = h.line Right
 
 silent_with : (session : Session) (course : Option Course) →
-    ((side : Which) → (line_of session side).waiting ≡ None) → (side : Which) →
-    (line_of (record session { course = course }) side).waiting ≡ None
+    ((side : Which) → waiting_of (line_of session side) ≡ []) → (side : Which) →
+    waiting_of (line_of (record session { course = course }) side) ≡ []
 silent_with session course silent Left = silent Left
 silent_with session course silent Right = silent Right
 
@@ -129,10 +130,10 @@ module _ {D : Type 0} {disk : Ghosts D} (old : Coordinator D disk) (pair : ℕ) 
         pub begins_asking : (side : Side) (request : Asked) →
             AsksSo old new pair taken journal first course left right (running.taken ++ taken ∷ [])
             (side, request) → TakesOn new.archive pair journal running taken later (written new)
-            (asks_to side request)
+            (One side request)
         begins_asking side request so =
             subst (λ k. TakesOn new.archive pair journal running taken later k
-            (asks_to side request)) (sym (so.1 ∙ ap (λ l. l ++ so.0) nothing))
+            (One side request)) (sym (so.1 ∙ ap (λ l. l ++ so.0) nothing))
             (asks_course new.archive pair journal running taken later course refl
             (heard_with session (Some course) (hearing running taken) heard.heard_is)
             heard.unstable (silent_with session (Some course) scanned.silent) fault first
@@ -185,10 +186,13 @@ is_stable taken side c request it said.Done fault = refl
 is_stable taken side c request it (said.Refused why) fault = refl
 
 -- nothing waits where nothing is asked
-none_waits : (waiting : Option Waiting) →
-    option_map (λ one. request_of one.request) waiting ≡ None → waiting ≡ None
-none_waits None e = refl
-none_waits (Some one) e = absurd (none-some _ (sym e))
+none_waits : (waiting : List Outstanding) →
+    map (λ (one : Outstanding). one.request) waiting ≡ [] → waiting ≡ []
+none_waits [] e = refl
+none_waits (one ∷ more) e = let long = ap length e in absurd (omega (arith, long))
+
+no_such : {T : Type 0} (x : T) → Contains [] x → ⊥
+no_such x has = omega (arith, has.1)
 
 module _ (pair : ℕ) (journal : Journal) (before session : Session) (running : Running)
     (side : Which) (number : ℕ) (request : Request) (reply : said.Reply)
@@ -203,42 +207,52 @@ module _ (pair : ℕ) (journal : Journal) (before session : Session) (running : 
       subst (λ c. IsStage journal.value before c running.taken (reached_by running))
       (sym answers.course ∙ was) is.stage
 
-  asked_now : asks_now (line_of before side) ≡ Some request
-  asked_now =
-      asks_first (line_of before side).waiting
-      ∙ asked_first (line_of before side).waiting number request answers.asked
+  asked_now : Contains (requests_on (line_of before side)) request
+  asked_now = asked_has (waiting_of (line_of before side)) number request answers.asked
 
   -- the side that answers is the one that was asked
-  own_side : (to : Which) → asks_now (line_of before (other to)) ≡ None → to ≡ side
+  own_side : (to : Which) → requests_on (line_of before (other to)) ≡ [] → to ≡ side
   own_side Left none = by side asked_now
     where
-      by : (on : Which) → asks_now (line_of before on) ≡ Some request → Left ≡ on
+      by : (on : Which) → Contains (requests_on (line_of before on)) request → Left ≡ on
       by Left asks = refl
-      by Right asks = absurd (none-some _ (sym none ∙ asks))
+      by Right asks = absurd (no_such request (subst (λ l. Contains l request) none asks))
   own_side Right none = by side asked_now
     where
-      by : (on : Which) → asks_now (line_of before on) ≡ Some request → Right ≡ on
-      by Left asks = absurd (none-some _ (sym none ∙ asks))
+      by : (on : Which) → Contains (requests_on (line_of before on)) request → Right ≡ on
+      by Left asks = absurd (no_such request (subst (λ l. Contains l request) none asks))
       by Right asks = refl
 
   asked_side : carrying_then.to ≡ side
   asked_side = own_side carrying_then.to carrying_then.alone
 
+  waits_now : requests_on (line_of before side) ≡ carrying_then.request ∷ []
+  waits_now =
+      subst (λ w. requests_on (line_of before w) ≡ carrying_then.request ∷ []) asked_side
+      carrying_then.waits
+
   asked_it : carrying_then.request ≡ request
   asked_it =
-      ap (λ o. unwrap_or o request) (sym (subst (λ w. asks_now (line_of before w)
-      ≡ Some carrying_then.request) asked_side carrying_then.waits) ∙ asked_now)
+      only_in carrying_then.request request (subst (λ l. Contains l request) waits_now asked_now)
 
   same_scan : (on : Which) → (line_of session on).scan ≡ (line_of before on).scan
   same_scan =
       by_sides (λ on. (line_of session on).scan ≡ (line_of before on).scan) side answers.scan
       (ap (λ (l : Line). l.scan) answers.across)
 
-  pub silent_now : (on : Which) → (line_of session on).waiting ≡ None
-  silent_now = by_sides (λ on. (line_of session on).waiting ≡ None) side answers.silent
-      (ap (λ (l : Line). l.waiting) answers.across
-      ∙ none_waits (line_of before (other side)).waiting
-      (subst (λ w. asks_now (line_of before (other w)) ≡ None) asked_side carrying_then.alone))
+  pub silent_now : (on : Which) → waiting_of (line_of session on) ≡ []
+  silent_now = by_sides (λ on. waiting_of (line_of session on) ≡ []) side
+      (answers.waits (is.line side).rising
+      ∙ alone_is (waiting_of (line_of before side)) number request few answers.asked)
+      (ap waiting_of answers.across ∙ none_waits (waiting_of (line_of before (other side)))
+      (subst (λ w. requests_on (line_of before (other w)) ≡ []) asked_side carrying_then.alone))
+    where
+      few : length (waiting_of (line_of before side)) ≤ 1
+      few =
+          let one = ap length waits_now in
+          let same = length-map (waiting_of (line_of before side))
+          (λ (one : Outstanding). one.request) in
+          omega (arith, one, same)
 
   module _ (left right : Found) (same_left : left ≡ found_on session Left)
       (same_right : right ≡ found_on session Right) where
@@ -286,9 +300,9 @@ module _ (pair : ℕ) (journal : Journal) (before session : Session) (running : 
 
       pub carries_asking : (asker : Side) (asks : Asked) → CarriesOn old new pair taken journal
           (reached_by running) later left right running.taken (asker, asks) →
-          TakesOn new.archive pair journal running taken next (written new) (asks_to asker asks)
+          TakesOn new.archive pair journal running taken next (written new) (One asker asks)
       carries_asking asker asks so =
-          subst (λ k. TakesOn new.archive pair journal running taken next k (asks_to asker asks))
+          subst (λ k. TakesOn new.archive pair journal running taken next k (One asker asks))
           (sym (so.asks_so.1 ∙ ap (λ l. l ++ so.asks_so.0) nothing))
           (asks_course new.archive pair journal running taken next later refl heard
           (unstable so.fault) (silent_with session (Some later) silent_now) so.fault

@@ -1,16 +1,16 @@
 -- A session that carries out its plan goes on, or comes to its end.
-use Rattle.std.proofs.Common.{◌≡◌, ◌≢◌, ◌⊎◌, ℕ, true, List, [], ◌∷◌, ◌++◌, Option, Some, None, refl}
-use Rattle.std.proofs.Common.{sym, ap, ap₂, ◌∙◌, subst, inl, inr, arith}
+use Rattle.std.proofs.Common.{◌≡◌, ◌≢◌, ℕ, true, List, [], ◌∷◌, ◌++◌, Option, Some, None, refl}
+use Rattle.std.proofs.Common.{sym, ap, ap₂, ◌∙◌, subst, inl, inr, arith, ◌≤◌, ◌+◌, length, map}
 use Rattle.std.specs.Option.{option_map_or}
-use Rattle.std.specs.Prelude.{Contains, is_some, option_map, slice_get}
-use Rattle.std.proofs.lemmas.List.{append-nil}
+use Rattle.std.specs.Prelude.{AllPairs, Contains, slice_get}
+use Rattle.std.proofs.lemmas.List.{append-nil, length-append}
 use Rattle.std.proofs.lemmas.List.Elements.{Contains-push_cases}
 use Rattle.syn_archive.specs.declared.archive.Archive.{Archive}
 use Rattle.syn_disk.specs.declared.disk.Disk.{Ghosts}
 use Rattle.syn_headline.specs.Coordinator.{Advances, AsksOnce, Exchange, HasPlan, MayAsk}
 use Rattle.syn_headline.specs.Coordinator.{Outstanding, Running, Walk, fault_of, hearing, is_last}
-use Rattle.syn_headline.specs.Coordinator.{is_unstable, numbered, stands}
-use Rattle.syn_headline.specs.Network.{Left, Right, Which, other}
+use Rattle.syn_headline.specs.Coordinator.{MayWait, is_unstable, numbered, stands}
+use Rattle.syn_headline.specs.Network.{IsRepeat, Left, Right, Which, other}
 use Rattle.syn_headline.specs.Planning.{Log, Planned, WritesTo, seen_on}
 use Rattle.syn_headline.specs.Session.{IsStagedTo, WasTaken, first_total, is_wanted, record_for}
 use Rattle.syn_headline.specs.Side.{Begin, Fetch, IsLawfulBody, ListAt, Piece, Replace, Request}
@@ -35,18 +35,18 @@ use Rattle.syn_coordinator.specs.declared.ended.Ended.{Ended}
 use Rattle.syn_session.specs.declared.session.Session.{Session}
 use Rattle.syn_keep.specs.declared.tried.Tried.{Tried}
 use Rattle.syn_session.specs.Answering.{IsHeard, asks_of}
-use Rattle.syn_coordinator.specs.inner.Taking.{asks_to, TakesEnd, TakesOn, Walks, reaching}
+use Rattle.syn_coordinator.specs.inner.Taking.{TakesEnd, TakesOn, Walks, reaching}
+use Rattle.syn_session.specs.declared.session.Asks.TheVariants.{One}
 use Rattle.syn_session.specs.Hearing.{IsAsking, IsFresh}
-use Rattle.syn_session.specs.Sessions.{IsLine, IsStage, Tells, TellsOf, waiting_of}
-use Rattle.syn_session.specs.declared.requests.Waiting.{Waiting}
+use Rattle.syn_session.specs.Sessions.{IsLine, IsStage, Tells, TellsOf}
 use Rattle.syn_image.specs.Archives.{kept_of}
-use Rattle.std.proofs.lemmas.Option.{none-some}
-use Rattle.syn_session.specs.Stages.{Carries, IsCarriageOf, IsCourse, Reached, asks_now, found_on}
-use Rattle.syn_session.specs.Stages.{line_of, plan_in, reached_by}
+use Rattle.syn_session.specs.Stages.{Carries, IsCarriageOf, IsCourse, Reached, found_on}
+use Rattle.syn_session.specs.Stages.{line_of, plan_in, reached_by, requests_on, waiting_of}
 use Rattle.syn_coordinator.specs.inner.Taking as taking
 use Rattle.syn_coordinator.specs.inner.Walking.{ComesToAsk, Ends, HasKept, ends, goes_down, plan_at}
 use Rattle.syn_coordinator.specs.inner.Walking.{walk_at}
-use Rattle.syn_session.proofs.SessionLemmas.{asks_first, first_request}
+use Rattle.syn_session.proofs.WaitingLemmas.{numbered_requests}
+use Rattle.syn_headline.proofs.Heard.{numbered-length}
 use Rattle.syn_session.proofs.CarryingLemmas.{source_other, marks_of}
 
 no_such : {T : Type 0} (x : T) → Contains [] x → ⊥
@@ -145,12 +145,22 @@ heard_reaching session running taken after h =
   where
     line : (side : Which) → IsLine (line_of session side) (reaching running taken after) side
     line Left =
-        record { waits = (h.line Left).waits; count = (h.line Left).count; few = (h.line Left).few }
+        record {
+          waits = (h.line Left).waits;
+          count = (h.line Left).count;
+          few = (h.line Left).few;
+          rising = (h.line Left).rising;
+          below = (h.line Left).below;
+          may = (h.line Left).may;
+        }
     line Right =
         record {
           waits = (h.line Right).waits;
           count = (h.line Right).count;
           few = (h.line Right).few;
+          rising = (h.line Right).rising;
+          below = (h.line Right).below;
+          may = (h.line Right).may;
         }
 
     once : AsksOnce (reaching running taken after)
@@ -162,7 +172,7 @@ module _ {D : Type 0} {disk : Ghosts D} (new : Archive D disk) (pair : ℕ) (jou
     (is_course : session.course ≡ Some course)
     (heard : IsHeard session (hearing running taken))
     (unstable : is_unstable (hearing running taken) ≡ session.is_unstable)
-    (silent : (side : Which) → (line_of session side).waiting ≡ None)
+    (silent : (side : Which) → waiting_of (line_of session side) ≡ [])
     (fault : fault_of running.taken taken.side taken.request taken.reply ≡ None) (before : Reached)
     (same_cursor : before.cursor ≡ running.cursor)
     (same_refused : before.refused ≡ running.refused) (same_kept : before.kept ≡ running.kept)
@@ -225,7 +235,7 @@ module _ {D : Type 0} {disk : Ghosts D} (new : Archive D disk) (pair : ℕ) (jou
 
     -- only that is asked
     only_that : (side : Which) (request : Request) →
-        Contains (asks_of (asks_to asks.0 asks.1) side) request →
+        Contains (asks_of (One asks.0 asks.1) side) request →
         (side ≡ which_of asks.0) × (request ≡ request_of asks.1)
     only_that side request contains = by asks.0 side contains
       where
@@ -234,7 +244,7 @@ module _ {D : Type 0} {disk : Ghosts D} (new : Archive D disk) (pair : ℕ) (jou
             elim (Contains-push_cases [] _ _ contains_it) as (λ _. request ≡ request_of asks.1)
             [ inl never ↦ absurd (no_such _ never) | inr same ↦ sym same ]
 
-        by : (to : Side) (on : Which) → Contains (asks_of (asks_to to asks.1) on) request →
+        by : (to : Side) (on : Which) → Contains (asks_of (One to asks.1) on) request →
             (on ≡ which_of to) × (request ≡ request_of asks.1)
         by side_is.Left Left contains_it = (refl, one contains_it)
         by side_is.Left Right contains_it = absurd (no_such _ contains_it)
@@ -246,60 +256,56 @@ module _ {D : Type 0} {disk : Ghosts D} (new : Archive D disk) (pair : ℕ) (jou
     fresh_so Left n was (inr (k, contains_it)) repeat =
         no_such _
         (subst (λ l. let waits : Outstanding = record { number = n; request = was; resent = k } in
-        Contains l waits) ((heard.line Left).waits ∙ ap waiting_of (silent Left)) contains_it)
+        Contains l waits) ((heard.line Left).waits ∙ silent Left) contains_it)
     fresh_so Right n was (inr (k, contains_it)) repeat =
         no_such _
         (subst (λ l. let waits : Outstanding = record { number = n; request = was; resent = k } in
-        Contains l waits) ((heard.line Right).waits ∙ ap waiting_of (silent Right)) contains_it)
+        Contains l waits) ((heard.line Right).waits ∙ silent Right) contains_it)
 
-    asks_own : (to : Side) → asks_of (asks_to to asks.1) (which_of to) ≡ request_of asks.1 ∷ []
+    asks_own : (to : Side) → asks_of (One to asks.1) (which_of to) ≡ request_of asks.1 ∷ []
     asks_own side_is.Left = refl
     asks_own side_is.Right = refl
 
-    asks_across : (to : Side) → asks_of (asks_to to asks.1) (other (which_of to)) ≡ []
+    asks_across : (to : Side) → asks_of (One to asks.1) (other (which_of to)) ≡ []
     asks_across side_is.Left = refl
     asks_across side_is.Right = refl
 
-    now_asks : (side : Which) (later : Session) → IsAsking session later (asks_to asks.0 asks.1) →
-        asks_now (line_of later side) ≡ first_request
-        (numbered (line_of session side).asked (asks_of (asks_to asks.0 asks.1) side))
+    now_asks : (side : Which) (later : Session) → IsAsking session later (One asks.0 asks.1) →
+        requests_on (line_of later side) ≡ asks_of (One asks.0 asks.1) side
     now_asks side later asking =
-        asks_first (line_of later side).waiting ∙ ap first_request
-        ((asking.line side).waits (inr (silent side)) ∙ ap (λ w. waiting_of w ++ numbered
-        (line_of session side).asked (asks_of (asks_to asks.0 asks.1) side)) (silent side))
+        ap (map (λ (one : Outstanding). one.request)) ((asking.line side).waits
+        ∙ ap (λ w. w ++ numbered (line_of session side).asked
+        (asks_of (One asks.0 asks.1) side)) (silent side))
+        ∙ numbered_requests (line_of session side).asked (asks_of (One asks.0 asks.1) side)
 
-    asks_that : (later : Session) → IsAsking session later (asks_to asks.0 asks.1) →
-        asks_now (line_of later (which_of asks.0)) ≡ Some (request_of asks.1)
-    asks_that later asking =
-        now_asks (which_of asks.0) later asking
-        ∙ ap (λ l. first_request (numbered (line_of session (which_of asks.0)).asked l))
-        (asks_own asks.0)
+    few_asked : (to : Side) (on : Which) → length (asks_of (One to asks.1) on) ≤ 1
+    few_asked side_is.Left Left = omega arith
+    few_asked side_is.Left Right = omega arith
+    few_asked side_is.Right Left = omega arith
+    few_asked side_is.Right Right = omega arith
 
-    asks_else : (later : Session) → IsAsking session later (asks_to asks.0 asks.1) →
-        asks_now (line_of later (other (which_of asks.0))) ≡ None
-    asks_else later asking =
-        now_asks (other (which_of asks.0)) later asking
-        ∙ ap (λ l. first_request (numbered (line_of session (other (which_of asks.0))).asked l))
-        (asks_across asks.0)
+    may_wait_so : (side : Which) → MayWait (waiting_of (line_of session side)
+        ++ numbered (line_of session side).asked (asks_of (One asks.0 asks.1) side))
+    may_wait_so side =
+        let few = few_asked asks.0 side in
+        let none = ap length (silent side) in
+        let long = length-append (waiting_of (line_of session side))
+        (numbered (line_of session side).asked (asks_of (One asks.0 asks.1) side)) in
+        let same = numbered-length (line_of session side).asked
+        (asks_of (One asks.0 asks.1) side) in
+        inl (omega (arith, few, none, long, same))
 
-    is_there : (waiting : Option Waiting) →
-        option_map (λ one. request_of one.request) waiting ≡ Some (request_of asks.1) →
-        is_some waiting ≡ true
-    is_there None e = absurd (none-some _ e)
-    is_there (Some one) e = refl
+    apart_so : (side : Which) →
+        AllPairs (λ one another. ¬ IsRepeat one another) (asks_of (One asks.0 asks.1) side)
+    apart_so side i j d before less =
+        let few = few_asked asks.0 side in
+        absurd (omega (arith, before, less, few))
 
-    some_so : (later : Session) → IsAsking session later (asks_to asks.0 asks.1) →
-        (is_some later.left.waiting ≡ true) ⊎ (is_some later.right.waiting ≡ true)
-    some_so later asking =
-        by (which_of asks.0)
-        (is_there (line_of later (which_of asks.0)).waiting (asks_that later asking))
-      where
-        by : (side : Which) → is_some (line_of later side).waiting ≡ true →
-            (is_some later.left.waiting ≡ true) ⊎ (is_some later.right.waiting ≡ true)
-        by Left is = inl is
-        by Right is = inr is
+    some_so : (side : Which) × (1 ≤ length (waiting_of (line_of session side))
+        + length (asks_of (One asks.0 asks.1) side))
+    some_so = (which_of asks.0, let one = ap length (asks_own asks.0) in omega (arith, one))
 
-    carries_later : (later : Session) → IsAsking session later (asks_to asks.0 asks.1) →
+    carries_later : (later : Session) → IsAsking session later (One asks.0 asks.1) →
         Carries comes.journal.value course (found_on later Left) (found_on later Right)
         (running.taken ++ taken ∷ []) comes.after (λ transfer. TransferWaitsFor transfer
         (running.taken ++ taken ∷ []) (which_of asks.0) (request_of asks.1))
@@ -323,7 +329,7 @@ module _ {D : Type 0} {disk : Ghosts D} (new : Archive D disk) (pair : ℕ) (jou
         }))
 
     pub asks_course : (is_last taken.reply ≡ true → comes.after.cursor ≢ running.cursor) →
-        TakesOn new pair journal running taken session kept (asks_to asks.0 asks.1)
+        TakesOn new pair journal running taken session kept (One asks.0 asks.1)
     asks_course last = record {
       now = comes.journal;
       after = comes.after;
@@ -340,7 +346,8 @@ module _ {D : Type 0} {disk : Ghosts D} (new : Archive D disk) (pair : ℕ) (jou
       heard = heard_reaching session running taken comes.after heard;
       tells = tells_course comes.after comes.carries.course_is;
       may = record {
-        free = λ side. inr (silent side);
+        may_wait = may_wait_so;
+        apart = apart_so;
         fresh =
             λ side request contains. subst (IsFresh now_at side)
             (sym (only_that side request contains).1) (fresh_so side);
@@ -362,8 +369,8 @@ module _ {D : Type 0} {disk : Ghosts D} (new : Archive D disk) (pair : ℕ) (jou
             (running.taken ++ taken ∷ []) comes.after) (sym (asking.course ∙ is_course)) (record {
               to = which_of asks.0;
               request = request_of asks.1;
-              waits = asks_that later asking;
-              alone = asks_else later asking;
+              waits = now_asks (which_of asks.0) later asking ∙ asks_own asks.0;
+              alone = now_asks (other (which_of asks.0)) later asking ∙ asks_across asks.0;
               carries = carries_later later asking;
             });
       };

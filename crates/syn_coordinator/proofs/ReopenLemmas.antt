@@ -13,8 +13,7 @@ use Rattle.syn_disk.specs.Stops.{Untouched}
 use Rattle.syn_disk.specs.declared.disk.Disk.{Ghosts}
 use Rattle.syn_headline.specs.Machine.{Up, Halted, Down, Status, Arms, Meets, unarmed, after_device}
 use Rattle.syn_disk.specs.Arms.{is_stopped}
-use Rattle.syn_journal.specs.declared.half.Half.{Half}
-use Rattle.syn_journal.specs.Layout.{generation_at, Value, HasJournal, bytes_left, meaning, Fault}
+use Rattle.syn_journal.specs.Layout.{Value, bytes_left, meaning, Fault}
 use Rattle.syn_model.specs.Path.{Bytes}
 use Rattle.syn_model.specs.Archive as model
 use Rattle.syn_model.specs.Archive.{Kept, CanKeep}

@@ -29,8 +29,8 @@ use Rattle.syn_coordinator.specs.inner.Answered.{Answered, goes_down, goes_on, r
 use Rattle.syn_session.specs.Answering.{IsAnswering, IsAskedOn, asks_of, exchange_of}
 use Rattle.syn_session.specs.Answering.{messages_asked}
 use Rattle.syn_session.specs.Hearing.{IsAsking}
-use Rattle.syn_session.specs.Sessions.{IsRunning, IsSession, Tells, TellsOf, waiting_of}
-use Rattle.syn_session.specs.Stages.{Reached, line_of, reached_by}
+use Rattle.syn_session.specs.Sessions.{IsRunning, IsSession, Tells, TellsOf}
+use Rattle.syn_session.specs.Stages.{Reached, line_of, reached_by, waiting_of}
 use Rattle.syn_coordinator.specs.inner.Taking.{TakesEnd, TakesOn, Walks, reaching}
 use Rattle.syn_coordinator.specs.inner.Taking as taking
 use Rattle.syn_coordinator.specs.inner.Walking.{ended_by, walk_at}
@@ -85,8 +85,9 @@ module _ (pair : ℕ) (machine : CoordinatorMachine) (running : Running) (taken 
 
     is_session : IsSession on.now.value next (says heard)
     is_session =
-        let h = heard_asking heard session next asks on.heard asked number on.may.free on.may.fresh
-        in
+        let h = heard_asking heard session next asks on.heard asked number on.may.may_wait
+        on.may.apart
+        on.may.fresh in
         record {
           number = h.number;
           lawful = h.lawful;
@@ -98,8 +99,8 @@ module _ (pair : ℕ) (machine : CoordinatorMachine) (running : Running) (taken 
 
     may_ask : AsksNext on.now.value heard (asks_of asks Left) (asks_of asks Right)
     may_ask =
-        asks_next heard session next asks on.heard asked number on.may.free on.may.fresh
-        on.now.value on.may.may (on.may.some next asks_it)
+        asks_next heard session next asks on.heard asked number on.may.may_wait on.may.apart
+        on.may.fresh on.now.value on.may.may on.may.some
 
     -- it asks both sides for what comes next
     pub asked_so : new.tried ≡ None → new.running ≡ Some next → (messages : List Message) →
@@ -123,7 +124,8 @@ module _ (pair : ℕ) (machine : CoordinatorMachine) (running : Running) (taken 
           tries = tries_none pair new.tried on.now untried (on.quiet quiet);
         }) refl
         (ap (λ r. sent_now r (asks_of asks Left) (asks_of asks Right)) same
-        ∙ (sym (sends_that heard session next asks on.heard asked number on.may.free) ∙ sym sent))
+        ∙ (sym (sends_that heard session next asks on.heard asked number on.may.may_wait
+        on.may.apart) ∙ sym sent))
         (sym (ap (λ s. if is_some s then [] else in_report (report_shown new)) runs_it))
 
   -- ---- the session ends
@@ -255,7 +257,7 @@ module _ {D : Type 0} {disk : Ghosts D} (old new : Coordinator D disk) (pair : �
       ∙ ap is_some none) ∙ ap is_some expected.runs)
 
   none_waits : Stands old pair machine → (ran : Session) → old.running ≡ Some ran →
-      (ran.number ≡ session → asked_in (waiting_of (line_of ran from).waiting) number ≡ None) →
+      (ran.number ≡ session → asked_in (waiting_of (line_of ran from)) number ≡ None) →
       (running : Running) (request : Request) →
       IsExpected machine from session number running request → ⊥
   none_waits stands ran was silent running request expected =
@@ -271,7 +273,7 @@ module _ {D : Type 0} {disk : Ghosts D} (old new : Coordinator D disk) (pair : �
 
   -- neither is the case that an answer is expected
   pub none_expected : Stands old pair machine → ((ran : Session) → old.running ≡ Some ran →
-      ran.number ≡ session → asked_in (waiting_of (line_of ran from).waiting) number ≡ None) →
+      ran.number ≡ session → asked_in (waiting_of (line_of ran from)) number ≡ None) →
       (running : Running) (request : Request) →
       IsExpected machine from session number running request → ⊥
   none_expected stands silent = by old.running refl

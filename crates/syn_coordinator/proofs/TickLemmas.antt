@@ -15,14 +15,18 @@ use Rattle.syn_keep.specs.Machines.{IsMachine}
 use Rattle.syn_keep.specs.Tries.{Tries}
 use Rattle.syn_coordinator.specs.declared.coordinator.Coordinator.{Coordinator}
 use Rattle.syn_session.specs.Sessions.{IsRunning, IsSession, Tells, is_worn_now, messages_now}
-use Rattle.syn_session.specs.Sessions.{resent_once, waiting_of, IsStage, TellsOf, is_worn_out}
+use Rattle.syn_session.specs.Sessions.{resent_once, IsStage, TellsOf, is_worn_out}
 use Rattle.syn_session.specs.declared.session.Session.{Session as Ran, Session}
-use Rattle.syn_session.proofs.SessionLemmas.{is_none}
 use Rattle.syn_model.specs.Archive as model
 use Rattle.std.proofs.lemmas.Bool.{false≢true}
 use Rattle.std.proofs.lemmas.List.Folds.{list_any-append}
 use Rattle.syn_session.specs.declared.course.Course.{Course}
-use Rattle.syn_session.specs.Stages.{reached_by}
+use Rattle.syn_session.specs.Stages.{reached_by, waiting_of}
+
+-- none is there
+pub is_none : {A : Type 0} (o : Option A) → is_some o ≡ false → o ≡ None
+is_none None e = refl
+is_none (Some a) e = absurd (false≢true (sym e))
 
 -- whether it was sent again so often
 pub worn_so : (archive : model.Archive) (session : Session) (running : Running) →
@@ -110,7 +114,7 @@ module _ {D : Type 0} {disk : Ghosts D} (old new : Coordinator D disk) (pair : �
         (resent machine.journal.value running session_is)) (λ _. ap is_some now.1)) refl
         (ap₂ (λ n m. messages_to n Left m ++ messages_to n Right running.right) session_is.number
         (session_is.line Left).waits
-        ∙ (ap (λ m. messages_to session.number Left (waiting_of session.left.waiting)
+        ∙ (ap (λ m. messages_to session.number Left (waiting_of session.left)
         ++ messages_to session.number Right m) (session_is.line Right).waits ∙ sym sent))
         (sym (ended_by true true (ap is_some was) (ap is_some is)))
 

@@ -1,15 +1,17 @@
 -- What a coordinator shows, which of the model's machines it is, and what a call does.
-use Rattle.std.specs.Prelude.{◌≡◌, ◌++◌, ℕ, nat_le, Bool, true, not, ◌&&◌, List, [], ◌∷◌, map}
-use Rattle.std.specs.Prelude.{Option, Some, None, length, option_map, is_some, if◌then◌else◌}
+use Rattle.std.specs.Option.{option_map_or}
+use Rattle.std.specs.Prelude.{◌≡◌, ◌++◌, ℕ, nat_le, nat_lt, Bool, true, false, not, ◌&&◌, List}
+use Rattle.std.specs.Prelude.{[], ◌∷◌, map, Option, Some, None, length, option_map, is_some}
+use Rattle.std.specs.Prelude.{if◌then◌else◌}
 use Rattle.syn_archive.specs.Archive.{disk_of}
 use Rattle.syn_archive.specs.declared.archive.Archive.{Archive}
 use Rattle.syn_coordinator.specs.declared.coordinator.Coordinator.{Coordinator}
 use Rattle.syn_disk.specs.Arms.{is_stopped}
 use Rattle.syn_disk.specs.declared.disk.Disk.{Ghosts}
 use Rattle.syn_headline.specs.Coordinator.{Call, CoordinatorMachine, archive_layout, no_call}
-use Rattle.syn_headline.specs.Coordinator.{Running, start_causes, with_archive}
+use Rattle.syn_headline.specs.Coordinator.{Running, outstanding, start_causes, with_archive}
 use Rattle.syn_headline.specs.Machine.{Arms, Compacts, Down, Status, after_device}
-use Rattle.syn_headline.specs.Network.{Message}
+use Rattle.syn_headline.specs.Network.{Message, Which}
 use Rattle.syn_headline.specs.Report.{Report}
 use Rattle.syn_headline.specs.World.{is_halted}
 use Rattle.syn_keep.specs.Machines.{IsMachine, Journal, LeavesMachine, NotReopened, Reopened}
@@ -58,6 +60,11 @@ module _ {D : Type 0} {disk : Ghosts D} (coordinator : Coordinator D disk) where
     pub untried : is_some machine.running ≡ true → tried_shown ≡ None
     -- and it remembers one that was
     pub tries : Tries pair tried_shown machine.journal
+
+-- a request of the session waits for its answer from the side
+abbrev pub is_waiting : Option Running → Which → Bool
+is_waiting running side =
+    option_map_or (λ running. nat_lt 0 (length (outstanding running side))) running false
 
 -- how many items the plan of a session that runs has
 abbrev pub items_planned : Option Running → Option ℕ

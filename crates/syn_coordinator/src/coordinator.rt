@@ -8,6 +8,7 @@ ghost use Rattle.syn_headline.specs.Coordinator.{CoordinatorTicks, Running, repo
 ghost use Rattle.syn_headline.specs.Machine.{Halted, Up};
 ghost use Rattle.syn_keep.specs.Machines.{IsMachine, Journal};
 ghost use Rattle.syn_keep.specs.Steps.{KeepsSo};
+ghost use Rattle.syn_message.specs.Sides.{which_of};
 ghost use Rattle.syn_model.specs.Archive.{Archive as Keeping, Session as Begun};
 ghost use Rattle.syn_model.specs.Refusal.{Memory, first_cause};
 ghost use Rattle.syn_refusal.specs.Refusals.{cause_of};
@@ -23,6 +24,7 @@ use syn_archive::{Archive, ArchiveError};
 use syn_disk::Disk;
 use syn_image::Kept;
 use syn_keep::Tried;
+use syn_message::Side;
 use syn_recovery::device_laws;
 use syn_refusal::Refusal;
 use syn_session::{Report, Sending, Session, SessionError};
@@ -53,7 +55,8 @@ pub struct Coordinator<D: Disk> {
 impl<D: Disk> Coordinator<D> {
     ghost use Rattle.syn_coordinator.specs.Coordinators.{Does, Stands, all_causes, archive_of};
     ghost use Rattle.syn_coordinator.specs.Coordinators.{broken, device_of, refusals_of};
-    ghost use Rattle.syn_coordinator.specs.Coordinators.{report_shown, runs, items_planned};
+    ghost use Rattle.syn_coordinator.specs.Coordinators.{is_waiting, report_shown, runs};
+    ghost use Rattle.syn_coordinator.specs.Coordinators.{items_planned};
     ghost use Rattle.syn_coordinator.specs.Coordinators.{tried_shown, written};
     ghost use Rattle.syn_keep.specs.Tries.{HoldsTried};
 
@@ -111,6 +114,17 @@ impl<D: Disk> Coordinator<D> {
         ensures { result ≡ runs self.now }
     {
         self.running.is_some()
+    }
+
+    /// Whether a request of the session that runs waits for its answer from the side.
+    pub fn waits_on(&self, side: Side) -> bool
+        ensures { (pair : ℕ) (machine : CoordinatorMachine) → Stands self.now pair machine
+            → result ≡ is_waiting machine.running (which_of side) }
+    {
+        match &self.running {
+            Some(session) => session.waits_on(side),
+            None => false,
+        }
     }
 
     /// How many items the plan of the session that runs has; none before the plan is made, and

@@ -19,11 +19,12 @@ abbrev Rises : Outstanding → Outstanding → Type 0
 Rises earlier later = earlier.number < later.number
 
 -- what comes later has a higher number
-later_above : (one : Outstanding) (more : List Outstanding) → AreRising (one ∷ more) →
+pub later_above : (one : Outstanding) (more : List Outstanding) → AreRising (one ∷ more) →
     All (λ later. one.number < later.number) more
 later_above one more rising k d less = rising 0 (suc k) d (omega arith) (omega (arith, less))
 
-later_rise : (one : Outstanding) (more : List Outstanding) → AreRising (one ∷ more) → AreRising more
+pub later_rise : (one : Outstanding) (more : List Outstanding) → AreRising (one ∷ more) →
+    AreRising more
 later_rise one more rising i j d before less =
     rising (suc i) (suc j) d (omega (arith, before)) (omega (arith, less))
 
@@ -32,16 +33,16 @@ pub without-rising : (number : ℕ) (waiting : List Outstanding) → AreRising w
 without-rising number waiting = AllPairs-filter Rises (λ one. not (one.number == number)) waiting
 
 -- where each number is above, all stay
-all_stay : (number : ℕ) (waiting : List Outstanding) →
-    All (λ one. number < one.number) waiting → length (without number waiting) ≡ length waiting
+pub all_stay : (number : ℕ) (waiting : List Outstanding) →
+    All (λ one. number < one.number) waiting → without number waiting ≡ waiting
 all_stay number [] above = refl
 all_stay number (one ∷ more) above =
     let here : number < one.number = above 0 one (omega arith) in
     let off : (one.number == number) ≡ false = apart one.number number here in
-    let rest : length (without number more) ≡ length more =
+    let rest : without number more ≡ more =
     all_stay number more (λ k d less. above (suc k) d (omega (arith, less))) in
-    subst (λ b. length (if not b then one ∷ without number more else without number more)
-    ≡ suc (length more)) (sym off) (ap suc rest)
+    subst (λ b. (if not b then one ∷ without number more else without number more) ≡ one ∷ more)
+    (sym off) (ap (λ later. one ∷ later) rest)
   where
     apart : (m n : ℕ) → n < m → (m == n) ≡ false
     apart m n h = grind (arith, nat_tests)
@@ -57,8 +58,8 @@ one_less (one ∷ more) number request rising e =
     ≡ suc (length more)) [
       | true ↦ λ on is.
           let same : one.number ≡ number = eqb-true one.number number on in
-          let stay = all_stay number more
-          (subst (λ n. All (λ later. n < later.number) more) same (later_above one more rising)) in
+          let stay = ap length (all_stay number more
+          (subst (λ n. All (λ later. n < later.number) more) same (later_above one more rising))) in
           omega (arith, stay)
       | false ↦ λ off is.
           let less = one_less more number request (later_rise one more rising) is in

@@ -2,7 +2,7 @@
 use Rattle.std.proofs.Common.{◌≡◌, ◌≤◌, ◌<◌, ◌+◌, ℕ, suc, Bool, true, false, cond, not, ◌&&◌}
 use Rattle.std.proofs.Common.{nat_le, nat_lt, List, [], ◌∷◌, ◌++◌, length, length-append, refl, sym}
 use Rattle.std.proofs.Common.{ap, ap₂, ◌∙◌, Some, None, Less, Equal, Greater, is_eq, true≢false}
-use Rattle.std.proofs.Common.{append-nil, inl, inr, ◌⊎◌, arith, slice_index_or}
+use Rattle.std.proofs.Common.{inl, inr, ◌⊎◌, arith, slice_index_or}
 use Rattle.std.specs.Prelude.{All}
 use Rattle.std.specs.Ordering.{eq_by_cmp, ordering_then}
 use Rattle.std.specs.Cmp.{eq_by_cmp_equiv}
@@ -26,7 +26,7 @@ use Rattle.syn_mark.specs.declared.mark.Mark.{Mark}
 use Rattle.syn_scan.specs.Found.{Found, WasListedIn, is_open, IsFound}
 use Rattle.syn_scan.specs.Asked.{named, listing_pairs, directory_with, contents_in, fit_below}
 use Rattle.syn_scan.specs.Asked.{is_too_large, ListsOnly, without, with_listing}
-use Rattle.syn_scan.specs.inner.Kept.{IsFlat, NoneOpen, is_open_entry}
+use Rattle.syn_scan.specs.inner.Kept.{IsFlat, NoneNext}
 use Rattle.syn_scan.proofs.FirstLemmas.{passed_after_listing}
 use Rattle.syn_scan.proofs.ShownLemmas.{listing_entries, shows_listing, shows_others, only_itself}
 use Rattle.syn_scan.proofs.ShownLemmas.{ShowsNothing}
@@ -199,17 +199,16 @@ module _ (found : Found) (p : Path) (es : Listing) (f : IsFound found) (o : is_o
 
 -- ---- what was passed
 
-pub passed_then : (found : Found) (p : Path) (es : Listing) (k n : ℕ) → IsFound found →
-    is_open found p ≡ true → AreMarks (listing_pairs es) → NoneOpen found (entries found.marks) n →
-    NoneOpen (with_listing found p k es) (entries (replace found.marks p (directory_with es))) n
-passed_then found p es k n f o rising none =
-    let at = opened found p o in
-    let shown = ap (λ q. is_open_entry found (q, Directory)) (append-nil p)
-    ∙ ap₂ (λ a b. true && not a && not b) at.not_listed at.not_refused in
-    passed_after_listing found p k n (directory_with es) (before p (entries found.marks))
+pub passed_then : (found : Found) (out : List Path) (p : Path) (es : Listing) (k n : ℕ) →
+    IsFound found → is_open found p ≡ true → AreMarks (listing_pairs es) →
+    n ≤ length (before p (entries found.marks)) → NoneNext found out (entries found.marks) n →
+    NoneNext (with_listing found p k es) (without out p)
+    (entries (replace found.marks p (directory_with es))) n
+passed_then found out p es k n f o rising few none =
+    passed_after_listing found out p k n (directory_with es) (before p (entries found.marks))
     (behind p (entries found.marks)) (under p (named es) ++ behind p (entries found.marks))
     (p ++ [], Directory)
-    (old_list found p es f o rising) (new_list found p es f o rising) shown none
+    (old_list found p es f o rising) (new_list found p es f o rising) few none
 
 -- ---- what is out
 

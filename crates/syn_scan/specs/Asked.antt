@@ -1,7 +1,7 @@
 -- What a scanner was told so far, and what it handed out.
-use Rattle.std.specs.Prelude.{◌≡◌, ◌+◌, Bool, true, not, List, [], ◌∷◌, ◌++◌, map, length}
-use Rattle.std.specs.Prelude.{filter, Option, Some, None, nat_lt, if◌then◌else◌, refl, ◌⊎◌, ℕ}
-use Rattle.std.specs.Ordering.{eq_by_cmp}
+use Rattle.std.specs.Prelude.{◌≡◌, ◌+◌, Bool, true, false, not, ◌&&◌, List, [], ◌∷◌, ◌++◌, map}
+use Rattle.std.specs.Prelude.{length, filter, Option, Some, None, nat_lt, refl, ◌⊎◌, ℕ}
+use Rattle.std.specs.Ordering.{eq_by_cmp, is_lt}
 use Rattle.std.specs.List.{list_any, list_all}
 use Rattle.std.specs.Coded.{Coded, code_by, coded×, coded_ℕ, coded_list}
 use Rattle.std.specs.FinMap.{len, insert, empty}
@@ -12,7 +12,7 @@ use Rattle.syn_model.specs.Limits.{fits_path, most_nodes}
 use Rattle.syn_placed.specs.Pairs.{Pairs}
 use Rattle.syn_mark.specs.Marks.{marks_with, content_of}
 use Rattle.syn_mark.specs.declared.mark.Mark.{Mark}
-use Rattle.syn_scan.specs.Found.{Found, coded_found, WasListedIn}
+use Rattle.syn_scan.specs.Found.{Found, coded_found, is_open, WasListedIn}
 
 -- what was found so far, and the paths that were handed out and not answered yet
 pub record Asked : Type 0 where
@@ -30,13 +30,24 @@ nothing_found = record { marks = empty_directory; listed = empty; not_dirs = emp
 abbrev pub is_out : List Path → Path → Bool
 is_out out path = list_any (eq_by_cmp path_cmp path) out
 
--- a path that is out already stays so
-abbrev pub with_out : List Path → Path → List Path
-with_out out path = if is_out out path then out else out ++ path ∷ []
+-- the directory is open, and was not handed out
+abbrev pub is_next : Found → List Path → Path → Bool
+is_next found out path = is_open found path && not (is_out out path)
+
+-- the first of these in path order
+pub record IsNext (asked : Asked) (path : Path) : Type 0 where
+  pub opened : is_open asked.found path ≡ true
+  pub unasked : is_out asked.out path ≡ false
+  pub first : (other : Path) → is_next asked.found asked.out other ≡ true →
+      is_lt (path_cmp other path) ≡ false
+
+-- each directory that is open was handed out
+abbrev pub AreAllOut : Asked → Type 0
+AreAllOut asked = (path : Path) → is_next asked.found asked.out path ≡ false
 
 abbrev pub handed_out : List Path → Option Path → List Path
 handed_out out None = out
-handed_out out (Some path) = with_out out path
+handed_out out (Some path) = out ++ path ∷ []
 
 abbrev pub without : List Path → Path → List Path
 without out path = filter (λ other. not (eq_by_cmp path_cmp path other)) out

@@ -4,7 +4,6 @@ use Rattle.std.specs.Prelude.{◌≡◌, ◌⊎◌, Contains, ℕ, Bool, true, f
 use Rattle.std.specs.Prelude.{refl, unwrap_or}
 use Rattle.std.specs.Option.{option_or}
 use Rattle.std.specs.Coded.{Coded, code_by, coded×, coded_ℕ, coded_list}
-use Rattle.std.specs.Ordering.{is_lt}
 use Rattle.std.specs.FinMap.{FinMap, code, get, keys, contains_key}
 use Rattle.syn_model.specs.Path.{Path, Name, path_cmp, root, child}
 use Rattle.syn_model.specs.Tree.{Tree, Content, Directory, is_directory, coded_tree}
@@ -49,11 +48,6 @@ is_open found path = is_directory found.marks path && not (was_listed found path
 -- each directory was answered
 abbrev pub IsWhole : Found → Type 0
 IsWhole found = (path : Path) → is_open found path ≡ false
-
--- the first in path order of the directories that are open
-pub record IsFirstOpen (found : Found) (path : Path) : Type 0 where
-  pub opened : is_open found path ≡ true
-  pub first : (other : Path) → is_open found other ≡ true → is_lt (path_cmp other path) ≡ false
 
 -- the directory was listed so at the position
 pub record WasListedIn (found : Found) (path : Path) (position : ℕ)

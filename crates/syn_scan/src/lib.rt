@@ -4,6 +4,7 @@
 
 mod error;
 mod lawful;
+mod paths;
 mod positions;
 mod scan;
 mod scanner;

@@ -7,19 +7,21 @@ ghost use Rattle.syn_model.specs.Tree.{replace};
 ghost use Rattle.syn_model.specs.Limits.{fits_archive};
 ghost use Rattle.syn_model.specs.Mark.{IsMarks};
 ghost use Rattle.syn_model.specs.Dirty.{has_unstable, is_unstable};
-ghost use Rattle.syn_placed.specs.Pairs.{within};
+ghost use Rattle.syn_placed.specs.Pairs.{before, within};
 ghost use Rattle.syn_scan.specs.Found.{scan_of, is_open, IsFound, position_of};
 ghost use Rattle.syn_scan.specs.Asked.{nothing_found, with_no_directory};
-ghost use Rattle.syn_scan.specs.inner.Kept.{IsFlat, with_tree, NoneOpen, is_open_entry};
+ghost use Rattle.syn_scan.specs.inner.Kept.{IsFlat, with_tree, NoneNext, is_next_entry};
+ghost use Rattle.syn_scan.specs.inner.Kept.{is_open_entry};
 
 use crate::error::ScanError;
+use crate::paths::is_among;
 use crate::positions::Positions;
 use std::alloc::Global;
 use std::marker::Model;
 use syn_mark::{Mark, MarkEntry, MarkTree};
 use syn_path::Path;
 use syn_placed::Standing;
-use syn_placed::list::{parent_names, part_at};
+use syn_placed::list::{count_before, parent_names, part_at};
 
 /// What a side showed in a session: the marks of its tree, each listed directory with the position
 /// of its listing, and each path that was answered as no directory. Contracts see it as that.
@@ -114,23 +116,37 @@ impl Scan {
         self.not_dirs.get(path.names()).is_some()
     }
 
-    /// How many entries stand in front of the first that is open, in path order, where so many are
-    /// known not to be; all, where none is.
-    pub(crate) fn first_open(&self, passed: usize) -> usize
-        requires { NoneOpen self.now (entries self.now.marks) passed }
-        ensures none { NoneOpen self.now (entries self.now.marks) result }
-        ensures open { (entry : _) → result < length (entries self.now.marks) → is_open_entry
-            self.now (slice_index_or (entries self.now.marks) result entry) ≡ true }
+    /// How many entries stand in front of the first that is open and not among these, in path
+    /// order, where so many are known not to be; all, where none is.
+    pub(crate) fn first_open(&self, out: &[Path], passed: usize) -> usize
+        requires { NoneNext self.now out.now (entries self.now.marks) passed }
+        ensures none { NoneNext self.now out.now (entries self.now.marks) result }
+        ensures open { (entry : _) → result < length (entries self.now.marks) → is_next_entry
+            self.now out.now (slice_index_or (entries self.now.marks) result entry) ≡ true }
     {
         let entries = self.marks.as_slice();
         let mut at = passed;
         while at < entries.len() {
-            if self.is_open(&entries[at]) {
+            if self.is_next(out, &entries[at]) {
                 return at;
             }
             at += 1;
         }
         at
+    }
+
+    /// It is a directory that was not answered yet, and is not among these.
+    fn is_next(&self, out: &[Path], entry: &MarkEntry) -> bool
+        ensures { result ≡ is_next_entry self.now out.now entry.now }
+    {
+        self.is_open(entry) && !is_among(out, entry.path())
+    }
+
+    /// How many entries stand before the path. It takes no memory.
+    pub(crate) fn place_of(&self, path: &Path) -> usize
+        ensures { result ≡ length (before path.now (entries self.now.marks)) }
+    {
+        count_before(self.marks.as_slice(), path.names())
     }
 
     /// It is a directory that was not answered yet.

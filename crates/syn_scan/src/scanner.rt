@@ -1,24 +1,24 @@
 //! Makes the scan of a side: it says which directory is asked for next, and takes the listings one
 //! by one.
 ghost use Rattle.std.specs.Prelude.{◌≡◌, ◌≢◌, ◌<◌, ◌∷◌, ◌++◌, [], true, false, OnOk, OnErr, IfOk};
-ghost use Rattle.std.specs.Prelude.{IfErr, IfSome, IfNone, Ok, None, length, not, ◌+◌};
-ghost use Rattle.std.specs.Ordering.{eq_by_cmp};
+ghost use Rattle.std.specs.Prelude.{IfErr, IfSome, IfNone, Ok, None, length, ◌+◌};
 ghost use Rattle.syn_model.specs.Limits.{most_nodes};
-ghost use Rattle.syn_model.specs.Path.{path_cmp, IsPath};
+ghost use Rattle.syn_model.specs.Path.{IsPath};
 ghost use Rattle.syn_model.specs.Dirty.{IsScanBy};
 ghost use Rattle.syn_mark.specs.Marks.{AreMarks, AreMarkPairs};
-ghost use Rattle.syn_scan.specs.Found.{scan_of, IsWhole, IsFirstOpen, WasListedIn, IsShownIn};
+ghost use Rattle.syn_scan.specs.Found.{scan_of, IsWhole, WasListedIn, IsShownIn};
 ghost use Rattle.syn_scan.specs.Found.{WasNoDirectoryIn, position_of};
 ghost use Rattle.std.specs.FinMap.{len};
 ghost use Rattle.syn_scan.specs.Asked.{nothing_found, handed_out, is_out, without, contents_in};
+ghost use Rattle.syn_scan.specs.Asked.{IsNext, AreAllOut};
 ghost use Rattle.syn_scan.specs.Asked.{with_listing, with_no_directory, is_too_large, Belongs};
 ghost use Rattle.syn_scan.specs.Asked.{ListsOnly, directory_with, listing_pairs, named, names_rise};
 
 use crate::error::ScanError;
 use crate::lawful::is_mark;
+use crate::paths::{is_among, take_back};
 use crate::scan::Scan;
 use std::alloc::Global;
-use std::cmp::Ordering;
 use std::marker::Model;
 use syn_mark::{MOST_NODES, Mark, MarkEntry, MarkTree};
 use syn_path::{Name, Path};
@@ -29,7 +29,7 @@ use syn_path::{Name, Path};
 pub struct Scanner {
     scan: Scan,
     out: Vec<Path>,
-    /// So many entries in front, in path order, are files or were answered.
+    /// So many entries in front, in path order, are files, or were answered or handed out.
     passed: usize,
 }
 
@@ -61,31 +61,29 @@ impl Scanner {
         })
     }
 
-    /// The directory that is to be listed next: the first in path order that was not answered yet;
-    /// none where each was. It is handed out until it is answered.
+    /// The directory that is to be listed next: the first in path order that was neither answered
+    /// nor handed out yet; none where each was. So each directory is handed out once.
     ///
     /// Refused 11 where memory is refused, and for no other cause.
     pub fn next_request(&mut self, alloc: Global) -> Result<Option<Path>, ScanError>
-        ensures some { IfOk result (λ next. IfSome next (λ path. IsFirstOpen self.old.found path)) }
+        ensures some { IfOk result (λ next. IfSome next (λ path. IsNext self.old path)) }
         ensures shown { IfOk result (λ next. IfSome next (λ path. IsShownIn self.old.found path)) }
-        ensures none { IfOk result (λ next. IfNone next (IsWhole self.old.found)) }
+        ensures none { IfOk result (λ next. IfNone next (AreAllOut self.old)) }
         ensures found { self.new.found ≡ self.old.found }
         ensures out { IfOk result (λ next. self.new.out ≡ handed_out self.old.out next) }
         ensures same { OnErr result (self.new ≡ self.old) }
         ensures memory { IfErr result (λ e. e ≡ ScanError.Memory) }
 
-        // Where each was answered no memory is taken.
-        ensures whole { IsWhole self.old.found → result ≡ Ok None }
+        // Where each was handed out no memory is taken.
+        ensures whole { AreAllOut self.old → result ≡ Ok None }
     {
-        let at = self.scan.first_open(self.passed);
+        let at = self.scan.first_open(&self.out, self.passed);
         self.passed = at;
         let Some(next) = self.scan.tree().as_slice().get(at) else {
             return Ok(None);
         };
         let path = next.path().copy(alloc)?;
-        if !is_among(&self.out, &path) {
-            self.out.push(path.copy(alloc)?)?;
-        }
+        self.out.push(path.copy(alloc)?)?;
         Ok(Some(path))
     }
 
@@ -137,8 +135,11 @@ impl Scanner {
             return Err(ScanError::BadMessage);
         }
         let listing = directory_of(alloc, entries)?;
+        let place = self.scan.place_of(path);
         self.scan.take(alloc, path, position, listing)?;
         take_back(&mut self.out, path);
+        // What it shows stands right behind it, and is still to be handed out.
+        self.passed = self.passed.min(place);
         Ok(())
     }
 
@@ -187,34 +188,6 @@ impl Scanner {
         let _ = self.scan.tree();
         self.scan
     }
-}
-
-/// The path is one of these.
-fn is_among(paths: &[Path], path: &Path) -> bool
-    ensures { result ≡ is_out paths.now path.now }
-{
-    paths.iter().any(|other| is_same(path, other))
-}
-
-/// Both are one path.
-fn is_same(path: &Path, other: &Path) -> bool
-    ensures { result ≡ eq_by_cmp path_cmp path.now other.now }
-{
-    path.cmp(other) == Ordering::Equal
-}
-
-/// They are two paths.
-fn is_other(path: &Path, other: &Path) -> bool
-    ensures { result ≡ not (eq_by_cmp path_cmp path.now other.now) }
-{
-    !is_same(path, other)
-}
-
-/// Takes the path out of these.
-fn take_back(paths: &mut Vec<Path>, path: &Path)
-    ensures { paths.new.items ≡ without paths.old.items path.now }
-{
-    paths.retain(|other| is_other(path, other));
 }
 
 /// The listing as the marks of a directory with these names alone.

@@ -1,70 +1,27 @@
 -- A session whose answer has come.
 use Rattle.std.proofs.Common.{◌≡◌, ◌≤◌, ◌<◌, ◌^◌, ◌+◌, ◌==◌, ℕ, Bool, true, false, not, ◌||◌, cond}
-use Rattle.std.proofs.Common.{if◌then◌else◌, List, [], ◌∷◌, ◌++◌, length, Option, Some, None, refl}
-use Rattle.std.proofs.Common.{sym, ap, ap₂, ◌∙◌, subst, inl, inr, arith}
-use Rattle.std.specs.Prelude.{Contains, unwrap_or}
+use Rattle.std.proofs.Common.{List, [], ◌∷◌, ◌++◌, length, Some, refl, sym, ap, ap₂, ◌∙◌}
+use Rattle.std.proofs.Common.{subst, inl, inr, arith}
+use Rattle.std.specs.Prelude.{All}
 use Rattle.std.specs.List.{count_by}
-use Rattle.std.proofs.lemmas.List.Elements.{Contains-push, Contains-push_cases}
+use Rattle.std.proofs.lemmas.List.Elements.{All-filter, Contains-push_cases}
 use Rattle.std.proofs.lemmas.List.Folds.{list_any-append}
 use Rattle.std.proofs.lemmas.List.Sums.{sum_by-append}
-use Rattle.std.proofs.lemmas.Option.{none-some}
-use Rattle.syn_headline.specs.Coordinator.{Running, Outstanding, outstanding, asked_in, asked_of}
-use Rattle.syn_headline.specs.Coordinator.{hearing, is_not_dir, is_unstable, without}
+use Rattle.syn_headline.specs.Coordinator.{AreRising, MayWait, Running, outstanding}
+use Rattle.syn_headline.specs.Coordinator.{asked_in, asked_of, hearing, is_not_dir, is_unstable}
+use Rattle.syn_headline.specs.Coordinator.{without}
 use Rattle.syn_headline.specs.Network.{Which, Left, Right, other, is_side}
 use Rattle.syn_headline.specs.Session.{Exchange, WasAsked}
 use Rattle.syn_headline.specs.Side.{Request}
 use Rattle.syn_headline.specs.Side as model
+use Rattle.syn_headline.proofs.Remembers.{asked_waits}
+use Rattle.syn_headline.proofs.Rising.{one_less, without-rising}
 use Rattle.syn_model.specs.Archive as archive
-use Rattle.syn_session.specs.declared.requests.Waiting.{Waiting}
 use Rattle.syn_session.specs.declared.session.Session.{Session}
 use Rattle.syn_session.specs.Answering.{IsAnswering, IsHeard, exchange_of}
-use Rattle.syn_session.specs.Sessions.{IsLine, IsSession, outstanding_of, waiting_of}
-use Rattle.syn_session.specs.Stages.{line_of}
-
-none_of : {T : Type 0} (x : T) → Contains [] x → ⊥
-none_of x has = omega (arith, has.1)
-
--- the request that waits, if it has the number
-module _ (one : Outstanding) (number : ℕ) (request : Request) where
-  abbrev found_by : Bool → Option Request
-  found_by b = if b then Some one.request else None
-
-  waits_with : (b : Bool) → (one.number == number) ≡ b → found_by b ≡ Some request →
-      (one.request ≡ request) × (without number (one ∷ []) ≡ []) × (b ≡ true)
-  waits_with true same is =
-      (ap (λ o. unwrap_or o one.request) is, ap (λ b. cond (not b) (one ∷ []) []) same, refl)
-  waits_with false same is = absurd (none-some _ is)
-
--- its line has nothing then, and it was the one that waited
-pub emptied : (waiting : Option Waiting) (number : ℕ) (request : Request) →
-    asked_in (waiting_of waiting) number ≡ Some request → without number (waiting_of waiting) ≡ []
-emptied None number request is = absurd (none-some _ is)
-emptied (Some one) number request is =
-    (waits_with (outstanding_of one) number request
-    ((outstanding_of one).number == number) refl is).1
-
-one_waited : (waiting : Option Waiting) (number : ℕ) (request : Request) →
-    asked_in (waiting_of waiting) number ≡ Some request → length (waiting_of waiting) ≡ 1
-one_waited None number request is = absurd (none-some _ is)
-one_waited (Some one) number request is = refl
-
-same_number : (m n : ℕ) → (m == n) ≡ true → m ≡ n
-same_number m n h = grind (arith, Rattle.std.proofs.lemmas.Bool.Decides.nat_tests)
-
-it_waited : (waiting : Option Waiting) (number : ℕ) (request : Request) →
-    asked_in (waiting_of waiting) number ≡ Some request → (resent : ℕ)
-    × Contains (waiting_of waiting) (record { number = number; request = request; resent = resent })
-it_waited None number request is = absurd (none-some _ is)
-it_waited (Some one) number request is =
-    let by = waits_with (outstanding_of one) number request (one.number == number) refl is in (
-      one.resent,
-      subst (λ (n : ℕ). let waits : Outstanding =
-          record { number = n; request = request; resent = one.resent } in
-          Contains (outstanding_of one ∷ []) waits) (same_number one.number number by.2)
-          (subst (λ (r : Request). let waits : Outstanding =
-          record { number = one.number; request = r; resent = one.resent } in
-          Contains (outstanding_of one ∷ []) waits) by.0 (Contains-push [] (outstanding_of one))),
-    )
+use Rattle.syn_session.specs.Sessions.{IsLine, IsSession}
+use Rattle.syn_session.specs.Stages.{line_of, waiting_of}
+use Rattle.syn_session.proofs.WaitingLemmas.{in_filter, may_less}
 
 count_then : (side : Which) (taken : List Exchange) (exchange : Exchange) →
     count_by (λ one. is_side side one.side) (taken ++ exchange ∷ [])
@@ -82,6 +39,10 @@ module _ (kept : archive.Archive) (old new : Session) (running : Running) (side 
   pub expected : asked_of running side number ≡ Some request
   expected = ap (λ l. asked_in l number) (is.line side).waits ∙ answers.asked
 
+  -- what waits on the line of the side then
+  left_now : waiting_of (line_of new side) ≡ without number (waiting_of (line_of old side))
+  left_now = answers.waits (is.line side).rising
+
   own : (on : Which) → on ≡ side → (waits :
       outstanding (hearing running exchange_now) on ≡ without number (outstanding running on)) →
       (count : count_by (λ one. is_side on one.side) (running.taken ++ exchange_now ∷ [])
@@ -89,25 +50,35 @@ module _ (kept : archive.Archive) (old new : Session) (running : Running) (side 
       IsLine (line_of new on) (hearing running exchange_now) on
   own on e waits count =
       let answered =
-      subst (λ s. (asked_in (waiting_of (line_of old s).waiting) number ≡ Some request)
-      × ((line_of new s).waiting ≡ None) × ((line_of new s).asked ≡ (line_of old s).asked))
-      (sym e) (answers.asked, answers.silent, answers.count) in
-      let empty = waits ∙ (ap (without number) (is.line on).waits
-      ∙ emptied (line_of old on).waiting number request answered.0) in
-      let one = ap length (is.line on).waits
-      ∙ one_waited (line_of old on).waiting number request answered.0 in
+      subst (λ s. (asked_in (waiting_of (line_of old s)) number ≡ Some request)
+      × (waiting_of (line_of new s) ≡ without number (waiting_of (line_of old s)))
+      × ((line_of new s).asked ≡ (line_of old s).asked))
+      (sym e) (answers.asked, left_now, answers.count) in
+      let now = waits ∙ (ap (without number) (is.line on).waits ∙ sym answered.1) in
+      let less = one_less (waiting_of (line_of old on)) number request (is.line on).rising
+      answered.0 in
+      let long = ap length now in
+      let left = ap length answered.1 in
+      let was = ap length (is.line on).waits in
+      let all = (is.line on).count in
+      let same = answered.2 in
       record {
-        waits = empty ∙ ap waiting_of (sym answered.1);
-        count =
-            ap₂ (λ a b. a + b) count (ap length empty)
-            ∙ (moved (count_by (λ one. is_side on one.side) running.taken)
-            ∙ (ap (λ n. count_by (λ one. is_side on one.side) running.taken + n) (sym one)
-            ∙ ((is.line on).count ∙ sym answered.2)));
+        waits = now;
+        count = omega (arith, count, long, left, less, was, all, same);
         few = subst (λ n. n ≤ 2 ^ 32) (sym answered.2) (is.line on).few;
+        rising =
+            subst AreRising (sym answered.1)
+            (without-rising number (waiting_of (line_of old on)) (is.line on).rising);
+        below =
+            subst (λ w. All (λ one. one.number < (line_of new on).asked) w) (sym answered.1)
+            (subst (λ n. All (λ one. one.number < n) (without number (waiting_of (line_of old on))))
+            (sym answered.2) (All-filter (λ one. not (one.number == number))
+            (λ one. one.number < (line_of old on).asked) (waiting_of (line_of old on))
+            (is.line on).below));
+        may =
+            subst MayWait (sym answered.1)
+            (may_less number (waiting_of (line_of old on)) (is.line on).may);
       }
-    where
-      moved : (n : ℕ) → n + 1 + 0 ≡ n + 1
-      moved n = omega arith
 
   across : (on : Which) → on ≡ other side →
       (waits : outstanding (hearing running exchange_now) on ≡ outstanding running on) →
@@ -116,11 +87,16 @@ module _ (kept : archive.Archive) (old new : Session) (running : Running) (side 
       IsLine (line_of new on) (hearing running exchange_now) on
   across on e waits count =
       let same = subst (λ s. line_of new s ≡ line_of old s) (sym e) answers.across in record {
-        waits = waits ∙ ((is.line on).waits ∙ ap (λ l. waiting_of l.waiting) (sym same));
+        waits = waits ∙ ((is.line on).waits ∙ ap waiting_of (sym same));
         count =
             ap₂ (λ a b. a + b) count (ap length waits)
             ∙ ((is.line on).count ∙ ap (λ l. l.asked) (sym same));
         few = subst (λ n. n ≤ 2 ^ 32) (ap (λ l. l.asked) (sym same)) (is.line on).few;
+        rising = subst (λ l. AreRising (waiting_of l)) (sym same) (is.line on).rising;
+        below =
+            subst (λ l. All (λ one. one.number < l.asked) (waiting_of l)) (sym same)
+            (is.line on).below;
+        may = subst (λ l. MayWait (waiting_of l)) (sym same) (is.line on).may;
       }
 
 more : (n : ℕ) → n + (0 + 1) ≡ n + 1
@@ -154,28 +130,19 @@ module _ (kept : archive.Archive) (old new : Session) (running : Running) (numbe
       elim (Contains-push_cases running.taken _ _ has) as (λ _. WasAsked running on n a) [
         | inl before ↦ inl (said, before)
         | inr now ↦
-            let waited = it_waited (line_of old side).waiting number request answers.asked in
+            let waited = asked_waits (outstanding running side) number request
+            (ap (λ l. asked_in l number) (is.line side).waits ∙ answers.asked) in
             let here : WasAsked running side number request =
-            inr (
-              waited.0,
-              subst (λ l. let waits : Outstanding = record {
-                number = number;
-                request =
-                    request;
-                resent = waited.0;
-              } in Contains l waits) (sym (is.line side).waits) waited.1,
-            ) in
+            subst (λ r. WasAsked running side number r) waited.3
+            (subst (λ m. WasAsked running side m waited.0.request) waited.2
+            (inr (waited.0.resent, waited.1))) in
             subst (λ (e : Exchange). WasAsked running e.side e.number e.request) now here
       ]
   was_asked Left answers Left n a (inr (k, has)) =
-      absurd (none_of _
-      (subst (λ l. let waits : Outstanding = record { number = n; request = a; resent = k } in
-      Contains l waits) ((heard_on Left answers Left).waits ∙ ap waiting_of answers.silent) has))
+      inr (k, (in_filter (λ one. not (one.number == number)) running.left _ has).0)
   was_asked Left answers Right n a (inr (k, has)) = inr (k, has)
   was_asked Right answers Right n a (inr (k, has)) =
-      absurd (none_of _ (subst (λ l. let waits : Outstanding =
-      record { number = n; request = a; resent = k } in Contains l waits)
-      ((heard_on Right answers Right).waits ∙ ap waiting_of answers.silent) has))
+      inr (k, (in_filter (λ one. not (one.number == number)) running.right _ has).0)
   was_asked Right answers Left n a (inr (k, has)) = inr (k, has)
 
   -- it has taken the answer

@@ -1,32 +1,42 @@
 -- What a session that scans comes to with an answer.
-use Rattle.std.proofs.Common.{◌≡◌, ◌≤◌, ◌<◌, ◌^◌, ◌⊎◌, ◌+◌, ℕ, true, if◌then◌else◌, List, [], ◌∷◌}
-use Rattle.std.proofs.Common.{◌++◌, length, Option, Some, None, refl, sym, ap, ap₂, ◌∙◌, subst, inl}
-use Rattle.std.proofs.Common.{inr, arith}
-use Rattle.std.specs.Prelude.{Contains, IfNone, IfSome, is_some}
+use Rattle.std.proofs.Common.{◌≡◌, ◌≤◌, ◌<◌, ◌^◌, ◌⊎◌, ◌+◌, ◌&&◌, ℕ, Bool, true, false, not, List}
+use Rattle.std.proofs.Common.{if◌then◌else◌, [], ◌∷◌, ◌++◌, map, Option, Some, None, refl, sym, ap}
+use Rattle.std.proofs.Common.{◌∙◌, subst, inl, inr, arith, append-nil, length, nat_eq, nat_lt, suc}
+use Rattle.std.proofs.Common.{zero, Vec, Global}
+use Rattle.std.specs.Prelude.{All, AllPairs, Contains, IfNone, IfSome}
 use Rattle.std.specs.List.{sum_by}
-use Rattle.std.proofs.lemmas.Bool.{false≢true}
-use Rattle.std.proofs.lemmas.List.Elements.{Contains-append_left, Contains-push_cases}
+use Rattle.std.proofs.lemmas.Bool.{and_parts, false≢true}
+use Rattle.std.proofs.lemmas.Bool.Decides.{nat_tests}
+use Rattle.std.proofs.lemmas.List.{length-map, map-append}
+use Rattle.std.proofs.lemmas.List.Elements.{All-contains, Contains-append_cases}
+use Rattle.std.proofs.lemmas.List.Elements.{Contains-append_left, Contains-append_right}
+use Rattle.std.proofs.lemmas.List.Elements.{Contains-push_cases}
 use Rattle.std.proofs.lemmas.List.Sums.{sum_by-append}
-use Rattle.syn_headline.specs.Coordinator.{Exchange, MayAsk, Outstanding, Running, asked_in}
-use Rattle.syn_headline.specs.Coordinator.{hearing, is_not_dir, is_unstable, numbered, outstanding}
+use Rattle.syn_headline.specs.Coordinator.{AreRising, Exchange, MayAsk, MayWait, Outstanding}
+use Rattle.syn_headline.specs.Coordinator.{Running, numbered}
 use Rattle.syn_headline.specs.Network.{IsRepeat, Left, Right, Which, is_side}
 use Rattle.syn_headline.specs.Session.{BothBegun, entries_in}
 use Rattle.syn_headline.specs.Side.{Begin, Fetch, IsLawfulBody, ListAt, Replace, Request, Stage}
-use Rattle.syn_message.specs.Requests.{request_of}
-use Rattle.syn_message.specs.declared.request.Request.{Request as Asked}
 use Rattle.syn_model.specs.Path.{Path}
-use Rattle.syn_scan.specs.Found.{Found, IsWhole}
-use Rattle.syn_session.specs.Scanning.{IsFoundIn, WaitsFor, WasAnswered, found_of}
+use Rattle.syn_scan.specs.Asked.{AreAllOut, is_out}
+use Rattle.syn_scan.specs.Found.{Found, IsWhole, is_open}
+use Rattle.syn_session.specs.Scanning.{IsFoundIn, WaitsFor, WasAnswered, asked_of, found_of}
+use Rattle.syn_session.specs.Scanning.{out_of}
 use Rattle.syn_session.specs.declared.line.Line.{Line}
-use Rattle.syn_session.specs.declared.requests.Waiting.{Waiting}
 use Rattle.syn_session.specs.declared.session.Asks.{Asks}
+use Rattle.syn_session.specs.declared.session.Asks.TheVariants.{Listings}
 use Rattle.syn_session.specs.declared.session.Session.{Session}
-use Rattle.syn_session.specs.Answering.{asks_of, next_of, requests_of}
+use Rattle.syn_session.specs.Answering.{asks_of}
 use Rattle.syn_session.specs.inner.Listing.{IsListed, IsNextListing, KeepsFound, ListsNext, ListsOn}
+use Rattle.syn_session.specs.inner.Listing.{is_silent}
 use Rattle.syn_session.specs.Hearing.{HasHeard, IsAsking, IsFresh, IsScanned, ScansOn}
-use Rattle.syn_session.specs.Sessions.{IsLine, IsStage, waiting_of}
-use Rattle.syn_session.specs.Stages.{IsToList, lists, asks_now, found_on, line_of, reached_by}
-use Rattle.syn_session.proofs.SessionLemmas.{asks_first, first_request}
+use Rattle.syn_session.specs.Sessions.{IsLine, IsStage}
+use Rattle.syn_session.specs.Stages.{IsToList, lists, found_on, line_of, reached_by, requests_on}
+use Rattle.syn_session.specs.Stages.{outstanding_of, waiting_of}
+use Rattle.syn_session.proofs.WaitingLemmas.{contains_out, from_map, in_map, listings_all}
+use Rattle.syn_session.proofs.WaitingLemmas.{may_listings, none_wait, numbered_requests}
+use Rattle.syn_session.proofs.WaitingLemmas.{out_contains}
+use Rattle.syn_session.proofs.WaitingLemmas.{pairs_map, same_directory}
 
 none_at : {T : Type 0} (x : T) → Contains [] x → ⊥
 none_at x has = omega (arith, has.1)
@@ -65,33 +75,6 @@ found_still found side taken exchange f nothing never = record {
 
 -- ---- what is listed next
 
-one_of : (next : Option Asked) (request : Request) → Contains (requests_of next) request →
-    (asked : Asked) × (next ≡ Some asked) × (request_of asked ≡ request)
-one_of None request has = absurd (none_at _ has)
-one_of (Some asked) request has =
-    elim (Contains-push_cases [] _ _ has)
-    as (λ _. (one : Asked) × (Some asked ≡ Some one) × (request_of one ≡ request)) [
-      | inl never ↦ absurd (none_at _ never)
-      | inr is ↦ (asked, refl, is)
-    ]
-
-some_from : (waiting : Option Waiting) (n : ℕ) → length (waiting_of waiting) ≡ n → 1 ≤ n →
-    is_some waiting ≡ true
-some_from None n e less = let never : ⊥ = omega (arith, e, less) in absurd never
-some_from (Some one) n e less = refl
-
-some_length : (waiting : Option Waiting) → is_some waiting ≡ true → 1 ≤ length (waiting_of waiting)
-some_length None e = absurd (false≢true e)
-some_length (Some one) e = omega arith
-
-next_length : (next : Option Asked) (count : ℕ) → is_some next ≡ true →
-    1 ≤ length (numbered count (requests_of next))
-next_length None count e = absurd (false≢true e)
-next_length (Some one) count e = omega arith
-
-is_none_of : (waiting : Option Waiting) → waiting ≡ None → waiting_of waiting ≡ []
-is_none_of waiting e = ap waiting_of e
-
 no_repeat : (before : Request) (path : Path) → IsRepeat before (ListAt path) → before ≡ ListAt path
 no_repeat (Begin pair) path is = absurd is
 no_repeat (ListAt at) path is = ap ListAt is
@@ -99,21 +82,37 @@ no_repeat (Fetch at since offset) path is = absurd is
 no_repeat (Stage item offset bytes) path is = absurd is
 no_repeat (Replace item at since size) path is = absurd is
 
+shut_by : (a b : Bool) → (a && not b) ≡ false → (b ≡ true → ⊥) → a ≡ false
+shut_by false b e never = refl
+shut_by true true e never = absurd (never refl)
+shut_by true false e never = e
+
 module _ (session new : Session) (heard : Running) (h : HasHeard session heard)
     (begun : BothBegun heard.taken)
     (found : (side : Which) → IsFoundIn (found_on session side) side heard.taken)
-    (lines : (side : Which) → ((line_of session side).waiting ≡ None)
-    ⊎ ((path : Path) × (asks_now (line_of session side) ≡ Some (ListAt path))
-    × WaitsFor (line_of session side).scan path)) (keeps : KeepsFound session new) where
+    (listing : (side : Which) → IsToList session side)
+    (out : (side : Which) (path : Path) → WaitsFor (line_of session side).scan path →
+    Contains (requests_on (line_of session side)) (ListAt path))
+    (keeps : KeepsFound session new) where
   found_new : (side : Which) → IsFoundIn (found_on new side) side heard.taken
   found_new side = subst (λ f. IsFoundIn f side heard.taken) (sym (keeps.found side)) (found side)
+
+  waiting_new : (side : Which) → waiting_of (line_of new side) ≡ waiting_of (line_of session side)
+  waiting_new side = ap (λ w. map outstanding_of w.items) (keeps.waits side)
 
   line_new : (side : Which) → IsLine (line_of new side) heard side
   line_new side =
       let was = h.heard_is.line side in record {
-        waits = was.waits ∙ ap waiting_of (sym (keeps.waits side));
+        waits = was.waits ∙ sym (waiting_new side);
         count = was.count ∙ sym (keeps.count side);
         few = subst (λ n. n ≤ 2 ^ 32) (sym (keeps.count side)) was.few;
+        rising = subst AreRising (sym (waiting_new side)) was.rising;
+        below =
+            subst (λ n. All (λ one. one.number < n) (waiting_of (line_of new side)))
+            (sym (keeps.count side)) (subst
+            (λ w. All (λ one. one.number < (line_of session side).asked) w)
+            (sym (waiting_new side)) was.below);
+        may = subst MayWait (sym (waiting_new side)) was.may;
       }
 
   pub heard_new : HasHeard new heard
@@ -132,161 +131,136 @@ module _ (session new : Session) (heard : Running) (h : HasHeard session heard)
     of_scan = h.of_scan;
   }
 
-  pub scanned_new : IsListed new → IsScanned new heard
-  scanned_new is = record { begun = begun; found = found_new; whole = whole; silent = silent }
+  -- where nothing waits nothing is out
+  nothing_out : (side : Which) → waiting_of (line_of new side) ≡ [] → (path : Path) →
+      WaitsFor (line_of session side).scan path → ⊥
+  nothing_out side none path is =
+      none_at (ListAt path) (subst (λ w. Contains (map (λ (one : Outstanding). one.request) w)
+      (ListAt path)) (sym (waiting_new side) ∙ none) (out side path is))
+
+  pub scanned_new : IsListed session new → IsScanned new heard
+  scanned_new is =
+      record { begun = begun; found = found_new; whole = whole; silent = is.silent }
     where
       whole : (side : Which) → IsWhole (found_on new side)
-      whole Left = is.left_whole
-      whole Right = is.right_whole
-
-      silent : (side : Which) → (line_of new side).waiting ≡ None
-      silent Left = is.left_silent
-      silent Right = is.right_silent
+      whole side path =
+          shut_by (is_open (found_on new side) path)
+          (is_out (out_of (line_of new side).scan) path) (is.all side path)
+          (λ waits. nothing_out side (is.silent side) path
+          (subst (λ ps. is_out ps path ≡ true) (is.out side) waits))
 
   module _ (asks : Asks) (on : ListsOn session new asks) where
-    next : (side : Which) → ListsNext (line_of session side) (line_of new side) (next_of asks side)
-    next Left = on.left
-    next Right = on.right
-
-    free_by : (side : Which) (asked : Option Asked) →
-        ListsNext (line_of session side) (line_of new side) asked →
-        (requests_of asked ≡ []) ⊎ ((line_of new side).waiting ≡ None)
-    free_by side None is = inl refl
-    free_by side (Some asked) (path, e, is) = inr (keeps.waits side ∙ is.free)
-
     -- a listing that is asked for
-    listing : (side : Which) (request : Request) →
-        Contains (asks_of asks side) request → (path : Path) × (request ≡ ListAt path)
-        × IsNextListing (line_of session side) (line_of new side) path
-    listing side request has =
-        let one = one_of (next_of asks side) request has in
-        let is = subst (λ o. ListsNext (line_of session side) (line_of new side) o) one.1
-        (next side) in
-        (is.0, sym one.2 ∙ is.1, is.2)
+    next_listing : (side : Which) (request : Request) → Contains (asks_of asks side) request →
+        (path : Path) × (request ≡ ListAt path) × IsNextListing (line_of session side) path
+    next_listing side request has =
+        let it = from_map ListAt (on.paths side) request
+        (subst (λ rs. Contains rs request) (on.asked side) has) in (
+          it.0,
+          sym it.2,
+          All-contains (IsNextListing (line_of session side)) (on.paths side)
+              it.0 (on.next side).each it.1,
+        )
 
-    empty_line : (side : Which) → (line_of session side).waiting ≡ None →
-        outstanding heard side ≡ []
-    empty_line side free = (h.heard_is.line side).waits ∙ ap waiting_of free
-
-    fresh_listing : (side : Which) (path : Path) →
-        IsNextListing (line_of session side) (line_of new side) path →
+    fresh_listing : (side : Which) (path : Path) → IsNextListing (line_of session side) path →
         IsFresh heard side (ListAt path)
     fresh_listing side path is n before (inl (reply, has)) repeat =
         is.unanswered ((found side).only _ path has refl (no_repeat before path repeat))
     fresh_listing side path is n before (inr (k, has)) repeat =
-        none_at _ (subst (λ l. let waits : Outstanding = record {
+        let it = listing side before (in_map (λ (one : Outstanding). one.request)
+        (waiting_of (line_of session side)) (record { number = n; request = before; resent = k })
+        (subst (λ l. let waits : Outstanding = record {
           number = n;
           request = before;
           resent = k;
-        } in Contains l waits) (empty_line side is.free) has)
+        } in Contains l waits) (h.heard_is.line side).waits has)) in
+        is.unasked (subst (WaitsFor (line_of session side).scan)
+        (same_directory it.0 path (sym it.1 ∙ no_repeat before path repeat)) it.2)
 
-    -- what waits on a line that has asked
-    waits_then : (side : Which) (later : Session) → IsAsking new later asks →
-        waiting_of (line_of later side).waiting ≡ waiting_of (line_of new side).waiting
-        ++ numbered (line_of new side).asked (asks_of asks side)
-    waits_then side later asking =
-        (asking.line side).waits (free_by side (next_of asks side) (next side))
-
-    now_of : (side : Which) (later : Session) → IsAsking new later asks →
-        asks_now (line_of later side) ≡ first_request (waiting_of (line_of new side).waiting
+    may_wait_on : (side : Which) → MayWait (waiting_of (line_of new side)
         ++ numbered (line_of new side).asked (asks_of asks side))
-    now_of side later asking =
-        asks_first (line_of later side).waiting ∙ ap first_request (waits_then side later asking)
+    may_wait_on side =
+        subst (λ rs. MayWait (waiting_of (line_of new side)
+        ++ numbered (line_of new side).asked rs)) (sym (on.asked side))
+        (subst (λ w. MayWait (w ++ numbered (line_of new side).asked
+        (map ListAt (on.paths side)))) (sym (waiting_new side))
+        (may_listings (waiting_of (line_of session side)) (line_of new side).asked
+        (on.paths side) (h.heard_is.line side).may
+        (listings_all (waiting_of (line_of session side))
+        (WaitsFor (line_of session side).scan) (listing side)) (on.next side).few))
 
-    no_more : (l : List Rattle.syn_headline.specs.Coordinator.Outstanding) → l ++ [] ≡ l
-    no_more [] = refl
-    no_more (x ∷ l) = ap (λ m. x ∷ m) (no_more l)
+    module _ (later : Session) (asking : IsAsking new later asks) where
+      requests_later : (side : Which) → requests_on (line_of later side)
+          ≡ requests_on (line_of session side) ++ map ListAt (on.paths side)
+      requests_later side =
+          ap (map (λ (one : Outstanding). one.request)) (asking.line side).waits
+          ∙ (map-append (λ (one : Outstanding). one.request) (waiting_of (line_of new side))
+          (numbered (line_of new side).asked (asks_of asks side))
+          ∙ (ap (λ l. requests_on (line_of new side) ++ l)
+          (numbered_requests (line_of new side).asked (asks_of asks side) ∙ on.asked side)
+          ∙ ap (λ w. map (λ (one : Outstanding). one.request) w
+          ++ map ListAt (on.paths side)) (waiting_new side)))
 
-    to_list : (side : Which) (later : Session) → IsAsking new later asks → (asked : Option Asked) →
-        next_of asks side ≡ asked → ListsNext (line_of session side) (line_of new side) asked →
-        IsToList later side
-    to_list side later asking (Some asked) e (path, is, listed) = inl (
-      path,
-      now_of side later asking ∙ (ap₂
-          (λ w r. first_request (waiting_of w ++ numbered (line_of new side).asked (requests_of r)))
-          (keeps.waits side ∙ listed.free) e ∙ ap (λ r. Some r) is),
-      subst (λ s. WaitsFor s path) (sym (asking.line side).scan) listed.waits,
-    )
-    to_list side later asking None e (inl (waits, same)) =
-        elim (lines side) as (λ _. IsToList later side) [
-          | inl free ↦ absurd (waits free)
-          | inr it ↦ inl (
-            it.0,
-            now_of side later asking
-                ∙ (ap (λ r. first_request (waiting_of (line_of new side).waiting
-                ++ numbered (line_of new side).asked (requests_of r))) e
-                ∙ (ap first_request (no_more (waiting_of (line_of new side).waiting))
-                ∙ (ap (λ w. first_request (waiting_of w)) (keeps.waits side)
-                ∙ (sym (asks_first (line_of session side).waiting) ∙ it.1)))),
-            subst (λ s. WaitsFor s it.0)
-                (sym ((asking.line side).scan ∙ ap (λ (l : Line). l.scan) same)) it.2,
-          )
-        ]
-    to_list side later asking None e (inr (free, whole)) = inr (
-      now_of side later asking ∙ ap₂
-          (λ w r. first_request (waiting_of w ++ numbered (line_of new side).asked (requests_of r)))
-          (keeps.waits side ∙ free) e,
-      subst (λ s. IsWhole (found_of s)) (sym (asking.line side).scan) whole,
-    )
+      out_later : (side : Which) → out_of (line_of later side).scan
+          ≡ out_of (line_of session side).scan ++ on.paths side
+      out_later side = ap out_of (asking.line side).scan ∙ (on.next side).out
 
-    some_then : (later : Session) → IsAsking new later asks →
-        (is_some later.left.waiting ≡ true) ⊎ (is_some later.right.waiting ≡ true)
-    some_then later asking =
-        elim on.some
-        as (λ _. (is_some later.left.waiting ≡ true) ⊎ (is_some later.right.waiting ≡ true)) [
-          | inl asked ↦ elim asked
-              as (λ _. (is_some later.left.waiting ≡ true) ⊎ (is_some later.right.waiting ≡ true)) [
-                | inl left ↦ inl
-                    (by_asking Left later.left.waiting (waits_then Left later asking) left)
-                | inr right ↦ inr
-                    (by_asking Right later.right.waiting (waits_then Right later asking) right)
-              ]
-          | inr waits ↦ elim waits
-              as (λ _. (is_some later.left.waiting ≡ true) ⊎ (is_some later.right.waiting ≡ true)) [
-                | inl left ↦ inl
-                    (by_waiting Left later.left.waiting (waits_then Left later asking) left)
-                | inr right ↦ inr
-                    (by_waiting Right later.right.waiting (waits_then Right later asking) right)
-              ]
-        ]
-      where
-        lengths : (side : Which) →
-            length (waiting_of (line_of new side).waiting ++ numbered (line_of new side).asked
-            (asks_of asks side)) ≡ length (waiting_of (line_of new side).waiting)
-            + length (numbered (line_of new side).asked (asks_of asks side))
-        lengths side =
-            Rattle.std.proofs.lemmas.List.length-append (waiting_of (line_of new side).waiting)
-            (numbered (line_of new side).asked (asks_of asks side))
+      to_list : (side : Which) → IsToList later side
+      to_list side request has =
+          elim (Contains-append_cases (requests_on (line_of session side))
+          (map ListAt (on.paths side)) request
+          (subst (λ l. Contains l request) (requests_later side) has))
+          as (λ _. (path : Path) × (request ≡ ListAt path)
+          × WaitsFor (line_of later side).scan path) [
+            | inl was ↦ let it = listing side request was in (
+              it.0,
+              it.1,
+              subst (λ ps. is_out ps it.0 ≡ true) (sym (out_later side)) (contains_out _ it.0
+                  (Contains-append_left (out_of (line_of session side).scan) (on.paths side) it.0
+                  (out_contains (out_of (line_of session side).scan) it.0 it.2))),
+            )
+            | inr now ↦ let it = from_map ListAt (on.paths side) request now in (
+              it.0,
+              sym it.2,
+              subst (λ ps. is_out ps it.0 ≡ true) (sym (out_later side)) (contains_out _ it.0
+                  (Contains-append_right (out_of (line_of session side).scan) (on.paths side) it.0
+                  it.1)),
+            )
+          ]
 
-        by_asking : (side : Which) (now : Option Waiting) → waiting_of now ≡ waiting_of
-            (line_of new side).waiting ++ numbered (line_of new side).asked (asks_of asks side) →
-            is_some (next_of asks side) ≡ true → is_some now ≡ true
-        by_asking side now e some =
-            let less = next_length (next_of asks side) (line_of new side).asked some in
-            let sum = lengths side in
-            some_from now _ (ap length e) (omega (arith, less, sum))
-
-        by_waiting : (side : Which) (now : Option Waiting) → waiting_of now ≡ waiting_of
-            (line_of new side).waiting ++ numbered (line_of new side).asked (asks_of asks side) →
-            is_some (line_of new side).waiting ≡ true → is_some now ≡ true
-        by_waiting side now e some =
-            let less = some_length (line_of new side).waiting some in
-            let sum = lengths side in
-            some_from now _ (ap length e) (omega (arith, less, sum))
+      still_out : (side : Which) (path : Path) → WaitsFor (line_of later side).scan path →
+          Contains (requests_on (line_of later side)) (ListAt path)
+      still_out side path waits =
+          subst (λ l. Contains l (ListAt path)) (sym (requests_later side))
+          (elim (Contains-append_cases (out_of (line_of session side).scan) (on.paths side) path
+          (out_contains _ path (subst (λ ps. is_out ps path ≡ true) (out_later side) waits)))
+          as (λ _. Contains (requests_on (line_of session side)
+          ++ map ListAt (on.paths side)) (ListAt path)) [
+            | inl was ↦ Contains-append_left (requests_on (line_of session side))
+                (map ListAt (on.paths side)) (ListAt path) (out side path
+                (contains_out (out_of (line_of session side).scan) path was))
+            | inr now ↦ Contains-append_right (requests_on (line_of session side))
+                (map ListAt (on.paths side)) (ListAt path)
+                (in_map ListAt (on.paths side) path now)
+          ])
 
     pub scans_new : ScansOn new heard (Some asks)
     scans_new archive = record {
-      free = λ side. free_by side (next_of asks side) (next side);
+      may_wait = may_wait_on;
       fresh =
-          λ side request has. let it = listing side request has in
+          λ side request has. let it = next_listing side request has in
           subst (IsFresh heard side) (sym it.1) (fresh_listing side it.0 it.2);
+      apart =
+          λ side. subst (AllPairs (λ one other. ¬ IsRepeat one other)) (sym (on.asked side))
+          (pairs_map (λ one other. ¬ IsRepeat one other) ListAt (on.paths side)
+          (on.next side).apart);
       may =
-          λ side request has. let it = listing side request has in
+          λ side request has. let it = next_listing side request has in
           subst (λ r. MayAsk archive heard side r × IsLawfulBody r) (sym it.1) (
             (ap (λ r. r.plan) h.reached, begun, it.2.shown side heard.taken (found side)),
             it.2.lawful,
           );
-      some = some_then;
+      some = on.some;
       stage =
           λ later asking. subst (λ c. IsStage archive later c heard.taken (reached_by heard))
           (sym (asking.course ∙ (keeps.course ∙ h.scans))) (record {
@@ -295,13 +269,111 @@ module _ (session new : Session) (heard : Running) (h : HasHeard session heard)
             found =
                 λ side. subst (λ s. IsFoundIn (found_of s) side heard.taken)
                 (sym (asking.line side).scan) (found_new side);
-            at =
-                lists begun
-                (λ side. to_list side later asking (next_of asks side) refl (next side));
+            at = lists begun (to_list later asking);
+            out = still_out later asking;
           });
     }
 
   pub scans_either : (next : Option Asks) → IfSome next (ListsOn session new) →
-      IfNone next (IsListed new) → ScansOn new heard next
+      IfNone next (IsListed session new) → ScansOn new heard next
   scans_either None some none = scanned_new none
   scans_either (Some asks) some none = scans_new asks some
+
+-- ---- whether anything is listed next
+
+quiet_line : (old new : Line) (paths : List Path) → new.waiting ≡ old.waiting →
+    ListsNext old new paths → is_silent new paths ≡ true →
+    (waiting_of new ≡ []) × (out_of new.scan ≡ out_of old.scan) × AreAllOut (asked_of new.scan)
+quiet_line old new paths same next quiet =
+    let both = and_parts (not (nat_lt 0 (length (waiting_of new)))) (nat_eq (length paths) 0) quiet
+    in
+    let none = none_wait (waiting_of new) (off _ both.0) in
+    let nothing = no_paths paths both.1 in
+    let was : waiting_of old ≡ [] = ap (λ w. map outstanding_of w.items) (sym same) ∙ none in (
+      none,
+      next.out ∙ (ap (λ ps. out_of old.scan ++ ps) nothing ∙ append-nil (out_of old.scan)),
+      elim next.most as (λ _. AreAllOut (asked_of new.scan)) [
+        | inl many ↦
+            let zero_waits = ap length was in
+            let zero_next = ap length nothing in
+            absurd (omega (arith, many, zero_waits, zero_next))
+        | inr all ↦ all
+      ],
+    )
+  where
+    off : (b : Bool) → not b ≡ true → b ≡ false
+    off false e = refl
+    off true e = absurd (false≢true e)
+
+    no_paths : (ps : List Path) → nat_eq (length ps) 0 ≡ true → ps ≡ []
+    no_paths [] e = refl
+    no_paths (path ∷ ps) e = absurd (never (length ps) e)
+      where
+        never : (n : ℕ) → nat_eq (suc n) 0 ≡ true → ⊥
+        never n e = grind (arith, nat_tests)
+
+loud_line : (new : Line) (paths : List Path) → is_silent new paths ≡ false →
+    1 ≤ length (waiting_of new) + length paths
+loud_line new paths loud =
+    by (length (waiting_of new)) (length paths) loud
+  where
+    by : (m n : ℕ) → (not (nat_lt 0 m) && nat_eq n 0) ≡ false → 1 ≤ m + n
+    by zero zero e = absurd (false≢true (sym e))
+    by zero (suc n) e = omega arith
+    by (suc m) n e = omega arith
+
+module _ (old new : Session) (left right : Vec Path Global) (left_same : new.left.waiting
+    ≡ old.left.waiting) (right_same : new.right.waiting ≡ old.right.waiting)
+    (next_left : ListsNext old.left new.left left.items)
+    (next_right : ListsNext old.right new.right right.items) where
+  pub listed_so : (is_silent new.left left.items && is_silent new.right right.items) ≡ true →
+      IsListed old new
+  listed_so quiet =
+      let both = and_parts (is_silent new.left left.items) (is_silent new.right right.items)
+      quiet in
+      let l = quiet_line old.left new.left left.items left_same next_left both.0 in
+      let r = quiet_line old.right new.right right.items right_same next_right both.1 in
+      record {
+        silent = λ side. elim side as (λ side. waiting_of (line_of new side) ≡ [])
+            [ Left ↦ l.0 | Right ↦ r.0 ];
+        out = λ side. elim side as (λ side.
+            out_of (line_of new side).scan ≡ out_of (line_of old side).scan)
+            [ Left ↦ l.1 | Right ↦ r.1 ];
+        all = λ side. elim side as (λ side. AreAllOut (asked_of (line_of new side).scan))
+            [ Left ↦ l.2 | Right ↦ r.2 ];
+      }
+
+  abbrev paths_of : Which → List Path
+  paths_of Left = left.items
+  paths_of Right = right.items
+
+  either_loud : (a b : Bool) → (a && b) ≡ false → (a ≡ false) ⊎ (b ≡ false)
+  either_loud false b e = inl refl
+  either_loud true b e = inr e
+
+  pub lists_so : (is_silent new.left left.items && is_silent new.right right.items) ≡ false →
+      ListsOn old new (Listings left right)
+  lists_so loud = record {
+    paths = paths_of;
+    asked =
+        λ side. elim side as (λ side. asks_of (Listings left right) side
+        ≡ map ListAt (paths_of side)) [ Left ↦ refl | Right ↦ refl ];
+    next =
+        λ side. elim side as (λ side. ListsNext (line_of old side) (line_of new side)
+        (paths_of side)) [ Left ↦ next_left | Right ↦ next_right ];
+    some =
+        elim (either_loud (is_silent new.left left.items) (is_silent new.right right.items) loud)
+        as (λ _. (side : Which) × (1 ≤ length (waiting_of (line_of new side))
+        + length (asks_of (Listings left right) side))) [
+          | inl l ↦ (
+            Left,
+            let more = loud_line new.left left.items l in
+                let long = length-map left.items ListAt in omega (arith, more, long),
+          )
+          | inr r ↦ (
+            Right,
+            let more = loud_line new.right right.items r in
+                let long = length-map right.items ListAt in omega (arith, more, long),
+          )
+        ];
+  }

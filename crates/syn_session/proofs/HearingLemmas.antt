@@ -1,41 +1,55 @@
 -- A session that scans hears that a side has begun, or what it lists.
-use Rattle.std.proofs.Common.{◌≡◌, ◌≤◌, ◌<◌, ◌^◌, ◌⊎◌, ℕ, true, ◌||◌, if◌then◌else◌, List, [], ◌∷◌}
-use Rattle.std.proofs.Common.{◌++◌, Option, Some, None, refl, sym, ap, ◌∙◌, subst, inl, inr, arith}
-use Rattle.std.specs.Prelude.{Contains, is_some, option_map, unwrap_or, IsErrAnd, Result, Ok, Err}
+use Rattle.std.proofs.Common.{◌≡◌, ◌≢◌, ◌≤◌, ◌<◌, ◌^◌, ◌⊎◌, ◌==◌, ℕ, Bool, true, false}
+use Rattle.std.proofs.Common.{true≢false, not, ◌||◌, if◌then◌else◌, [], ◌++◌, length, map}
+use Rattle.std.proofs.Common.{Option, Some, None, refl, sym, ap, ◌∙◌, subst, inl, inr, arith}
+use Rattle.std.proofs.Common.{append-nil}
+use Rattle.std.specs.Prelude.{All, AllPairs, Contains, IsErrAnd, Result, Ok, Err}
+use Rattle.std.proofs.lemmas.List.{length-map}
 use Rattle.std.proofs.lemmas.List.Elements.{Contains-append_left, Contains-push}
 use Rattle.std.proofs.lemmas.List.Elements.{Contains-push_cases}
-use Rattle.std.proofs.lemmas.Option.{none-some}
-use Rattle.syn_headline.specs.Coordinator.{Exchange, Running, hearing, is_last, is_not_dir}
-use Rattle.syn_headline.specs.Coordinator.{is_unstable}
-use Rattle.syn_headline.specs.Network.{Left, Right, Which, is_side, other}
-use Rattle.syn_headline.specs.Session.{BothBegun, WasTaken, entries_in, fault_of}
+use Rattle.std.proofs.lemmas.Option.{same_Some}
+use Rattle.syn_headline.specs.Coordinator.{AreRising, Exchange, MayWait, Outstanding, Running}
+use Rattle.syn_headline.specs.Coordinator.{asked_in, hearing, is_last, is_not_dir}
+use Rattle.syn_headline.specs.Coordinator.{numbered, without}
+use Rattle.syn_headline.specs.Network.{IsRepeat, Left, Right, Which, is_side, other}
+use Rattle.syn_headline.specs.Session.{BothBegun, WasAsked, WasTaken, entries_in, fault_of}
 use Rattle.syn_headline.specs.Side.{Begin, Begun, Fetch, ListAt, Replace, Request, Stage}
 use Rattle.syn_headline.specs.Side as model
+use Rattle.syn_headline.proofs.Remembers.{asked_waits}
 use Rattle.syn_message.specs.Requests.{request_of}
 use Rattle.syn_message.specs.declared.request.Request.{Request as Asked}
 use Rattle.syn_message.specs.declared.request.Request.TheVariants as has
 use Rattle.syn_model.specs.Archive as archive
 use Rattle.syn_model.specs.Path.{Path}
-use Rattle.syn_session.specs.Scanning.{IsFoundIn, WaitsFor, found_of}
+use Rattle.syn_scan.specs.Asked.{is_out}
+use Rattle.syn_scan.specs.Asked.{without as without_path}
+use Rattle.syn_session.specs.Scanning.{IsFoundIn, WaitsFor, found_of, out_of}
 use Rattle.syn_session.specs.declared.line.Line.{Line}
-use Rattle.syn_session.specs.declared.requests.Waiting.{Waiting}
 use Rattle.syn_session.specs.declared.session.Asks.{Asks}
 use Rattle.syn_session.specs.declared.session.Session.{Session}
-use Rattle.syn_session.specs.Answering.{IsAnswering, exchange_of}
+use Rattle.syn_session.specs.Answering.{IsAnswering, asks_of, exchange_of}
 use Rattle.syn_session.specs.inner.Listing.{KeepsRequests}
 use Rattle.syn_session.specs.Hearing.{EndsHearing, HasHeard, Hears, IsAsking, ScansOn}
 use Rattle.syn_refusal.specs.declared.refusal.Refusal.{Refusal as Why}
-use Rattle.syn_session.specs.Sessions.{IsSession, IsStage, Tells, waiting_of}
+use Rattle.syn_session.specs.Sessions.{IsSession, IsStage, Tells}
 use Rattle.syn_session.specs.Stages.{AreOfScan, IsBeginningOrListing, IsOfScan, IsScanning}
-use Rattle.syn_session.specs.Stages.{IsToBegin, IsToList, begins, lists, asks_now, found_on}
-use Rattle.syn_session.specs.Stages.{line_of, reached_by}
+use Rattle.syn_session.specs.Stages.{IsToBegin, IsToList, begins, lists, found_on}
+use Rattle.syn_session.specs.Stages.{line_of, outstanding_of, reached_by, requests_on, waiting_of}
 use Rattle.syn_session.proofs.AnswerLemmas.{heard_so, unstable_then}
 use Rattle.syn_session.proofs.HearLemmas.{found_still}
-use Rattle.syn_session.proofs.SessionLemmas.{asks_first, first_request}
-use Rattle.syn_session.proofs.TellingLemmas.{by_sides, asked_first, list_not_begin}
-use Rattle.syn_session.proofs.TellingLemmas.{some_list_not_begin, no_waiting, or_false}
+use Rattle.syn_session.proofs.WaitingLemmas.{alone_is, asked_has, first_is, from_map, in_filter}
+use Rattle.syn_session.proofs.WaitingLemmas.{in_map, its_number, only_in, other_number, out_before}
+use Rattle.syn_session.proofs.WaitingLemmas.{out_still, same_directory, still_in-filter}
+use Rattle.syn_session.proofs.TellingLemmas.{by_sides, list_not_begin, or_false}
 use Rattle.syn_session.proofs.TellingLemmas.{either_nothing, not_across, other_side, tells_nothing}
 use Rattle.syn_session.proofs.TellingLemmas.{scans_further}
+
+none_waits : {T : Type 0} (x : T) → Contains [] x → ⊥
+none_waits x has = omega (arith, has.1)
+
+not_true : (b : Bool) → not b ≡ true → b ≡ false
+not_true false e = refl
+not_true true e = absurd (true≢false (sym e))
 
 module _ (kept : archive.Archive) (before now : Session) (running : Running) (side : Which)
     (number : ℕ) (request : Request) (reply : model.Reply) (is : IsSession kept before running)
@@ -49,10 +63,15 @@ module _ (kept : archive.Archive) (before now : Session) (running : Running) (si
   scanning : IsScanning before running.taken (reached_by running)
   scanning = subst (λ c. IsStage kept before c running.taken (reached_by running)) scans is.stage
 
-  asked_now : asks_now (line_of before side) ≡ Some request
-  asked_now =
-      asks_first (line_of before side).waiting
-      ∙ asked_first (line_of before side).waiting number request answers.asked
+  left_now : waiting_of (line_of now side) ≡ without number (waiting_of (line_of before side))
+  left_now = answers.waits (is.line side).rising
+
+  waited : Contains (requests_on (line_of before side)) request
+  waited = asked_has (waiting_of (line_of before side)) number request answers.asked
+
+  waits_across : waiting_of (line_of now (other side))
+      ≡ waiting_of (line_of before (other side))
+  waits_across = ap waiting_of answers.across
 
   -- it was begun or a listing, as what was asked before
   of_scan_then : IsOfScan request → AreOfScan heard.taken
@@ -78,22 +97,18 @@ module _ (kept : archive.Archive) (before now : Session) (running : Running) (si
       (ap (λ (l : Line). l.scan) answers.across)
 
   -- while it scans it waits for nothing but a begin or a listing
-  some_in : (r q : Request) → Some r ≡ Some q → r ≡ q
-  some_in r q e = ap (λ o. unwrap_or o r) e
-
   neither : ((pair : ℕ) → request ≡ Begin pair → ⊥) → ((path : Path) → request ≡ ListAt path → ⊥) →
       ⊥
   neither no_begin no_list = by scanning.at
     where
       by : IsBeginningOrListing before running.taken → ⊥
       by (begins each) = elim (each side) [
-        | inl (pair, e) ↦ no_begin pair (some_in _ _ (sym asked_now ∙ e))
-        | inr (e, pair, position, was) ↦ none-some _ (sym e ∙ asked_now)
+        | inl (pair, e) ↦ no_begin pair
+            (sym (only_in (Begin pair) request (subst (λ l. Contains l request) e waited)))
+        | inr (e, pair, position, was) ↦ none_waits request
+            (subst (λ l. Contains l request) e waited)
       ]
-      by (lists both each) = elim (each side) [
-        | inl (path, e, waits) ↦ no_list path (some_in _ _ (sym asked_now ∙ e))
-        | inr (e, whole) ↦ none-some _ (sym e ∙ asked_now)
-      ]
+      by (lists both each) = let it = each side request waited in no_list it.0 it.1
 
   -- and an answer that does not end it is not the last to an item
   pub not_last : fault_of running.taken side request reply ≡ None → is_last reply ≡ true → ⊥
@@ -132,11 +147,37 @@ module _ (kept : archive.Archive) (before now : Session) (running : Running) (si
         by : IsBeginningOrListing before running.taken → (on : Which) →
             IsToBegin before running.taken on
         by (begins each) = each
-        by (lists both each) = elim (each side) [
-          | inl (path, e, waits) ↦ absurd
-              (some_list_not_begin path pair (sym e ∙ (asked_now ∙ ap (λ r. Some r) begin)))
-          | inr (e, whole) ↦ absurd (none-some _ (sym e ∙ asked_now))
-        ]
+        by (lists both each) =
+            let it = each side request waited in
+            absurd (list_not_begin it.0 pair (sym it.1 ∙ begin))
+
+    -- so nothing is out
+    no_list_waits : (on : Which) (path : Path) →
+        Contains (requests_on (line_of before on)) (ListAt path) → ⊥
+    no_list_waits on path has = elim (each_begins on) [
+      | inl (asked, e) ↦ list_not_begin path asked (sym (only_in (Begin asked) (ListAt path)
+          (subst (λ l. Contains l (ListAt path)) e has)))
+      | inr (e, asked, at, was) ↦ none_waits (ListAt path)
+          (subst (λ l. Contains l (ListAt path)) e has)
+    ]
+
+    nothing_out : (on : Which) (path : Path) → WaitsFor (line_of now on).scan path → ⊥
+    nothing_out on path waits =
+        no_list_waits on path
+        (scanning.out on path (subst (λ s. WaitsFor s path) (scan_same on) waits))
+
+    silent_here : waiting_of (line_of now side) ≡ []
+    silent_here =
+        left_now ∙ alone_is (waiting_of (line_of before side)) number request few answers.asked
+      where
+        few : length (waiting_of (line_of before side)) ≤ 1
+        few =
+            let same = length-map (waiting_of (line_of before side))
+            (λ (one : Outstanding). one.request) in
+            elim (each_begins side) as (λ _. length (waiting_of (line_of before side)) ≤ 1) [
+              | inl (asked, e) ↦ let one = ap length e in omega (arith, same, one)
+              | inr (e, asked, at, was) ↦ let none = ap length e in omega (arith, same, none)
+            ]
 
     begun_now : WasTaken heard.taken side (Begin pair) (Begun position)
     begun_now =
@@ -158,84 +199,55 @@ module _ (kept : archive.Archive) (before now : Session) (running : Running) (si
     was_begun on p k was = (was.0, Contains-append_left running.taken _ _ was.1)
 
     -- the other side has begun too
-    module _ (silent : (line_of now (other side)).waiting ≡ None) where
+    module _ (silent : waiting_of (line_of now (other side)) ≡ []) where
       pub both_begun : BothBegun heard.taken
       both_begun =
           by_sides (λ on. (p : ℕ) × (k : ℕ) × WasTaken heard.taken on (Begin p) (Begun k)) side
           (pair, position, begun_now) (elim (each_begins (other side))
           as (λ _. (p : ℕ) × (k : ℕ) × WasTaken heard.taken (other side) (Begin p) (Begun k)) [
-            | inl waits ↦ absurd
-                (none-some _ (sym (ap (λ w. option_map (λ one. request_of one.request) w)
-                (ap (λ (l : Line). l.waiting) (sym answers.across) ∙ silent)) ∙ waits.1))
+            | inl (asked, e) ↦ absurd (none_waits (Begin asked)
+                (subst (λ l. Contains l (Begin asked))
+                (sym e ∙ ap (map (λ (one : Outstanding). one.request))
+                (sym waits_across ∙ silent)) (0, omega arith, refl)))
             | inr was ↦ (was.1, was.2, was_begun (other side) was.1 was.2 was.3)
           ])
 
-      pub begun_lines : (on : Which) → ((line_of now on).waiting ≡ None) ⊎ ((path : Path)
-          × (asks_now (line_of now on) ≡ Some (ListAt path)) × WaitsFor (line_of now on).scan path)
-      begun_lines =
-          by_sides (λ on. ((line_of now on).waiting ≡ None)
-          ⊎ ((path : Path) × (asks_now (line_of now on) ≡ Some (ListAt path))
-          × WaitsFor (line_of now on).scan path)) side (inl answers.silent) (inl silent)
+      silent_on : (on : Which) → waiting_of (line_of now on) ≡ []
+      silent_on = by_sides (λ on. waiting_of (line_of now on) ≡ []) side silent_here silent
+
+      pub begun_lines : (on : Which) → IsToList now on
+      begun_lines on r has =
+          absurd (none_waits r (subst (λ w. Contains (map (λ (one : Outstanding). one.request) w) r)
+          (silent_on on) has))
+
+      pub begun_out : (on : Which) (path : Path) → WaitsFor (line_of now on).scan path →
+          Contains (requests_on (line_of now on)) (ListAt path)
+      begun_out on path waits = absurd (nothing_out on path waits)
 
     -- the other side is still to begin
-    module _ (waits : is_some (line_of now (other side)).waiting ≡ true) where
-      abbrev nothing_asked : Asks
-      nothing_asked = record { left = None; right = None }
+    module _ (waits : 1 ≤ length (waiting_of (line_of now (other side)))) (asks : Asks)
+        (nothing : (on : Which) → asks_of asks on ≡ []) where
+      waits_then : (on : Which) (later : Session) → IsAsking now later asks →
+          waiting_of (line_of later on) ≡ waiting_of (line_of now on)
+      waits_then on later asking =
+          (asking.line on).waits
+          ∙ (ap (λ rs. waiting_of (line_of now on) ++ numbered (line_of now on).asked rs)
+          (nothing on) ∙ append-nil (waiting_of (line_of now on)))
 
-      now_then : (on : Which) (later : Session) → IsAsking now later nothing_asked →
-          waiting_of (line_of later on).waiting ≡ waiting_of (line_of now on).waiting
-      now_then Left later asking =
-          (asking.line Left).waits (inl refl) ∙ no_more (waiting_of now.left.waiting)
-        where
-          no_more : (l : List Rattle.syn_headline.specs.Coordinator.Outstanding) → l ++ [] ≡ l
-          no_more [] = refl
-          no_more (x ∷ l) = ap (λ m. x ∷ m) (no_more l)
-      now_then Right later asking =
-          (asking.line Right).waits (inl refl) ∙ no_more (waiting_of now.right.waiting)
-        where
-          no_more : (l : List Rattle.syn_headline.specs.Coordinator.Outstanding) → l ++ [] ≡ l
-          no_more [] = refl
-          no_more (x ∷ l) = ap (λ m. x ∷ m) (no_more l)
+      requests_then : (on : Which) (later : Session) → IsAsking now later asks →
+          requests_on (line_of later on) ≡ requests_on (line_of now on)
+      requests_then on later asking =
+          ap (map (λ (one : Outstanding). one.request)) (waits_then on later asking)
 
-      asks_then : (on : Which) (later : Session) → IsAsking now later nothing_asked →
-          asks_now (line_of later on) ≡ asks_now (line_of now on)
-      asks_then on later asking =
-          asks_first (line_of later on).waiting ∙ (ap first_request (now_then on later asking)
-          ∙ sym (asks_first (line_of now on).waiting))
+      nothing_on : (on : Which) (r : Request) → Contains (asks_of asks on) r → ⊥
+      nothing_on on r has = none_waits r (subst (λ rs. Contains rs r) (nothing on) has)
 
-      some_same : (a b : Option Waiting) → option_map (λ one. request_of one.request) a
-          ≡ option_map (λ one. request_of one.request) b → is_some b ≡ true → is_some a ≡ true
-      some_same None None e is = is
-      some_same None (Some b) e is = absurd (none-some _ e)
-      some_same (Some a) b e is = refl
-
-      still_waits : (later : Session) → IsAsking now later nothing_asked →
-          is_some (line_of later (other side)).waiting ≡ true
-      still_waits later asking =
-          some_same (line_of later (other side)).waiting (line_of now (other side)).waiting
-          (asks_then (other side) later asking) waits
-
-      one_of_two : (on : Which) (later : Session) → is_some (line_of later on).waiting ≡ true →
-          (is_some later.left.waiting ≡ true) ⊎ (is_some later.right.waiting ≡ true)
-      one_of_two Left later is = inl is
-      one_of_two Right later is = inr is
-
-      nothing_on : (on : Which) (r : Request) →
-          Contains (Rattle.syn_session.specs.Answering.asks_of nothing_asked on) r → ⊥
-      nothing_on Left r has = omega (arith, has.1)
-      nothing_on Right r has = omega (arith, has.1)
-
-      free_on : (on : Which) → (Rattle.syn_session.specs.Answering.asks_of nothing_asked on ≡ [])
-          ⊎ ((line_of now on).waiting ≡ None)
-      free_on Left = inl refl
-      free_on Right = inl refl
-
-      to_begin : (later : Session) → IsAsking now later nothing_asked → (on : Which) →
+      to_begin : (later : Session) → IsAsking now later asks → (on : Which) →
           IsToBegin later heard.taken on
       to_begin later asking = by_sides (λ on. IsToBegin later heard.taken on) side
           (inr (
-            asks_then side later asking ∙ ap (λ w. option_map (λ one. request_of one.request) w)
-                answers.silent,
+            requests_then side later asking
+                ∙ ap (map (λ (one : Outstanding). one.request)) silent_here,
             pair,
             position,
             begun_now,
@@ -243,11 +255,11 @@ module _ (kept : archive.Archive) (before now : Session) (running : Running) (si
           (elim (each_begins (other side)) as (λ _. IsToBegin later heard.taken (other side)) [
             | inl is_to ↦ inl (
               is_to.0,
-              asks_then (other side) later asking
-                  ∙ (ap asks_now answers.across ∙ is_to.1),
+              requests_then (other side) later asking
+                  ∙ (ap requests_on answers.across ∙ is_to.1),
             )
             | inr was ↦ inr (
-              asks_then (other side) later asking ∙ (ap asks_now answers.across
+              requests_then (other side) later asking ∙ (ap requests_on answers.across
                   ∙ was.0),
               was.1,
               was.2,
@@ -255,12 +267,23 @@ module _ (kept : archive.Archive) (before now : Session) (running : Running) (si
             )
           ])
 
-      pub waits_on : ScansOn now heard (Some nothing_asked)
+      may_wait_on : (on : Which) → MayWait (waiting_of (line_of now on)
+          ++ numbered (line_of now on).asked (asks_of asks on))
+      may_wait_on on =
+          subst MayWait (sym (ap (λ rs. waiting_of (line_of now on)
+          ++ numbered (line_of now on).asked rs) (nothing on)
+          ∙ append-nil (waiting_of (line_of now on))))
+          ((heard_so kept before now running number request reply is side answers).line on).may
+
+      pub waits_on : ScansOn now heard (Some asks)
       waits_on archive = record {
-        free = free_on;
+        may_wait = may_wait_on;
         fresh = λ on r has. absurd (nothing_on on r has);
+        apart =
+            λ on. subst (AllPairs (λ one another. ¬ IsRepeat one another)) (sym (nothing on))
+            (λ i j d first less. absurd (omega (arith, less)));
         may = λ on r has. absurd (nothing_on on r has);
-        some = λ later asking. one_of_two (other side) later (still_waits later asking);
+        some = (other side, omega (arith, waits));
         stage =
             λ later asking. subst (λ c. IsStage archive later c heard.taken (reached_by heard))
             (sym (asking.course ∙ still_scans)) (record {
@@ -271,6 +294,9 @@ module _ (kept : archive.Archive) (before now : Session) (running : Running) (si
                   (sym (asking.line on).scan)
                   (found_begun on);
               at = begins (to_begin later asking);
+              out =
+                  λ on path is_out. absurd (nothing_out on path
+                  (subst (λ s. WaitsFor s path) (asking.line on).scan is_out));
             });
       }
 
@@ -284,27 +310,19 @@ module _ (kept : archive.Archive) (before now : Session) (running : Running) (si
             BothBegun running.taken × ((on : Which) → IsToList before on)
         by (lists both each) = (both, each)
         by (begins each) = elim (each side) [
-          | inl (pair, e) ↦ absurd
-              (some_list_not_begin path pair (sym (asked_now ∙ ap (λ r. Some r) listing) ∙ e))
-          | inr (e, pair, position, was) ↦ absurd (none-some _ (sym e ∙ asked_now))
+          | inl (pair, e) ↦ absurd (list_not_begin path pair (sym (only_in (Begin pair) request
+              (subst (λ l. Contains l request) e waited) ∙ listing)))
+          | inr (e, pair, position, was) ↦ absurd (none_waits request
+              (subst (λ l. Contains l request) e waited))
         ]
 
     -- it waits for that
     pub waits_for : WaitsFor (line_of now side).scan path
     waits_for =
+        let it = each_lists.1 side request waited in
         subst (λ s. WaitsFor s path) (sym answers.scan)
-        (elim (each_lists.1 side) as (λ _. WaitsFor (line_of before side).scan path) [
-          | inl (at, e, waits) ↦ subst (λ p. WaitsFor (line_of before side).scan p)
-              (same_path at (sym e ∙ (asked_now ∙ ap (λ r. Some r) listing))) waits
-          | inr (e, whole) ↦ absurd (none-some _ (sym e ∙ asked_now))
-        ])
-      where
-        path_in : Option Request → Path
-        path_in (Some (ListAt at)) = at
-        path_in _ = path
-
-        same_path : (at : Path) → Some (ListAt at) ≡ Some (ListAt path) → at ≡ path
-        same_path at e = ap path_in e
+        (subst (WaitsFor (line_of before side).scan)
+        (sym (same_directory path it.0 (sym listing ∙ it.1))) it.2)
 
     pub found_before : IsFoundIn (found_on now side) side running.taken
     found_before =
@@ -316,7 +334,9 @@ module _ (kept : archive.Archive) (before now : Session) (running : Running) (si
         (counted : after.is_unstable ≡ (taken.is_unstable || is_not_dir reply))
         (left : after.left ≡ taken.left) (right : after.right ≡ taken.right)
         (numbered_so : after.number ≡ taken.number) (course : after.course ≡ taken.course)
-        (found : IsFoundIn (found_on taken side) side heard.taken) where
+        (found : IsFoundIn (found_on taken side) side heard.taken)
+        (out : out_of (line_of taken side).scan
+        ≡ without_path (out_of (line_of now side).scan) path) where
       line_same : (on : Which) → line_of after on ≡ line_of taken on
       line_same Left = left
       line_same Right = right
@@ -333,6 +353,9 @@ module _ (kept : archive.Archive) (before now : Session) (running : Running) (si
           ∙ by_sides (λ o. (line_of taken o).asked ≡ (line_of now o).asked) side keeps.count
           (ap (λ (l : Line). l.asked) keeps.across) on
 
+      waits_same : (on : Which) → waiting_of (line_of after on) ≡ waiting_of (line_of now on)
+      waits_same on = ap (λ w. map outstanding_of w.items) (waiting_same on)
+
       pub listed_heard : HasHeard after heard
       listed_heard =
           let h = heard_so kept before now running number request reply is side answers in record {
@@ -341,9 +364,16 @@ module _ (kept : archive.Archive) (before now : Session) (running : Running) (si
               lawful = subst (λ n. n < 2 ^ 64) (sym (numbered_so ∙ keeps.number_is)) h.lawful;
               line =
                   λ on. record {
-                    waits = (h.line on).waits ∙ ap waiting_of (sym (waiting_same on));
+                    waits = (h.line on).waits ∙ sym (waits_same on);
                     count = (h.line on).count ∙ sym (count_same on);
                     few = subst (λ n. n ≤ 2 ^ 32) (sym (count_same on)) (h.line on).few;
+                    rising = subst AreRising (sym (waits_same on)) (h.line on).rising;
+                    below =
+                        subst (λ n. All (λ one. one.number < n) (waiting_of (line_of after on)))
+                        (sym (count_same on))
+                        (subst (λ w. All (λ one. one.number < (line_of now on).asked) w)
+                        (sym (waits_same on)) (h.line on).below);
+                    may = subst MayWait (sym (waits_same on)) (h.line on).may;
                   };
               once = h.once;
             };
@@ -367,28 +397,91 @@ module _ (kept : archive.Archive) (before now : Session) (running : Running) (si
           let was = each_lists.0 on in
           (was.0, was.1, (was.2.0, Contains-append_left running.taken _ _ was.2.1))
 
-      pub listed_lines : (on : Which) → ((line_of after on).waiting ≡ None) ⊎ ((p : Path)
-          × (asks_now (line_of after on) ≡ Some (ListAt p)) × WaitsFor (line_of after on).scan p)
-      listed_lines =
-          by_sides (λ on. ((line_of after on).waiting ≡ None) ⊎ ((p : Path)
-          × (asks_now (line_of after on) ≡ Some (ListAt p)) × WaitsFor (line_of after on).scan p))
-          side
-          (inl (waiting_same side ∙ answers.silent))
-          (elim (each_lists.1 (other side)) as (λ _. ((line_of after (other side)).waiting ≡ None)
-          ⊎ ((p : Path) × (asks_now (line_of after (other side)) ≡ Some (ListAt p))
-          × WaitsFor (line_of after (other side)).scan p)) [
-            | inl (p, e, waits) ↦ inr (
-              p,
-              ap asks_now across_same
-                  ∙ e,
-              subst (λ (l : Line). WaitsFor l.scan p) (sym across_same) waits,
-            )
-            | inr (e, whole) ↦ inl (ap (λ (l : Line). l.waiting) across_same
-                ∙ no_waiting (line_of before (other side)).waiting e)
-          ])
+      across_same : line_of after (other side) ≡ line_of before (other side)
+      across_same = line_same (other side) ∙ (keeps.across ∙ answers.across)
+
+      -- what waits on the side still waited there, under another number
+      waits_here : waiting_of (line_of after side)
+          ≡ without number (waiting_of (line_of before side))
+      waits_here = waits_same side ∙ left_now
+
+      out_here : out_of (line_of after side).scan
+          ≡ without_path (out_of (line_of before side).scan) path
+      out_here =
+          ap (λ (l : Line). out_of l.scan) (line_same side)
+          ∙ (out ∙ ap (λ s. without_path (out_of s) path) answers.scan)
+
+      -- no other listing that waits is of that directory
+      other_directory : (one : Outstanding) (q : Path) →
+          Contains (waiting_of (line_of before side)) one → one.request ≡ ListAt q →
+          (one.number == number) ≡ false → q ≢ path
+      other_directory one q has asked off same =
+          let here = asked_waits (waiting_of (line_of before side)) number request answers.asked in
+          let was_one : WasAsked running side one.number one.request =
+          inr (one.resent, subst (λ w. Contains w one) (sym (is.line side).waits) has) in
+          let was_it : WasAsked running side here.0.number here.0.request =
+          inr (here.0.resent, subst (λ w. Contains w here.0) (sym (is.line side).waits) here.1) in
+          let repeat : IsRepeat one.request here.0.request =
+          subst (λ r. IsRepeat r here.0.request) (sym asked)
+          (subst (IsRepeat (ListAt q)) (sym (here.3 ∙ listing)) same) in
+          let equal = is.once side one.number here.0.number one.request here.0.request was_one
+          was_it repeat in
+          true≢false (sym (its_number one.number number (equal ∙ here.2)) ∙ off)
+
+      list_here : IsToList after side
+      list_here r has =
+          let one = from_map (λ (one : Outstanding). one.request) (waiting_of (line_of after side))
+          r has in
+          let was = in_filter (λ one. not (one.number == number))
+          (waiting_of (line_of before side)) one.0
+          (subst (λ w. Contains w one.0) waits_here one.1) in
+          let it = each_lists.1 side r (subst (Contains (requests_on (line_of before side))) one.2
+          (in_map (λ (one : Outstanding). one.request) (waiting_of (line_of before side)) one.0
+          was.0)) in (
+            it.0,
+            it.1,
+            subst (λ ps. is_out ps it.0 ≡ true) (sym out_here)
+                (out_still (out_of (line_of before side).scan) path it.0
+                (other_directory one.0 it.0 was.0 (one.2 ∙ it.1)
+                (not_true (one.0.number == number) was.1)) it.2),
+          )
+
+      pub listed_lines : (on : Which) → IsToList after on
+      listed_lines = by_sides (λ on. IsToList after on) side list_here across
         where
-          across_same : line_of after (other side) ≡ line_of before (other side)
-          across_same = line_same (other side) ∙ (keeps.across ∙ answers.across)
+          across : IsToList after (other side)
+          across r has =
+              let it = each_lists.1 (other side) r
+              (subst (λ (l : Line). Contains (requests_on l) r) across_same has) in
+              (it.0, it.1, subst (λ (l : Line). WaitsFor l.scan it.0) (sym across_same) it.2)
+
+      out_waits : (q : Path) → WaitsFor (line_of after side).scan q →
+          Contains (requests_on (line_of after side)) (ListAt q)
+      out_waits q waits =
+          let was = out_before (out_of (line_of before side).scan) path q
+          (subst (λ ps. is_out ps q ≡ true) out_here waits) in
+          let one = from_map (λ (one : Outstanding). one.request)
+          (waiting_of (line_of before side)) (ListAt q) (scanning.out side q was.0) in
+          let off : (one.0.number == number) ≡ false =
+          other_number one.0.number number (λ same. was.1 (same_directory q path
+          (sym one.2 ∙ (same_Some _ _ (sym (first_is (waiting_of (line_of before side)) one.0
+          (is.line side).rising one.1) ∙ (ap (asked_in (waiting_of (line_of before side))) same
+          ∙ answers.asked)) ∙ listing)))) in
+          subst (λ w. Contains (map (λ (one : Outstanding). one.request) w) (ListAt q))
+          (sym waits_here) (subst (Contains (map (λ (one : Outstanding). one.request)
+          (without number (waiting_of (line_of before side))))) one.2
+          (in_map (λ (one : Outstanding). one.request)
+          (without number (waiting_of (line_of before side))) one.0
+          (still_in-filter (λ one. not (one.number == number)) (waiting_of (line_of before side))
+          one.0 one.1 (ap not off))))
+
+      pub listed_out : (on : Which) (q : Path) → WaitsFor (line_of after on).scan q →
+          Contains (requests_on (line_of after on)) (ListAt q)
+      listed_out = by_sides (λ on. (q : Path) → WaitsFor (line_of after on).scan q →
+          Contains (requests_on (line_of after on)) (ListAt q)) side out_waits
+          (λ q waits. subst (λ (l : Line). Contains (requests_on l) (ListAt q)) (sym across_same)
+          (scanning.out (other side) q
+          (subst (λ (l : Line). WaitsFor l.scan q) across_same waits)))
 
 -- where it is refused
 pub hears_refused : (session : Session) (running : Running) (side : Which) (number : ℕ)

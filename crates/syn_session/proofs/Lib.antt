@@ -1,3 +1,4 @@
+pub mod WaitingLemmas
 pub mod ScanningLemmas
 pub mod TallyLemmas
 pub mod PlanLemmas

@@ -1,10 +1,10 @@
 -- A scan goes on with what its side answers.
 use Rattle.std.proofs.Common.{◌≡◌, ◌⊎◌, ◌+◌, ◌-◌, ℕ, Bool, true, false, cond, not, ◌&&◌}
-use Rattle.std.proofs.Common.{if◌then◌else◌, nat_lt, length, List, [], ◌∷◌, ◌++◌, Option, Some}
-use Rattle.std.proofs.Common.{None, Ordering, Less, Equal, Greater, ◌||◌, refl, sym, ap, ap₂, ◌∙◌}
+use Rattle.std.proofs.Common.{if◌then◌else◌, nat_lt, length, List, [], ◌∷◌, Option, Some}
+use Rattle.std.proofs.Common.{None, Ordering, Less, Equal, Greater, refl, sym, ap, ap₂, ◌∙◌}
 use Rattle.std.proofs.Common.{subst, inl, inr, arith, slice_index_or, is_some, is_lt}
 use Rattle.std.specs.Prelude.{Contains, IfSome}
-use Rattle.std.specs.List.{list_any, sum_by}
+use Rattle.std.specs.List.{sum_by}
 use Rattle.std.specs.Ordering.{eq_by_cmp}
 use Rattle.std.specs.FinMap.{get, insert, contains_key, empty, get-insert, get-empty, len}
 use Rattle.std.specs.FinMap.{len-empty, len-insert}
@@ -27,7 +27,7 @@ use Rattle.syn_model.specs.Refusal.{Memory, TooLarge, BadMessage}
 use Rattle.syn_model.specs.Tree.{Content, Directory, empty_directory}
 use Rattle.syn_model.proofs.PathLemmas.{path_total, name_total, path_itself, same_path}
 use Rattle.syn_scan.specs.Asked.{nothing_found, with_listing, with_no_directory, is_too_large}
-use Rattle.syn_scan.specs.Asked.{fit_below, names_rise, ListsOnly, is_out, with_out}
+use Rattle.syn_scan.specs.Asked.{fit_below, names_rise, ListsOnly}
 use Rattle.syn_scan.specs.Found.{WasListedIn, Found, Positions, is_open, was_listed}
 use Rattle.syn_scan.specs.Found.{was_no_directory, IsShownIn, WasNoDirectoryIn}
 use Rattle.syn_scan.specs.Refusals.{refusal_of}
@@ -91,22 +91,6 @@ not_answered found path o answered =
       | inl was ↦ false≢true (sym (ap not was) ∙ second.1)
       | inr was ↦ false≢true (sym (ap not was) ∙ first.1)
     ]
-
-same_out : (p : Path) (out : List Path) → list_any (eq_by_cmp path_cmp p) (out ++ p ∷ []) ≡ true
-same_out p [] = ap (λ b. b || false) (path_itself p)
-same_out p (q ∷ out) =
-    ap (λ b. eq_by_cmp path_cmp p q || b) (same_out p out) ∙ any_or (eq_by_cmp path_cmp p q)
-  where
-    any_or : (b : Bool) → (b || true) ≡ true
-    any_or true = refl
-    any_or false = refl
-
-pub is_out_now : (out : List Path) (p : Path) → is_out (with_out out p) p ≡ true
-is_out_now out p = by (is_out out p) refl
-  where
-    by : (b : Bool) → is_out out p ≡ b → is_out (if b then out else out ++ p ∷ []) p ≡ true
-    by true is = is
-    by false is = same_out p out
 
 -- ---- a transcript that grows
 

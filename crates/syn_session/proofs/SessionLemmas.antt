@@ -1,54 +1,64 @@
 -- A session that begins, and one whose requests are sent again.
-use Rattle.std.proofs.Common.{◌≡◌, ◌≤◌, ◌<◌, ◌^◌, ◌⊎◌, ◌+◌, ℕ, suc, false, List, [], ◌∷◌, Option}
-use Rattle.std.proofs.Common.{Some, None, refl, sym, ap, ◌∙◌, subst, inl, inr, arith}
-use Rattle.std.specs.Prelude.{Contains, option_map, is_some}
+use Rattle.std.proofs.Common.{◌≡◌, ◌≤◌, ◌<◌, ◌^◌, ◌⊎◌, ◌+◌, ℕ, false, List, [], ◌∷◌, map, get_or}
+use Rattle.std.proofs.Common.{Option, Some, None, refl, sym, ap, ◌∙◌, subst, inl, inr, arith}
+use Rattle.std.specs.Prelude.{All, Contains}
 use Rattle.std.specs.List.{count_by}
+use Rattle.std.proofs.lemmas.Bool.{false≢true}
 use Rattle.std.proofs.lemmas.List.{length-map}
-use Rattle.std.proofs.lemmas.List.Elements.{Contains-push, Contains-push_cases}
-use Rattle.syn_headline.specs.Coordinator.{Running, Outstanding, outstanding, asked_count}
-use Rattle.syn_headline.specs.Coordinator.{once_more}
+use Rattle.std.proofs.lemmas.List.Elements.{All-cons, All-map, All-nil, Contains-push_cases}
+use Rattle.syn_headline.specs.Coordinator.{AreRising, MayWait, Running, Outstanding, outstanding}
+use Rattle.syn_headline.specs.Coordinator.{asked_count, once_more}
 use Rattle.syn_headline.specs.Network.{Which, Left, Right, other, is_side}
 use Rattle.syn_headline.specs.Session.{Exchange, WasAsked}
-use Rattle.syn_headline.specs.Side.{Request, Begin}
-use Rattle.syn_message.specs.Requests.{request_of}
+use Rattle.syn_headline.specs.Side.{Request, Begin, ListAt}
+use Rattle.syn_headline.proofs.Rising.{may_wait_again, once_more-rising}
 use Rattle.syn_model.specs.Archive as model
-use Rattle.syn_session.specs.Scanning.{IsFoundIn, WaitsFor, found_of}
+use Rattle.syn_scan.specs.Asked.{is_out}
+use Rattle.syn_session.specs.Scanning.{IsFoundIn, WaitsFor, found_of, out_of}
 use Rattle.syn_session.specs.declared.course.Course.{Course}
 use Rattle.syn_session.specs.declared.line.Line.{Line}
-use Rattle.syn_session.specs.declared.requests.Waiting.{Waiting}
 use Rattle.syn_session.specs.declared.session.Session.{Session}
 use Rattle.syn_session.specs.Sessions.{IsLine, IsSession, IsStage, asks, begin_of, begun}
-use Rattle.syn_session.specs.Sessions.{outstanding_of, resent_once, waiting_of}
+use Rattle.syn_session.specs.Sessions.{once_later, resent_once}
 use Rattle.syn_session.specs.Stages.{IsBeginningOrListing, IsToBegin, IsToList, Reached, begins}
-use Rattle.syn_session.specs.Stages.{lists, asks_now, line_of, reached_by}
-use Rattle.std.proofs.lemmas.Bool.{false≢true}
-
--- the request of the first that waits
-abbrev pub first_request : List Outstanding → Option Request
-first_request [] = None
-first_request (one ∷ more) = Some one.request
-
-pub asks_first : (waiting : Option Waiting) →
-    option_map (λ one. request_of one.request) waiting ≡ first_request (waiting_of waiting)
-asks_first None = refl
-asks_first (Some one) = refl
+use Rattle.syn_session.specs.Stages.{lists, line_of, reached_by, requests_on, waiting_of}
+use Rattle.syn_session.proofs.WaitingLemmas.{from_map}
 
 -- ---- a session that begins
 
-begins_line : (line : Line) (number pair : ℕ) (side : Which) →
-    waiting_of line.waiting ≡ begin_of pair → line.asked ≡ 1 → IsLine line (begun number pair) side
-begins_line line number pair Left waits asked =
-    record {
-      waits = sym waits;
-      count = sym asked;
-      few = subst (λ n. n ≤ 2 ^ 32) (sym asked) (omega arith);
-    }
-begins_line line number pair Right waits asked =
-    record {
-      waits = sym waits;
-      count = sym asked;
-      few = subst (λ n. n ≤ 2 ^ 32) (sym asked) (omega arith);
-    }
+module _ (line : Line) (number pair : ℕ) (waits : waiting_of line ≡ begin_of pair)
+    (asked : line.asked ≡ 1) where
+  rising : AreRising (waiting_of line)
+  rising = subst AreRising (sym waits) (λ i j d before less. absurd (omega (arith, before, less)))
+
+  below : All (λ one. one.number < line.asked) (waiting_of line)
+  below =
+      subst (λ w. All (λ one. one.number < line.asked) w) (sym waits)
+      (All-cons (λ one. one.number < line.asked) (asks 0 (Begin pair)) [] (omega (arith, asked))
+      (All-nil (λ one. one.number < line.asked)))
+
+  may : MayWait (waiting_of line)
+  may = subst MayWait (sym waits) (inl (omega arith))
+
+  begins_line : (side : Which) → IsLine line (begun number pair) side
+  begins_line Left =
+      record {
+        waits = sym waits;
+        count = sym asked;
+        few = subst (λ n. n ≤ 2 ^ 32) (sym asked) (omega arith);
+        rising = rising;
+        below = below;
+        may = may;
+      }
+  begins_line Right =
+      record {
+        waits = sym waits;
+        count = sym asked;
+        few = subst (λ n. n ≤ 2 ^ 32) (sym asked) (omega arith);
+        rising = rising;
+        below = below;
+        may = may;
+      }
 
 none_taken : {T : Type 0} (x : T) → Contains [] x → ⊥
 none_taken x has = omega (arith, has.1)
@@ -72,14 +82,15 @@ only_begin number pair Right n a (inr (resent, has)) = by (Contains-push_cases [
 module _ (archive : model.Archive) (session : Session) (number pair : ℕ)
     (numbered : session.number ≡ number) (lawful : number < 2 ^ 64)
     (stable : session.is_unstable ≡ false) (scans : session.course ≡ None)
-    (waits : (side : Which) → waiting_of (line_of session side).waiting ≡ begin_of pair)
+    (waits : (side : Which) → waiting_of (line_of session side) ≡ begin_of pair)
     (asked : (side : Which) → (line_of session side).asked ≡ 1)
-    (found : (side : Which) → IsFoundIn (found_of (line_of session side).scan) side []) where
+    (found : (side : Which) → IsFoundIn (found_of (line_of session side).scan) side [])
+    (out : (side : Which) → out_of (line_of session side).scan ≡ []) where
   pub session_begins : IsSession archive session (begun number pair)
   session_begins = record {
     number = sym numbered;
     lawful = subst (λ n. n < 2 ^ 64) (sym numbered) lawful;
-    line = λ side. begins_line (line_of session side) number pair side (waits side) (asked side);
+    line = λ side. begins_line (line_of session side) number pair (waits side) (asked side) side;
     once =
         λ side m n a b was_m was_n _. only_begin number pair side m a was_m
         ∙ sym (only_begin number pair side n b was_n);
@@ -91,8 +102,14 @@ module _ (archive : model.Archive) (session : Session) (number pair : ℕ)
           of_scan = λ exchange has. absurd (none_taken _ has);
           found = found;
           at =
-              begins (λ side. inl
-              (pair, asks_first (line_of session side).waiting ∙ ap first_request (waits side)));
+              begins (λ side. inl (
+                pair,
+                ap (map (λ (one : Outstanding). one.request))
+                    (waits side),
+              ));
+          out =
+              λ side path is. absurd
+              (false≢true (ap (λ ps. is_out ps path) (sym (out side)) ∙ is));
         });
   }
 
@@ -100,20 +117,16 @@ module _ (archive : model.Archive) (session : Session) (number pair : ℕ)
 
 -- what waits stays, and what was found
 module _ (archive : model.Archive) (old new : Session) (taken : List Exchange) (reached : Reached)
-    (same : (side : Which) → asks_now (line_of new side) ≡ asks_now (line_of old side))
+    (same : (side : Which) → requests_on (line_of new side) ≡ requests_on (line_of old side))
     (scan : (side : Which) → (line_of new side).scan ≡ (line_of old side).scan) where
   begins_still : (side : Which) → IsToBegin old taken side → IsToBegin new taken side
   begins_still side (inl (pair, is)) = inl (pair, same side ∙ is)
   begins_still side (inr (is, pair, position, was)) = inr (same side ∙ is, pair, position, was)
 
   lists_still : (side : Which) → IsToList old side → IsToList new side
-  lists_still side (inl (path, is, waits)) =
-      inl (path, same side ∙ is, subst (λ s. WaitsFor s path) (sym (scan side)) waits)
-  lists_still side (inr (is, whole)) =
-      inr (
-        same side ∙ is,
-        subst (λ s. Rattle.syn_scan.specs.Found.IsWhole (found_of s)) (sym (scan side)) whole,
-      )
+  lists_still side each request has =
+      let it = each request (subst (λ l. Contains l request) (same side) has) in
+      (it.0, it.1, subst (λ s. WaitsFor s it.0) (sym (scan side)) it.2)
 
   at_still : IsBeginningOrListing old taken → IsBeginningOrListing new taken
   at_still (begins each) = begins (λ side. begins_still side (each side))
@@ -127,6 +140,9 @@ module _ (archive : model.Archive) (old new : Session) (taken : List Exchange) (
     found =
         λ side. subst (λ s. IsFoundIn (found_of s) side taken) (sym (scan side)) (is.found side);
     at = at_still is.at;
+    out =
+        λ side path waits. subst (λ l. Contains l (ListAt path)) (sym (same side))
+        (is.out side path (subst (λ s. WaitsFor s path) (scan side) waits));
   }
   stage_still (Some course) is = record {
     to = is.to;
@@ -147,33 +163,29 @@ module _ (archive : model.Archive) (old new : Session) (taken : List Exchange) (
   stage_goes_on course is =
       subst (λ c. IsStage archive new c taken reached) (sym course) (stage_still old.course is)
 
--- a line whose request was sent once more
+-- a line whose requests were sent once more
 pub record SentAgain (old new : Line) : Type 0 where
-  pub waits : waiting_of new.waiting ≡ once_more (waiting_of old.waiting)
-  pub same : asks_now new ≡ asks_now old
+  pub waits : waiting_of new ≡ once_more (waiting_of old)
   pub asked : new.asked ≡ old.asked
   pub scan : new.scan ≡ old.scan
+
+same_requests : (waiting : List Outstanding) → map (λ (one : Outstanding). one.request)
+    (once_more waiting) ≡ map (λ (one : Outstanding). one.request) waiting
+same_requests [] = refl
+same_requests (one ∷ more) = ap (λ l. one.request ∷ l) (same_requests more)
 
 abbrev waits_as : ℕ → Request → ℕ → Outstanding
 waits_as number request resent = record { number = number; request = request; resent = resent }
 
-was_once : (waiting : Option Waiting) (n : ℕ) (a : Request) (k : ℕ) →
-    Contains (once_more (waiting_of waiting)) (waits_as n a k) →
-    (m : ℕ) × Contains (waiting_of waiting) (waits_as n a m)
-was_once None n a k has = absurd (none_taken _ has)
-was_once (Some one) n a k has = by (Contains-push_cases [] _ _ has)
-  where
-    by : Contains [] (waits_as n a k)
-        ⊎ (waits_as one.number (request_of one.request) (suc one.resent) ≡ waits_as n a k) →
-        (m : ℕ) × Contains (waiting_of (Some one)) (waits_as n a m)
-    by (inl never) = absurd (none_taken _ never)
-    by (inr is) = (
-      one.resent,
-      subst (λ (r : Request). Contains (waiting_of (Some one)) (waits_as n r one.resent))
-          (ap (λ (o : Outstanding). o.request) is)
-          (subst (λ (m : ℕ). Contains (waiting_of (Some one))
-          (waits_as m (request_of one.request) one.resent))
-          (ap (λ (o : Outstanding). o.number) is) (Contains-push [] (outstanding_of one))),
+was_once : (waiting : List Outstanding) (n : ℕ) (a : Request) (k : ℕ) →
+    Contains (once_more waiting) (waits_as n a k) → (m : ℕ) × Contains waiting (waits_as n a m)
+was_once waiting n a k has =
+    let it = from_map once_later waiting (waits_as n a k) has in (
+      it.0.resent,
+      subst (λ (r : Request). Contains waiting (waits_as n r it.0.resent))
+          (ap (λ (o : Outstanding). o.request) it.2)
+          (subst (λ (m : ℕ). Contains waiting (waits_as m it.0.request it.0.resent))
+          (ap (λ (o : Outstanding). o.number) it.2) it.1),
     )
 
 module _ (archive : model.Archive) (old new : Session) (running : Running)
@@ -181,7 +193,7 @@ module _ (archive : model.Archive) (old new : Session) (running : Running)
     (unstable : new.is_unstable ≡ old.is_unstable) (course : new.course ≡ old.course)
     (again : (side : Which) → SentAgain (line_of old side) (line_of new side)) where
   waits_again : (side : Which) →
-      outstanding (resent_once running) side ≡ waiting_of (line_of new side).waiting
+      outstanding (resent_once running) side ≡ waiting_of (line_of new side)
   waits_again Left = ap once_more (is.line Left).waits ∙ sym (again Left).waits
   waits_again Right = ap once_more (is.line Right).waits ∙ sym (again Right).waits
 
@@ -197,9 +209,18 @@ module _ (archive : model.Archive) (old new : Session) (running : Running)
       WasAsked running side n a
   was_asked side n a (inl taken) = inl taken
   was_asked side n a (inr (k, has)) =
-      let was = was_once (line_of old side).waiting n a k
+      let was = was_once (waiting_of (line_of old side)) n a k
       (subst (λ l. Contains l (waits_as n a k)) (waits_again side ∙ (again side).waits) has) in
       inr (was.0, subst (λ l. Contains l (waits_as n a was.0)) (sym (is.line side).waits) was.1)
+
+  still_below : (side : Which) →
+      All (λ one. one.number < (line_of new side).asked) (waiting_of (line_of new side))
+  still_below side =
+      subst (λ w. All (λ one. one.number < (line_of new side).asked) w) (sym (again side).waits)
+      (All-map (λ one. one.number < (line_of new side).asked) once_later
+      (waiting_of (line_of old side)) (λ k d less. subst (λ n. (get_or (waiting_of
+      (line_of old side)) k d).number < n) (sym (again side).asked)
+      ((is.line side).below k d less)))
 
   pub resent_so : IsSession archive new (resent_once running)
   resent_so = record {
@@ -210,17 +231,21 @@ module _ (archive : model.Archive) (old new : Session) (running : Running)
           waits = waits_again side;
           count = count_again side;
           few = subst (λ n. n ≤ 2 ^ 32) (sym (again side).asked) (is.line side).few;
+          rising =
+              subst AreRising (sym (again side).waits)
+              (once_more-rising (waiting_of (line_of old side)) (is.line side).rising);
+          below = still_below side;
+          may =
+              subst MayWait (sym (again side).waits)
+              (may_wait_again (waiting_of (line_of old side)) (is.line side).may);
         };
     once =
         λ side m n a b was_m was_n repeat. is.once side m n a b (was_asked side m a was_m)
         (was_asked side n b was_n) repeat;
     unstable = is.unstable ∙ sym unstable;
     stage =
-        stage_goes_on archive old new running.taken (reached_by running) (λ side. (again side).same)
+        stage_goes_on archive old new running.taken (reached_by running) (λ side.
+        ap (map (λ (one : Outstanding). one.request)) (again side).waits
+        ∙ same_requests (waiting_of (line_of old side)))
         (λ side. (again side).scan) course is.stage;
   }
-
--- none is there
-pub is_none : {A : Type 0} (o : Option A) → is_some o ≡ false → o ≡ None
-is_none None e = refl
-is_none (Some a) e = absurd (false≢true (sym e))

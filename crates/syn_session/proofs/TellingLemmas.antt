@@ -1,22 +1,18 @@
 -- What a session without a plan tells, and which answers are not the last to an item.
-use Rattle.std.proofs.Common.{◌≡◌, ℕ, Bool, true, false, ◌||◌, ◌==◌, if◌then◌else◌, List, Option}
-use Rattle.std.proofs.Common.{Some, None, refl, sym, ap, subst}
-use Rattle.std.specs.Prelude.{option_map}
+use Rattle.std.proofs.Common.{◌≡◌, ℕ, Bool, true, false, ◌||◌, if◌then◌else◌, List}
+use Rattle.std.proofs.Common.{None, refl, sym, ap, subst}
 use Rattle.std.proofs.lemmas.Bool.{false≢true}
 use Rattle.std.proofs.lemmas.Option.{none-some}
-use Rattle.syn_headline.specs.Coordinator.{Exchange, Running, asked_in, is_last, is_unstable}
+use Rattle.syn_headline.specs.Coordinator.{Exchange, Running, is_last, is_unstable}
 use Rattle.syn_headline.specs.Network.{Left, Right, Which, is_side, other}
 use Rattle.syn_headline.specs.Session.{fault_of}
 use Rattle.syn_headline.specs.Side.{Begin, Begun, Fetch, ListAt, Replace, Request, Stage}
 use Rattle.syn_headline.specs.Side as model
-use Rattle.syn_message.specs.Requests.{request_of}
 use Rattle.syn_model.specs.Path.{Path}
-use Rattle.syn_session.specs.declared.requests.Waiting.{Waiting}
 use Rattle.syn_session.specs.declared.session.Session.{Session}
 use Rattle.syn_session.specs.Hearing.{HasHeard}
-use Rattle.syn_session.specs.Sessions.{Tells, TellsOf, waiting_of}
+use Rattle.syn_session.specs.Sessions.{Tells, TellsOf}
 use Rattle.syn_session.specs.Stages.{IsOfScan, nothing_reached, reached_by}
-use Rattle.syn_session.proofs.SessionLemmas.{first_request}
 
 -- of a side and the one across
 pub by_sides : (P : Which → Type 0) (side : Which) → P side → P (other side) → (on : Which) → P on
@@ -25,27 +21,8 @@ by_sides P Left own across Right = across
 by_sides P Right own across Left = across
 by_sides P Right own across Right = own
 
-pub asked_first : (waiting : Option Waiting) (number : ℕ) (request : Request) →
-    asked_in (waiting_of waiting) number ≡ Some request →
-    first_request (waiting_of waiting) ≡ Some request
-asked_first None number request is = absurd (none-some _ is)
-asked_first (Some one) number request is = by (one.number == number) is
-  where
-    by : (b : Bool) → (if b then Some (request_of one.request) else None) ≡ Some request →
-        Some (request_of one.request) ≡ Some request
-    by true e = e
-    by false e = absurd (none-some _ e)
-
 pub list_not_begin : (path : Path) (pair : ℕ) → ListAt path ≡ Begin pair → ⊥
 list_not_begin path pair e = cc
-
-pub some_list_not_begin : (path : Path) (pair : ℕ) → Some (ListAt path) ≡ Some (Begin pair) → ⊥
-some_list_not_begin path pair e = cc
-
-pub no_waiting : (waiting : Option Waiting) →
-    option_map (λ one. request_of one.request) waiting ≡ None → waiting ≡ None
-no_waiting None e = refl
-no_waiting (Some one) e = absurd (none-some _ (sym e))
 
 pub or_false : (b : Bool) → (b || false) ≡ b
 or_false true = refl

@@ -1,23 +1,24 @@
 -- A session whose answer has come, and what it asks next.
-use Rattle.std.specs.Prelude.{◌≡◌, ◌⊎◌, ◌≤◌, ◌<◌, ◌^◌, ◌+◌, ℕ, length, List, [], ◌∷◌, ◌++◌, Option}
-use Rattle.std.specs.Prelude.{Some, None}
+use Rattle.std.specs.Prelude.{◌≡◌, ◌⊎◌, ◌≤◌, ◌<◌, ◌^◌, ◌+◌, ℕ, length, List, [], ◌∷◌, ◌++◌, map}
+use Rattle.std.specs.Prelude.{Some}
 use Rattle.syn_headline.specs.Coordinator.{AsksOnce, Exchange, Running, asked_in, messages_to}
 use Rattle.syn_headline.specs.Coordinator.{numbered}
 use Rattle.syn_headline.specs.Network.{Message, Which, Left, Right, other}
-use Rattle.syn_headline.specs.Side.{Reply, Request}
+use Rattle.syn_headline.specs.Side.{ListAt, Reply, Request}
 use Rattle.syn_message.specs.Requests.{request_of}
-use Rattle.syn_message.specs.declared.request.Request.{Request as Asked}
-use Rattle.syn_session.specs.Sessions.{IsLine, waiting_of}
-use Rattle.syn_session.specs.Stages.{line_of}
+use Rattle.syn_message.specs.declared.side.Side.TheVariants as to
+use Rattle.syn_session.specs.Sessions.{IsLine}
+use Rattle.syn_session.specs.Stages.{HasTaken, line_of, waiting_of}
 use Rattle.syn_session.specs.declared.line.Line.{Line}
 use Rattle.syn_session.specs.declared.session.Asks.{Asks}
+use Rattle.syn_session.specs.declared.session.Asks.TheVariants.{Listings, One}
 use Rattle.syn_session.specs.declared.session.Session.{Session}
 
--- the line of the side has nothing that waits any more, which was this request; all else stays
+-- this request waited on the line of the side, and waits no more; all else stays
 pub record IsAnswering (old new : Session) (side : Which) (number : ℕ) (request : Request)
     : Type 0 where
-  pub asked : asked_in (waiting_of (line_of old side).waiting) number ≡ Some request
-  pub silent : (line_of new side).waiting ≡ None
+  pub asked : asked_in (waiting_of (line_of old side)) number ≡ Some request
+  pub waits : HasTaken (line_of old side) (line_of new side) number
   pub count : (line_of new side).asked ≡ (line_of old side).asked
   pub scan : (line_of new side).scan ≡ (line_of old side).scan
   pub across : line_of new (other side) ≡ line_of old (other side)
@@ -32,16 +33,14 @@ pub record IsHeard (session : Session) (running : Running) : Type 0 where
   pub line : (side : Which) → IsLine (line_of session side) running side
   pub once : AsksOnce running
 
-abbrev pub requests_of : Option Asked → List Request
-requests_of None = []
-requests_of (Some request) = request_of request ∷ []
-
-abbrev pub next_of : Asks → Which → Option Asked
-next_of asks Left = asks.left
-next_of asks Right = asks.right
-
+-- what is asked of a side
 abbrev pub asks_of : Asks → Which → List Request
-asks_of asks side = requests_of (next_of asks side)
+asks_of (Listings left right) Left = map ListAt left.items
+asks_of (Listings left right) Right = map ListAt right.items
+asks_of (One to.Left request) Left = request_of request ∷ []
+asks_of (One to.Left request) Right = []
+asks_of (One to.Right request) Left = []
+asks_of (One to.Right request) Right = request_of request ∷ []
 
 -- an answer of a side, to what it was asked
 abbrev pub exchange_of : Which → ℕ → Request → Reply → Exchange
@@ -50,8 +49,7 @@ exchange_of side number request reply =
 
 -- the line asks for what comes now
 pub record IsAskedOn (old new : Line) (requests : List Request) : Type 0 where
-  pub waits : (requests ≡ []) ⊎ (old.waiting ≡ None)
-      → waiting_of new.waiting ≡ waiting_of old.waiting ++ numbered old.asked requests
+  pub waits : waiting_of new ≡ waiting_of old ++ numbered old.asked requests
   pub count : new.asked ≡ old.asked + length requests
   pub few : (requests ≡ []) ⊎ (new.asked ≤ 2 ^ 32)
   pub scan : new.scan ≡ old.scan

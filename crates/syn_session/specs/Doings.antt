@@ -4,7 +4,7 @@ use Rattle.syn_headline.specs.Coordinator.{Exchange, IsDue}
 use Rattle.syn_headline.specs.Planning.{Planned}
 use Rattle.syn_headline.specs.Report.{is_carrying}
 use Rattle.syn_headline.specs.Session.{record_for}
-use Rattle.syn_model.specs.Archive.{Kept, IsOfItem}
+use Rattle.syn_model.specs.Archive.{IsOfItem}
 use Rattle.syn_model.specs.Decision.{Conflict}
 use Rattle.syn_propagate.specs.Transfers.{IsReady, carriage_of}
 use Rattle.syn_scan.specs.Found.{Found}

@@ -1,7 +1,8 @@
 -- What a session that scans comes to with an answer.
-use Rattle.std.specs.Prelude.{◌≡◌, ◌⊎◌, ℕ, true, is_some, [], Option, Some, None, Contains}
-use Rattle.std.specs.Prelude.{Result, Ok, Err}
-use Rattle.syn_headline.specs.Coordinator.{Exchange, Running, hearing, is_unstable}
+use Rattle.std.specs.Prelude.{◌≡◌, ◌⊎◌, ◌≤◌, ◌+◌, ◌++◌, ℕ, length, [], Option, Some, None, Contains}
+use Rattle.std.specs.Prelude.{AllPairs, Result, Ok, Err}
+use Rattle.syn_headline.specs.Coordinator.{Exchange, MayWait, Running, hearing, is_unstable}
+use Rattle.syn_headline.specs.Coordinator.{numbered}
 use Rattle.syn_headline.specs.Network.{Which, IsRepeat}
 use Rattle.syn_headline.specs.Session.{BothBegun, MayAsk, WasAsked, fault_of}
 use Rattle.syn_headline.specs.Side.{IsLawfulBody, Reply, Request}
@@ -14,6 +15,7 @@ use Rattle.syn_session.specs.Answering.{IsAskedOn, IsHeard, asks_of, exchange_of
 use Rattle.syn_session.specs.Scanning.{IsFoundIn}
 use Rattle.syn_session.specs.Sessions.{IsStage, Tells}
 use Rattle.syn_session.specs.Stages.{AreOfScan, found_on, line_of, nothing_reached, reached_by}
+use Rattle.syn_session.specs.Stages.{waiting_of}
 use Rattle.syn_session.specs.declared.session.Asks.{Asks}
 use Rattle.syn_session.specs.declared.session.Session.{Session}
 
@@ -27,16 +29,18 @@ pub record IsAsking (old new : Session) (asks : Asks) : Type 0 where
   pub line : (side : Which) → IsAskedOn (line_of old side) (line_of new side) (asks_of asks side)
   pub course : new.course ≡ old.course
 
--- what is asked next may be, for the first time, where nothing waits; and something waits then
+-- what is asked next may be, for the first time, beside what waits; and something waits then
 pub record MayGoOn (archive : model.Archive) (session : Session) (heard : Running) (asks : Asks)
     : Type 0 where
-  pub free : (side : Which) → (asks_of asks side ≡ []) ⊎ ((line_of session side).waiting ≡ None)
+  pub may_wait : (side : Which) → MayWait (waiting_of (line_of session side)
+      ++ numbered (line_of session side).asked (asks_of asks side))
   pub fresh : (side : Which) (request : Request) → Contains (asks_of asks side) request
       → IsFresh heard side request
+  pub apart : (side : Which) → AllPairs (λ one other. ¬ IsRepeat one other) (asks_of asks side)
   pub may : (side : Which) (request : Request) → Contains (asks_of asks side) request
       → MayAsk archive heard side request × IsLawfulBody request
-  pub some : (next : Session) → IsAsking session next asks
-      → (is_some next.left.waiting ≡ true) ⊎ (is_some next.right.waiting ≡ true)
+  pub some : (side : Which)
+      × (1 ≤ length (waiting_of (line_of session side)) + length (asks_of asks side))
   pub stage : (next : Session) → IsAsking session next asks
       → IsStage archive next next.course heard.taken (reached_by heard)
 
@@ -45,7 +49,7 @@ pub record IsScanned (session : Session) (heard : Running) : Type 0 where
   pub begun : BothBegun heard.taken
   pub found : (side : Which) → IsFoundIn (found_on session side) side heard.taken
   pub whole : (side : Which) → IsWhole (found_on session side)
-  pub silent : (side : Which) → (line_of session side).waiting ≡ None
+  pub silent : (side : Which) → waiting_of (line_of session side) ≡ []
 
 abbrev pub ScansOn : Session → Running → Option Asks → Type 0
 ScansOn session heard None = IsScanned session heard

@@ -18,6 +18,9 @@ Exchanges = List Exchange
 abbrev pub asked_of : SideScan → Asked
 asked_of scan = scan.scanner
 
+abbrev pub out_of : SideScan → List Path
+out_of scan = (asked_of scan).out
+
 abbrev pub found_of : SideScan → Found
 found_of scan = (asked_of scan).found
 
@@ -46,7 +49,7 @@ pub record IsFoundIn (found : Found) (side : Which) (taken : Exchanges) : Type 0
 
 -- its listing is asked for and waits for the answer
 abbrev pub WaitsFor : SideScan → Path → Type 0
-WaitsFor scan path = is_out (asked_of scan).out path ≡ true
+WaitsFor scan path = is_out (out_of scan) path ≡ true
 
 -- with the answer
 abbrev pub with_listing_answered : Exchanges → Which → ℕ → Path → model.Reply → Exchanges

@@ -1,22 +1,21 @@
 -- A session that runs, as the model has it.
 use Rattle.std.specs.List.{list_any}
 use Rattle.std.specs.Prelude.{◌≡◌, ◌<◌, ◌≤◌, ◌^◌, ℕ, suc, Bool, nat_le, List, [], ◌∷◌, ◌++◌, nat_lt}
-use Rattle.std.specs.Prelude.{is_some, not, ◌&&◌, ◌||◌, if◌then◌else◌, Option, Some, None}
+use Rattle.std.specs.Prelude.{All, is_some, not, ◌&&◌, ◌||◌, if◌then◌else◌, Option, Some, None}
 use Rattle.syn_headline.specs.Coordinator.{Outstanding, Running, begins, asking, new_session}
 use Rattle.syn_headline.specs.Coordinator.{messages_to, once_more, outstanding, asked_count}
-use Rattle.syn_headline.specs.Coordinator.{AsksOnce, Exchange, is_unstable, most_resends}
+use Rattle.syn_headline.specs.Coordinator.{AreRising, AsksOnce, Exchange, MayWait, is_unstable}
+use Rattle.syn_headline.specs.Coordinator.{most_resends}
 use Rattle.syn_headline.specs.Network.{Which, Left, Right, Message}
 use Rattle.syn_headline.specs.Report.{End, Complete, Incomplete}
 use Rattle.syn_headline.specs.Side.{Request, Begin}
-use Rattle.syn_message.specs.Requests.{request_of}
 use Rattle.syn_model.specs.Archive as model
 use Rattle.syn_model.specs.Refusal.{Refusal}
 use Rattle.syn_scan.specs.Found.{Found}
 use Rattle.syn_session.specs.Stages.{IsCarrying, IsCourse, IsScanning, Reached, line_of}
-use Rattle.syn_session.specs.Stages.{nothing_reached, reached_by}
+use Rattle.syn_session.specs.Stages.{nothing_reached, reached_by, waiting_of}
 use Rattle.syn_session.specs.declared.course.Course.{Course}
 use Rattle.syn_session.specs.declared.line.Line.{Line}
-use Rattle.syn_session.specs.declared.requests.Waiting.{Waiting}
 use Rattle.syn_session.specs.declared.session.Session.{Session}
 
 abbrev pub asks : ℕ → Request → Outstanding
@@ -25,28 +24,20 @@ asks number request = record { number = number; request = request; resent = 0 }
 abbrev pub begin_of : ℕ → List Outstanding
 begin_of pair = asks 0 (Begin pair) ∷ []
 
-abbrev pub outstanding_of : Waiting → Outstanding
-outstanding_of waiting = record {
-  number = waiting.number;
-  request = request_of waiting.request;
-  resent = waiting.resent;
-}
-
 abbrev pub once_later : Outstanding → Outstanding
 once_later one = record one { resent = suc one.resent }
-
-abbrev pub waiting_of : Option Waiting → List Outstanding
-waiting_of None = []
-waiting_of (Some waiting) = outstanding_of waiting ∷ []
 
 abbrev pub is_worn_out : List Outstanding → Bool
 is_worn_out waiting = list_any (λ one. nat_le most_resends one.resent) waiting
 
 -- what waits on the side is what the line has, and so many requests were sent there
 pub record IsLine (line : Line) (running : Running) (side : Which) : Type 0 where
-  pub waits : outstanding running side ≡ waiting_of line.waiting
+  pub waits : outstanding running side ≡ waiting_of line
   pub count : asked_count running side ≡ line.asked
   pub few : line.asked ≤ 2 ^ 32
+  pub rising : AreRising (waiting_of line)
+  pub below : All (λ one. one.number < line.asked) (waiting_of line)
+  pub may : MayWait (waiting_of line)
 
 -- it scans both sides, or it goes through its plan
 abbrev pub IsStage : model.Archive → Session → Option Course → List Exchange → Reached → Type 0
@@ -92,16 +83,16 @@ abbrev pub begun : ℕ → ℕ → Running
 begun number pair = asking (new_session number) (begins pair) (begins pair)
 
 abbrev pub messages_now : Session → List Message
-messages_now session = messages_to session.number Left (waiting_of session.left.waiting)
-    ++ messages_to session.number Right (waiting_of session.right.waiting)
+messages_now session = messages_to session.number Left (waiting_of session.left)
+    ++ messages_to session.number Right (waiting_of session.right)
 
 abbrev pub begin_messages : ℕ → ℕ → List Message
 begin_messages number pair = messages_to number Left (begin_of pair)
     ++ messages_to number Right (begin_of pair)
 
 abbrev pub is_worn_now : Session → Bool
-is_worn_now session = is_worn_out (waiting_of session.left.waiting)
-    || is_worn_out (waiting_of session.right.waiting)
+is_worn_now session = is_worn_out (waiting_of session.left)
+    || is_worn_out (waiting_of session.right)
 
 -- each request that waits is sent again
 abbrev pub resent_once : Running → Running

@@ -1,8 +1,7 @@
 -- What a session that runs is at: it scans both sides, or it carries out its plan.
-use Rattle.std.specs.Option.{option_map}
-use Rattle.std.specs.Prelude.{◌≡◌, ◌<◌, ◌^◌, ◌⊎◌, ℕ, suc, List, [], map, filter_map}
+use Rattle.std.specs.Prelude.{◌≡◌, ◌<◌, ◌^◌, ◌⊎◌, ℕ, suc, List, [], ◌∷◌, map, filter_map}
 use Rattle.std.specs.Prelude.{length, take, slice_get, Option, Some, None, Contains}
-use Rattle.syn_headline.specs.Coordinator.{Running}
+use Rattle.syn_headline.specs.Coordinator.{AreRising, Outstanding, Running, without}
 use Rattle.syn_headline.specs.Network.{Which, Left, Right, other}
 use Rattle.syn_headline.specs.Planning.{Planned, WritesTo, seen_on}
 use Rattle.syn_headline.specs.Report.{conflict_at, is_carrying, is_marking}
@@ -22,18 +21,34 @@ use Rattle.syn_propagate.specs.declared.carriage.Carriage.{Carriage}
 use Rattle.syn_propagate.specs.declared.transfer.Transfer.{Transfer}
 use Rattle.syn_recon.specs.Items.{items_of}
 use Rattle.syn_refusal.specs.Refusals.{cause_of}
-use Rattle.syn_scan.specs.Found.{Found, IsWhole, scan_of}
+use Rattle.syn_scan.specs.Found.{Found, scan_of}
 use Rattle.syn_session.specs.Plans.{AreRecordedBefore, Plan, planned_all, recorded_count}
 use Rattle.syn_session.specs.Scanning.{IsFoundIn, WaitsFor, found_of}
 use Rattle.syn_session.specs.declared.course.Carried.{Carried}
 use Rattle.syn_session.specs.declared.course.Course.{Course}
 use Rattle.syn_session.specs.declared.line.Line.{Line}
+use Rattle.syn_session.specs.declared.requests.Waiting.{Waiting}
 use Rattle.syn_session.specs.declared.session.Session.{Session}
 use Rattle.syn_image.specs.Archives.{kept_of}
 
--- the request that waits on a line
-abbrev pub asks_now : Line → Option Request
-asks_now line = option_map (λ waiting. request_of waiting.request) line.waiting
+abbrev pub outstanding_of : Waiting → Outstanding
+outstanding_of waiting = record {
+  number = waiting.number;
+  request = request_of waiting.request;
+  resent = waiting.resent;
+}
+
+-- what waits on a line
+abbrev pub waiting_of : Line → List Outstanding
+waiting_of line = map outstanding_of line.waiting.items
+
+abbrev pub requests_on : Line → List Request
+requests_on line = map (λ one. one.request) (waiting_of line)
+
+-- the request of that number waits no more, where no other has it
+abbrev pub HasTaken : Line → Line → ℕ → Type 0
+HasTaken old new number =
+    AreRising (waiting_of old) → waiting_of new ≡ without number (waiting_of old)
 
 abbrev pub line_of : Session → Which → Line
 line_of session Left = session.left
@@ -67,16 +82,15 @@ nothing_reached = record { plan = None; cursor = 0; kept = []; refused = [] }
 -- the side is to begin the session, or did
 abbrev pub IsToBegin : Session → List Exchange → Which → Type 0
 IsToBegin session taken side =
-    ((pair : ℕ) × (asks_now (line_of session side) ≡ Some (Begin pair)))
-    ⊎ ((asks_now (line_of session side) ≡ None) × (pair : ℕ) × (position : ℕ)
+    ((pair : ℕ) × (requests_on (line_of session side) ≡ Begin pair ∷ []))
+    ⊎ ((requests_on (line_of session side) ≡ []) × (pair : ℕ) × (position : ℕ)
     × WasTaken taken side (Begin pair) (Begun position))
 
--- a directory of the side is to be listed, or each was
+-- what waits on the side are the listings of directories that are out
 abbrev pub IsToList : Session → Which → Type 0
-IsToList session side =
-    ((path : Path) × (asks_now (line_of session side) ≡ Some (ListAt path))
-    × WaitsFor (line_of session side).scan path)
-    ⊎ ((asks_now (line_of session side) ≡ None) × IsWhole (found_on session side))
+IsToList session side = (request : Request) →
+    Contains (requests_on (line_of session side)) request →
+    (path : Path) × (request ≡ ListAt path) × WaitsFor (line_of session side).scan path
 
 -- no directory is listed before both sides have begun
 pub data IsBeginningOrListing (session : Session) (taken : List Exchange) : Type 0 where
@@ -99,6 +113,8 @@ pub record IsScanning (session : Session) (taken : List Exchange) (reached : Rea
   pub of_scan : AreOfScan taken
   pub found : (side : Which) → IsFoundIn (found_on session side) side taken
   pub at : IsBeginningOrListing session taken
+  pub out : (side : Which) (path : Path) → WaitsFor (line_of session side).scan path →
+      Contains (requests_on (line_of session side)) (ListAt path)
 
 -- While it carries out its plan
 
@@ -165,7 +181,7 @@ pub record IsCarrying (archive : model.Archive) (session : Session) (course : Co
     (taken : List Exchange) (reached : Reached) : Type 0 where
   pub to : Which
   pub request : Request
-  pub waits : asks_now (line_of session to) ≡ Some request
-  pub alone : asks_now (line_of session (other to)) ≡ None
+  pub waits : requests_on (line_of session to) ≡ request ∷ []
+  pub alone : requests_on (line_of session (other to)) ≡ []
   pub carries : Carries archive course (found_on session Left) (found_on session Right) taken
       reached (λ transfer. TransferWaitsFor transfer taken to request)

@@ -1,6 +1,6 @@
 //! What a session that scans comes to with an answer.
 ghost use Rattle.std.specs.Prelude.{◌≡◌, ℕ, None, Some, IfErr, IfNone, IfOk, IfSome, MatchResult};
-ghost use Rattle.std.specs.Prelude.{is_some};
+ghost use Rattle.std.specs.Prelude.{◌&&◌, length, nat_lt};
 ghost use Rattle.syn_headline.specs.Coordinator.{Running};
 ghost use Rattle.syn_headline.specs.Network.{Which, other};
 ghost use Rattle.syn_headline.specs.Session.{fault_of};
@@ -11,8 +11,10 @@ ghost use Rattle.syn_message.specs.Sides.{which_of};
 ghost use Rattle.syn_model.specs.Archive.{Archive as Keeping};
 ghost use Rattle.syn_refusal.specs.Refusals.{cause_of};
 ghost use Rattle.syn_session.specs.Scanning.{Exchanges};
+ghost use Rattle.syn_session.specs.inner.Listing.{is_silent};
 
 use crate::error::SessionError;
+use crate::line::Line;
 use crate::session::{Asks, Session, is_no_directory};
 use std::alloc::Global;
 use syn_message::{Reply, Request, Side};
@@ -23,7 +25,7 @@ impl Session {
     ghost use Rattle.syn_session.specs.Answering.{IsAnswering};
     ghost use Rattle.syn_session.specs.Hearing.{Hears};
     ghost use Rattle.syn_session.specs.Sessions.{IsSession};
-    ghost use Rattle.syn_session.specs.Stages.{line_of};
+    ghost use Rattle.syn_session.specs.Stages.{line_of, waiting_of};
     ghost use Rattle.syn_session.specs.declared.session.Session.{Session as Ran};
     ghost use Rattle.syn_session.specs.inner.Listing.{IsListed, KeepsFound, ListsOn};
 
@@ -31,18 +33,24 @@ impl Session {
     /// where memory is refused.
     fn scan_on(&mut self, alloc: Global) -> Result<Option<Asks>, SessionError>
         ensures some { IfOk result (λ next. IfSome next (ListsOn self.old self.new)) }
-        ensures none { IfOk result (λ next. IfNone next (IsListed self.new)) }
+        ensures none { IfOk result (λ next. IfNone next (IsListed self.old self.new)) }
         ensures same { KeepsFound self.old self.new }
         ensures memory { IfErr result (λ e. e ≡ SessionError.Memory) }
     {
-        let asks = self.next_listings(alloc)?;
-        if asks.left.is_some() || asks.right.is_some() {
-            return Ok(Some(asks));
+        let left = self.left.next_listings(alloc)?;
+        let right = self.right.next_listings(alloc)?;
+        if self.are_silent(&left, &right) {
+            return Ok(None);
         }
-        if self.left.waiting.is_some() || self.right.waiting.is_some() {
-            return Ok(Some(asks));
-        }
-        Ok(None)
+        Ok(Some(Asks::Listings { left, right }))
+    }
+
+    /// Nothing waits, and nothing more is to be listed.
+    fn are_silent(&self, left: &[Path], right: &[Path]) -> bool
+        ensures { result
+            ≡ (is_silent self.now.left left.now && is_silent self.now.right right.now) }
+    {
+        is_silent(&self.left, left) && is_silent(&self.right, right)
     }
 
     /// Takes it that a side answered the begin.
@@ -60,9 +68,9 @@ impl Session {
     {
         check_begun(reply)?;
         if self.waits_across(from) {
-            return Ok(Some(Asks {
-                left: None,
-                right: None,
+            return Ok(Some(Asks::Listings {
+                left: Vec::new(alloc),
+                right: Vec::new(alloc),
             }));
         }
         match self.scan_on(alloc) {
@@ -98,11 +106,12 @@ impl Session {
 
     /// Whether a request waits on the other side.
     fn waits_across(&self, side: Side) -> bool
-        ensures { result ≡ is_some (line_of self.now (other (which_of side))).waiting }
+        ensures { result ≡ nat_lt 0 (length (waiting_of (line_of self.now
+            (other (which_of side))))) }
     {
         match side {
-            Side::Left => self.right.waiting.is_some(),
-            Side::Right => self.left.waiting.is_some(),
+            Side::Left => self.right.is_waiting(),
+            Side::Right => self.left.is_waiting(),
         }
     }
 
@@ -145,4 +154,11 @@ fn check_begun(reply: Reply) -> Result<(), Refusal>
         Reply::Refused(why) => Err(why),
         _ => Err(Refusal::BadMessage),
     }
+}
+
+/// Nothing waits on the line, and none of these is to be listed.
+fn is_silent(line: &Line, next: &[Path]) -> bool
+    ensures { result ≡ is_silent line.now next.now }
+{
+    !line.is_waiting() && next.is_empty()
 }

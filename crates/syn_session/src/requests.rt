@@ -1,8 +1,10 @@
-//! A request that waits for its answer.
-ghost use Rattle.std.specs.Prelude.{◌≡◌, false, nat_le, IfOk, IfErr};
-ghost use Rattle.syn_headline.specs.Coordinator.{most_resends};
+//! The requests that wait for their answers.
+ghost use Rattle.std.specs.Prelude.{◌≡◌, ◌==◌, false, map, nat_le, position, IfOk, IfErr};
+ghost use Rattle.std.specs.List.{list_any};
+ghost use Rattle.syn_headline.specs.Coordinator.{most_resends, once_more};
 ghost use Rattle.syn_headline.specs.Side.{Begin};
 ghost use Rattle.syn_message.specs.Requests.{request_of};
+ghost use Rattle.syn_session.specs.Stages.{outstanding_of};
 
 use crate::error::SessionError;
 use std::alloc::Global;
@@ -21,7 +23,8 @@ pub struct Waiting {
 }
 
 impl Waiting {
-    ghost use Rattle.syn_session.specs.Sessions.{asks, outstanding_of, once_later};
+    ghost use Rattle.syn_session.specs.Sessions.{asks, once_later};
+    ghost use Rattle.syn_session.specs.Stages.{outstanding_of};
 
     /// The first request of a session to a side: it is to begin there.
     pub(crate) fn begin(pair: u64) -> Waiting
@@ -63,5 +66,30 @@ impl Waiting {
         ensures { outstanding_of self.new ≡ once_later (outstanding_of self.old) }
     {
         self.resent += 1;
+    }
+}
+
+/// Where the request of that number stands among these; none where none has it.
+pub(crate) fn place_of(waiting: &[Waiting], number: u32) -> Option<usize>
+    ensures { result ≡ position (λ one. one.number == number) waiting.now }
+{
+    waiting.iter().position(|one| one.number == number)
+}
+
+/// Whether one of these was sent again as often as it may be.
+pub(crate) fn is_any_worn(waiting: &[Waiting]) -> bool
+    ensures { result ≡ list_any (λ one. nat_le most_resends one.resent) waiting.now }
+{
+    waiting.iter().any(|one| one.is_worn())
+}
+
+/// Each of these was sent once more.
+pub(crate) fn count_resends(waiting: &mut Vec<Waiting>)
+    requires { list_any (λ one. nat_le most_resends one.resent) waiting.old.items ≡ false }
+    ensures { map outstanding_of waiting.new.items
+        ≡ once_more (map outstanding_of waiting.old.items) }
+{
+    for one in waiting.iter_mut() {
+        one.count_resend();
     }
 }

@@ -1,8 +1,10 @@
 //! A session that runs.
-ghost use Rattle.std.specs.Prelude.{◌≡◌, ◌<◌, ◌^◌, ◌⊎◌, ◌||◌, ℕ, None, Some, false, IfOk, IfErr};
-ghost use Rattle.std.specs.Prelude.{IfSome, MatchResult, OnOk, length, option_map};
-ghost use Rattle.syn_headline.specs.Coordinator.{Running, asked_in, is_not_dir, report_of};
-ghost use Rattle.syn_headline.specs.Network.{Left, Right};
+ghost use Rattle.std.specs.Prelude.{◌≡◌, ◌<◌, ◌^◌, ◌⊎◌, ◌||◌, ◌++◌, ◌∷◌, [], ℕ, None, Some, false};
+ghost use Rattle.std.specs.Prelude.{IfOk, IfErr, IfSome, MatchResult, OnOk, length, map, nat_lt};
+ghost use Rattle.std.specs.Prelude.{option_map};
+ghost use Rattle.syn_headline.specs.Coordinator.{Running, asked_in, is_not_dir, messages_to};
+ghost use Rattle.syn_headline.specs.Coordinator.{numbered, report_of};
+ghost use Rattle.syn_headline.specs.Network.{Left, Right, other};
 ghost use Rattle.syn_headline.specs.Session.{fault_of};
 ghost use Rattle.syn_headline.specs.Side.{ListAt};
 ghost use Rattle.syn_message.specs.Replies.{IsLawfulReply, reply_of};
@@ -11,6 +13,7 @@ ghost use Rattle.syn_message.specs.Sides.{which_of};
 ghost use Rattle.syn_model.specs.Archive.{Archive as Keeping};
 ghost use Rattle.syn_model.specs.Refusal.{Memory};
 ghost use Rattle.syn_refusal.specs.Refusals.{cause_of};
+ghost use Rattle.syn_scan.specs.Asked.{without};
 ghost use Rattle.syn_session.specs.Reports.{end_of, report_model};
 ghost use Rattle.syn_session.specs.Sendings.{messages_of};
 ghost use Rattle.syn_session.specs.Sessions.{end_by};
@@ -37,11 +40,13 @@ pub struct Session {
     pub course: Option<Course>,
 }
 
-/// What is asked of each side next.
+/// What is asked of the sides next.
 #[derive(Debug, Drop)]
-pub struct Asks {
-    pub left: Option<Request>,
-    pub right: Option<Request>,
+pub enum Asks {
+    /// These directories are to be listed.
+    Listings { left: Vec<Path>, right: Vec<Path> },
+    /// One request, and nothing of the other side.
+    One(Side, Request),
 }
 
 impl Session {
@@ -50,15 +55,16 @@ impl Session {
     ghost use Rattle.syn_session.specs.Scanning.{with_listing_answered};
     ghost use Rattle.syn_session.specs.Sessions.{IsSession, Tells, begin_messages, begun};
     ghost use Rattle.syn_session.specs.Sessions.{is_worn_now, messages_now, resent_once};
-    ghost use Rattle.syn_session.specs.Sessions.{waiting_of};
-    ghost use Rattle.syn_session.specs.Stages.{found_on, line_of};
-    ghost use Rattle.syn_session.specs.inner.Listing.{KeepsFound, KeepsRequests, ListsNext};
+    ghost use Rattle.syn_session.specs.Scanning.{out_of};
+    ghost use Rattle.syn_session.specs.Stages.{found_on, line_of, waiting_of};
+    ghost use Rattle.syn_session.specs.inner.Listing.{KeepsRequests};
 
     /// Both sides of the pair are to begin the session. Refused 11 where memory is refused.
     pub fn new(alloc: Global, number: u64, pair: u64) -> Result<Session, SessionError>
         ensures begun { (archive : Keeping)
             → IfOk result (λ session. IsSession archive session (begun number pair)) }
         ensures sends { IfOk result (λ session. messages_now session ≡ begin_messages number pair) }
+        ensures number { IfOk result (λ session. session.number ≡ number) }
         ensures fits { pair < 2 ^ 64 }
         ensures lawful { number < 2 ^ 64 }
         ensures memory { IfErr result (λ e. e ≡ SessionError.Memory) }
@@ -118,7 +124,7 @@ impl Session {
         ensures some { IfSome result (λ request. (self.old.number ≡ session)
             × IsAnswering self.old self.new (which_of from) number (request_of request)) }
         ensures none { result ≡ None → (self.new ≡ self.old) × (self.old.number ≡ session
-            → asked_in (waiting_of (line_of self.old (which_of from)).waiting) number ≡ None) }
+            → asked_in (waiting_of (line_of self.old (which_of from))) number ≡ None) }
     {
         if self.number != session {
             return None;
@@ -147,6 +153,8 @@ impl Session {
             (with_listing_answered taken (which_of from) number path.now (reply_of reply)))
             (λ e. (cause_of e ≡ Memory) ⊎ (fault_of taken (which_of from) (ListAt path.now)
             (reply_of reply) ≡ Some (cause_of e))) }
+        ensures out { OnOk result (out_of (line_of self.new (which_of from)).scan
+            ≡ without (out_of (line_of self.old (which_of from)).scan) path.now) }
         ensures keeps { KeepsRequests self.old self.new (which_of from) }
         ensures unstable { self.new.is_unstable ≡ self.old.is_unstable }
     {
@@ -167,20 +175,17 @@ impl Session {
         self.is_unstable = either(self.is_unstable, is_no_directory);
     }
 
-    /// The listings that are asked for next, on each side where no request waits. Refused 11 where
-    /// memory is refused.
-    pub(crate) fn next_listings(&mut self, alloc: Global) -> Result<Asks, SessionError>
-        ensures left { IfOk result (λ asks. ListsNext self.old.left self.new.left asks.left) }
-        ensures right { IfOk result (λ asks. ListsNext self.old.right self.new.right asks.right) }
-        ensures same { KeepsFound self.old self.new }
-        ensures memory { IfErr result (λ e. e ≡ SessionError.Memory) }
+    /// Whether a request waits on the side.
+    pub fn waits_on(&self, side: Side) -> bool
+        ensures { result ≡ nat_lt 0 (length (waiting_of (line_of self.now (which_of side)))) }
     {
-        let left = self.left.next_listing(alloc)?;
-        let right = self.right.next_listing(alloc)?;
-        Ok(Asks { left, right })
+        match side {
+            Side::Left => self.left.is_waiting(),
+            Side::Right => self.right.is_waiting(),
+        }
     }
 
-    /// Asks both sides for what comes next, and gives what is to be sent. Refused 11 where memory
+    /// Asks the sides for what comes next, and gives what is to be sent. Refused 11 where memory
     /// is refused, or where a number would need more than four bytes.
     pub fn ask(&mut self, alloc: Global, asks: Asks) -> Result<Vec<Sending>, SessionError>
         ensures left { OnOk result (IsAskedOn self.old.left self.new.left (asks_of asks Left)) }
@@ -192,11 +197,68 @@ impl Session {
             ≡ messages_asked self.old asks) }
         ensures memory { IfErr result (λ e. e ≡ SessionError.Memory) }
     {
+        match asks {
+            Asks::Listings { left, right } => self.ask_listings(alloc, left, right),
+            Asks::One(side, request) => self.ask_one(alloc, side, request),
+        }
+    }
+
+    /// Asks both sides for these listings.
+    fn ask_listings(
+        &mut self,
+        alloc: Global,
+        left: Vec<Path>,
+        right: Vec<Path>,
+    ) -> Result<Vec<Sending>, SessionError>
+        ensures left { OnOk result (IsAskedOn self.old.left self.new.left (map ListAt left.items)) }
+        ensures right { OnOk result (IsAskedOn self.old.right self.new.right
+            (map ListAt right.items)) }
+        ensures number { self.new.number ≡ self.old.number }
+        ensures unstable { self.new.is_unstable ≡ self.old.is_unstable }
+        ensures course { self.new.course ≡ self.old.course }
+        ensures sends { IfOk result (λ sends. messages_of sends.items
+            ≡ messages_to self.old.number Left
+            (numbered self.old.left.asked (map ListAt left.items))
+            ++ messages_to self.old.number Right
+            (numbered self.old.right.asked (map ListAt right.items))) }
+        ensures memory { IfErr result (λ e. e ≡ SessionError.Memory) }
+    {
         let mut sends = Vec::new(alloc);
         self.left
-            .ask_next(alloc, &mut sends, Side::Left, self.number, asks.left)?;
+            .ask_listings(alloc, &mut sends, Side::Left, self.number, left)?;
         self.right
-            .ask_next(alloc, &mut sends, Side::Right, self.number, asks.right)?;
+            .ask_listings(alloc, &mut sends, Side::Right, self.number, right)?;
+        Ok(sends)
+    }
+
+    /// Asks one side for this.
+    fn ask_one(
+        &mut self,
+        alloc: Global,
+        side: Side,
+        request: Request,
+    ) -> Result<Vec<Sending>, SessionError>
+        ensures line { OnOk result (IsAskedOn (line_of self.old (which_of side))
+            (line_of self.new (which_of side)) (request_of request ∷ [])) }
+        ensures across { line_of self.new (other (which_of side))
+            ≡ line_of self.old (other (which_of side)) }
+        ensures number { self.new.number ≡ self.old.number }
+        ensures unstable { self.new.is_unstable ≡ self.old.is_unstable }
+        ensures course { self.new.course ≡ self.old.course }
+        ensures sends { IfOk result (λ sends. messages_of sends.items
+            ≡ messages_to self.old.number (which_of side)
+            (numbered (line_of self.old (which_of side)).asked (request_of request ∷ []))) }
+        ensures memory { IfErr result (λ e. e ≡ SessionError.Memory) }
+    {
+        let mut sends = Vec::new(alloc);
+        match side {
+            Side::Left => self
+                .left
+                .ask(alloc, &mut sends, side, self.number, request)?,
+            Side::Right => self
+                .right
+                .ask(alloc, &mut sends, side, self.number, request)?,
+        }
         Ok(sends)
     }
 

@@ -1,6 +1,7 @@
 //! The scan of one side in a session.
 ghost use Rattle.std.specs.Prelude.{◌≡◌, ◌⊎◌, ℕ, [], IfOk, IfErr, IfSome, IfNone};
-ghost use Rattle.std.specs.Prelude.{MatchResult, None, Some};
+ghost use Rattle.std.specs.Prelude.{MatchResult, None, OnOk, Some};
+ghost use Rattle.syn_scan.specs.Asked.{AreAllOut, handed_out, without};
 ghost use Rattle.syn_headline.specs.Network.{Which};
 ghost use Rattle.syn_headline.specs.Session.{IsShown, fault_of};
 ghost use Rattle.syn_headline.specs.Side.{ListAt};
@@ -27,30 +28,34 @@ pub struct SideScan {
 
 impl SideScan {
     ghost use Rattle.syn_session.specs.Scanning.{Exchanges, IsFoundIn, WaitsFor, WasAnswered};
-    ghost use Rattle.syn_session.specs.Scanning.{found_of, with_listing_answered};
+    ghost use Rattle.syn_session.specs.Scanning.{asked_of, found_of, out_of};
+    ghost use Rattle.syn_session.specs.Scanning.{with_listing_answered};
     ghost use Rattle.syn_session.specs.Scanning.{WasListedAt, WasNoDirectoryAt};
 
     /// Nothing is asked yet. Refused 11 where memory is refused.
     pub fn new(alloc: Global) -> Result<SideScan, SessionError>
         ensures found { (side : Which) → IfOk result (λ scan. IsFoundIn (found_of scan) side []) }
+        ensures out { IfOk result (λ scan. out_of scan ≡ []) }
         ensures memory { IfErr result (λ e. e ≡ SessionError.Memory) }
     {
         let scanner = Scanner::new(alloc)?;
         Ok(SideScan { scanner })
     }
 
-    /// The directory that is to be listed next; none where each was. It waits for its answer then.
+    /// The directory that is to be listed next; none where each was handed out. It waits for its
+    /// answer then, and is handed out once.
     ///
     /// Refused 11 where memory is refused.
     pub fn next(&mut self, alloc: Global) -> Result<Option<Path>, SessionError>
-        // A listing shows it, and it was not answered yet.
+        // A listing shows it, and it was not asked for yet.
         ensures shown { (side : Which) (taken : Exchanges)
             → IsFoundIn (found_of self.old) side taken
             → IfOk result (λ next. IfSome next (λ path. IsShown taken side path)) }
         ensures new { IfOk result (λ next. IfSome next
             (λ path. ¬ WasAnswered (found_of self.old) path)) }
-        ensures waits { IfOk result (λ next. IfSome next (λ path. WaitsFor self.new path)) }
-        ensures whole { IfOk result (λ next. IfNone next (IsWhole (found_of self.old))) }
+        ensures unasked { IfOk result (λ next. IfSome next (λ path. ¬ WaitsFor self.old path)) }
+        ensures out { IfOk result (λ next. out_of self.new ≡ handed_out (out_of self.old) next) }
+        ensures none { IfOk result (λ next. IfNone next (AreAllOut (asked_of self.new))) }
         ensures found { found_of self.new ≡ found_of self.old }
         ensures memory { IfErr result (λ e. e ≡ SessionError.Memory) }
     {
@@ -73,6 +78,8 @@ impl SideScan {
             (with_listing_answered taken side number path.now (reply_of reply)))
             (λ e. (cause_of e ≡ Memory)
             ⊎ (fault_of taken side (ListAt path.now) (reply_of reply) ≡ Some (cause_of e))) }
+        // It waits for that no more.
+        ensures out { OnOk result (out_of self.new ≡ without (out_of self.old) path.now) }
     {
         match reply {
             Reply::Listed { position, entries } => {

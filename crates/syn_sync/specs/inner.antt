@@ -1,4 +1,3 @@
 -- Definitions that no public clause reaches.
 pub mod Calling
 pub mod Told
-pub mod Waiting

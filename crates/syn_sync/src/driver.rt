@@ -9,7 +9,7 @@ ghost use Rattle.syn_message.specs.Sides.{which_of};
 ghost use Rattle.syn_model.specs.Refusal.{JournalFull, first_cause};
 ghost use Rattle.syn_refusal.specs.Refusals.{cause_of};
 ghost use Rattle.syn_coordinator.specs.Coordinators.{Does, Stands, archive_of, device_of, runs};
-ghost use Rattle.syn_coordinator.specs.Coordinators.{all_causes, written};
+ghost use Rattle.syn_coordinator.specs.Coordinators.{all_causes, is_waiting, written};
 ghost use Rattle.syn_session.specs.Sendings.{message_of, messages_of};
 ghost use Rattle.syn_sync.specs.Drivers.{Lines, lines_of, link_at, outlets_of};
 ghost use Rattle.syn_sync.specs.Lines.{HearsAll};
@@ -19,7 +19,6 @@ ghost use Rattle.syn_sync.specs.Runs.{Begins, Drives, Takes, answer_in, frame_to
 ghost use Rattle.syn_sync.specs.Runs.{step_of};
 ghost use Rattle.syn_sync.specs.inner.Calling.{Calls, IsUnended, Starting};
 
-use crate::asked::Outstanding;
 use crate::link::Link;
 use crate::watch::Watch;
 use std::alloc::Global;
@@ -94,18 +93,17 @@ impl<R: Read, W: Write> Driver<R, W> {
         if coordinator.is_cut() {
             return Err(Refusal::Device);
         }
-        let outstanding = self.send_all(alloc, &sends, Outstanding::none());
+        self.send_all(alloc, &sends);
         tell_sent(watch, &sends);
-        self.go_on(alloc, coordinator, outstanding, watch);
+        self.go_on(alloc, coordinator, watch);
         give_up(alloc, coordinator)
     }
 
-    /// Goes on with the session until it ends, a link closes, or no side has to answer.
+    /// Goes on with the session until it ends, a link closes, or the coordinator waits for nothing.
     fn go_on<D: Limit, V: Watch>(
         &mut self,
         alloc: Global,
         coordinator: &mut Coordinator<D>,
-        outstanding: Outstanding,
         watch: &mut V,
     )
         ensures { (pair : ℕ) (machine : CoordinatorMachine)
@@ -114,7 +112,6 @@ impl<R: Read, W: Write> Driver<R, W> {
             (lines_of R.remaining self.old) heard
             (outlets_of W.contents self.old) (outlets_of W.contents self.new) }
     {
-        let mut outstanding = outstanding;
         for _ in 0..u64::MAX {
             if coordinator.is_cut() {
                 return;
@@ -122,28 +119,37 @@ impl<R: Read, W: Write> Driver<R, W> {
             if !coordinator.is_running() {
                 return;
             }
-            let Some(from) = self.next_side(outstanding) else {
+            let Some(from) = self.next_side(coordinator) else {
                 return;
             };
             let Some(answered) = self.receive(alloc, from) else {
                 return;
             };
-            outstanding = outstanding.without_answered(from, &answered);
             watch.heard(from, &answered);
             let sends = hear(alloc, coordinator, from, answered);
             if coordinator.is_cut() {
                 return;
             }
             tell_kept(watch, coordinator);
-            outstanding = self.send_all(alloc, &sends, outstanding);
+            self.send_all(alloc, &sends);
             tell_sent(watch, &sends);
         }
     }
 
-    /// The side that is read next; none where a link is closed or no side has to answer.
-    fn next_side(&self, outstanding: Outstanding) -> Option<Side> {
-        if self.left.is_open() && self.right.is_open() {
-            return outstanding.first();
+    /// The side that is read next, for which the coordinator waits: the left one where it waits for
+    /// both. None where a link is closed or it waits for none.
+    fn next_side<D: Limit>(&self, coordinator: &Coordinator<D>) -> Option<Side>
+        ensures { (pair : ℕ) (machine : CoordinatorMachine) → Stands coordinator.now pair machine
+            → IfSome result (λ side. is_waiting machine.running (which_of side) ≡ true) }
+    {
+        if !self.left.is_open() || !self.right.is_open() {
+            return None;
+        }
+        if coordinator.waits_on(Side::Left) {
+            return Some(Side::Left);
+        }
+        if coordinator.waits_on(Side::Right) {
+            return Some(Side::Right);
         }
         None
     }
@@ -165,25 +171,17 @@ impl<R: Read, W: Write> Driver<R, W> {
         }
     }
 
-    /// Sends each request to its side, in their order, and answers which sides have to answer then.
-    fn send_all(
-        &mut self,
-        alloc: Global,
-        sends: &[Sending],
-        outstanding: Outstanding,
-    ) -> Outstanding
+    /// Sends each request to its side, in their order.
+    fn send_all(&mut self, alloc: Global, sends: &[Sending])
         ensures written { (side : Which) → Writes (outlets_of W.contents self.old side)
             (outlets_of W.contents self.new side) (frames_to side (messages_of sends.now))
             (outlets_of W.contents self.new side).goes }
         ensures lines { (side : Which) → lines_of R.remaining self.new side
             ≡ lines_of R.remaining self.old side }
     {
-        let mut outstanding = outstanding;
         for sending in sends {
             self.send(alloc, sending);
-            outstanding = outstanding.with_asked(sending);
         }
-        outstanding
     }
 
     /// Sends the request to its side.

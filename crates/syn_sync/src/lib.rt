@@ -6,7 +6,6 @@
 //! A `Watch` is told how the session goes; `Progress` is one that writes lines.
 #![tactic(auto)]
 
-mod asked;
 mod driver;
 mod lawful;
 mod link;

@@ -16,9 +16,6 @@ use Rattle.syn_headline.specs.Planning.{Log}
 use Rattle.syn_keep.specs.Machines.{IsMachine, Journal, LeavesMachine}
 use Rattle.syn_keep.specs.Tries.{Tries}
 use Rattle.syn_keep.specs.declared.tried.Tried.{Tried}
-use Rattle.syn_message.specs.declared.request.Request.{Request as Asked}
-use Rattle.syn_message.specs.declared.side.Side.{Side}
-use Rattle.syn_message.specs.declared.side.Side.TheVariants as side
 use Rattle.syn_model.specs.Archive.{Kept}
 use Rattle.syn_model.specs.Refusal.{Memory}
 use Rattle.syn_refusal.specs.Refusals.{cause_of}
@@ -29,11 +26,6 @@ use Rattle.syn_session.specs.Sessions.{Tells}
 use Rattle.syn_session.specs.Stages.{Reached, reached_by}
 use Rattle.syn_session.specs.declared.session.Asks.{Asks}
 use Rattle.syn_session.specs.declared.session.Session.{Session}
-
--- the request for a side, and nothing for the other
-abbrev pub asks_to : Side → Asked → Asks
-asks_to side.Left request = record { left = Some request; right = None }
-asks_to side.Right request = record { left = None; right = Some request }
 
 -- the session once it has taken the answer and come so far
 abbrev pub reaching : Running → Exchange → Reached → Running

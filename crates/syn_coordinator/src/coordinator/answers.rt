@@ -3,7 +3,7 @@ ghost use Rattle.std.specs.Prelude.{◌≡◌, ◌⊎◌, [], ℕ, IfSome, None,
 ghost use Rattle.std.specs.Prelude.{option_map};
 ghost use Rattle.std.specs.Prelude.{true};
 ghost use Rattle.syn_coordinator.specs.inner.Answered.{Answered};
-ghost use Rattle.syn_coordinator.specs.inner.Taking.{asks_to, TakesOn, TakesSo};
+ghost use Rattle.syn_coordinator.specs.inner.Taking.{TakesOn, TakesSo};
 ghost use Rattle.syn_coordinator.specs.inner.Walking.{ended_by};
 ghost use Rattle.syn_headline.specs.Coordinator.{CoordinatorMachine, CoordinatorTakes, Running};
 ghost use Rattle.syn_headline.specs.Coordinator.{Exchange, asked_in, hearing, report_of};
@@ -16,8 +16,8 @@ ghost use Rattle.syn_refusal.specs.Refusals.{cause_of};
 ghost use Rattle.syn_session.specs.Answering.{IsAnswering, exchange_of};
 ghost use Rattle.syn_session.specs.Hearing.{HasHeard, IsScanned};
 ghost use Rattle.syn_session.specs.Sendings.{messages_of};
-ghost use Rattle.syn_session.specs.Sessions.{IsSession, Tells, waiting_of};
-ghost use Rattle.syn_session.specs.Stages.{line_of};
+ghost use Rattle.syn_session.specs.Sessions.{IsSession, Tells};
+ghost use Rattle.syn_session.specs.Stages.{line_of, waiting_of};
 ghost use Rattle.syn_session.specs.declared.session.Session.{Session as Ran};
 
 use super::Coordinator;
@@ -84,7 +84,7 @@ impl<D: Limit> Coordinator<D> {
             × IsAnswering ran it.0 (which_of from) number (request_of it.1)) }
         ensures none { result ≡ None → (self.new.running ≡ self.old.running) × ((ran : Ran)
             → self.old.running ≡ Some ran → ran.number ≡ session
-            → asked_in (waiting_of (line_of ran (which_of from)).waiting) number ≡ None) }
+            → asked_in (waiting_of (line_of ran (which_of from))) number ≡ None) }
         ensures taken { IfSome result (λ _. self.new.running ≡ None) }
         ensures archive { self.new.archive ≡ self.old.archive }
         ensures kept { (self.new.written ≡ self.old.written) × (self.new.broke ≡ self.old.broke)
@@ -152,7 +152,7 @@ impl<D: Limit> Coordinator<D> {
         let asks = self.walk(alloc, &mut course, left, right);
         drop(session.course.replace(course));
         match asks {
-            Ok((side, request)) => Ok(asks_to(side, request)),
+            Ok((side, request)) => Ok(Asks::One(side, request)),
             Err(ended) => Err(ended),
         }
     }
@@ -186,7 +186,7 @@ impl<D: Limit> Coordinator<D> {
         let left = session.left.scan.found();
         let right = session.right.scan.found();
         match self.on_carried(alloc, course, left, right, reply) {
-            Ok((side, request)) => Ok(asks_to(side, request)),
+            Ok((side, request)) => Ok(Asks::One(side, request)),
             Err(ended) => Err(ended),
         }
     }
@@ -241,21 +241,5 @@ fn refusal_in(ended: Ended) -> Option<Refusal>
     match ended {
         Ended::Settled => None,
         Ended::Early(why) => Some(why),
-    }
-}
-
-/// The request for a side, and nothing for the other.
-fn asks_to(side: Side, request: Request) -> Asks
-    ensures { result ≡ asks_to side request }
-{
-    match side {
-        Side::Left => Asks {
-            left: Some(request),
-            right: None,
-        },
-        Side::Right => Asks {
-            left: None,
-            right: Some(request),
-        },
     }
 }

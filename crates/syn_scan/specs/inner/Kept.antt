@@ -6,7 +6,7 @@ use Rattle.std.specs.FinMap.{is_sorted, from_sorted, entries, get, insert}
 use Rattle.syn_model.specs.Path.{Path, Name, path_cmp, root}
 use Rattle.syn_model.specs.Tree.{Tree, Pair, Directory, is_directory_content, replace}
 use Rattle.syn_scan.specs.Found.{Found, Positions, is_open, was_listed, was_no_directory}
-use Rattle.syn_scan.specs.Asked.{Asked}
+use Rattle.syn_scan.specs.Asked.{Asked, is_out}
 
 abbrev pub AreSorted : List (Path × ℕ) → Type 0
 AreSorted list = is_sorted path_cmp list ≡ true
@@ -35,16 +35,20 @@ abbrev pub is_open_entry : Found → Pair → Bool
 is_open_entry found entry = is_directory_content (Some entry.1) && not (was_listed found entry.0)
     && not (was_no_directory found entry.0)
 
--- none of so many in front is open
-abbrev pub NoneOpen : Found → List Pair → ℕ → Type 0
-NoneOpen found pairs count = (at : ℕ) (pair : Pair) → at < count →
-    is_open_entry found (slice_index_or pairs at pair) ≡ false
+-- and was not handed out
+abbrev pub is_next_entry : Found → List Path → Pair → Bool
+is_next_entry found out entry = is_open_entry found entry && not (is_out out entry.0)
+
+-- none of so many in front is open without being out
+abbrev pub NoneNext : Found → List Path → List Pair → ℕ → Type 0
+NoneNext found out pairs count = (at : ℕ) (pair : Pair) → at < count →
+    is_next_entry found out (slice_index_or pairs at pair) ≡ false
 
 -- each path that is out is of a directory that is still open
 abbrev pub AreOpen : Asked → Type 0
 AreOpen asked = All (λ path. is_open asked.found path ≡ true) asked.out
 
--- and so many of the first entries are known not to be open
+-- and none of so many entries in front is to be handed out
 pub record IsKept (asked : Asked) (passed : ℕ) : Type 0 where
   pub out_open : AreOpen asked
-  pub none_open : NoneOpen asked.found (entries asked.found.marks) passed
+  pub none_next : NoneNext asked.found asked.out (entries asked.found.marks) passed

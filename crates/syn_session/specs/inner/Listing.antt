@@ -1,48 +1,54 @@
 -- What is listed next in a session that scans, and what stays of it.
-use Rattle.std.specs.Prelude.{◌≡◌, ◌≢◌, ◌⊎◌, true, is_some, List, Option, Some, None}
-use Rattle.syn_headline.specs.Coordinator.{Exchange}
-use Rattle.syn_headline.specs.Network.{Which, Left, Right, other}
+use Rattle.std.specs.Prelude.{◌≡◌, ◌≢◌, ◌≤◌, ◌+◌, ◌⊎◌, ◌++◌, length, map, List, [], All, AllPairs}
+use Rattle.std.specs.Prelude.{Bool, not, nat_eq, nat_lt, ◌&&◌}
+use Rattle.syn_headline.specs.Coordinator.{Exchange, most_listings}
+use Rattle.syn_headline.specs.Network.{Which, other}
 use Rattle.syn_headline.specs.Session.{IsShown}
 use Rattle.syn_headline.specs.Side.{ListAt}
-use Rattle.syn_message.specs.Requests.{request_of}
-use Rattle.syn_message.specs.declared.request.Request.{Request as Asked}
 use Rattle.syn_model.specs.Path.{IsPath, Path}
-use Rattle.syn_scan.specs.Found.{IsWhole}
-use Rattle.syn_session.specs.Scanning.{IsFoundIn, WaitsFor, WasAnswered, found_of}
-use Rattle.syn_session.specs.Stages.{found_on, line_of}
+use Rattle.syn_scan.specs.Asked.{AreAllOut}
+use Rattle.syn_session.specs.Answering.{asks_of}
+use Rattle.syn_session.specs.Scanning.{IsFoundIn, WaitsFor, WasAnswered, asked_of, found_of, out_of}
+use Rattle.syn_session.specs.Stages.{found_on, line_of, waiting_of}
 use Rattle.syn_session.specs.declared.line.Line.{Line}
 use Rattle.syn_session.specs.declared.session.Asks.{Asks}
 use Rattle.syn_session.specs.declared.session.Session.{Session}
 
 -- a listing that no other asked for: of a path that is shown
-pub record IsNextListing (old new : Line) (path : Path) : Type 0 where
-  pub free : old.waiting ≡ None
-  pub waits : WaitsFor new.scan path
+pub record IsNextListing (old : Line) (path : Path) : Type 0 where
   pub lawful : IsPath path
-  pub unanswered : WasAnswered (found_of old.scan) path → ⊥
+  pub unanswered : ¬ WasAnswered (found_of old.scan) path
+  pub unasked : ¬ WaitsFor old.scan path
   pub shown : (side : Which) (taken : List Exchange) → IsFoundIn (found_of old.scan) side taken
       → IsShown taken side path
 
--- what is listed next on a line: nothing where a request waits, or where each directory was
-abbrev pub ListsNext : Line → Line → Option Asked → Type 0
-ListsNext old new None = ((old.waiting ≢ None) × (new ≡ old))
-    ⊎ ((old.waiting ≡ None) × IsWhole (found_of new.scan))
-ListsNext old new (Some request) =
-    (path : Path) × (request_of request ≡ ListAt path) × IsNextListing old new path
+-- the listings that are asked for next on a line: so many that as many wait as may, or that each
+-- directory was asked for
+pub record ListsNext (old new : Line) (paths : List Path) : Type 0 where
+  pub each : All (IsNextListing old) paths
+  pub apart : AllPairs (λ one other. one ≢ other) paths
+  pub out : out_of new.scan ≡ out_of old.scan ++ paths
+  pub few : (paths ≡ []) ⊎ (length (waiting_of old) + length paths ≤ most_listings)
+  pub most : (most_listings ≤ length (waiting_of old) + length paths)
+      ⊎ AreAllOut (asked_of new.scan)
+
+-- nothing waits on the line, and nothing more is to be listed
+abbrev pub is_silent : Line → List Path → Bool
+is_silent line next = not (nat_lt 0 (length (waiting_of line))) && nat_eq (length next) 0
 
 -- the listings that are asked for next on both lines, and something waits then
 pub record ListsOn (old new : Session) (asks : Asks) : Type 0 where
-  pub left : ListsNext old.left new.left asks.left
-  pub right : ListsNext old.right new.right asks.right
-  pub some : ((is_some asks.left ≡ true) ⊎ (is_some asks.right ≡ true))
-      ⊎ ((is_some new.left.waiting ≡ true) ⊎ (is_some new.right.waiting ≡ true))
+  pub paths : Which → List Path
+  pub asked : (side : Which) → asks_of asks side ≡ map ListAt (paths side)
+  pub next : (side : Which) → ListsNext (line_of old side) (line_of new side) (paths side)
+  pub some : (side : Which)
+      × (1 ≤ length (waiting_of (line_of new side)) + length (asks_of asks side))
 
--- nothing waits, and each directory of both sides was answered
-pub record IsListed (session : Session) : Type 0 where
-  pub left_silent : session.left.waiting ≡ None
-  pub right_silent : session.right.waiting ≡ None
-  pub left_whole : IsWhole (found_on session Left)
-  pub right_whole : IsWhole (found_on session Right)
+-- nothing waits, and each directory of both sides was asked for
+pub record IsListed (old new : Session) : Type 0 where
+  pub silent : (side : Which) → waiting_of (line_of new side) ≡ []
+  pub out : (side : Which) → out_of (line_of new side).scan ≡ out_of (line_of old side).scan
+  pub all : (side : Which) → AreAllOut (asked_of (line_of new side).scan)
 
 -- What stays of a session
 

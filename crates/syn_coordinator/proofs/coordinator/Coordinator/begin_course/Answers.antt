@@ -1,4 +1,4 @@
-use Rattle.std.proofs.Common.{Some, [], ◌∷◌, ◌++◌, sym, ap, ◌∙◌, subst}
+use Rattle.std.proofs.Common.{[], ◌∷◌, ◌++◌, sym, ap, ◌∙◌, subst}
 use Rattle.syn_headline.specs.Network.{Left, Right}
 use Rattle.syn_model.specs.Archive.{Archive}
 use Rattle.syn_model.specs.Plan.{plan}
@@ -8,6 +8,7 @@ use Rattle.syn_session.specs.Stages.{plan_in}
 use Rattle.syn_coordinator.specs.inner.Taking.{TakesEnd, TakesOn}
 use Rattle.syn_session.specs.Passing.{first_reached}
 use Rattle.syn_coordinator.proofs.BeginLemmas.{at_first, begins_asking, begins_ending, no_plan}
+use Rattle.syn_session.specs.declared.session.Asks.TheVariants.{One}
 use Rattle.syn_coordinator.proofs.coordinator.Coordinator.begin_course.Goals as goal
 
 pub returns-in_default-clause-step : goal.returns-in_default-clause-step
@@ -31,11 +32,9 @@ returns-in-Ok-asks-clause-step g c =
     (at_first self pair journal running taken session is fault heard scanned nothing made left
     right same_left same_right c.in-Ok.ensures.begun) in (
       subst (λ course. TakesOn c.walk-asks.new.self.archive pair journal running taken
-          (record session { course = course }) (written c.walk-asks.new.self) c.asks_to.result)
+          (record session { course = course }) (written c.walk-asks.new.self)
+          (One c.in-Ok-asks.side c.in-Ok-asks.request))
           (sym c.replace.ensures.after)
-          (subst (TakesOn c.walk-asks.new.self.archive pair journal running taken (record session
-          { course = Some c.walk-asks.new.course }) (written c.walk-asks.new.self))
-          (sym c.asks_to.ensures)
           (begins_asking self pair journal running taken session is fault heard scanned nothing
           made left right same_left same_right c.in-Ok.ensures.begun
           (c.in-Ok.ensures.items ∙ ap (plan (scan_of left) (scan_of right)) marks)
@@ -44,7 +43,7 @@ returns-in-Ok-asks-clause-step g c =
           (c.found-right.ensures.scan Right (running.taken ++ taken ∷ []) (scanned.whole Right)
           (scanned.found Right))
           c.walk-asks.new.self c.walk-asks.new.course c.in-Ok-asks.side c.in-Ok-asks.request
-          walked)),
+          walked),
       walked.3,
     )
 

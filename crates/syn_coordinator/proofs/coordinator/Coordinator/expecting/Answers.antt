@@ -2,8 +2,7 @@ use Rattle.std.proofs.Common.{◌≡◌, Some, None, refl, sym, subst, ap, ◌�
 use Rattle.std.proofs.lemmas.Option.{none-some}
 use Rattle.syn_message.specs.Sides.{which_of}
 use Rattle.syn_headline.specs.Coordinator.{asked_in}
-use Rattle.syn_session.specs.Sessions.{waiting_of}
-use Rattle.syn_session.specs.Stages.{line_of}
+use Rattle.syn_session.specs.Stages.{line_of, waiting_of}
 use Rattle.syn_session.specs.declared.session.Session.{Session}
 use Rattle.syn_coordinator.proofs.coordinator.Coordinator.expecting.Goals as goal
 
@@ -25,6 +24,6 @@ returns-in-None-clause-none g c is_none =
       λ ran was.
           let same : c.in-Some.running ≡ ran = cc in
           subst (λ (s : Session). s.number ≡ c.args.session →
-          asked_in (waiting_of (line_of s (which_of c.args.from)).waiting) c.args.number ≡ None)
+          asked_in (waiting_of (line_of s (which_of c.args.from))) c.args.number ≡ None)
           same none.1,
     )

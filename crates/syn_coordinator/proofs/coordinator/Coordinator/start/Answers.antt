@@ -17,7 +17,7 @@ use Rattle.syn_keep.specs.Steps.{KeepsSo}
 use Rattle.syn_keep.specs.Tries.{HoldsTried}
 use Rattle.syn_keep.proofs.DueLemmas.{when_runs}
 use Rattle.syn_coordinator.proofs.ErrorLemmas.{passed, refused_so}
-use Rattle.syn_session.proofs.SessionLemmas.{is_none}
+use Rattle.syn_coordinator.proofs.TickLemmas.{is_none}
 use Rattle.syn_coordinator.proofs.StartLemmas.{room_for, started, start_failed, still_first}
 use Rattle.syn_coordinator.proofs.StartLemmas.{then_memory}
 use Rattle.syn_coordinator.proofs.TriedLemmas.{untried_up}

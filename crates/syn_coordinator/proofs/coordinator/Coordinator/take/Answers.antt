@@ -7,7 +7,7 @@ use Rattle.syn_headline.specs.Coordinator.{hearing}
 use Rattle.syn_session.specs.Answering.{exchange_of}
 use Rattle.syn_session.specs.Hearing.{ScansOn}
 use Rattle.syn_session.proofs.HearingLemmas.{not_last}
-use Rattle.syn_session.proofs.SessionLemmas.{is_none}
+use Rattle.syn_coordinator.proofs.TickLemmas.{is_none}
 use Rattle.syn_coordinator.proofs.TakeLemmas.{hears_end, hears_on}
 use Rattle.syn_coordinator.proofs.TriedLemmas.{tries_none}
 use Rattle.syn_coordinator.proofs.coordinator.Coordinator.take.Goals as goal

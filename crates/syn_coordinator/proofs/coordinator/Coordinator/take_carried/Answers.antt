@@ -1,11 +1,7 @@
-use Rattle.std.proofs.Common.{Some, sym, subst}
 use Rattle.syn_message.specs.Replies.{reply_of}
 use Rattle.syn_message.specs.Requests.{request_of}
 use Rattle.syn_message.specs.Sides.{which_of}
-use Rattle.syn_coordinator.specs.Coordinators.{written}
-use Rattle.syn_session.specs.Answering.{exchange_of}
 use Rattle.syn_session.specs.Stages.{reached_by}
-use Rattle.syn_coordinator.specs.inner.Taking.{TakesOn}
 use Rattle.syn_coordinator.proofs.BeginLemmas.{carries_asking, carries_ending, carries_now}
 use Rattle.syn_coordinator.proofs.coordinator.Coordinator.take_carried.Goals as goal
 
@@ -24,10 +20,7 @@ returns-in-Ok-clause-step g c =
     reply session answers c.in-Some.course was left right same_left same_right in
     let on = c.in-Ok.ensures.step pair journal running.taken
     (reached_by running) side number request is quiet carries in (
-      subst (TakesOn c.on_carried.new.self.archive pair journal running (exchange_of side number
-          request reply) (record c.args.session.now { course = Some c.on_carried.new.course })
-          (written c.on_carried.new.self)) (sym c.asks_to.ensures)
-          (carries_asking pair journal before c.args.session.now running side number request reply
+      (carries_asking pair journal before c.args.session.now running side number request reply
           session answers c.in-Some.course was left right same_left same_right
           c.transfer_laws.ensures c.args.self.now c.on_carried.new.self nothing
           c.on_carried.new.course c.in-Ok.side c.in-Ok.request

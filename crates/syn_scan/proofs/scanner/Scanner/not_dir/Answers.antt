@@ -1,9 +1,9 @@
 use Rattle.std.proofs.Common.{◌≡◌, ◌∙◌, true, ap, sym, subst}
 use Rattle.std.specs.Prelude.{All}
 use Rattle.syn_scan.specs.Found.{is_open}
-use Rattle.syn_scan.specs.Asked.{is_out}
+use Rattle.syn_scan.specs.Asked.{is_out, without}
 use Rattle.std.specs.FinMap.{entries}
-use Rattle.syn_scan.specs.inner.Kept.{NoneOpen}
+use Rattle.syn_scan.specs.inner.Kept.{NoneNext}
 use Rattle.syn_scan.proofs.FirstLemmas.{passed_after_refusal}
 use Rattle.syn_scan.proofs.FoundLemmas.{out_is_open, open_after_refusal}
 use Rattle.syn_scan.proofs.ListingLemmas.{out_then}
@@ -25,8 +25,12 @@ invariant_of-self-2 c =
           (out_then old c.take_no_directory.new.self c.self.inside.out.items p
           (λ q other was. ap (λ f. is_open f q) c.in_ok-take_no_directory.ensures.ok
           ∙ open_after_refusal old p c.args.position q other was) c.self.invariant.out_open);
-      none_open =
-          subst (λ f. NoneOpen f (entries f.marks) c.self.inside.passed)
-          (sym c.in_ok-take_no_directory.ensures.ok) (passed_after_refusal old p c.args.position
-          c.self.inside.passed c.self.invariant.none_open);
+      none_next =
+          subst (λ ps. NoneNext c.take_no_directory.new.self ps
+          (entries c.take_no_directory.new.self.marks) c.self.inside.passed)
+          (sym c.take_back.ensures)
+          (subst (λ f. NoneNext f (without c.self.inside.out.items p) (entries f.marks)
+          c.self.inside.passed) (sym c.in_ok-take_no_directory.ensures.ok)
+          (passed_after_refusal old c.self.inside.out.items p c.args.position
+          c.self.inside.passed c.self.invariant.none_next));
     }

@@ -9,10 +9,10 @@ use Rattle.syn_scan.specs.declared.error.ScanError.{ScanError}
 use Rattle.syn_scan.specs.declared.error.ScanError.TheVariants.{Memory, BadMessage}
 use Rattle.syn_scan.specs.Found.{Found, is_open, IsFound, WasListedIn}
 use Rattle.syn_scan.specs.Asked.{Asked, is_out, contents_in, with_listing, is_too_large, fit_below}
-use Rattle.syn_scan.specs.Asked.{ListsOnly}
+use Rattle.syn_scan.specs.Asked.{ListsOnly, without}
 use Rattle.syn_scan.specs.inner.Kept.{IsFlat, with_tree}
 use Rattle.std.specs.FinMap.{entries}
-use Rattle.syn_scan.specs.inner.Kept.{NoneOpen}
+use Rattle.syn_scan.specs.inner.Kept.{NoneNext}
 use Rattle.syn_scan.proofs.ListingLemmas.{passed_then}
 use Rattle.syn_scan.proofs.FoundLemmas.{opened as opened_so, out_is_open, open_then}
 use Rattle.syn_scan.proofs.NamesLemmas.{has_node}
@@ -141,6 +141,9 @@ invariant_of-self-2 c =
     let flat : IsFlat u = subst IsFlat (sym c.in_ok-listing.ensures.ok)
     (listing_is_flat (contents_in c.args.entries.items) c.in_ok-listing.ensures.marks) in
     let es = contents_in c.args.entries.items in
+    let n = c.min-self-inside.result in
+    let least = c.min-self-inside.ensures in
+    let place = c.place_of-place.ensures in
     let new : c.take.new.self ≡ with_listing old p c.args.position es = c.in_ok-take.ensures.ok
     ∙ ap (λ t. with_tree old p c.args.position t) c.in_ok-listing.ensures.ok in
     record {
@@ -148,9 +151,12 @@ invariant_of-self-2 c =
           (out_then old c.take.new.self c.self.inside.out.items p
           (λ q other was. ap (λ f. is_open f q) c.in_ok-take.ensures.ok ∙ open_then old p
           c.args.position u (found k) (opened k) flat q other was) c.self.invariant.out_open);
-      none_open = subst (λ f. NoneOpen f (entries f.marks) c.self.inside.passed) (sym new)
-          (passed_then old p es c.args.position c.self.inside.passed (found k)
-          (opened k) c.in_ok-listing.ensures.marks c.self.invariant.none_open);
+      none_next = subst (λ ps. NoneNext c.take.new.self ps (entries c.take.new.self.marks) n)
+          (sym c.take_back.ensures)
+          (subst (λ f. NoneNext f (without c.self.inside.out.items p) (entries f.marks) n) (sym new)
+          (passed_then old c.self.inside.out.items p es c.args.position n (found k)
+          (opened k) c.in_ok-listing.ensures.marks (omega (arith, place, least)) (λ i d l.
+          c.self.invariant.none_next i d (omega (arith, l, least)))));
     }
 
 pub returns-clause-belongs : goal.returns-clause-belongs

@@ -18,14 +18,12 @@ returns c archive running is = resent_so archive c.args.self.now _ running is re
     again Left =
         record {
           waits = c.count_resend.ensures.waits;
-          same = c.count_resend.ensures.same;
           asked = c.count_resend.ensures.asked;
           scan = c.count_resend.ensures.scan;
         }
     again Right =
         record {
           waits = c.count_resend-2.ensures.waits;
-          same = c.count_resend-2.ensures.same;
           asked = c.count_resend-2.ensures.asked;
           scan = c.count_resend-2.ensures.scan;
         }

@@ -8,7 +8,8 @@ use Rattle.syn_session.specs.Hearing.{at_once, behind}
 use Rattle.std.specs.Prelude.{◌||◌}
 use Rattle.syn_session.proofs.HearLemmas.{heard_new, scans_either}
 use Rattle.syn_session.proofs.HearingLemmas.{found_before, hears_refused, listed_begun}
-use Rattle.syn_session.proofs.HearingLemmas.{listed_found, listed_heard, listed_lines, swapped}
+use Rattle.syn_session.proofs.HearingLemmas.{listed_found, listed_heard, listed_lines, listed_out}
+use Rattle.syn_session.proofs.HearingLemmas.{swapped}
 use Rattle.syn_session.proofs.TellingLemmas.{tells_heard}
 use Rattle.syn_session.proofs.HearingLemmas.{tells_before, waits_for}
 use Rattle.syn_session.proofs.session.Session.hear_listed.Goals as goal
@@ -50,25 +51,30 @@ returns-in-Ok c = record {
       let counted = c.count_unstable.ensures.unstable
       ∙ ap (λ b. taken.is_unstable || b) c.is_no_directory-is_no_directory.ensures in
       let heard = hearing running (exchange_of side number (ListAt path) reply) in
+      let taken_out = c.in_ok-take_listing.ensures.out in
       let has = listed_heard archive before now running side number (ListAt path) reply is answers
       scans path refl taken after keeps c.in_ok-take_listing.ensures.unstable counted
       c.count_unstable.ensures.left c.count_unstable.ensures.right c.count_unstable.ensures.number
-      c.count_unstable.ensures.course step.1 in
+      c.count_unstable.ensures.course step.1 taken_out in
       let both = listed_begun archive before now running side number (ListAt path) reply is answers
       scans path refl taken after keeps c.in_ok-take_listing.ensures.unstable counted
       c.count_unstable.ensures.left c.count_unstable.ensures.right c.count_unstable.ensures.number
-      c.count_unstable.ensures.course step.1 in
+      c.count_unstable.ensures.course step.1 taken_out in
       let found = listed_found archive before now running side number (ListAt path) reply is answers
       scans path refl taken after keeps c.in_ok-take_listing.ensures.unstable counted
       c.count_unstable.ensures.left c.count_unstable.ensures.right c.count_unstable.ensures.number
-      c.count_unstable.ensures.course step.1 in
+      c.count_unstable.ensures.course step.1 taken_out in
       let lines = listed_lines archive before now running side number (ListAt path) reply is answers
       scans path refl taken after keeps c.in_ok-take_listing.ensures.unstable counted
       c.count_unstable.ensures.left c.count_unstable.ensures.right
-      c.count_unstable.ensures.number c.count_unstable.ensures.course step.1 in (
+      c.count_unstable.ensures.number c.count_unstable.ensures.course step.1 taken_out in
+      let out = listed_out archive before now running side number (ListAt path) reply is answers
+      scans path refl taken after keeps c.in_ok-take_listing.ensures.unstable counted
+      c.count_unstable.ensures.left c.count_unstable.ensures.right
+      c.count_unstable.ensures.number c.count_unstable.ensures.course step.1 taken_out in (
         step.0,
-        heard_new after c.scan_on.new.self heard has both found lines c.in-Ok.ensures.same,
-        scans_either after c.scan_on.new.self heard has both found lines c.in-Ok.ensures.same
+        heard_new after c.scan_on.new.self heard has both found lines out c.in-Ok.ensures.same,
+        scans_either after c.scan_on.new.self heard has both found lines out c.in-Ok.ensures.same
             c.in-Ok.next c.in-Ok.ensures.some c.in-Ok.ensures.none,
       );
 }
@@ -91,22 +97,27 @@ returns-in-Err c = record {
       let counted = c.count_unstable.ensures.unstable
       ∙ ap (λ b. taken.is_unstable || b) c.is_no_directory-is_no_directory.ensures in
       let heard = hearing running (exchange_of side number (ListAt path) reply) in
+      let taken_out = c.in_ok-take_listing.ensures.out in
       let has = listed_heard archive before now running side number (ListAt path) reply is answers
       scans path refl taken after keeps c.in_ok-take_listing.ensures.unstable counted
       c.count_unstable.ensures.left c.count_unstable.ensures.right c.count_unstable.ensures.number
-      c.count_unstable.ensures.course step.1 in
+      c.count_unstable.ensures.course step.1 taken_out in
       let both = listed_begun archive before now running side number (ListAt path) reply is answers
       scans path refl taken after keeps c.in_ok-take_listing.ensures.unstable counted
       c.count_unstable.ensures.left c.count_unstable.ensures.right c.count_unstable.ensures.number
-      c.count_unstable.ensures.course step.1 in
+      c.count_unstable.ensures.course step.1 taken_out in
       let found = listed_found archive before now running side number (ListAt path) reply is answers
       scans path refl taken after keeps c.in_ok-take_listing.ensures.unstable counted
       c.count_unstable.ensures.left c.count_unstable.ensures.right c.count_unstable.ensures.number
-      c.count_unstable.ensures.course step.1 in
+      c.count_unstable.ensures.course step.1 taken_out in
       let lines = listed_lines archive before now running side number (ListAt path) reply is answers
       scans path refl taken after keeps c.in_ok-take_listing.ensures.unstable counted
       c.count_unstable.ensures.left c.count_unstable.ensures.right c.count_unstable.ensures.number
-      c.count_unstable.ensures.course step.1 in
+      c.count_unstable.ensures.course step.1 taken_out in
+      let out = listed_out archive before now running side number (ListAt path) reply is answers
+      scans path refl taken after keeps c.in_ok-take_listing.ensures.unstable counted
+      c.count_unstable.ensures.left c.count_unstable.ensures.right c.count_unstable.ensures.number
+      c.count_unstable.ensures.course step.1 taken_out in
       behind step.0 refl (tells_heard c.scan_on.new.self heard
-      (heard_new after c.scan_on.new.self heard has both found lines c.in-Err.ensures.same));
+      (heard_new after c.scan_on.new.self heard has both found lines out c.in-Err.ensures.same));
 }

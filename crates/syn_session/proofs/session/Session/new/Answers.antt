@@ -1,21 +1,22 @@
 use Rattle.std.proofs.Common.{◌≡◌, [], refl}
 use Rattle.syn_headline.specs.Network.{Which, Left, Right}
-use Rattle.syn_session.specs.Scanning.{IsFoundIn, found_of}
+use Rattle.syn_session.specs.Scanning.{IsFoundIn, found_of, out_of}
 use Rattle.syn_session.specs.declared.line.Line.{Line}
-use Rattle.syn_session.specs.Sessions.{begin_of, waiting_of}
+use Rattle.syn_session.specs.Sessions.{begin_of}
+use Rattle.syn_session.specs.Stages.{waiting_of}
 use Rattle.syn_session.proofs.SessionLemmas.{session_begins}
 use Rattle.syn_session.proofs.session.Session.new.Goals as goal
 
 pub returns-clause-begun : goal.returns-clause-begun
 returns-clause-begun c archive =
     session_begins archive _ c.args.number c.args.pair refl c.ranges.number.fits refl refl waits
-    asked found
+    asked found out
   where
     line : Which → Line
     line Left = c.in_ok-left.left
     line Right = c.in_ok-right.right
 
-    waits : (side : Which) → waiting_of (line side).waiting ≡ begin_of c.args.pair
+    waits : (side : Which) → waiting_of (line side) ≡ begin_of c.args.pair
     waits Left = c.in_ok-left.ensures.waits
     waits Right = c.in_ok-right.ensures.waits
 
@@ -26,3 +27,7 @@ returns-clause-begun c archive =
     found : (side : Which) → IsFoundIn (found_of (line side).scan) side []
     found Left = c.in_ok-left.ensures.found Left
     found Right = c.in_ok-right.ensures.found Right
+
+    out : (side : Which) → out_of (line side).scan ≡ []
+    out Left = c.in_ok-left.ensures.out
+    out Right = c.in_ok-right.ensures.out

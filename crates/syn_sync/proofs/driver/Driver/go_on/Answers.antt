@@ -67,7 +67,7 @@ loop-preserved g c = λ pair machine stands.
     let here = c.loop.invariant pair machine stands in
     let calm = sym c.is_cut.ensures ∙ c.if-is_cut.false in
     let new = c.hear-sends.new.coordinator in
-    let to = c.send_all-outstanding.new.self in
+    let to = c.send_all.new.self in
     drives_twice c.loop.coordinator new pair machine (lines c.args.self.now)
     (lines c.loop.self) (lines to) (outlets c.args.self.now)
     (outlets c.loop.self) (outlets to) here calm
@@ -80,7 +80,7 @@ loop-preserved g c = λ pair machine stands.
     (stands_of c.loop.coordinator pair here.reached here.ends calm))
     c.in-Some-receive.ensures.heard c.receive.ensures.written
     (sym c.is_cut-in-loop.ensures ∙ c.if-is_cut-2.false)
-    c.send_all-outstanding.ensures.lines
+    c.send_all.ensures.lines
     (λ side. subst (λ sends. Writes (outlets c.receive.new.self side) (outlets to side)
     (frames_to side (messages_of sends)) (outlets to side).goes) c.deref.ensures.value
-    (c.send_all-outstanding.ensures.written side)))
+    (c.send_all.ensures.written side)))

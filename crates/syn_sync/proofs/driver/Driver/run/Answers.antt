@@ -43,8 +43,8 @@ returns-clause-drives g c = λ pair machine stands.
     let lines = lines_of {R = g.row.R.Denot} {W = g.row.W.Denot} g.R.Read.remaining in
     let calm = sym c.is_cut.ensures ∙ c.if-is_cut.false in
     let began = c.start.new.coordinator in
-    let sent = c.send_all-outstanding.new.self in
-    let told = c.send_all-outstanding.ensures in
+    let sent = c.send_all.new.self in
+    let told = c.send_all.ensures in
     let begun = c.in-Ok.ensures pair machine stands in
     let now = (begun.0).reached in
     let went = c.go_on.ensures pair now (stands_of began pair now (begun.0).ends calm) in

@@ -2,7 +2,7 @@ use Rattle.std.proofs.Common.{rules, not}
 use Rattle.std.specs.Ordering.{eq_by_cmp}
 use Rattle.std.proofs.lemmas.Fn.{filter_same}
 use Rattle.syn_model.specs.Path.{path_cmp}
-use Rattle.syn_scan.proofs.scanner.take_back.Goals as goal
+use Rattle.syn_scan.proofs.paths.take_back.Goals as goal
 
 pub returns : goal.returns
 returns c =

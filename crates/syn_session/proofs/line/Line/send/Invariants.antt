@@ -1,0 +1,11 @@
+use Rattle.std.proofs.Common.{◌≡◌, ◌++◌, map, take}
+use Rattle.syn_headline.specs.Coordinator.{messages_to}
+use Rattle.syn_message.specs.Sides.{which_of}
+use Rattle.syn_session.specs.Sendings.{messages_of}
+use Rattle.syn_session.specs.Stages.{outstanding_of}
+use Rattle.syn_session.proofs.line.Line.send.Given as goal
+
+abbrev pub invariant-loop-one : goal.invariant-loop-one
+invariant-loop-one l = messages_of l.sends.items ≡ messages_of l.fn.sends.items
+    ++ messages_to l.fn.session (which_of l.fn.to)
+    (map outstanding_of (take l.one-index l.fn.self.waiting.items))
