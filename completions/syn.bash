@@ -19,12 +19,12 @@ _syn() {
     case $word/$last in
         :/* | =/* | */: | */= | */--connections) return ;;
     esac
-    local commands='format put mkdir rm show check export import serve sync run simulate help'
+    local commands='format put mkdir rm show check log export import serve sync run plan simulate help'
     case $command in
         '') options+=' -V --version' ;;
-        put | mkdir | rm | show) options+=' --served' ;;
-        export) options+=' --update --delete' ;;
-        import) options+=' --skip' ;;
+        put | mkdir | rm | show | plan) options+=' --served' ;;
+        export) options+=' --update --delete --served' ;;
+        import) options+=' --skip --served' ;;
         serve) options+=' --connections' ;;
         simulate) options+=' --trace' ;;
     esac
@@ -36,10 +36,12 @@ _syn() {
         /0* | help/0) action=(-W "$commands") ;;
         format/0) action=(-W 'replica archive') ;;
         put/0-served | mkdir/0-served | rm/0-served | show/0-served) action=(-A hostname) ;;
+        export/0-served | import/0-served | plan/[01]-served) action=(-A hostname) ;;
         serve/1 | sync/1 | sync/2) action=(-A hostname) ;;
-        format/2 | put/0 | mkdir/0 | rm/0 | show/0 | check/0) action=(-f) ;;
-        export/1 | import/2) action=(-d) ;;
+        format/2 | put/0 | mkdir/0 | rm/0 | show/0 | check/0 | log/0) action=(-f) ;;
+        export/1* | import/2*) action=(-d) ;;
         export/0 | import/0 | serve/0 | sync/0 | run/[012] | simulate/0) action=(-f) ;;
+        plan/[012] | plan/2-served) action=(-f) ;;
         *) return ;;
     esac
     mapfile -t COMPREPLY < <(compgen "${action[@]}" -- "$word")

@@ -1,5 +1,5 @@
 # Completion of syn for fish: put this file into ~/.config/fish/completions.
-set -l commands format put mkdir rm show check export import serve sync run simulate help
+set -l commands format put mkdir rm show check log export import serve sync run plan simulate help
 set -l first "not __fish_seen_subcommand_from $commands"
 complete -c syn -f
 complete -c syn -s v -l verbose -d 'Explain a refusal, and tell each item of a session'
@@ -11,16 +11,18 @@ complete -c syn -n $first -a mkdir -d 'Make a directory'
 complete -c syn -n $first -a rm -d 'Remove what is at a path'
 complete -c syn -n $first -a show -d 'Print an image, or a part of it'
 complete -c syn -n $first -a check -d 'Open an image, and print its numbers'
+complete -c syn -n $first -a log -d 'Print the last events of a replica'
 complete -c syn -n $first -a export -d 'Write a replica into a folder'
 complete -c syn -n $first -a import -d 'Make a replica what a folder is'
 complete -c syn -n $first -a serve -d 'Serve a replica, to users and to sessions'
 complete -c syn -n $first -a sync -d 'Run a session of two replicas that are served'
 complete -c syn -n $first -a run -d 'Run a session of two replicas in files'
+complete -c syn -n $first -a plan -d 'Print what a session would do'
 complete -c syn -n $first -a simulate -d 'Run a script of steps on machines in memory'
 complete -c syn -n $first -a help -d 'Explain the program, or a command'
 complete -c syn -n '__fish_seen_subcommand_from help' -a "$commands"
 complete -c syn -n '__fish_seen_subcommand_from format' -a 'replica archive'
-complete -c syn -n '__fish_seen_subcommand_from put mkdir rm show' -l served \
+complete -c syn -n '__fish_seen_subcommand_from put mkdir rm show export import plan' -l served \
     -d 'Ask the server at HOST:PORT in the place of FILE'
 complete -c syn -n '__fish_seen_subcommand_from serve' -l connections -x \
     -d 'End when so many connections were served'
@@ -33,4 +35,4 @@ complete -c syn -n '__fish_seen_subcommand_from import' -l skip \
 complete -c syn -n '__fish_seen_subcommand_from simulate' -l trace \
     -d 'Draw each message, stop and record first'
 complete -c syn -F \
-    -n '__fish_seen_subcommand_from format put mkdir rm show check export import serve sync run simulate'
+    -n "__fish_seen_subcommand_from $commands"

@@ -17,8 +17,8 @@ use std::time::Clock;
 use syn_command::{CommandError, Failure, Outcome, Status, print_meanings, report};
 use syn_file::HostFile;
 use syn_files::{
-    Between, Imported, NamedDisks, Telling, edit, export, import, print_image, print_numbers,
-    run_session, serve_named, show,
+    Between, NamedDisks, Telling, edit, export, import, print_image, print_log, print_numbers,
+    print_plan, run_session, serve_named, show,
 };
 use syn_words::{Line, LineError, read_words};
 
@@ -164,43 +164,20 @@ where
     O: Write,
     E: Write,
 {
-    let outcome = match *line {
-        Line::Sync {
-            archive,
-            left,
-            right,
-        } => {
-            let between = Between::Servers { left, right };
+    let outcome = match (session_of(line), line) {
+        (Some((between, archive)), Line::Plan { .. }) => {
+            print_plan(rt, alloc, disks, between, archive, output)?
+        }
+        (Some((between, archive)), _) => {
             run_session(rt, alloc, disks, between, archive, telling, output, errors)?
         }
-        Line::Run {
-            left,
-            right,
-            archive,
-        } => {
-            let between = Between::Named { left, right };
-            run_session(rt, alloc, disks, between, archive, telling, output, errors)?
-        }
-        Line::Import {
-            file,
-            user,
-            folder,
-            path,
-            is_skipping,
-        } => {
-            let imported = Imported {
-                name: file,
-                user,
-                folder,
-                path: path.unwrap_or("."),
-                is_skipping,
-            };
+        (None, Line::Import(line)) => {
             let is_told = telling != Telling::Nothing;
-            let position = import(alloc, disks, files, &imported, is_told, errors)?;
+            let position = import(rt, alloc, disks, files, line, is_told, errors)?;
             writeln!(output, "ok {position}")?;
             Outcome::Done
         }
-        _ => {
+        (None, _) => {
             carry_out_one(rt, alloc, line, files, disks, input, output)?;
             Outcome::Done
         }
@@ -209,7 +186,39 @@ where
     Ok(outcome)
 }
 
-/// Carries out a line that runs no session.
+/// What the session of the line is between, and its archive, where the line runs or plans one.
+fn session_of<'a>(line: &Line<'a>) -> Option<(Between<'a>, &'a str)> {
+    match *line {
+        Line::Sync {
+            archive,
+            left,
+            right,
+        } => Some((Between::Servers { left, right }, archive)),
+        Line::Run {
+            left,
+            right,
+            archive,
+        } => Some((Between::Named { left, right }, archive)),
+        Line::Plan {
+            left,
+            right,
+            archive,
+            is_served,
+        } => Some((between(left, right, is_served), archive)),
+        _ => None,
+    }
+}
+
+/// The replicas of these names, or those that are served at these addresses.
+fn between<'a>(left: &'a str, right: &'a str, is_served: bool) -> Between<'a> {
+    if is_served {
+        Between::Servers { left, right }
+    } else {
+        Between::Named { left, right }
+    }
+}
+
+/// Carries out a line that is about no session, and is no import.
 fn carry_out_one<H, F, N, I, O>(
     rt: &H,
     alloc: Global,
@@ -237,17 +246,12 @@ where
             let position = edit(rt, alloc, line, disks, input)?;
             writeln!(output, "ok {position}")?;
         }
-        Line::Show { file } => print_image(alloc, disks, file, output)?,
+        Line::Show { place } => print_image(rt, alloc, disks, *place, output)?,
         Line::ShowPath { place, path } => show(rt, alloc, disks, *place, path, output)?,
         Line::Check { file } => print_numbers(alloc, disks, file, output)?,
-        Line::Export {
-            file,
-            folder,
-            path,
-            existing,
-        } => {
-            let path = path.unwrap_or(".");
-            let position = export(alloc, disks, files, file, path, folder, *existing)?;
+        Line::Log { file, lines } => print_log(alloc, disks, file, *lines, output)?,
+        Line::Export(line) => {
+            let position = export(rt, alloc, disks, files, line)?;
             writeln!(output, "ok {position}")?;
         }
         Line::Serve {
@@ -258,7 +262,7 @@ where
         Line::Simulate { script, is_traced } => {
             play_script(alloc, files, script, *is_traced, output)?;
         }
-        Line::Import { .. } | Line::Sync { .. } | Line::Run { .. } => {}
+        Line::Import(_) | Line::Sync { .. } | Line::Run { .. } | Line::Plan { .. } => {}
     }
     Ok(())
 }

@@ -2,14 +2,19 @@
 //!
 //! `syn format KIND PAIR FILE` makes a replica or an archive. `syn put FILE USER PATH` puts
 //! standard input into a replica, and `syn mkdir FILE USER PATH` and `syn rm FILE USER PATH` make a
-//! directory and remove what is there. `syn show FILE [PATH]` prints an image, and `syn check FILE`
-//! its numbers. `syn serve FILE ADDR` serves a replica to users, who give `--served` and its
-//! address in the place of FILE, and to sessions. `syn sync ARCHIVE LEFT RIGHT` runs a session of
-//! two that are served, and `syn run LEFT RIGHT ARCHIVE` of two in files. `syn simulate SCRIPT`
-//! runs the steps of a script on machines in memory, and prints what comes of them.
+//! directory and remove what is there. `syn show FILE [PATH]` prints an image, `syn check FILE` its
+//! numbers, and `syn log FILE [N]` its last events. `syn export FILE DIR [PATH]` writes a replica
+//! into a folder, and `syn import FILE USER DIR [PATH]` makes it what a folder is.
+//!
+//! `syn serve FILE ADDR` serves a replica to users, who give `--served` and its address in the
+//! place of FILE, and to sessions. `syn sync ARCHIVE LEFT RIGHT` runs a session of two that are
+//! served, and `syn run LEFT RIGHT ARCHIVE` of two in files. `syn plan LEFT RIGHT ARCHIVE` prints
+//! what it would do. `syn simulate SCRIPT` runs the steps of a script on machines in memory, and
+//! prints what comes of them.
 //!
 //! The exit status is 0 where the command was done, 1 where it was refused, 2 where the words are
-//! no command, 3 where a session is incomplete and 4 where it is complete with conflicts.
+//! no command, 3 where a session is incomplete and 4 where it is complete with conflicts. It is 5
+//! where the session that is planned has something to do.
 #![tactic(auto)]
 
 mod command;
@@ -18,14 +23,25 @@ mod format;
 mod simulation;
 
 use command::command;
+use std::alloc::Global;
 use std::io::{self, BufWriter, IsTerminal};
 use std::process::ExitCode;
+use syn_command::{Failure, report};
 
-fn main(rt: HostRuntime) -> io::Result<ExitCode> {
+fn main(rt: HostRuntime) -> ExitCode {
     let alloc = rt.alloc();
-    let owned: Vec<String> = std::env::args(&rt)?.collect(alloc)?;
-    let words: Vec<&str> = owned.iter().map(|word| word.as_str()).collect(alloc)?;
-    let mut output = BufWriter::new(alloc, rt.stdout())?;
+    let owned = match own_words(&rt, alloc) {
+        Ok(owned) => owned,
+        Err(error) => return refused(&rt, error),
+    };
+    let words: Vec<&str> = match owned.iter().map(|word| word.as_str()).collect(alloc) {
+        Ok(words) => words,
+        Err(error) => return refused(&rt, error.into()),
+    };
+    let mut output = match BufWriter::new(alloc, rt.stdout()) {
+        Ok(output) => output,
+        Err(error) => return refused(&rt, error),
+    };
     let status = command(
         &rt,
         alloc,
@@ -36,5 +52,17 @@ fn main(rt: HostRuntime) -> io::Result<ExitCode> {
         &mut rt.stderr(),
         rt.stderr().is_terminal(),
     );
-    Ok(ExitCode::from(status.code()))
+    ExitCode::from(status.code())
+}
+
+/// The words of the command line, the program's own name first.
+fn own_words(rt: &HostRuntime, alloc: Global) -> io::Result<Vec<String>> {
+    Ok(std::env::args(rt)?.collect(alloc)?)
+}
+
+/// Tells that the command was refused before it was read: it is out of memory, or the words are no
+/// text.
+fn refused(rt: &HostRuntime, error: io::Error) -> ExitCode {
+    let status = report(None, &Err(Failure::from(error)), &mut rt.stderr());
+    ExitCode::from(status.code())
 }

@@ -11,12 +11,11 @@ use Rattle.syn_agent.specs.Agents.{side_of}
 use Rattle.syn_agent.specs.Answers.{Answers, keeps, adds, breaks, IsUnchanged, room_for}
 use Rattle.syn_agent.specs.declared.agent.Agent.{Agent}
 use Rattle.syn_agent.specs.Answers.{BreaksOff}
-use Rattle.syn_agent.specs.Causes.{TakesMemory}
 use Rattle.syn_disk.specs.Stops.{LeavesOnly}
 use Rattle.syn_disk.specs.declared.disk.Disk.{Ghosts}
 use Rattle.syn_headline.specs.Machine.{record_size}
 use Rattle.syn_headline.specs.Side.{Side, Served, Begin, Begun, Refused, add_event, answer, begin}
-use Rattle.syn_headline.specs.Side.{IsUnread, Serves}
+use Rattle.syn_headline.specs.Side.{IsUnread, Serves, TakesMemory}
 use Rattle.syn_headline.specs.Side as model
 use Rattle.syn_model.specs.Event.{Event, Began}
 use Rattle.syn_model.specs.History.{History, last_session, position_causes}
@@ -213,6 +212,34 @@ module _ {D : Type 0} {disk : Ghosts D} (old new : Replica D disk) (agent : Agen
             failures = failures;
           }))
 
+  -- memory is refused only where the session would begin
+  pub begun_takes : (e : ReplicaError)
+      → ((refusal : Refusal)
+      → begin_refusal (room_shown old) (pair_of old) history pair session ≡ Some refusal
+      → refusal_of e ≡ refusal)
+      → ((pair ≡ pair_of old) → (session ≡ (standing_shown old).session) → ¬ IsHalted old → ⊥)
+      → refusal_of e ≡ why.Memory
+      → TakesMemory (pair_of old) (room_for old) (side_of history agent) session (Begin pair)
+  begun_takes e refused again memory = by (session == last_session history) refl
+    where
+      none : (found : Option Refusal)
+          → begin_refusal (room_shown old) (pair_of old) history pair session ≡ found
+          → begin_refusal (room_shown old) (pair_of old) history pair session ≡ None
+      none None is = is
+      none (Some refusal) is = absurd (never_cause (room_shown old) (left_shown old) (pair_of old)
+          session pair history agent room_is why.Memory (λ e. cc) (λ e. cc) (λ e. cc) (λ e. cc)
+          refusal is (sym (refused refusal is) ∙ memory))
+
+      by : (b : Bool) → (session == last_session history) ≡ b
+          → TakesMemory (pair_of old) (room_for old) (side_of history agent) session (Begin pair)
+      by true is = absurd (again (own (none _ refl))
+          (eqb-true session (last_session history) is ∙ sym last_is) was_running)
+      by false is = begins (room_shown old) (left_shown old) (pair_of old) session pair history
+          agent room_is (none _ refl)
+          ∙ ap (λ b. if b then answer (side_of history agent) (Begun (length history))
+          else answer (add_event (side_of history agent) (Began session))
+          (Begun (length history + 1))) is
+
   -- the replica refuses it
   pub begun_refused : (e : ReplicaError)
       → (IsOneOf outside_refusals e ⊎ (begin_refusal (room_shown old) (pair_of old) history pair
@@ -241,7 +268,10 @@ module _ {D : Type 0} {disk : Ghosts D} (old new : Replica D disk) (agent : Agen
             | inl memory ↦ kept same
                 (λ device. let k : why.Memory ≡ why.Device = sym memory ∙ device in cc)
                 (answer (side_of history agent) (Refused (refusal_of e)))
-                (inr (ap (λ r. answer (side_of history agent) (Refused r)) memory)) refl
+                (inr (
+                  begun_takes e refused again memory,
+                  ap (λ r. answer (side_of history agent) (Refused r)) memory,
+                )) refl
             | inr device ↦ broken device
           ]
           | inr some ↦ kept same (never_cause (room_shown old) (left_shown old) (pair_of old)
@@ -312,31 +342,3 @@ module _ {D : Type 0} {disk : Ghosts D} (old new : Replica D disk) (agent : Agen
           subst (λ r. Answers old new agent agent history session (Begin pair) (Refused r))
           (sym device)
           (broken_if device (no_cause device _ refl) (session == last_session history) refl)
-
-  -- memory is refused only where the session would begin
-  pub begun_takes : (e : ReplicaError)
-      → ((refusal : Refusal)
-      → begin_refusal (room_shown old) (pair_of old) history pair session ≡ Some refusal
-      → refusal_of e ≡ refusal)
-      → ((pair ≡ pair_of old) → (session ≡ (standing_shown old).session) → ¬ IsHalted old → ⊥)
-      → refusal_of e ≡ why.Memory
-      → TakesMemory (pair_of old) (room_for old) (side_of history agent) session (Begin pair)
-  begun_takes e refused again memory = by (session == last_session history) refl
-    where
-      none : (found : Option Refusal)
-          → begin_refusal (room_shown old) (pair_of old) history pair session ≡ found
-          → begin_refusal (room_shown old) (pair_of old) history pair session ≡ None
-      none None is = is
-      none (Some refusal) is = absurd (never_cause (room_shown old) (left_shown old) (pair_of old)
-          session pair history agent room_is why.Memory (λ e. cc) (λ e. cc) (λ e. cc) (λ e. cc)
-          refusal is (sym (refused refusal is) ∙ memory))
-
-      by : (b : Bool) → (session == last_session history) ≡ b
-          → TakesMemory (pair_of old) (room_for old) (side_of history agent) session (Begin pair)
-      by true is = absurd (again (own (none _ refl))
-          (eqb-true session (last_session history) is ∙ sym last_is) was_running)
-      by false is = begins (room_shown old) (left_shown old) (pair_of old) session pair history
-          agent room_is (none _ refl)
-          ∙ ap (λ b. if b then answer (side_of history agent) (Begun (length history))
-          else answer (add_event (side_of history agent) (Began session))
-          (Begun (length history + 1))) is

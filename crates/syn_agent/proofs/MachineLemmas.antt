@@ -344,18 +344,18 @@ module _ {D : Type 0} {disk : Ghosts D} (pair : ℕ) (old new : Replica D disk) 
           counts = omega (arith, off.failures);
         }
     broke served event stands serves so staged off (calls.goes_down stopped meets) =
-        let after_it = writing_it event Down unarmed 1 in
+        let after_it = writing_it event Down unarmed 0 in
         record {
           next = with_journal machine after_it;
           events = [];
           takes = model.adds served event after_it [] up (serves_up served serves)
               (ap (λ s. s.history) so)
-              (unwritten Down unarmed 1 refl (inr refl) (met 4 Down unarmed 1 meets));
+              (unwritten Down unarmed 0 refl (inr refl) (met 4 Down unarmed 0 meets));
           leaves = stops (record {
             pair_is = off.readings.memory.pair ∙ is.pair_is;
             down = refl;
             stopped = stopped;
-            left = λ bytes may. either event Down 1 unarmed bytes (off.sends.any_moment.each
+            left = λ bytes may. either event Down 0 unarmed bytes (off.sends.any_moment.each
                 bytes (counts_now (disk_of new) (disk.moment (disk_of old)) bytes
                 off.sends.any_moment.later may));
           });

@@ -14,7 +14,7 @@ use Rattle.syn_agent.specs.declared.agent.Agent.{Agent}
 use Rattle.syn_message.specs.Listings.{IsListing}
 use Rattle.syn_disk.specs.declared.disk.Disk.{Ghosts}
 use Rattle.syn_headline.specs.Side.{Side, Served, Fetch, ListAt, Listed, NotDir, Piece, Refused}
-use Rattle.syn_headline.specs.Side.{Serves, answer, serve, unless_refused}
+use Rattle.syn_headline.specs.Side.{Serves, TakesMemory, answer, serve, unless_refused}
 use Rattle.syn_headline.specs.Side as model
 use Rattle.syn_history.specs.Refusals.{refusal_of as of_history}
 use Rattle.syn_history.specs.declared.error.HistoryError.{HistoryError}
@@ -140,11 +140,12 @@ module _ {D : Type 0} {disk : Ghosts D} (replica : Replica D disk) (agent : Agen
       (as_was replica) stands
 
   pub no_memory : (request : model.Request) (refusal : Refusal) → refusal ≡ why.Memory
+      → TakesMemory (pair_of replica) (room_for replica) (side_of history agent) session request
       → Answers replica replica agent agent history session request (Refused refusal)
-  no_memory request refusal memory =
+  no_memory request refusal memory takes =
       subst (λ r. Answers replica replica agent agent history session request (Refused r))
-      (sym memory) (tells request (answer (side_of history agent) (Refused why.Memory)) (inr refl)
-      refl)
+      (sym memory) (tells request (answer (side_of history agent) (Refused why.Memory))
+      (inr (takes, refl)) refl)
 
   tree_is : tree_shown replica ≡ tree_of history
   tree_is = ap (λ s. s.tree) stands.remembers.standing

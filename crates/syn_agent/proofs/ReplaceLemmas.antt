@@ -16,7 +16,7 @@ use Rattle.syn_disk.specs.Stops.{LeavesOnly}
 use Rattle.syn_disk.specs.declared.disk.Disk.{Ghosts}
 use Rattle.syn_headline.specs.Side.{Side, Served, Replace, Done, Refused, Reads, add_event, answer}
 use Rattle.syn_headline.specs.Side.{is_dead_token, is_staged, replace_at, replace_with, serve}
-use Rattle.syn_headline.specs.Side.{Serves, staged_bytes, unless_refused}
+use Rattle.syn_headline.specs.Side.{Serves, TakesMemory, staged_bytes, unless_refused}
 use Rattle.syn_headline.specs.Side as model
 use Rattle.syn_model.specs.Event.{Event, Token, Replaced, is_below, is_same_token}
 use Rattle.syn_model.specs.History.{History, is_old_token, last_session, last_token, tree_of}
@@ -145,14 +145,28 @@ module _ {D : Type 0} {disk : Ghosts D} (old : Replica D disk) (agent : Agent)
       (inl (None, inl reads, sym (staged_at fresh young none None))) refl
       (as_was old) stands
 
+  -- what is staged for a token that is neither done nor old takes memory to be put
+  pub replacing_takes : is_done history token ≡ false → is_old_token history token ≡ false
+      → first_cause (staging_causes (staging_of agent) token size) ≡ None
+      → TakesMemory (pair_of old) (room_for old) side session (Replace item path since size)
+  replacing_takes fresh young none = (
+    fresh,
+    ap (λ z. first_cause (causes_if (session == 0
+        || not (session == last_session history) || z || below_staged)))
+        (reached (last_token history) token fresh)
+        ∙ (ap (λ b. first_cause (causes_if (b || below_staged))) young ∙ none),
+  )
+
   -- memory is refused
-  pub memory_answers : (refusal : Refusal) → refusal ≡ why.Memory
+  pub memory_answers : is_done history token ≡ false → is_old_token history token ≡ false
+      → first_cause (staging_causes (staging_of agent) token size) ≡ None
+      → (refusal : Refusal) → refusal ≡ why.Memory
       → Answers old old agent agent history session (Replace item path since size)
       (Refused refusal)
-  memory_answers refusal memory =
+  memory_answers fresh young none refusal memory =
       subst (λ r. Answers old old agent agent history session (Replace item path since size)
       (Refused r)) (sym memory)
-      (keeps (answer side (Refused why.Memory)) (inr refl) refl
+      (keeps (answer side (Refused why.Memory)) (inr (replacing_takes fresh young none, refl)) refl
       (as_was old) stands)
 
   module _ (fresh : is_done history token ≡ false) (young : is_old_token history token ≡ false)
@@ -262,7 +276,10 @@ module _ {D : Type 0} {disk : Ghosts D} (old : Replica D disk) (agent : Agent)
               | inl memory ↦ stayed same
                   (λ device. let k : why.Memory ≡ why.Device = sym memory ∙ device in cc)
                   (answer side (Refused (refusal_of e)))
-                  (inr (ap (λ r. answer side (Refused r)) memory)) refl
+                  (inr (
+                    replacing_takes fresh young none,
+                    ap (λ r. answer side (Refused r)) memory,
+                  )) refl
               | inr device ↦ broken device
             ]
             | inr some ↦ stayed same (never_first why.Device (refusal_of e) all_causes never some)

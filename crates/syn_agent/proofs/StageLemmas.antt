@@ -6,11 +6,11 @@ use Rattle.syn_agent.proofs.CauseLemmas.{refused_one}
 use Rattle.syn_agent.proofs.ReplicaLemmas.{as_was}
 use Rattle.syn_agent.specs.Agents.{side_of, staging_of}
 use Rattle.syn_agent.specs.Answers.{Answers, keeps}
-use Rattle.syn_agent.specs.Causes.{GoesBehind}
 use Rattle.syn_agent.specs.declared.agent.Agent.{Agent}
 use Rattle.syn_disk.specs.declared.disk.Disk.{Ghosts}
 use Rattle.syn_headline.specs.Side.{Reply, Refused, Served, Stage, Staged, Staging, Side, answer}
-use Rattle.syn_headline.specs.Side.{set_staging, stage, stage_first, token_of, unless_refused}
+use Rattle.syn_headline.specs.Side.{GoesAfter, set_staging, stage, stage_first, token_of}
+use Rattle.syn_headline.specs.Side.{unless_refused}
 use Rattle.syn_message.specs.Replies.{IsLawfulReply}
 use Rattle.syn_model.specs.Event.{Token, is_below, is_same_token}
 use Rattle.syn_model.specs.History.{History}
@@ -30,7 +30,7 @@ pub stage_answers : {D : Type 0} {disk : Ghosts D} (replica : Replica D disk) (a
     → ((history : History) → stage (side_of history agent) (staging_of agent)
     (token_of session item) offset bytes ≡ answer (side_of history after) reply)
     ⊎ ((reply ≡ Refused Memory) × (staging_of after ≡ staging_of agent)
-    × GoesBehind (staging_of agent) (token_of session item) offset)
+    × GoesAfter (staging_of agent) (token_of session item) offset)
     → Answers replica replica agent after history session (Stage item offset bytes) reply
 stage_answers replica agent after history session item offset bytes reply stands (inl served) =
     keeps (answer (side_of history after) reply)
@@ -39,7 +39,7 @@ stage_answers replica agent after history session item offset bytes reply stands
 stage_answers replica agent after history session item offset bytes reply stands (inr memory) =
     subst (λ r. Answers replica replica agent after history session (Stage item offset bytes) r)
     (sym memory.0)
-    (keeps (answer (side_of history agent) (Refused Memory)) (inr refl)
+    (keeps (answer (side_of history agent) (Refused Memory)) (inr (memory.2, refl))
     (ap (side_staging history) (sym memory.1))
     (as_was replica) stands)
 
@@ -78,13 +78,13 @@ module _ (bad : Refusal) (old : OldSession ≢ bad) (first : NotStaged ≢ bad)
       (other_refusal side BadStage wrong)))
       (first_other side token offset bytes))
 
--- memory is refused only where a piece goes behind another
+-- memory is refused only where a piece goes after another
 pub stage_takes : (agent after : Agent) (token : Token) (offset : ℕ) (bytes : Bytes) (reply : Reply)
     → ((history : History) → stage (side_of history agent) (staging_of agent) token offset bytes
     ≡ answer (side_of history after) reply)
     ⊎ ((reply ≡ Refused Memory) × (staging_of after ≡ staging_of agent)
-    × GoesBehind (staging_of agent) token offset)
-    → reply ≡ Refused Memory → GoesBehind (staging_of agent) token offset
+    × GoesAfter (staging_of agent) token offset)
+    → reply ≡ Refused Memory → GoesAfter (staging_of agent) token offset
 stage_takes agent after token offset bytes reply (inl served) is =
     absurd (stage_other Memory (λ e. cc) (λ e. cc) (λ e. cc) (side_of [] agent) (staging_of agent)
     token offset bytes (ap (λ s. s.reply) (served []) ∙ is))
@@ -96,7 +96,7 @@ pub stage_device : (agent after : Agent) (token : Token) (offset : ℕ) (bytes :
     → ((history : History) → stage (side_of history agent) (staging_of agent) token offset bytes
     ≡ answer (side_of history after) reply)
     ⊎ ((reply ≡ Refused Memory) × (staging_of after ≡ staging_of agent)
-    × GoesBehind (staging_of agent) token offset) → reply ≢ Refused Device
+    × GoesAfter (staging_of agent) token offset) → reply ≢ Refused Device
 stage_device agent after token offset bytes reply (inl served) is =
     stage_other Device (λ e. cc) (λ e. cc) (λ e. cc) (side_of [] agent) (staging_of agent)
     token offset bytes (ap (λ s. s.reply) (served []) ∙ is)
@@ -137,7 +137,7 @@ pub stage_lawful : (agent after : Agent) (token : Token) (offset : ℕ) (bytes :
     → ((history : History) → stage (side_of history agent) (staging_of agent) token offset bytes
     ≡ answer (side_of history after) reply)
     ⊎ ((reply ≡ Refused Memory) × (staging_of after ≡ staging_of agent)
-    × GoesBehind (staging_of agent) token offset) → IsLawfulReply reply
+    × GoesAfter (staging_of agent) token offset) → IsLawfulReply reply
 stage_lawful agent after token offset bytes reply (inl served) =
     subst IsSent (served []) (stage_sent (side_of [] agent) (staging_of agent) token offset bytes)
 stage_lawful agent after token offset bytes reply (inr memory) =

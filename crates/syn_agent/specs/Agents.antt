@@ -1,11 +1,10 @@
 -- What an agent keeps, and how it stages.
 use Rattle.std.specs.Prelude.{◌≡◌, ◌⊎◌, ℕ, Option}
 use Rattle.std.specs.Option.{option_map}
-use Rattle.syn_agent.specs.Causes.{GoesBehind}
 use Rattle.syn_agent.specs.Stagings.{staged_of}
 use Rattle.syn_agent.specs.declared.agent.Agent.{Agent}
 use Rattle.syn_headline.specs.Side as model
-use Rattle.syn_headline.specs.Side.{Side, Refused, answer, stage, stage_first}
+use Rattle.syn_headline.specs.Side.{GoesAfter, Side, Refused, answer, stage, stage_first}
 use Rattle.syn_message.specs.Replies.{reply_of}
 use Rattle.syn_message.specs.declared.reply.Reply.{Reply}
 use Rattle.syn_model.specs.Event.{Token}
@@ -26,10 +25,10 @@ StagesFirst old new reply token offset bytes = (history : History)
     → stage_first (side_of history old) token offset bytes
     ≡ answer (side_of history new) (reply_of reply)
 
--- A piece is staged so; or nothing for want of memory, where it goes behind another of its token
+-- A piece is staged so; or nothing, out of memory, where it goes after another of its token
 abbrev pub StagesAs : Agent → Agent → Reply → Token → ℕ → Bytes → Type 0
 StagesAs old new reply token offset bytes =
     ((history : History) → stage (side_of history old) (staging_of old) token offset bytes
     ≡ answer (side_of history new) (reply_of reply))
     ⊎ ((reply_of reply ≡ Refused why.Memory) × (staging_of new ≡ staging_of old)
-    × GoesBehind (staging_of old) token offset)
+    × GoesAfter (staging_of old) token offset)

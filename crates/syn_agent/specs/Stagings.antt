@@ -18,8 +18,8 @@ staged_of staging = record { token = token_of staging.token; bytes = staging.byt
 abbrev pub side_with : History → model.Staging → Side
 side_with history staging = record { history = history; staging = Some staging }
 
--- A piece is added as the definition of a side says; or nothing for want of memory, where it goes
--- behind what is there
+-- A piece is added as the definition of a side says; or nothing, out of memory, where it goes after
+-- what is there
 abbrev pub AddsAs : model.Staging → model.Staging → Reply → ℕ → Bytes → Type 0
 AddsAs old new reply offset bytes =
     ((history : History) → stage_more (side_with history old) old.token old.bytes offset bytes

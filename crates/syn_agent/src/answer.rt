@@ -1,6 +1,6 @@
 //! Every request of a session.
 ghost use Rattle.std.specs.Prelude.{◌≡◌, ◌⊎◌, ℕ};
-ghost use Rattle.syn_headline.specs.Side.{Refused, answer};
+ghost use Rattle.syn_headline.specs.Side.{Refused, TakesMemory, answer};
 ghost use Rattle.syn_headline.specs.SideMachine.{ServesHalted, SideMachine};
 ghost use Rattle.syn_message.specs.Replies.{IsLawfulReply, reply_of};
 ghost use Rattle.syn_message.specs.Requests.{request_of};
@@ -10,7 +10,7 @@ ghost use Rattle.syn_replica.specs.Growth.{IsGrown};
 ghost use Rattle.syn_replica.specs.Replica.{IsHalted, Stands, disk_of, pair_of};
 ghost use Rattle.syn_agent.specs.Agents.{side_of};
 ghost use Rattle.syn_agent.specs.Answers.{Answers, IsUnchanged, room_for};
-ghost use Rattle.syn_agent.specs.Causes.{CountsFailures, TakesMemory};
+ghost use Rattle.syn_agent.specs.Causes.{CountsFailures};
 ghost use Rattle.syn_agent.specs.Machines.{IsOf, Takes};
 
 use crate::agent::Agent;

@@ -1,6 +1,6 @@
 //! A session begins on a side.
 ghost use Rattle.std.specs.Prelude.{◌≡◌};
-ghost use Rattle.syn_headline.specs.Side.{Begin, Refused};
+ghost use Rattle.syn_headline.specs.Side.{Begin, Refused, TakesMemory};
 ghost use Rattle.syn_message.specs.Replies.{IsLawfulReply, reply_of};
 ghost use Rattle.syn_model.specs.History.{History};
 ghost use Rattle.syn_model.specs.Refusal as why;
@@ -8,7 +8,7 @@ ghost use Rattle.syn_replica.specs.Growth.{IsGrown};
 ghost use Rattle.syn_replica.specs.Replica.{IsHalted, Stands, disk_of, pair_of};
 ghost use Rattle.syn_agent.specs.Agents.{side_of};
 ghost use Rattle.syn_agent.specs.Answers.{Answers, IsUnchanged, room_for};
-ghost use Rattle.syn_agent.specs.Causes.{CountsFailures, TakesMemory};
+ghost use Rattle.syn_agent.specs.Causes.{CountsFailures};
 
 use crate::agent::Agent;
 use std::alloc::Global;

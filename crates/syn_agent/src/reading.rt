@@ -1,6 +1,6 @@
 //! What a side tells of its tree.
 ghost use Rattle.std.specs.Prelude.{◌≡◌, ◌≢◌, ℕ};
-ghost use Rattle.syn_headline.specs.Side.{Fetch, ListAt, Refused};
+ghost use Rattle.syn_headline.specs.Side.{Fetch, ListAt, Refused, TakesMemory};
 ghost use Rattle.syn_message.specs.Replies.{IsLawfulReply, reply_of};
 ghost use Rattle.syn_model.specs.Event.{AreBytes};
 ghost use Rattle.syn_model.specs.History.{History};
@@ -8,7 +8,6 @@ ghost use Rattle.syn_model.specs.Refusal as why;
 ghost use Rattle.syn_replica.specs.Replica.{IsHalted, Stands, pair_of};
 ghost use Rattle.syn_agent.specs.Agents.{side_of};
 ghost use Rattle.syn_agent.specs.Answers.{Answers, room_for};
-ghost use Rattle.syn_agent.specs.Causes.{TakesMemory};
 
 use crate::agent::Agent;
 use crate::laws::listing_laws;

@@ -1,6 +1,6 @@
 //! What is staged goes to its path.
 ghost use Rattle.std.specs.Prelude.{◌≡◌, Some, None, IfOk, IfErr, length, option_map, false};
-ghost use Rattle.syn_headline.specs.Side.{Reads, Refused, Replace, staged_bytes};
+ghost use Rattle.syn_headline.specs.Side.{Reads, Refused, Replace, TakesMemory, staged_bytes};
 ghost use Rattle.syn_history.specs.Events.{token_of};
 ghost use Rattle.syn_message.specs.Replies.{IsLawfulReply, reply_of};
 ghost use Rattle.syn_model.specs.History.{History, is_old_token};
@@ -13,7 +13,7 @@ ghost use Rattle.syn_replica.specs.Steps.{is_done};
 ghost use Rattle.syn_tree.specs.Nodes.{part_of};
 ghost use Rattle.syn_agent.specs.Agents.{side_of, staging_of};
 ghost use Rattle.syn_agent.specs.Answers.{Answers, IsUnchanged, room_for};
-ghost use Rattle.syn_agent.specs.Causes.{CountsFailures, TakesMemory, staging_causes};
+ghost use Rattle.syn_agent.specs.Causes.{CountsFailures, staging_causes};
 
 use crate::agent::Agent;
 use std::alloc::Global;

@@ -1,3 +1,4 @@
 pub mod OverlayLemmas
 pub mod RemovalLemmas
 pub mod ResultLemmas
+mod UntouchedLemmas

@@ -14,6 +14,10 @@ abbrev pub GoesOn : Tree → List Edit → Tree → List Edit → Type 0
 GoesOn old edits new more =
     (tree : Tree) → after_edits tree edits ≡ old → after_edits tree more ≡ new
 
+-- neither the tree nor the edits have gone on
+abbrev pub IsUntouched : {A : Type 0} → Tree → Tree → List A → List A → Type 0
+IsUntouched old new edits more = (new ≡ old) × (more ≡ edits)
+
 -- the edit that puts or makes what is to stand at the path
 abbrev pub entry_edit : Pair → Edit
 entry_edit (path, Directory) = MakeDir path

@@ -1,13 +1,15 @@
 //! What is to be put and made, so that one tree has what another has.
 ghost use Rattle.std.specs.Prelude.{◌≡◌, ◌≢◌, true, OnOk, IfOk, Some, map};
 ghost use Rattle.std.specs.FinMap.{get};
-ghost use Rattle.syn_model.specs.Path.{Path};
+ghost use Rattle.syn_model.specs.Path.{Path as Where};
 ghost use Rattle.syn_model.specs.Tree.{Tree as Pairs};
+ghost use Rattle.syn_tree.specs.Contents.{found_content};
 ghost use Rattle.syn_tree.specs.Edits.{edit_of};
-ghost use Rattle.syn_change.specs.Changes.{GoesOn, IsOverlaid, IsPlaced, entry_edit};
+ghost use Rattle.syn_change.specs.Changes.{GoesOn, IsOverlaid, IsPlaced, IsUntouched, entry_edit};
 
 use std::alloc::Global;
-use syn_tree::{Content, Edit, Entry, Found, Tree, TreeError};
+use syn_path::Path;
+use syn_tree::{Edit, Found, Pair, Tree, TreeError};
 
 /// Plans and makes what `work` lacks of the wanted tree. Nothing is removed.
 ///
@@ -20,53 +22,58 @@ pub(crate) fn put_missing(
     wanted: &Tree,
 ) -> Result<(), TreeError>
     ensures overlaid { OnOk result (IsOverlaid work.old wanted.now work.new) }
+    ensures none { work.old ≡ wanted.now
+        → OnOk result (IsUntouched work.old work.new edits.old.items edits.new.items) }
     ensures edits { OnOk result (GoesOn work.old (map edit_of edits.old.items) work.new
         (map edit_of edits.new.items)) }
 {
     let _ = work.entries();
-    for entry in wanted.entries() {
-        put_entry(alloc, work, edits, entry)?;
+    for pair in wanted.entries() {
+        put_pair(alloc, work, edits, &pair)?;
     }
     Ok(())
 }
 
-/// Plans and makes what the entry needs to stand in `work`. It is refused as `put_missing` is.
-fn put_entry(
+/// Plans and makes what the pair needs to stand in `work`. It is refused as `put_missing` is.
+fn put_pair(
     alloc: Global,
     work: &mut Tree,
     edits: &mut Vec<Edit>,
-    entry: &Entry,
+    pair: &Pair<'_>,
 ) -> Result<(), TreeError>
-    ensures placed { OnOk result (IsPlaced work.old entry.now work.new) }
+    ensures placed { OnOk result (IsPlaced work.old pair.now work.new) }
+    ensures none { get work.old pair.now.0 ≡ Some pair.now.1
+        → OnOk result (IsUntouched work.old work.new edits.old.items edits.new.items) }
     ensures edits { OnOk result (GoesOn work.old (map edit_of edits.old.items) work.new
         (map edit_of edits.new.items)) }
 {
     let _ = work.entries();
-    if stands(work, entry) {
+    if stands(work, &pair.path(alloc)?, &pair.found()) {
         return Ok(());
     }
-    edits.push(edit_for(alloc, entry)?)?;
-    work.apply(alloc, edit_for(alloc, entry)?)
+    edits.push(edit_for(alloc, pair)?)?;
+    work.apply(alloc, edit_for(alloc, pair)?)
 }
 
-/// The entry stands in the tree as it is.
-fn stands(tree: &Tree, entry: &Entry) -> bool
-    ensures { result ≡ true → get tree.now entry.now.0 ≡ Some entry.now.1 }
+/// What was found elsewhere stands at the path of the tree.
+fn stands(tree: &Tree, path: &Path, wanted: &Found<'_>) -> bool
+    ensures there { result ≡ true → get tree.now path.now ≡ Some (found_content wanted.now) }
+    ensures other { get tree.now path.now ≡ Some (found_content wanted.now) → result ≡ true }
 {
-    match (tree.get(entry.path()), entry.standing()) {
-        (Some(Found::File(bytes)), Content::File(wanted)) => bytes == wanted.as_slice(),
-        (Some(Found::Dir), Content::Dir) => true,
+    match (tree.get(path), wanted) {
+        (Some(Found::File(bytes)), Found::File(wanted)) => bytes == *wanted,
+        (Some(Found::Dir), Found::Dir) => true,
         _ => false,
     }
 }
 
-/// The edit that puts or makes what the entry has.
-fn edit_for(alloc: Global, entry: &Entry) -> Result<Edit, TreeError>
-    ensures { IfOk result (λ edit. edit_of edit ≡ entry_edit entry.now) }
+/// The edit that puts or makes what the pair has.
+fn edit_for(alloc: Global, pair: &Pair<'_>) -> Result<Edit, TreeError>
+    ensures { IfOk result (λ edit. edit_of edit ≡ entry_edit pair.now) }
 {
-    let path = entry.path().copy(alloc)?;
-    match entry.standing() {
-        Content::File(bytes) => Ok(Edit::Put(path, Vec::from_slice(alloc, bytes)?)),
-        Content::Dir => Ok(Edit::MakeDir(path)),
+    let path = pair.path(alloc)?;
+    match pair.found() {
+        Found::File(bytes) => Ok(Edit::Put(path, Vec::from_slice(alloc, bytes)?)),
+        Found::Dir => Ok(Edit::MakeDir(path)),
     }
 }

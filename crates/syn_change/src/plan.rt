@@ -1,5 +1,5 @@
 //! The edits between two trees.
-ghost use Rattle.std.specs.Prelude.{◌≡◌, ◌≢◌, IfOk, IfErr, map};
+ghost use Rattle.std.specs.Prelude.{◌≡◌, [], IfOk, map};
 ghost use Rattle.syn_model.specs.Tree.{replace, subtree};
 ghost use Rattle.syn_tree.specs.Edits.{edit_of};
 ghost use Rattle.syn_change.specs.Changes.{IsOverlaid, after_edits};
@@ -15,7 +15,9 @@ use syn_tree::{Edit, Node, Tree, TreeError};
 ///
 /// Refused 11 where memory is refused.
 pub fn changes(alloc: Global, old: &Tree, wanted: &Tree) -> Result<Vec<Edit>, TreeError>
-    ensures { IfOk result (λ edits. after_edits old.now (map edit_of edits.items) ≡ wanted.now) }
+    ensures made { IfOk result (λ edits.
+        after_edits old.now (map edit_of edits.items) ≡ wanted.now) }
+    ensures none { old.now ≡ wanted.now → IfOk result (λ edits. edits.items ≡ []) }
 {
     let mut work = copy_part(alloc, old, &Path::root(alloc))?;
     let mut edits = Vec::new(alloc);
@@ -35,8 +37,9 @@ pub fn changes_at(
     path: &Path,
     part: &Tree,
 ) -> Result<Vec<Edit>, TreeError>
-    ensures { IfOk result (λ edits. after_edits old.now (map edit_of edits.items)
+    ensures made { IfOk result (λ edits. after_edits old.now (map edit_of edits.items)
         ≡ replace old.now path.now part.now) }
+    ensures none { subtree old.now path.now ≡ part.now → IfOk result (λ edits. edits.items ≡ []) }
 {
     let wanted = with_part(alloc, old, path, part)?;
     changes(alloc, old, &wanted)

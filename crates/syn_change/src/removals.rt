@@ -1,8 +1,10 @@
 //! What is to be removed, so that one tree has nothing that another lacks.
-ghost use Rattle.std.specs.Prelude.{◌≡◌, true, OnOk, map};
+ghost use Rattle.std.specs.Prelude.{◌≡◌, true, OnOk, Some, map};
+ghost use Rattle.std.specs.FinMap.{get};
 ghost use Rattle.syn_model.specs.Tree.{is_present};
 ghost use Rattle.syn_tree.specs.Edits.{edit_of};
-ghost use Rattle.syn_change.specs.Changes.{GoesOn, IsTrimmed, IsWithout};
+ghost use Rattle.syn_tree.specs.Contents.{found_content};
+ghost use Rattle.syn_change.specs.Changes.{GoesOn, IsTrimmed, IsUntouched, IsWithout};
 
 use std::alloc::Global;
 use syn_path::Path;
@@ -21,12 +23,15 @@ pub(crate) fn remove_extra(
 ) -> Result<(), TreeError>
     requires { work.old ≡ old.now }
     ensures trimmed { OnOk result (IsTrimmed wanted.now work.new) }
+    ensures none { work.old ≡ wanted.now
+        → OnOk result (IsUntouched work.old work.new edits.old.items edits.new.items) }
     ensures edits { OnOk result (GoesOn work.old (map edit_of edits.old.items) work.new
         (map edit_of edits.new.items)) }
 {
     let _ = wanted.entries();
-    for entry in old.entries() {
-        remove_entry(alloc, work, edits, wanted, entry.path())?;
+    for pair in old.entries() {
+        let path = pair.path(alloc)?;
+        remove_entry(alloc, work, edits, wanted, &path)?;
     }
     Ok(())
 }
@@ -40,6 +45,8 @@ fn remove_entry(
     path: &Path,
 ) -> Result<(), TreeError>
     ensures without { OnOk result (IsWithout work.old wanted.now path.now work.new) }
+    ensures none { work.old ≡ wanted.now
+        → OnOk result (IsUntouched work.old work.new edits.old.items edits.new.items) }
     ensures edits { OnOk result (GoesOn work.old (map edit_of edits.old.items) work.new
         (map edit_of edits.new.items)) }
 {
@@ -55,7 +62,8 @@ fn remove_entry(
 
 /// The wanted tree has the same kind at the path.
 fn is_wanted(there: &Found<'_>, wanted: &Tree, path: &Path) -> bool
-    ensures { result ≡ true → is_present wanted.now path.now ≡ true }
+    ensures present { result ≡ true → is_present wanted.now path.now ≡ true }
+    ensures same { get wanted.now path.now ≡ Some (found_content there.now) → result ≡ true }
 {
     match wanted.get(path) {
         Some(found) => found.is_directory() == there.is_directory(),

@@ -13,7 +13,7 @@ use Rattle.syn_replica.specs.Replica.{Stands, tree_shown}
 use Rattle.syn_replica.specs.declared.replica.Replica.{Replica}
 use Rattle.syn_tree.specs.Edits.{edit_of}
 use Rattle.syn_tree.specs.declared.edit.Edit.{Edit as Planned}
-use Rattle.syn_command.specs.Imports.{IsImported}
+use Rattle.syn_command.specs.Imports.{IsBegun, IsImported, LeavesImport, begun}
 
 -- the tree of a history with edits of a user behind it
 edits_after : (tree : Tree) (user : ℕ) (edits : List Edit) →
@@ -65,3 +65,16 @@ module _ {D : Type 0} {disk : Ghosts D} (old new : Replica D disk) (user : ℕ) 
       ∙ (ap (λ es. tree_of (history ++ es)) (mapped edit_of user edits)
       ∙ (tree_of-edits history user (map edit_of edits) ∙ made)) in
       ap (λ (t : Tree). subtree t path) now ∙ subtree-replace (tree_of history) path part
+
+-- a beginning of the edits that were planned is one of those that put the part in its place
+pub leaves_import : {D : Type 0} {disk : Ghosts D} (old : Replica D disk) (pair user : ℕ)
+    (path : Path) (part : Tree) (edits : List Planned) (history : History) (bytes : List ℕ)
+    → after_edits (tree_shown old) (map edit_of edits) ≡ replace (tree_shown old) path part
+    → Stands old history → IsBegun pair history (map (event_by user) edits) bytes
+    → LeavesImport pair history user path part bytes
+leaves_import old pair user path part edits history bytes makes stood is =
+    let was : tree_shown old ≡ tree_of history =
+    ap (λ (s : Standing). s.tree) stood.remembers.standing in
+    begun (map edit_of edits) (ap (λ (t : Tree). after_edits t (map edit_of edits)) (sym was)
+    ∙ (makes ∙ ap (λ (t : Tree). replace t path part) was))
+    (subst (λ es. IsBegun pair history es bytes) (mapped edit_of user edits) is)

@@ -1,3 +1,4 @@
 pub mod InputLemmas
 pub mod EditLemmas
 pub mod ImportLemmas
+mod MomentLemmas

@@ -5,7 +5,7 @@ use Rattle.syn_command.specs.declared.outcome.Outcome.{Outcome}
 use Rattle.syn_command.specs.declared.outcome.Outcome.TheVariants as outcome
 use Rattle.syn_command.specs.declared.status.Status.{Status}
 use Rattle.syn_command.specs.declared.status.Status.TheVariants.{Done, Refused, Usage, Incomplete}
-use Rattle.syn_command.specs.declared.status.Status.TheVariants.{Conflicts}
+use Rattle.syn_command.specs.declared.status.Status.TheVariants.{Conflicts, Work}
 use Rattle.syn_session.specs.declared.report.End.{End}
 use Rattle.syn_session.specs.declared.report.End.TheVariants as end
 
@@ -16,6 +16,7 @@ code_of Refused = 1
 code_of Usage = 2
 code_of Incomplete = 3
 code_of Conflicts = 4
+code_of Work = 5
 
 -- what a session came to, by its end and its conflicts
 abbrev pub outcome_by : {X : Type 0} → End → List X → Outcome
@@ -27,6 +28,7 @@ abbrev pub status_in : Outcome → Status
 status_in outcome.Done = Done
 status_in outcome.Incomplete = Incomplete
 status_in outcome.Conflicts = Conflicts
+status_in outcome.Work = Work
 
 -- a command that was done, and one that was not
 abbrev pub status_of : Result Outcome Failure → Status

@@ -1,21 +1,25 @@
-//! Makes a part of a replica what another tree is.
-ghost use Rattle.std.specs.Prelude.{◌≡◌, ◌++◌, ◌∷◌, [], map, IfOk, OnOk};
+//! Makes a part of a replica what another tree is, in a file or behind a server.
+ghost use Rattle.std.specs.Prelude.{◌≡◌, ◌+◌, ◌++◌, ◌∷◌, [], map, IfOk, OnOk, length};
 ghost use Rattle.syn_model.specs.History.{History};
 ghost use Rattle.syn_model.specs.Tree.{subtree};
 ghost use Rattle.syn_replica.specs.Edits.{event_by};
-ghost use Rattle.syn_replica.specs.Replica.{Stands, tree_shown};
-ghost use Rattle.syn_command.specs.Imports.{IsImported};
+ghost use Rattle.syn_disk.specs.Stops.{LeavesOnly};
+ghost use Rattle.syn_replica.specs.Disks.{DiskStands};
+ghost use Rattle.syn_replica.specs.Replica.{Stands, disk_of, pair_of, tree_shown};
+ghost use Rattle.syn_command.specs.Imports.{IsBegun, IsImported, LeavesImport};
 
 use crate::error::CommandError;
 use std::alloc::{AllocError, Global};
-use std::io::Write;
+use std::io::{Read, Write};
 use syn_change::changes_at;
 use syn_disk::Disk;
 use syn_folder::FolderError;
 use syn_path::Path;
+use syn_refusal::Refusal;
 use syn_replica::Replica;
 use syn_standing::ReplicaError;
 use syn_tree::{Edit, Tree};
+use syn_user::UserConnection;
 
 /// The bytes of the longest record of an edit, and some more: a file of 16,384 bytes and its path.
 const LONGEST_RECORD: usize = 17_408;
@@ -41,6 +45,16 @@ pub fn import_part<D: Disk, E: Write>(
         → OnOk result (subtree (tree_shown replica.new) path.now ≡ part.now) }
     ensures imported { (history : History) → Stands replica.old history
         → OnOk result (IsImported history user path.now part.now replica.new) }
+
+    // Whenever the machine stops, the disk has the history with a beginning of the edits.
+    ensures any_moment { (history : History) → Stands replica.old history
+        → LeavesOnly D.moment D.left_since (disk_of replica.old) (disk_of replica.new)
+        (LeavesImport (pair_of replica.old) history user path.now part.now) }
+
+    // Where the tree is there already, no edit is made.
+    ensures none { (history : History) → Stands replica.old history
+        → subtree (tree_shown replica.old) path.now ≡ part.now
+        → OnOk result (Stands replica.new history) }
 {
     let edits = match changes_at(alloc, replica.tree(), path, part) {
         Ok(edits) => edits,
@@ -59,8 +73,11 @@ fn make_edits<D: Disk, E: Write>(
     is_told: bool,
     errors: &mut E,
 ) -> Result<(), CommandError>
-    ensures { (history : History) → Stands replica.old history
+    ensures made { (history : History) → Stands replica.old history
         → OnOk result (Stands replica.new (history ++ map (event_by user) edits.items)) }
+    ensures any_moment { (history : History) → Stands replica.old history
+        → LeavesOnly D.moment D.left_since (disk_of replica.old) (disk_of replica.new)
+        (IsBegun (pair_of replica.old) history (map (event_by user) edits.items)) }
 {
     for edit in edits {
         let line = line_of(alloc, &edit)?;
@@ -79,8 +96,12 @@ fn edit_with_room<D: Disk>(
     user: u32,
     edit: Edit,
 ) -> Result<(), ReplicaError>
-    ensures { (history : History) → Stands replica.old history
+    ensures made { (history : History) → Stands replica.old history
         → OnOk result (Stands replica.new (history ++ event_by user edit ∷ [])) }
+    ensures any_moment { (history : History) → Stands replica.old history
+        → LeavesOnly D.moment D.left_since (disk_of replica.old) (disk_of replica.new)
+        (IsBegun (pair_of replica.old) history (event_by user edit ∷ [])) }
+    ensures pair { pair_of replica.new ≡ pair_of replica.old }
 {
     make_room(alloc, replica)?;
     replica.edit(alloc, user, edit)?;
@@ -89,13 +110,59 @@ fn edit_with_room<D: Disk>(
 
 /// Makes room in the journal, where there may be too little for an edit.
 fn make_room<D: Disk>(alloc: Global, replica: &mut Replica<D>) -> Result<(), ReplicaError>
-    ensures { (history : History) → Stands replica.old history
+    ensures made { (history : History) → Stands replica.old history
         → OnOk result (Stands replica.new history) }
+    ensures any_moment { (history : History) → Stands replica.old history
+        → LeavesOnly D.moment D.left_since (disk_of replica.old) (disk_of replica.new)
+        (λ bytes. DiskStands (pair_of replica.old) bytes history) }
+    ensures pair { pair_of replica.new ≡ pair_of replica.old }
 {
     if replica.room() < LONGEST_RECORD {
         replica.checkpoint(alloc)
     } else {
         Ok(())
+    }
+}
+
+/// Asks a server for the edits, as edits of the user, and answers the position behind them. The
+/// first is asked of a replica that has the position, and each is told to `errors` once it is made,
+/// where `is_told` says so.
+///
+/// Refused as the server refuses an edit: then those before it stand. Refused 13 where the answer
+/// to one shows that somebody else edits the replica: then that one stands, too.
+pub fn send_edits<R: Read, W: Write, E: Write>(
+    alloc: Global,
+    connection: &mut UserConnection<R, W>,
+    user: u32,
+    position: u64,
+    edits: Vec<Edit>,
+    is_told: bool,
+    errors: &mut E,
+) -> Result<u64, CommandError>
+    ensures { IfOk result (λ last. last ≡ position + length edits.items) }
+{
+    let mut last = position;
+    for edit in edits {
+        let line = line_of(alloc, &edit)?;
+        let made = connection.edit(alloc, user, edit)?;
+        if is_told {
+            let _ = errors.write_all(line.as_bytes());
+        }
+        last = next_position(last, made)?;
+    }
+    Ok(last)
+}
+
+/// The position that an edit is answered with, which has to be the one behind the last.
+///
+/// Refused 13 where it is another: somebody else edited the replica.
+fn next_position(last: u64, made: u64) -> Result<u64, CommandError>
+    ensures { IfOk result (λ next. next ≡ last + 1) }
+{
+    if last < made && made - last == 1 {
+        Ok(made)
+    } else {
+        Err(CommandError::Network(Refusal::Touched))
     }
 }
 

@@ -1,5 +1,5 @@
 //! What a command that was done came to.
-ghost use Rattle.std.specs.Prelude.{◌≡◌};
+ghost use Rattle.std.specs.Prelude.{◌≡◌, ◌<◌};
 ghost use Rattle.syn_command.specs.Status.{outcome_by};
 
 use syn_session::{End, Report};
@@ -11,8 +11,10 @@ pub enum Outcome {
     Done,
     /// Its session is incomplete: it ended early, or an item was refused.
     Incomplete,
-    /// Its session is complete, and has conflicts.
+    /// Its session is complete, and has conflicts, or one that is planned would have some.
     Conflicts,
+    /// The session that is planned would do something, and have no conflict.
+    Work,
 }
 
 /// What the session came to.
@@ -25,5 +27,20 @@ pub fn outcome_of(report: &Report) -> Outcome
             [] => Outcome::Done,
             [_, ..] => Outcome::Conflicts,
         },
+    }
+}
+
+/// What there is to do by a plan of so many items, of which so many are conflicts.
+pub fn outcome_planned(items: usize, conflicts: usize) -> Outcome
+    ensures conflicts { 0 < conflicts → result ≡ Outcome.Conflicts }
+    ensures work { conflicts ≡ 0 → 0 < items → result ≡ Outcome.Work }
+    ensures nothing { conflicts ≡ 0 → items ≡ 0 → result ≡ Outcome.Done }
+{
+    if conflicts > 0 {
+        Outcome::Conflicts
+    } else if items > 0 {
+        Outcome::Work
+    } else {
+        Outcome::Done
     }
 }

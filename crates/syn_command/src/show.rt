@@ -3,7 +3,6 @@ ghost use Rattle.std.specs.Prelude.{◌≡◌, ◌⊎◌, true, IfErr, OnOk, Som
 ghost use Rattle.std.specs.FinMap.{get};
 ghost use Rattle.std.specs.Io.KnownBytes.{Appends};
 ghost use Rattle.syn_model.specs.Tree.{Content, is_present};
-ghost use Rattle.syn_replica.specs.Replica.{tree_shown};
 ghost use Rattle.syn_command.specs.Printed.{content_shown};
 ghost use Rattle.syn_command.specs.Shown.{image_shown};
 ghost use Rattle.syn_model.specs.Refusal.{Absent};
@@ -15,10 +14,9 @@ use std::alloc::Global;
 use std::io::Write;
 use syn_disk::Disk;
 use syn_path::Path;
-use syn_replica::Replica;
+use syn_refusal::Refusal;
 use syn_show::{show_archive, show_below, show_replica};
-use syn_standing::ReplicaError;
-use syn_tree::{Found, TreeError};
+use syn_tree::{Found, Tree};
 
 /// Prints the whole image: a line with its numbers, and a line for each path but the root, in path
 /// order.
@@ -43,23 +41,22 @@ pub fn show_image<D: Disk, W: Write>(
 ///
 /// Refused 5 where nothing is there, 9 where the output cannot be written, and 11 where memory is
 /// refused.
-pub fn show_path<D: Disk, W: Write>(
+pub fn show_path<W: Write>(
     alloc: Global,
-    replica: &Replica<D>,
+    tree: &Tree,
     path: &Path,
     output: &mut W,
 ) -> Result<(), CommandError>
-    ensures printed { (content : Content) → get (tree_shown replica.now) path.now ≡ Some content
+    ensures printed { (content : Content) → get tree.now path.now ≡ Some content
         → OnOk result (Appends (W.contents output.old) (W.contents output.new)
-        (content_shown (tree_shown replica.now) path.now content)) }
-    ensures found { OnOk result (is_present (tree_shown replica.now) path.now ≡ true) }
+        (content_shown tree.now path.now content)) }
+    ensures found { OnOk result (is_present tree.now path.now ≡ true) }
     ensures refusals { IfErr result (λ e.
-        ((refusal_of e ≡ Absent) × (get (tree_shown replica.now) path.now ≡ None)) ⊎ IsOfStream e) }
+        ((refusal_of e ≡ Absent) × (get tree.now path.now ≡ None)) ⊎ IsOfStream e) }
 {
-    let tree = replica.tree();
     match tree.get(path) {
         Some(Found::File(bytes)) => Ok(output.write_all(bytes)?),
         Some(Found::Dir) => Ok(show_below(alloc, tree, path, output)?),
-        None => Err(CommandError::Replica(ReplicaError::Tree(TreeError::Absent))),
+        None => Err(CommandError::Network(Refusal::Absent)),
     }
 }

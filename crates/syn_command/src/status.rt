@@ -15,8 +15,10 @@ pub enum Status {
     Usage,
     /// The command ran a session, which is incomplete.
     Incomplete,
-    /// The command ran a session, which is complete and has conflicts.
+    /// The command ran a session, which is complete and has conflicts, or planned one with some.
     Conflicts,
+    /// The command planned a session, which has something to do.
+    Work,
 }
 
 impl Status {
@@ -30,6 +32,7 @@ impl Status {
             Status::Usage => 2,
             Status::Incomplete => 3,
             Status::Conflicts => 4,
+            Status::Work => 5,
         }
     }
 }
@@ -42,5 +45,6 @@ pub fn status_in(outcome: Outcome) -> Status
         Outcome::Done => Status::Done,
         Outcome::Incomplete => Status::Incomplete,
         Outcome::Conflicts => Status::Conflicts,
+        Outcome::Work => Status::Work,
     }
 }

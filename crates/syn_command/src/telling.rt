@@ -63,14 +63,15 @@ fn refuse<E: Write>(error: &CommandError, errors: &mut E) {
 /// something.
 fn explain<E: Write>(line: &Line<'_>, error: &CommandError, errors: &mut E) {
     let _ = match line {
-        Line::Format { file, .. } | Line::Show { file } | Line::Check { file } => write!(
+        Line::Format { file, .. } | Line::Check { file } | Line::Log { file, .. } => write!(
             errors,
             "syn: {file}"
         ),
+        Line::Show { place } => write!(errors, "syn: {}", place.as_str()),
         Line::Edit(edit) => write!(errors, "syn: {} in {}", edit.path, edit.place.as_str()),
         Line::ShowPath { place, path } => write!(errors, "syn: {path} in {}", place.as_str()),
-        Line::Export { file, folder, .. } => write!(errors, "syn: {file} into {folder}"),
-        Line::Import { file, folder, .. } => write!(errors, "syn: {folder} into {file}"),
+        Line::Export(line) => write!(errors, "syn: {} into {}", line.place.as_str(), line.folder),
+        Line::Import(line) => write!(errors, "syn: {} into {}", line.folder, line.place.as_str()),
         Line::Serve { file, address, .. } => write!(errors, "syn: {file} at {address}"),
         Line::Sync {
             archive,
@@ -81,6 +82,12 @@ fn explain<E: Write>(line: &Line<'_>, error: &CommandError, errors: &mut E) {
             left,
             right,
             archive,
+        }
+        | Line::Plan {
+            left,
+            right,
+            archive,
+            ..
         } => write!(errors, "syn: {left} and {right} with {archive}"),
         Line::Simulate { script, .. } => write!(errors, "syn: {script}"),
     };
@@ -113,7 +120,14 @@ pub fn print_meanings<W: Write>(output: &mut W) -> std::io::Result<()> {
     writeln!(output, "  1  it was refused, and why is on standard error")?;
     writeln!(output, "  2  the words are no command")?;
     writeln!(output, "  3  the session is incomplete")?;
-    writeln!(output, "  4  the session is complete, with conflicts")?;
+    writeln!(
+        output,
+        "  4  the session is complete, with conflicts, or would have some"
+    )?;
+    writeln!(
+        output,
+        "  5  the session that is planned would do something"
+    )?;
     writeln!(output)?;
     writeln!(output, "Refusals:")?;
     for refusal in Refusal::ALL {

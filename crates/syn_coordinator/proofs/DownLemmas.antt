@@ -37,7 +37,7 @@ use Rattle.syn_recovery.proofs.DiskLemmas.{may_be_still, one_generation, one_val
 
 -- where nothing is armed no stop comes, and nothing is armed then
 pub never_stops : (calls failed : ℕ) (now : Arms) → Meets unarmed calls Down now failed → ⊥
-never_stops calls _ _ (one_stops made failed less before stop few same) = omega (arith, stop)
+never_stops calls _ _ (one_stops made less before stop) = omega (arith, stop)
 
 none_left : (n : ℕ) → 0 - n ≡ 0
 none_left n = omega arith
@@ -48,7 +48,7 @@ still_unarmed calls _ _ _ (all_made fail stop) =
     ap₂ (λ f s. record { fail = f; stop = s }) (none_left calls) (none_left calls)
 still_unarmed calls _ _ _ (one_fails made less fail stop) =
     ap₂ (λ f s. record { fail = f; stop = s }) (none_left (suc made)) (none_left (suc made))
-still_unarmed calls _ _ _ (one_stops made failed less before stop few same) = refl
+still_unarmed calls _ _ _ (one_stops made less before stop) = refl
 
 down_not_up : Down ≢ Up
 down_not_up e = cc
@@ -79,8 +79,8 @@ module _ {D : Type 0} (disk : Ghosts D) (pair : ℕ) (device : D) (tried : Optio
         (subst (λ a. Meets a calls status (armed_at now) failed) rests.armed meets),
   )
   goes_so calls status failed now (goes_down stopped meets) =
-      absurd (never_stops calls failed unarmed
-      (subst (λ a. Meets a calls Down unarmed failed) rests.armed meets))
+      absurd (never_stops calls 0 unarmed
+      (subst (λ a. Meets a calls Down unarmed 0) rests.armed meets))
 
   -- it is opened
   module _ (archive : Archive D disk) (fits : pair < 2 ^ 64) (untouched :

@@ -20,3 +20,4 @@ pub mod CarryLemmas
 pub mod PassLemmas
 pub mod OnwardLemmas
 pub mod BeginLemmas
+pub mod BreakLemmas

@@ -185,10 +185,10 @@ module _ {D : Type 0} {disk : Ghosts D} (old new : Archive D disk) (pair : ℕ) 
               state = inr (record { halted = refl; is_halted = halted });
               leaves = leaves_still Halted arms_then 1;
             })
-        | goes_down down meets ↦ moves_down (after_device machine Down unarmed 1)
-            (went_down breaks.0 unarmed 1
-            (subst (λ a. Meets a breaks.0 Down unarmed 1) is.armed meets))
-            down refl (leaves_still Down unarmed 1)
+        | goes_down down meets ↦ moves_down (after_device machine Down unarmed 0)
+            (went_down breaks.0 unarmed 0
+            (subst (λ a. Meets a breaks.0 Down unarmed 0) is.armed meets))
+            down refl (leaves_still Down unarmed 0)
       ]
 
   -- memory was refused behind its device calls

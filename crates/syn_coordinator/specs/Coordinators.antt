@@ -1,6 +1,7 @@
 -- What a coordinator shows, which of the model's machines it is, and what a call does.
 use Rattle.std.specs.Option.{option_map_or}
-use Rattle.std.specs.Prelude.{◌≡◌, ◌++◌, ℕ, nat_le, nat_lt, Bool, true, false, not, ◌&&◌, List}
+use Rattle.std.specs.Prelude.{◌≡◌, ◌⊎◌, ◌<◌, ◌++◌, ℕ, Result, MatchResult, nat_le, nat_lt, Bool}
+use Rattle.std.specs.Prelude.{true, false, not, ◌&&◌, List}
 use Rattle.std.specs.Prelude.{[], ◌∷◌, map, Option, Some, None, length, option_map, is_some}
 use Rattle.std.specs.Prelude.{if◌then◌else◌}
 use Rattle.syn_archive.specs.Archive.{disk_of}
@@ -92,6 +93,25 @@ pub data Does {D : Type 0} {disk : Ghosts D} (old new : Coordinator D disk) (pai
       is_stopped (disk.arms (device_of new)) ≡ true → machine.journal.status ≡ Down →
       LeavesMachine disk (device_of new) pair machine.journal → call.kept ≡ kept →
       Tries pair (tried_shown new) machine.journal → Does old new pair Step kept messages
+
+module _ {D : Type 0} {disk : Ghosts D} (old new : Coordinator D disk) where
+  -- no device call failed, and nothing was answered 9
+  pub record BreaksNothing : Type 0 where
+    pub broken_is : broken new ≡ broken old
+    pub tried_is : tried_shown new ≡ tried_shown old
+    pub counted : disk.failures (device_of new) ≡ disk.failures (device_of old)
+
+  -- What was tried and not kept is told as answered 9: a device call failed, or the machine stopped
+  pub record BreaksOff : Type 0 where
+    pub broken_is : broken new ≡ option_map record_of (tried_shown new)
+    pub is_told : is_some (broken new) ≡ true
+    pub counted : (disk.failures (device_of old) < disk.failures (device_of new))
+        ⊎ ((is_stopped (disk.arms (device_of new)) ≡ true)
+        × (disk.failures (device_of new) ≡ disk.failures (device_of old)))
+
+  -- A call goes through the plan of its session. As long as it goes on nothing breaks
+  abbrev pub Breaks : {A E : Type 0} → Result A E → Type 0
+  Breaks result = MatchResult result (λ _. BreaksNothing) (λ _. BreaksNothing ⊎ BreaksOff)
 
 -- what a call answers of reports and of what was kept stays, and so does the session that runs
 pub record KeepsReadings {D : Type 0} {disk : Ghosts D} (old new : Coordinator D disk)

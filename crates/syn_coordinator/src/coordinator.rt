@@ -144,8 +144,9 @@ impl<D: Disk> Coordinator<D> {
         self.report.as_ref()
     }
 
-    /// What the last start that was answered Ok or 9 wrote into the archive, in order, and what was
-    /// answered 9 in it.
+    /// What the last start that was answered Ok or 9, or the last `on_reply`, whichever came later,
+    /// wrote into the archive, in order. With it comes what was answered 9 in that call: what was
+    /// tried and not kept, until the archive is opened again.
     pub fn kept(&self) -> (&[Kept], Option<&Kept>)
         ensures written { map kept_of result.0.now ≡ written self.now }
         ensures broken { option_map (λ kept. kept_of kept.now) result.1 ≡ broken self.now }

@@ -1,109 +1,162 @@
-//! Replicas of a name, written into folders and made what folders are.
-ghost use Rattle.std.specs.Prelude.{IsErrAnd};
+//! Replicas of a name or behind a server, written into folders and made what folders are.
+ghost use Rattle.std.specs.Prelude.{IfSome, IsErrAnd};
 ghost use Rattle.syn_path.specs.Paths.{NamesPath};
 ghost use Rattle.syn_model.specs.Path.{Path as ModelPath};
 ghost use Rattle.syn_command.specs.Errors.{IsOfPath};
 
 use crate::named::{NamedDisks, replica_in, replica_to_read};
+use crate::network::{reach, tree_over};
 use std::alloc::Global;
 use std::fs::Files;
 use std::io::Write;
-use syn_change::copy_part;
-use syn_command::{CommandError, import_part};
+use std::net::{Net, TcpStream};
+use syn_change::{changes_at, copy_part};
+use syn_command::{CommandError, import_part, send_edits};
 use syn_folder::{Folder, FolderError, SystemFolder, all_known, fill, mirror, skipping, update};
 use syn_path::Path;
 use syn_tree::Tree;
-use syn_words::Existing;
+use syn_user::UserConnection;
+use syn_words::{Existing, ExportLine, ImportLine, Place};
 
-/// Writes what the directory at the path of the replica of that name has into the folder, and
-/// answers the replica's position.
+/// Writes what the directory at the line's path has into its folder, and answers the position of
+/// the replica.
 ///
 /// A text that names no path is refused. Else it is refused 5 where no directory is at the path, as
-/// an opening is, and as the folder is written.
-pub fn export<N: NamedDisks, F: Files>(
+/// an opening is or as the server refuses it, and as the folder is written.
+pub fn export<H: Net<Stream = TcpStream>, N: NamedDisks, F: Files>(
+    rt: &H,
     alloc: Global,
     disks: &N,
     files: &F,
-    name: &str,
-    path: &str,
-    folder: &str,
-    existing: Existing,
+    line: &ExportLine<'_>,
 ) -> Result<u64, CommandError>
-    ensures { ((at : ModelPath) → ¬ NamesPath path.now at) → IsErrAnd result IsOfPath }
+    ensures { IfSome line.now.path (λ path.
+        ((at : ModelPath) → ¬ NamesPath path.now at) → IsErrAnd result IsOfPath) }
 {
-    let path = Path::parse(alloc, path)?;
-    let replica = replica_to_read(alloc, disks, name)?;
-    match copy_part(alloc, replica.tree(), &path) {
-        Ok(part) => write_into(alloc, files, &part, folder, existing)?,
-        Err(error) => return Err(CommandError::Folder(FolderError::Tree(error))),
+    let path = path_of(alloc, line.path)?;
+    match line.place {
+        Place::File(name) => {
+            let replica = replica_to_read(alloc, disks, name)?;
+            export_part(alloc, files, replica.tree(), &path, line)?;
+            Ok(replica.position())
+        }
+        Place::Served(address) => {
+            let stream = reach(rt, address)?;
+            let (position, tree) = tree_over(alloc, &stream)?;
+            export_part(alloc, files, &tree, &path, line)?;
+            Ok(position)
+        }
     }
-    Ok(replica.position())
 }
 
-/// Makes what is at the path of the replica of that name what stands in the folder, by edits of the
-/// user, and answers the new position. Each edit is told to `errors` once it is made, where
-/// `is_told` says so, and what is skipped.
+/// Makes what is at the line's path what stands in its folder, by edits of its user, and answers
+/// the new position. Each edit is told to `errors` once it is made, where `is_told` says so, and
+/// what is skipped.
 ///
 /// A text that names no path is refused. Else it is refused as the folder is read, 7 where
 /// something stands in it that can stand in no replica and nothing is to be skipped, as an opening
-/// is, and as the replica refuses the edits.
-pub fn import<N: NamedDisks, F: Files, E: Write>(
+/// is, and as the replica or the server refuses the edits. It is refused 13 where somebody else
+/// edits what is served meanwhile: a beginning of the edits stands then.
+pub fn import<H: Net<Stream = TcpStream>, N: NamedDisks, F: Files, E: Write>(
+    rt: &H,
     alloc: Global,
     disks: &N,
     files: &F,
-    line: &Imported<'_>,
+    line: &ImportLine<'_>,
     is_told: bool,
     errors: &mut E,
 ) -> Result<u64, CommandError>
-    ensures { ((at : ModelPath) → ¬ NamesPath line.now.path.now at) → IsErrAnd result IsOfPath }
+    ensures { IfSome line.now.path (λ path.
+        ((at : ModelPath) → ¬ NamesPath path.now at) → IsErrAnd result IsOfPath) }
 {
-    let path = Path::parse(alloc, line.path)?;
+    let path = path_of(alloc, line.path)?;
     let folder = SystemFolder::open(alloc, files, line.folder)?;
     if !line.is_skipping {
         all_known(alloc, &folder)?;
     }
-    let mut replica = replica_in(alloc, disks, line.name)?;
-    if folder.strangers().is_empty() {
-        let part = folder.tree();
-        return import_part(alloc, &mut replica, line.user, &path, part, is_told, errors);
+    match line.place {
+        Place::File(name) => {
+            let mut replica = replica_in(alloc, disks, name)?;
+            let part = part_of(alloc, &folder, replica.tree(), &path, errors)?;
+            let user = line.user;
+            import_part(alloc, &mut replica, user, &path, &part, is_told, errors)
+        }
+        Place::Served(address) => {
+            let stream = reach(rt, address)?;
+            import_over(alloc, &stream, line.user, &path, &folder, is_told, errors)
+        }
     }
-    for stranger in folder.strangers() {
-        let _ = writeln!(errors, "syn: skipped {stranger}");
+}
+
+/// The path that a line names: the root where it names none.
+///
+/// A text that names no path is refused.
+fn path_of(alloc: Global, text: Option<&str>) -> Result<Path, CommandError>
+    ensures { IfSome text.entry (λ path.
+        ((at : ModelPath) → ¬ NamesPath path.now at) → IsErrAnd result IsOfPath) }
+{
+    match text {
+        Some(text) => Ok(Path::parse(alloc, text)?),
+        None => Ok(Path::root(alloc)),
     }
-    let part = skipping(alloc, &folder, replica.tree(), &path)?;
-    import_part(
+}
+
+/// Makes what is at the path of the replica that is served over the stream what stands in the
+/// folder.
+fn import_over<F: Folder, E: Write>(
+    alloc: Global,
+    stream: &TcpStream,
+    user: u32,
+    path: &Path,
+    folder: &F,
+    is_told: bool,
+    errors: &mut E,
+) -> Result<u64, CommandError> {
+    let (position, tree) = tree_over(alloc, stream)?;
+    let part = part_of(alloc, folder, &tree, path, errors)?;
+    let edits = match changes_at(alloc, &tree, path, &part) {
+        Ok(edits) => edits,
+        Err(error) => return Err(CommandError::Folder(FolderError::Tree(error))),
+    };
+    let mut connection = UserConnection::new(alloc, stream, stream);
+    send_edits(
         alloc,
-        &mut replica,
-        line.user,
-        &path,
-        &part,
+        &mut connection,
+        user,
+        position,
+        edits,
         is_told,
         errors,
     )
 }
 
-/// What is imported: the folder, and the replica's name, where in it, and by which user.
-#[derive(Clone, Copy, Debug)]
-pub struct Imported<'a> {
-    pub name: &'a str,
-    pub user: u32,
-    pub folder: &'a str,
-    pub path: &'a str,
-    pub is_skipping: bool,
+/// What of the folder goes to the path of the tree. What is skipped is told to `errors`.
+fn part_of<F: Folder, E: Write>(
+    alloc: Global,
+    folder: &F,
+    tree: &Tree,
+    path: &Path,
+    errors: &mut E,
+) -> Result<Tree, FolderError> {
+    for stranger in folder.strangers() {
+        let _ = writeln!(errors, "syn: skipped {stranger}");
+    }
+    skipping(alloc, folder, tree, path)
 }
 
-/// Writes the tree into the folder.
-fn write_into<F: Files>(
+/// Writes what the directory at the path of the tree has into the line's folder.
+fn export_part<F: Files>(
     alloc: Global,
     files: &F,
-    wanted: &Tree,
-    folder: &str,
-    existing: Existing,
+    tree: &Tree,
+    path: &Path,
+    line: &ExportLine<'_>,
 ) -> Result<(), FolderError> {
-    let mut folder = SystemFolder::open_or_missing(alloc, files, folder)?;
-    match existing {
-        Existing::Refused => fill(alloc, wanted, &mut folder),
-        Existing::Updated => update(alloc, wanted, &mut folder),
-        Existing::Mirrored => mirror(alloc, wanted, &mut folder),
+    let part = copy_part(alloc, tree, path)?;
+    let mut folder = SystemFolder::open_or_missing(alloc, files, line.folder)?;
+    match line.existing {
+        Existing::Refused => fill(alloc, &part, &mut folder),
+        Existing::Updated => update(alloc, &part, &mut folder),
+        Existing::Mirrored => mirror(alloc, &part, &mut folder),
     }
 }

@@ -5,28 +5,36 @@ ghost use Rattle.syn_model.specs.Path.{Path as ModelPath};
 ghost use Rattle.syn_command.specs.Errors.{IsOfPath};
 
 use crate::named::{NamedDisks, image_in, replica_in, replica_to_read};
-use crate::network::{edit_served, show_served};
+use crate::network::{edit_served, show_path_served, show_tree_served};
 use std::alloc::Global;
 use std::io::{Read, Write};
 use std::net::{Net, TcpStream};
 use syn_command::{CommandError, check_image, make_edit, show_image, show_path};
+use syn_log::{read_log, show_log};
 use syn_path::Path;
 use syn_words::{EditLine, Place};
 
-/// Prints the whole image of that name.
+/// Prints the whole image.
+///
+/// Refused as an opening to read is or as the server refuses it, 9 where the output cannot be
+/// written, and 11 where memory is refused.
+pub fn print_image<H: Net<Stream = TcpStream>, N: NamedDisks, O: Write>(
+    rt: &H,
+    alloc: Global,
+    disks: &N,
+    place: Place<'_>,
+    output: &mut O,
+) -> Result<(), CommandError> {
+    match place {
+        Place::File(name) => show_image(alloc, &image_in(alloc, disks, name)?, output),
+        Place::Served(address) => show_tree_served(rt, alloc, address, output),
+    }
+}
+
+/// Prints the numbers of the image of that name.
 ///
 /// Refused as an opening to read is, 9 where the output cannot be written, and 11 where memory is
 /// refused.
-pub fn print_image<N: NamedDisks, O: Write>(
-    alloc: Global,
-    disks: &N,
-    name: &str,
-    output: &mut O,
-) -> Result<(), CommandError> {
-    show_image(alloc, &image_in(alloc, disks, name)?, output)
-}
-
-/// Prints the numbers of the image of that name. It is refused as `print_image` is.
 pub fn print_numbers<N: NamedDisks, O: Write>(
     alloc: Global,
     disks: &N,
@@ -34,6 +42,23 @@ pub fn print_numbers<N: NamedDisks, O: Write>(
     output: &mut O,
 ) -> Result<(), CommandError> {
     check_image(alloc, &image_in(alloc, disks, name)?, output)
+}
+
+/// Prints the last events of the replica of that name, so many lines at most, the newest first.
+///
+/// Refused as an opening to read is, 9 where the output cannot be written, and 11 where memory is
+/// refused.
+pub fn print_log<N: NamedDisks, O: Write>(
+    alloc: Global,
+    disks: &N,
+    name: &str,
+    lines: Option<u64>,
+    output: &mut O,
+) -> Result<(), CommandError> {
+    let replica = replica_to_read(alloc, disks, name)?;
+    let logged = read_log(alloc, replica.into_disk())?;
+    let most = lines.unwrap_or(u64::MAX) as usize;
+    Ok(show_log(alloc, &logged, most, output)?)
 }
 
 /// Makes the edit where the line says, and answers the new position. A text that names no path is
@@ -80,8 +105,8 @@ pub fn show<H: Net<Stream = TcpStream>, N: NamedDisks, O: Write>(
     match place {
         Place::File(name) => {
             let replica = replica_to_read(alloc, disks, name)?;
-            show_path(alloc, &replica, &path, output)
+            show_path(alloc, replica.tree(), &path, output)
         }
-        Place::Served(address) => show_served(rt, alloc, address, &path, output),
+        Place::Served(address) => show_path_served(rt, alloc, address, &path, output),
     }
 }

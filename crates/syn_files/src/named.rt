@@ -52,6 +52,16 @@ pub fn archive_in<N: NamedDisks>(
     Archive::open(alloc, disk, None).map_err(|(error, _)| CommandError::from(error))
 }
 
+/// The archive of that name, to be read. Its disk need not be one that can be written.
+pub fn archive_to_read<N: NamedDisks>(
+    alloc: Global,
+    disks: &N,
+    name: &str,
+) -> Result<Archive<N::Disk>, CommandError> {
+    let disk = disks.open_to_read(alloc, name)?;
+    Archive::open(alloc, disk, None).map_err(|(error, _)| CommandError::from(error))
+}
+
 /// The image of that name, to be read. Its disk need not be one that can be written.
 pub fn image_in<N: NamedDisks>(
     alloc: Global,

@@ -8,14 +8,15 @@ use std::net::{Net, TcpListener, TcpStream};
 use std::sync::Wait;
 use std::thread::Threads;
 use std::time::{Clock, Duration};
-use syn_command::{CommandError, read_edit};
+use syn_command::{CommandError, read_edit, show_path};
 use syn_daemon::{OpenGates, Plain, serve};
 use syn_disk::Disk;
 use syn_path::Path;
 use syn_refusal::Refusal;
 use syn_shared::SharedReplica;
-use syn_tree::Content;
-use syn_user::UserConnection;
+use syn_show::show_served;
+use syn_tree::{Content, Tree};
+use syn_user::{SideConnection, UserConnection};
 use syn_words::EditLine;
 
 /// How long a user waits for the answer of a server.
@@ -86,11 +87,26 @@ pub fn edit_served<H: Net<Stream = TcpStream>, I: Read>(
     Ok(connection.edit(alloc, line.user, edit)?)
 }
 
-/// Prints what the server at the address has at the path: the bytes of a file, or `d` and the path
-/// of a directory.
+/// Prints the whole tree that the server at the address has, with its position.
 ///
-/// Refused 5 where nothing is there, and else as `edit_served` is.
-pub fn show_served<H: Net<Stream = TcpStream>, O: Write>(
+/// Refused as `tree_over` is, and 9 where the address cannot be reached or the output cannot be
+/// written.
+pub fn show_tree_served<H: Net<Stream = TcpStream>, O: Write>(
+    rt: &H,
+    alloc: Global,
+    address: &str,
+    output: &mut O,
+) -> Result<(), CommandError> {
+    let stream = reach(rt, address)?;
+    let (position, tree) = tree_over(alloc, &stream)?;
+    Ok(show_served(alloc, position, &tree, output)?)
+}
+
+/// Prints what the server at the address has at the path: the bytes of a file, or the lines of what
+/// is below a directory.
+///
+/// Refused 5 where nothing is there, and else as `edit_served` and `tree_over` are.
+pub fn show_path_served<H: Net<Stream = TcpStream>, O: Write>(
     rt: &H,
     alloc: Global,
     address: &str,
@@ -100,15 +116,28 @@ pub fn show_served<H: Net<Stream = TcpStream>, O: Write>(
     let stream = reach(rt, address)?;
     let mut connection = UserConnection::new(alloc, &stream, &stream);
     match connection.get(alloc, path)? {
-        Some(Content::File(bytes)) => output.write_all(&bytes)?,
-        Some(Content::Dir) => writeln!(output, "d {path}")?,
-        None => return Err(CommandError::Network(Refusal::Absent)),
+        Some(Content::File(bytes)) => Ok(output.write_all(&bytes)?),
+        Some(Content::Dir) => {
+            let (_, tree) = tree_over(alloc, &stream)?;
+            show_path(alloc, &tree, path, output)
+        }
+        None => Err(CommandError::Network(Refusal::Absent)),
     }
-    Ok(())
+}
+
+/// The whole tree of the replica that is served over the stream, and its position then.
+///
+/// Refused 9 where the connection ends or no answer comes in a minute, 11 where memory is refused,
+/// 13 where somebody edits as long as it is asked, 21 to 23 where what comes is no answer, and as
+/// the server refuses it.
+pub fn tree_over(alloc: Global, stream: &TcpStream) -> Result<(u64, Tree), CommandError> {
+    Ok(SideConnection::new(alloc, stream, stream).tree(alloc)?)
 }
 
 /// A connection to the address, which waits for an answer no longer than a minute.
-fn reach<H: Net<Stream = TcpStream>>(rt: &H, address: &str) -> Result<TcpStream, CommandError> {
+///
+/// Refused 9 where it cannot be reached.
+pub fn reach<H: Net<Stream = TcpStream>>(rt: &H, address: &str) -> Result<TcpStream, CommandError> {
     let stream = TcpStream::connect(rt, address)?;
     stream.set_nodelay(true)?;
     stream.set_read_timeout(Some(Duration::from_secs(MOST_SECONDS)))?;

@@ -20,7 +20,7 @@ pub fn fill<F: Folder>(alloc: Global, wanted: &Tree, folder: &mut F) -> Result<(
     ensures done { OnOk result (F.tree folder.new ≡ wanted.now) }
     ensures refused { IfErr result (λ e. IsOfSystem e ⊎ (folder.new ≡ folder.old)) }
 {
-    if !folder.strangers().is_empty() || !folder.tree().entries().is_empty() {
+    if !folder.strangers().is_empty() || folder.tree().entries().len() > 0 {
         return Err(FolderError::NotEmpty);
     }
     mirror(alloc, wanted, folder)

@@ -1,14 +1,15 @@
 -- What a call of the coordinator is in the coarser picture, and what its session then remembers.
 use Rattle.std.proofs.Common.{◌≡◌, ◌≢◌, ℕ, Bool, ◌&&◌, true≢false, List, ◌∷◌, ◌++◌, map, filter_map}
 use Rattle.std.proofs.Common.{length, refl, sym, ap, ◌∙◌, subst, Option, Some, None, is_some}
-use Rattle.std.proofs.Common.{append-nil, inl, inr, slice_get, take, option_map, []}
+use Rattle.std.proofs.Common.{append-nil, inl, inr, slice_get, take, option_map, [], ◌⊎◌}
 use Rattle.std.specs.Prelude.{Contains, All, Any, IfSome, IsSome}
 use Rattle.std.proofs.lemmas.List.Elements.{All-nil, All-contains_itself, Contains-append_left}
 use Rattle.std.proofs.lemmas.List.Elements.{All-append, All-weaker, All-contains}
-use Rattle.std.proofs.lemmas.List.Elements.{Contains-append_right}
+use Rattle.std.proofs.lemmas.List.Elements.{Contains-append_right, Contains-push}
+use Rattle.std.proofs.Math.Seq.{take-length}
 use Rattle.std.proofs.lemmas.Option.{none-some}
 use Rattle.syn_model.specs.Path.{Path}
-use Rattle.syn_model.specs.Refusal.{Refusal}
+use Rattle.syn_model.specs.Refusal.{Refusal, Memory}
 use Rattle.syn_model.specs.Archive.{Kept, CanKeep}
 use Rattle.syn_model.specs.Decision.{Item}
 use Rattle.syn_headline.specs.Side.{Request, ListAt, Reply, IsLawfulRequest}
@@ -40,6 +41,9 @@ use Rattle.syn_headline.specs.World.{coordinator_goes}
 use Rattle.syn_headline.proofs.Invariant.{Plans, histories_of, IsHarmless, IsKept}
 use Rattle.syn_headline.proofs.SideSteps.{if_some}
 use Rattle.syn_headline.proofs.Sessions.{IsHeard}
+use Rattle.syn_headline.specs.Reported.{EndsSo, IsRefusedFor, with_answer, in_plan, out_of_memory}
+use Rattle.syn_headline.proofs.RefusedItems.{advances_refused, more_taken, none_refused}
+use Rattle.syn_headline.proofs.Tells.{Tells, ends_still, more_logged}
 use Rattle.syn_headline.proofs.HeardLemmas.{list_of, has_plan, request_of_plan, due_of}
 use Rattle.syn_headline.proofs.HeardLemmas.{session_keeps, whole_parts, all_settled, any_left}
 use Rattle.syn_headline.proofs.HeardLemmas.{any_last, all_asked, nowhere}
@@ -200,6 +204,22 @@ module _ (plans : Plans) (old : fine_world.World) (k : IsKept plans (view old)) 
         },
       ))
 
+  -- and reports that
+  tells_now : (why : Refusal) →
+      (fine.fault_of r.taken from request reply ≡ Some why) ⊎ (why ≡ Memory) →
+      Tells old (coordinator_goes old (record old.coordinator { running = None })
+      (record fine.no_call { reports = report_of r (Some why) ∷ [] }))
+  tells_now why (inl fault) =
+      let was = remembers_then.taken exchange (Contains-push r.taken exchange) in
+      ends_still old r why (record old.coordinator { running = None }) h
+      (with_answer exchange why (
+        Contains-append_left old.sent [] _ was.0,
+        Contains-append_left old.sent [] _ was.1,
+      ) fault)
+  tells_now why (inr memory) =
+      ends_still old r why (record old.coordinator { running = None }) h
+      (subst (λ w. EndsSo (old.sent ++ []) r (Some w)) (sym memory) out_of_memory)
+
   -- or the call goes through the plan
   module _ (plan : Option (List Planned)) (logged : Log) (walk : Walk) (kept : List Kept)
       (has : fine.HasPlan old.coordinator.journal.value (hearing r exchange) plan logged)
@@ -230,6 +250,36 @@ module _ (plans : Plans) (old : fine_world.World) (k : IsKept plans (view old)) 
         subst (λ n. All (IsSettledBy r.kept r.refused) (take n made.plan))
         (sym (h.unplanned none).1) (All-nil (IsSettledBy r.kept r.refused))
 
+    -- what was refused has its cause, and nothing was before the plan
+    refused_before : (plan : Option (List Planned)) (logged : Log) →
+        fine.HasPlan old.coordinator.journal.value (hearing r exchange) plan logged →
+        All (IsRefusedFor (list_of plan) (r.taken ++ exchange ∷ [])) r.refused
+    refused_before _ _ fine.stays =
+        All-weaker (IsRefusedFor (list_of r.plan) r.taken)
+        (IsRefusedFor (list_of r.plan) (r.taken ++ exchange ∷ []))
+        (more_taken (list_of r.plan) r.taken (exchange ∷ [])) r.refused h.refused
+    refused_before _ _ (fine.makes made none makes) =
+        All-weaker (IsRefusedFor [] r.taken)
+        (IsRefusedFor made.plan (r.taken ++ exchange ∷ []))
+        (none_refused r.taken (r.taken ++ exchange ∷ []) made.plan) r.refused
+        (subst (λ o. All (IsRefusedFor (list_of o) r.taken) r.refused) none h.refused)
+
+    refused_then : All (IsRefusedFor (list_of plan) (r.taken ++ exchange ∷ [])) walk.refused
+    refused_then =
+        advances_refused old.pair (list_of plan) exchange (r.taken ++ exchange ∷ [])
+        (Contains-push r.taken exchange) (fine.start_of old.coordinator r) walk kept
+        (refused_before plan logged has) advances
+
+    -- its plan is the one that is logged
+    logged_as : (plan : Option (List Planned)) (logged : Log) →
+        fine.HasPlan old.coordinator.journal.value (hearing r exchange) plan logged →
+        IfSome plan (λ plan. Any (λ made. (made.session ≡ r.session) × (made.plan ≡ plan))
+        (old.log ++ logged))
+    logged_as _ _ fine.stays = more_logged old.log [] r.session r.plan h.logged
+    logged_as _ _ (fine.makes made none makes) =
+        any_last (λ one. (one.session ≡ r.session) × (one.plan ≡ made.plan)) old.log made
+        (makes.of_session, refl)
+
     settled_then : AllSettled (list_of plan) (r.kept ++ kept) walk
     settled_then =
         advances_settled old.pair (list_of plan) exchange (fine.start_of old.coordinator r) walk
@@ -252,6 +302,48 @@ module _ (plans : Plans) (old : fine_world.World) (k : IsKept plans (view old)) 
         (subst NumbersTell sent_stays k.sound.numbers)
         (subst AsksNothingTwice sent_stays k.sound.repeats) refl (λ _. (refl, refl))
         (inl (append-nil old.reports))
+
+    -- one that nothing ended early came through its plan
+    whole : (why : Option Refusal) →
+        EndsFor old.pair later exchange old.coordinator.journal.status walk why → why ≡ None →
+        IsSome plan × (slice_get (list_of plan) walk.cursor ≡ None)
+    whole _ (fine.settled some over up) none = (some, over)
+    whole _ (fine.fails was now) none = absurd (none-some _ (sym none))
+    whole _ (fine.failed_before planned what at _ was now) none = absurd (none-some _ (sym none))
+    whole _ (fine.no_room_left what full room) none = absurd (none-some _ (sym none))
+    whole _ (fine.no_memory same) none = absurd (none-some _ (sym none))
+
+    all_settled_by : slice_get (list_of plan) walk.cursor ≡ None →
+        All (IsSettledBy (r.kept ++ kept) walk.refused) (list_of plan)
+    all_settled_by over = subst (All (IsSettledBy (r.kept ++ kept) walk.refused))
+        (take_whole (list_of plan) walk.cursor over) settled_then
+
+    -- what it reports
+    tells_so : (why : Option Refusal) →
+        EndsFor old.pair later exchange old.coordinator.journal.status walk why →
+        Tells old (coordinator_goes old (record { journal = walk.journal; running = None }) (record
+        { kept = kept; messages = []; reports = report_of later why ∷ []; logged = logged }))
+    tells_so why ends = inr (
+      later,
+      why,
+      refl,
+      record {
+        taken = λ e c.
+            let was = (advanced_remembers old.sent (hearing r exchange) plan walk kept
+            remembers_then).taken e c in (
+              Contains-append_left old.sent [] _ was.0,
+              Contains-append_left old.sent [] _ was.1,
+            );
+        logged = logged_as plan logged has;
+        kept_is = ap kept_in_session (take-length (old.acknowledged ++ map Kept_by kept))
+            ∙ kept_then;
+        settled = settled_then;
+        refused = refused_then;
+        ends = in_plan old.pair exchange (fine.start_of old.coordinator r) walk kept why
+            (Contains-push r.taken exchange) advances refl ends;
+        through = λ none. let w = whole why ends none in (w.0, all_settled_by w.1);
+      },
+    )
 
     ends_so : (why : Option Refusal) →
         EndsFor old.pair later exchange old.coordinator.journal.status walk why → Follows (view old)
@@ -278,8 +370,7 @@ module _ (plans : Plans) (old : fine_world.World) (k : IsKept plans (view old)) 
                 (λ planned. IsSettled ks (report_of later why) planned.item) (list_of plan))
                 (sym kept_then)
                 (all_settled (r.kept ++ kept) (list_of plan) (report_of later why) (conflicts_of
-                (whole why ends none).1) (subst (All (IsSettledBy (r.kept ++ kept) walk.refused))
-                (take_whole (list_of plan) walk.cursor (whole why ends none).1) settled_then));
+                (whole why ends none).1) (all_settled_by (whole why ends none).1));
             conflicts = λ none. conflicts_of (whole why ends none).1;
           },
           record {
@@ -288,16 +379,6 @@ module _ (plans : Plans) (old : fine_world.World) (k : IsKept plans (view old)) 
           },
         ))
       where
-        whole : (why : Option Refusal) →
-            EndsFor old.pair later exchange old.coordinator.journal.status walk why → why ≡ None →
-            IsSome plan × (slice_get (list_of plan) walk.cursor ≡ None)
-        whole _ (fine.settled some over up) none = (some, over)
-        whole _ (fine.fails was now) none = absurd (none-some _ (sym none))
-        whole _ (fine.failed_before planned what at _ was now) none =
-            absurd (none-some _ (sym none))
-        whole _ (fine.no_room_left what full room) none = absurd (none-some _ (sym none))
-        whole _ (fine.no_memory same) none = absurd (none-some _ (sym none))
-
         conflicts_of : slice_get (list_of plan) walk.cursor ≡ None →
             filter_map (λ planned. conflict_at planned.item) (take walk.cursor (list_of plan))
             ≡ filter_map (λ planned. conflict_at planned.item) (list_of plan)
@@ -423,8 +504,10 @@ module _ (plans : Plans) (old : fine_world.World) (k : IsKept plans (view old)) 
             k.sound.known asks_left asks_right shown_on;
         unplanned = unplanned_on plan logged has advances;
         planned = logged_then plan logged has;
+        logged = logged_as plan logged has;
         kept = kept_then;
         settled = settled_then;
+        refused = refused_then;
       }
 
   -- how an answer is taken
@@ -432,13 +515,18 @@ module _ (plans : Plans) (old : fine_world.World) (k : IsKept plans (view old)) 
       fine.Takes old.pair old.coordinator r exchange new call →
       Follows (view old) (view (coordinator_goes old new call))
       × IfSome new.running (IsHeard (coordinator_goes old new call))
-  takes_follow _ _ (fine.ends_at_once why fault) = (ends_now why, tt)
+      × Tells old (coordinator_goes old new call)
+  takes_follow _ _ (fine.ends_at_once why fault) = (ends_now why, tt, tells_now why fault)
   takes_follow _ _ (fine.stops plan logged walk kept fault has advances down) =
-      (stops_so plan logged walk kept has advances, tt)
-  takes_follow _ _ (fine.ends plan logged walk kept why fault has advances ends) =
-      (ends_so plan logged walk kept has advances why ends, tt)
+      (stops_so plan logged walk kept has advances, tt, inl (append-nil old.reports))
+  takes_follow _ _ (fine.ends plan logged walk kept why fault has advances ends) = (
+    ends_so plan logged walk kept has advances why ends,
+    tt,
+    tells_so plan logged walk kept has advances why ends,
+  )
   takes_follow _ _ (fine.goes_on plan logged walk kept asks_left asks_right fault has advances rests
       stays past asks) = (
         goes_on_so plan logged walk kept has advances asks_left asks_right stays asks,
         heard_on plan logged walk kept has advances asks_left asks_right stays asks,
+        inl (append-nil old.reports),
       )

@@ -2,7 +2,7 @@
 -- transcripts.
 use Rattle.std.specs.Option.{option_map_or}
 use Rattle.std.specs.List.{count_by}
-use Rattle.std.specs.Prelude.{ℕ, true, ◌≤◌, ◌+◌, fold, filter_map, ◌≡◌, ◌≢◌, ◌⊎◌, ◌&&◌, Bool, List}
+use Rattle.std.specs.Prelude.{ℕ, true, ◌≤◌, ◌+◌, filter_map, ◌≡◌, ◌≢◌, ◌⊎◌, ◌&&◌, Bool, List}
 use Rattle.std.specs.Prelude.{[], ◌∷◌, ◌++◌, slice_get, map, Option, Some, None, Contains, IfSome}
 use Rattle.std.specs.Prelude.{IsSome, IsSomeAnd, All, Any, length}
 use Rattle.syn_model.specs.Path.{Path}
@@ -18,13 +18,14 @@ use Rattle.syn_headline.specs.SideMachine.{ServesAs}
 use Rattle.syn_headline.specs.Network.{Which, Left, Right, other, WasAnswered, Message, Asks}
 use Rattle.syn_headline.specs.Network.{Answers, Sent, NumbersTell, AsksNothingTwice}
 use Rattle.syn_headline.specs.Machine.{Status, Up, Halted, Down}
-use Rattle.syn_headline.specs.Acknowledged.{Ack, Happened, Kept_by, kept_in}
+use Rattle.syn_headline.specs.Acknowledged.{Ack, Happened, Kept_by}
 use Rattle.syn_headline.specs.Planning.{Planned, seen_on, HasBegun, SessionPlan, Log, IsPlanOf}
 use Rattle.syn_headline.specs.Planning.{WritesTo}
 use Rattle.syn_model.specs.Decision.{Item, Conflict, MarkSame, MarkDir, path_of}
 use Rattle.syn_headline.specs.Report.{Report, Complete, Incomplete, is_kept, is_carrying}
 use Rattle.syn_headline.specs.Report.{is_marking, conflict_at}
 use Rattle.syn_headline.specs.Coordinator.{Outstanding, asked_in, MayWait}
+pub use Rattle.syn_headline.specs.Reported.{kept_in_session, since_start}
 
 -- a side: what it stands for, and which event was being written when it stopped or a device failed
 pub record SideMachine : Type 0 where
@@ -300,15 +301,6 @@ IsNext archive kept = kept ≡ Session (archive.last_session + 1)
 
 abbrev pub IsNothing : Kept → Type 0
 IsNothing kept = ⊥
-
--- what the archive kept since the last session's number
-abbrev pub since_start : List Kept → Kept → List Kept
-since_start kept (Session session) = []
-since_start kept (Recorded path marks) = kept ++ Recorded path marks ∷ []
-since_start kept (RecordedDir path) = kept ++ RecordedDir path ∷ []
-
-abbrev pub kept_in_session : List Ack → List Kept
-kept_in_session acks = fold since_start [] (filter_map kept_in acks)
 
 -- the item is recorded, a conflict or refused
 abbrev pub IsSettled : List Kept → Report → Item → Type 0

@@ -16,7 +16,7 @@ use Rattle.syn_headline.specs.Machine.{Status, Up}
 use Rattle.syn_headline.proofs.Invariant.{Plans, plan_in, histories_of, IsKept, Histories, IsSound}
 use Rattle.syn_headline.proofs.Invariant.{IsFresh, IsHarmless, IsSoundSide, IsSoundCoordinator}
 use Rattle.syn_headline.proofs.StagedLemmas.{on_both}
-use Rattle.syn_headline.proofs.SideSteps.{if_some, nothing, asked_was_sent}
+use Rattle.syn_headline.proofs.SideSteps.{if_some, asked_was_sent}
 use Rattle.syn_headline.proofs.LogLemmas.{no_plan}
 use Rattle.syn_headline.proofs.SoundLemmas.{IsNew, push-grows, push-here, sound-plan, sound-keep}
 use Rattle.syn_headline.proofs.SoundLemmas.{kept_session}

@@ -22,6 +22,10 @@ use Rattle.syn_headline.proofs.SessionRuns.{runs_count_items}
 use Rattle.syn_headline.proofs.FetchedLemmas.{runs_mark_carried}
 use Rattle.syn_headline.proofs.CarriedLemmas.{runs_mark_held}
 use Rattle.syn_headline.specs.Headline.{HeldIsMarked}
+use Rattle.syn_headline.specs.Reported.{EachReportTells}
+use Rattle.syn_headline.proofs.ReportedRuns.{AllTold, IsTold}
+use Rattle.std.specs.Prelude.{All}
+use Rattle.std.proofs.lemmas.List.Elements.{All-nil, All-weaker}
 
 pub start_view : (old : World) → IsStart old → picture.IsStart (view old)
 start_view old s = record {
@@ -34,7 +38,7 @@ start_view old s = record {
 
 module _ (old new : World) (steps : List Step) (s : IsStart old) (g : Runs old steps new) where
   pub follows : coarse.FollowsAll (view old) (view new)
-      × IfSome new.coordinator.running (IsHeard new)
+      × IfSome new.coordinator.running (IsHeard new) × (AllTold old → AllTold new)
   follows =
       runs_follow steps no_plans old new (start_kept (view old) (start_view old s))
       (subst (λ o. IfSome o (IsHeard old)) (sym s.coordinator.1) tt) g
@@ -91,6 +95,12 @@ count_items old new steps s g =
 pub mark_carried : OfEachRun CarriedIsMarked
 mark_carried old new steps s g =
     runs_mark_carried (view old) (view new) (start_view old s) (follows old new steps s g).0
+
+pub tell_reports : OfEachRun EachReportTells
+tell_reports old new steps s g =
+    All-weaker (IsTold new) _ (λ told is. is.1) new.reports
+    ((follows old new steps s g).2 (subst (All (IsTold old)) (sym s.nothing_yet.2)
+    (All-nil (IsTold old))))
 
 pub mark_held : OfEachRun HeldIsMarked
 mark_held old new steps s g =

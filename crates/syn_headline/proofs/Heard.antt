@@ -1,7 +1,10 @@
 -- Requests that are numbered on, and the messages that they are.
 use Rattle.std.proofs.Common.{◌≡◌, ◌⊎◌, inl, inr, ◌≤◌, ◌<◌, ◌+◌, ◌++◌, ℕ, zero, suc, List, [], ◌∷◌}
 use Rattle.std.proofs.Common.{length, refl, sym, ap, ap₂, ◌∙◌, arith}
-use Rattle.std.specs.Prelude.{Contains}
+use Rattle.std.specs.Prelude.{Contains, Some, slice_get}
+use Rattle.std.proofs.Common.{subst}
+use Rattle.std.proofs.lemmas.List.Elements.{Contains-get_or}
+use Rattle.std.proofs.lemmas.Option.{slice_get_within, get_or_from_slice_get}
 use Rattle.syn_headline.specs.Side.{Request}
 use Rattle.syn_headline.specs.Network.{Which, Message, Asks, Answers, Sent}
 use Rattle.syn_headline.specs.Coordinator.{Exchange, Outstanding, numbered, messages_to}
@@ -13,6 +16,12 @@ abbrev pub TakenWas : Sent → ℕ → List Exchange → Type 0
 TakenWas sent session taken =
     (e : Exchange) → Contains taken e → Contains sent (Asks e.side session e.number e.request)
     × Contains sent (Answers e.side session e.number e.reply)
+
+-- what is delivered was sent
+pub sent_at : (sent : Sent) (n : ℕ) (m : Message) → slice_get sent n ≡ Some m → Contains sent m
+sent_at sent n m e =
+    subst (Contains sent) (get_or_from_slice_get sent n m m e)
+    (Contains-get_or sent n m (slice_get_within sent n m e))
 
 -- Requests that are numbered on
 

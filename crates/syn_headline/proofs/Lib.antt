@@ -46,13 +46,17 @@ pub mod Remembers
 pub mod InOrder
 pub mod Sessions
 pub mod HeardLemmas
+pub mod RefusedItems
+pub mod Tells
 pub mod CallLemmas
 pub mod StartLemmas
 pub mod TickLemmas
 pub mod StillHeard
+pub mod ReportedRuns
 pub mod Simulation
 pub mod StandLemmas
 pub mod FineRuns
+pub mod TakenAnswers
 pub mod AlikeLemmas
 pub mod CarriedLemmas
 pub mod FetchedLemmas

@@ -148,7 +148,7 @@ with_outcome has_room side session item path since size
 -- a piece comes from a path that nothing touched since
 pub pieces_are_untouched : PiecesAreUntouched
 pieces_are_untouched pair has_room side session path since offset served total bytes (inr none) is =
-    absurd (let x : Refused Memory ≡ Piece total bytes = sym (ap (λ s. s.reply) none) ∙ is in cc)
+    absurd (let x : Refused Memory ≡ Piece total bytes = sym (ap (λ s. s.reply) none.1) ∙ is in cc)
 pieces_are_untouched pair has_room side session path since offset served total bytes (inl s) is =
     unless (λ served. served.reply ≡ Piece total bytes → (since ≤ length side.history)
     × (is_quiet side.history since (length side.history) path ≡ true)) side
@@ -213,7 +213,7 @@ outcome pair has_room side session request served lawful (inl s) =
     subst (Outcome side session request) (sym so.2)
     (serve_outcome pair has_room side session request so.0 so.1 lawful)
 outcome pair has_room side session request served lawful (inr none) =
-    subst (Outcome side session request) (sym none) (refuses request why.Memory)
+    subst (Outcome side session request) (sym none.1) (refuses request why.Memory)
 
 pub halted_outcome : (side : Side) (session : ℕ) (request : Request) →
     Outcome side session request (serve_halted side session request)

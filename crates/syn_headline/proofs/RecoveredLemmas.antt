@@ -1,5 +1,5 @@
 -- A replacement that an opening gives back is legal: the run goes on by a stop and that opening.
-use Rattle.std.proofs.Common.{◌≡◌, ◌≢◌, ◌<◌, ◌⊎◌, ◌∙◌, ℕ, zero, suc, List, [], ◌∷◌, ◌++◌, Option}
+use Rattle.std.proofs.Common.{◌≡◌, ◌≢◌, ◌∙◌, ℕ, zero, suc, List, [], ◌∷◌, ◌++◌, Option}
 use Rattle.std.proofs.Common.{Some, None, refl, sym, ap, subst, inl, inr, arith, append-nil}
 use Rattle.std.proofs.Common.{length, length-append}
 use Rattle.syn_model.specs.Event.{Token, Event, Replaced}
@@ -10,7 +10,7 @@ use Rattle.syn_headline.specs.Acknowledged.{Stores, history_of, stores_after, Gr
 use Rattle.syn_headline.specs.Acknowledged.{Happened}
 use Rattle.syn_headline.specs.Headline.{OfEachRun, EachReplacementIsLegal, RecoveredIsLegal}
 use Rattle.syn_headline.specs.Headline.{IsStart, RunsStand, StandsFor, stores_of}
-use Rattle.syn_headline.specs.Machine.{Status, Up, Halted, Down, Journaled, IsBefore, Meets}
+use Rattle.syn_headline.specs.Machine.{Status, Up, Halted, Down, Journaled, IsBefore}
 use Rattle.syn_headline.specs.Machine.{all_made, after_calls, recovered, reopened, unarmed}
 use Rattle.syn_headline.specs.Machine.{after_device, with_record}
 use Rattle.syn_headline.specs.Network.{Which, Left, Right}

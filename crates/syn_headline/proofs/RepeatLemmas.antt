@@ -1,15 +1,18 @@
 -- What becomes of a repeated replacement.
 use Rattle.std.proofs.Common.{◌≡◌, ℕ, Bool, true, false, not, ◌==◌, ◌&&◌, ◌||◌, nat_lt}
 use Rattle.std.proofs.Common.{if◌then◌else◌, [], ◌∷◌, ◌++◌, length, refl, sym, ap, ◌∙◌, subst, Some}
-use Rattle.std.proofs.Common.{None, append_assoc, append-nil, arith, inl, inr}
+use Rattle.std.proofs.Common.{None, Option, append_assoc, append-nil, arith, inl, inr}
 use Rattle.std.proofs.lemmas.Bool.Decides.{nat_tests}
-use Rattle.std.proofs.lemmas.Option.{same_Some}
+use Rattle.std.proofs.lemmas.Option.{none-some, same_Some}
 use Rattle.std.specs.Option.{option_map_or}
-use Rattle.std.proofs.lemmas.Bool.{eq-eqb}
+use Rattle.std.proofs.lemmas.Bool.{eq-eqb, false≢true}
+use Rattle.syn_model.specs.Path.{Path}
 use Rattle.syn_model.specs.Refusal.{OldSession, NotStaged, BadStage, first_cause}
-use Rattle.syn_model.specs.Event.{Token, is_below, is_same_token, Edited, Began, Replaced}
+use Rattle.syn_model.specs.Event.{Event, Token, is_below, is_same_token, Edited, Began, Replaced}
 use Rattle.syn_model.specs.History.{History, IsHistory, AllAllowed, last_session, last_token}
-use Rattle.syn_headline.specs.Side.{Done, answer, token_of, is_dead_token, is_staged, staged_bytes}
+use Rattle.syn_model.specs.Tree.{Tree}
+use Rattle.syn_headline.specs.Side.{Side, Served, Serves, Replace, Refused, Done, answer, token_of}
+use Rattle.syn_headline.specs.Side.{is_last_token, is_dead_token, is_staged, staged_bytes}
 use Rattle.syn_headline.specs.Side.{unless_refused, replace_with}
 use Rattle.syn_headline.specs.Laws.{RepeatsAreDone, LaterAreOld, DeadAreOld}
 use Rattle.syn_headline.proofs.StagedLemmas.{token_one}
@@ -18,35 +21,50 @@ use Rattle.syn_headline.proofs.TokenLemmas.{above_last, after_front}
 itself : (token : Token) → is_same_token token token ≡ true
 itself token = rw (eq-eqb token.session token.session refl, eq-eqb token.item token.item refl) refl
 
-pub repeats_are_done : RepeatsAreDone
-repeats_are_done pair has_room side session item path since size served last (inr interrupted) =
-    inr interrupted
-repeats_are_done pair has_room side session item path since size served last (inl s) =
-    let is_last : option_map_or (λ last. is_same_token last (token_of session item))
-    (last_token side.history) false ≡ true =
-    ap (λ o. option_map_or (λ last. is_same_token last (token_of session item)) o false) last
-    ∙ itself (token_of session item) in
-    inl (s.2 ∙ ap (λ b. if b then answer side Done else unless_refused side
-    (first_cause ((is_dead_token side (token_of session item), OldSession)
-    ∷ (not (is_staged side.staging (token_of session item)), NotStaged)
+-- what a replacement is answered before what is staged is read
+abbrev at_token : (has_room : Event → Bool) (side : Side) (token : Token) (path : Path)
+    (since size : ℕ) (read : Option Tree) (done dead : Bool) → Served
+at_token has_room side token path since size read done dead =
+    if done then answer side Done
+    else unless_refused side
+    (first_cause ((dead, OldSession) ∷ (not (is_staged side.staging token), NotStaged)
     ∷ (not (length (staged_bytes side.staging) == size), BadStage) ∷ []))
-    (replace_with has_room side (token_of session item) path since s.0)) is_last)
+    (replace_with has_room side token path since read)
+
+pub repeats_are_done : RepeatsAreDone
+repeats_are_done pair has_room side session item path since size served last serves =
+    by serves
+  where
+    is_last : is_last_token side (token_of session item) ≡ true
+    is_last = ap (λ o. option_map_or (λ last. is_same_token last (token_of session item)) o false)
+        last ∙ itself (token_of session item)
+
+    by : Serves pair has_room side session (Replace item path since size) served →
+        served ≡ answer side Done
+    by (inr (takes, _)) = absurd (false≢true (sym takes.0 ∙ is_last))
+    by (inl (read, _, is)) =
+        is ∙ ap (λ done. at_token has_room side (token_of session item) path since size read done
+        (is_dead_token side (token_of session item))) is_last
 
 pub dead_are_old : DeadAreOld
-dead_are_old pair has_room side session item path since size served differs dead (inr interrupted) =
-    inr interrupted
-dead_are_old pair has_room side session item path since size served differs dead (inl s) =
-    inl (s.2 ∙ (ap (λ b. if b then answer side Done else unless_refused side
-    (first_cause ((is_dead_token side (token_of session item), OldSession)
-    ∷ (not (is_staged side.staging (token_of session item)), NotStaged)
-    ∷ (not (length (staged_bytes side.staging) == size), BadStage) ∷ []))
-    (replace_with has_room side (token_of session item) path since s.0)) differs
-    ∙ ap (λ b. unless_refused side
-    (first_cause ((b, OldSession) ∷ (
-      not (is_staged side.staging (token_of session item)),
-      NotStaged,
-    ) ∷ (not (length (staged_bytes side.staging) == size), BadStage) ∷ []))
-    (replace_with has_room side (token_of session item) path since s.0)) dead))
+dead_are_old pair has_room side session item path since size served differs dead serves =
+    by serves
+  where
+    refused : (b : Bool) → b ≡ true → first_cause ((b, OldSession)
+        ∷ (not (is_staged side.staging (token_of session item)), NotStaged)
+        ∷ (not (length (staged_bytes side.staging) == size), BadStage) ∷ []) ≡ Some OldSession
+    refused true is = refl
+    refused false is = absurd (false≢true is)
+
+    by : Serves pair has_room side session (Replace item path since size) served →
+        served ≡ answer side (Refused OldSession)
+    by (inr (takes, _)) = absurd (none-some OldSession (sym takes.1
+        ∙ refused (is_dead_token side (token_of session item)) dead))
+    by (inl (read, _, is)) =
+        is ∙ (ap (λ done. at_token has_room side (token_of session item) path since size read done
+        (is_dead_token side (token_of session item))) differs
+        ∙ ap (λ dead. at_token has_room side (token_of session item) path since size read false
+        dead) dead)
 
 -- Tokens rise
 

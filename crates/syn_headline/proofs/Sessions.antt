@@ -1,7 +1,7 @@
 -- What a session that runs remembers of the world, and what steps beside it keep of that.
 use Rattle.std.proofs.Common.{◌≡◌, ◌≢◌, ℕ, zero, suc, List, [], ◌∷◌, ◌++◌, filter_map, take, fold}
 use Rattle.std.proofs.Common.{sym, ap, ◌∙◌, subst, None, append-nil, arith, inl, inr}
-use Rattle.std.specs.Prelude.{Contains, IsSome, All, Any}
+use Rattle.std.specs.Prelude.{Contains, IsSome, IfSome, All, Any, Option}
 use Rattle.std.proofs.lemmas.List.Elements.{Contains-append_left, Contains-append_cases}
 use Rattle.std.proofs.lemmas.List.Elements.{filter_map-append}
 use Rattle.syn_headline.specs.Side.{Request, Reply}
@@ -11,6 +11,8 @@ use Rattle.syn_headline.specs.Coordinator.{Running, WasAsked, plan_of}
 use Rattle.syn_headline.specs.World.{World}
 use Rattle.syn_headline.proofs.Coarse.{kept_in_session, since_start}
 use Rattle.syn_headline.proofs.Walks.{IsSettledBy}
+use Rattle.syn_headline.specs.Planning.{Planned, Log}
+use Rattle.syn_headline.specs.Reported.{IsRefusedFor}
 use Rattle.syn_headline.proofs.Remembers.{Remembers}
 use Rattle.syn_headline.proofs.InOrder.{ListsInOrder, SaysAfter, beside_in_order}
 
@@ -20,9 +22,20 @@ pub record IsHeard (world : World) (running : Running) : Type 0 where
   pub unplanned : running.plan ≡ None →
       All (λ made. made.session ≢ running.session) world.log × (running.cursor ≡ 0)
   pub planned : IsSome running.plan → Any (λ made. made.session ≡ running.session) world.log
+  pub logged : IfSome running.plan
+      (λ plan. Any (λ made. (made.session ≡ running.session) × (made.plan ≡ plan)) world.log)
   pub kept : kept_in_session world.acknowledged ≡ running.kept
   pub settled :
       All (IsSettledBy running.kept running.refused) (take running.cursor (plan_of running))
+  pub refused : All (IsRefusedFor (plan_of running) running.taken) running.refused
+
+-- the plan of a session stands in the log
+pub still_logged : (old new : Log) (session : ℕ) (plan : Option (List Planned)) → new ≡ old →
+    IfSome plan (λ plan. Any (λ made. (made.session ≡ session) × (made.plan ≡ plan)) old) →
+    IfSome plan (λ plan. Any (λ made. (made.session ≡ session) × (made.plan ≡ plan)) new)
+still_logged old new session plan same =
+    subst (λ log. IfSome plan
+    (λ plan. Any (λ made. (made.session ≡ session) × (made.plan ≡ plan)) log)) (sym same)
 
 -- no request is among answers
 pub no_asks : (side at : Which) (session n : ℕ) (reply : Reply) (s m : ℕ) (request : Request) →
@@ -77,5 +90,7 @@ heard_beside old new running g h = record {
       ∙ (ap (fold since_start []) (filter_map-append kept_in old.acknowledged g.acks
       ∙ (ap (λ ks. filter_map kept_in old.acknowledged ++ ks) g.nothing_kept
       ∙ append-nil (filter_map kept_in old.acknowledged))) ∙ h.kept);
+  logged = still_logged old.log new.log running.session running.plan g.log h.logged;
   settled = h.settled;
+  refused = h.refused;
 }

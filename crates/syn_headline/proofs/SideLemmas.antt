@@ -191,7 +191,7 @@ served_so pair has_room side session request served read (inr unread) is =
 -- a step of a side adds one allowed event at most
 pub serves_allowed : ServesAllowed
 serves_allowed pair has_room side session request served lawful (inr none) =
-    inl (ap (λ s. s.side.history) none)
+    inl (ap (λ s. s.side.history) none.1)
 serves_allowed pair has_room side session request served lawful (inl s) =
     let so = served_so pair has_room side session request served s.0 s.1 s.2 in
     subst (λ x. AddsAllowed side.history x.side.history) (sym so.2)
@@ -208,7 +208,7 @@ one_reading bytes (Some t) (Some u) ra rb =
 
 -- so a step is the one that the staged bytes spell
 pub serves_by_reading : ServesByReading
-serves_by_reading pair has_room side session request served read reads (inr none) = inr none
+serves_by_reading pair has_room side session request served read reads (inr none) = inr none.1
 serves_by_reading pair has_room side session request served read reads (inl (other, inl also, is)) =
     inl (is ∙ ap (λ r. serve pair has_room r side session request)
     (one_reading (staged_bytes side.staging) other read also reads))

@@ -5,20 +5,21 @@ use Rattle.std.proofs.Common.{sym, ap, ◌∙◌, subst, Option, Some, None, app
 use Rattle.std.proofs.Common.{◌⊎◌, ◌∷◌, ◌++◌, ap₂, option_map, is_some, nat_le, not, ◌+◌, slice_get}
 use Rattle.std.proofs.Common.{[]}
 use Rattle.std.specs.Prelude.{Contains, IfSome}
-use Rattle.std.proofs.lemmas.Option.{none-some, slice_get_within, get_or_from_slice_get}
-use Rattle.syn_model.specs.Event.{Edit, Edited}
+use Rattle.std.proofs.lemmas.Option.{none-some}
+use Rattle.syn_model.specs.Event.{Edit, Event, Edited}
 use Rattle.syn_headline.specs.Machine.{Status, Up, Halted, Down, Arms, has_room, Journaled}
 use Rattle.syn_headline.specs.Machine.{after_device, with_image, with_record, reopened, Compacts}
 use Rattle.syn_headline.specs.Machine.{compacted, not_compacted, Opens, opened, recovered}
 use Rattle.syn_model.specs.Limits.{greatest}
 use Rattle.syn_headline.specs.Side.{Reply}
-use Rattle.syn_headline.specs.SideMachine.{causes_of}
-use Rattle.syn_headline.specs.Network.{Which, Message, Asks, Answers, Sent}
+use Rattle.syn_headline.specs.SideMachine.{SideMachine, causes_of}
+use Rattle.syn_headline.specs.Network.{Which, Left, Right, Message, Asks, Answers, Sent}
 use Rattle.syn_headline.specs.Acknowledged.{Ack, Kept_by}
 use Rattle.syn_headline.specs.Coordinator.{Running, running_after, CoordinatorMachine}
 use Rattle.syn_headline.specs.Coordinator.{archive_layout, with_archive, Call, start_causes, takes}
 use Rattle.syn_headline.specs.Coordinator.{ignores, CoordinatorTakes}
 use Rattle.syn_headline.specs.World.{World, Machine, At, Coordinator, side_of, says, set_device}
+use Rattle.syn_headline.specs.World.{side_goes}
 use Rattle.syn_headline.specs.World.{Step, Edits, Start, Deliver, Tick, Checkpoint, Fail, Stop}
 use Rattle.syn_headline.specs.World.{Open, Reopen, status_of, coordinator_goes, archive_writes}
 use Rattle.syn_headline.specs.World.{refuses_with, is_halted, answered_by, UnlessDown, Calls}
@@ -34,8 +35,8 @@ use Rattle.syn_headline.proofs.Invariant.{Plans, histories_of, IsKept, IsHarmles
 use Rattle.syn_headline.proofs.View.{view, view_running, view_coordinator, not_up, halted_not_up}
 use Rattle.syn_headline.proofs.View.{down_not_up, neither, edits_follow, opens_follow}
 use Rattle.syn_headline.proofs.View.{compacts_follow, request_follows, device_follows}
+use Rattle.syn_headline.proofs.Heard.{sent_at}
 use Rattle.syn_headline.proofs.Sessions.{IsHeard, GoesBeside}
-use Rattle.std.proofs.lemmas.List.Elements.{Contains-get_or}
 use Rattle.syn_model.specs.Refusal.{Refusal, Device, Memory, Cause, first_cause}
 use Rattle.syn_model.specs.Refusal as why
 use Rattle.syn_model.specs.Archive.{Archive, Kept, Session, CanKeep}
@@ -51,6 +52,7 @@ use Rattle.syn_headline.proofs.TickLemmas.{ticks_follow}
 use Rattle.syn_headline.proofs.StillHeard.{IsFollowed, beside_heard, same_beside, side_heard}
 use Rattle.syn_headline.proofs.StillHeard.{nothing_asked, nothing_said, says_after, says_no_request}
 use Rattle.syn_headline.proofs.StillHeard.{after_running, device_heard}
+use Rattle.syn_headline.proofs.ReportedRuns.{AllTold, grows, step_told}
 
 -- The archive's journal
 
@@ -134,6 +136,7 @@ opens_archive_follow plans old k h calls _ _ (opened room generation arms meets 
       coarse.archive_opens (view_archive_alone old journal),
       beside_heard old
           (archive_writes old journal []) (archive_beside old journal) old.coordinator.running h,
+      inl (append-nil old.reports),
     )
 opens_archive_follow plans old k h calls _ _ (recovered arms kept meets is can) =
     let journal = with_record (archive_layout old.pair) (reopened old.coordinator.journal
@@ -141,14 +144,27 @@ opens_archive_follow plans old k h calls _ _ (recovered arms kept meets is can) 
       coarse.archive_recovers kept is can (view_archive old journal (kept ∷ [])),
       none_heard old.coordinator.running (archive_writes old journal (kept ∷ []))
           (none_runs plans old k kept is old.coordinator.running refl),
+      inl (append-nil old.reports),
     )
+
+-- a side and a device report nothing
+side_reports : (old : World) (side : Which) (machine : SideMachine) (messages : List Message)
+    (events : List Event) → (side_goes old side machine messages events).reports ≡ old.reports
+side_reports old Left machine messages events = refl
+side_reports old Right machine messages events = refl
+
+device_reports : (old : World) (machine : Machine) (status : Status) (arms : Arms) (failed : ℕ) →
+    (set_device old machine status arms failed).reports ≡ old.reports
+device_reports old (At Left) status arms failed = refl
+device_reports old (At Right) status arms failed = refl
+device_reports old Coordinator status arms failed = refl
 
 -- The steps
 
 module _ (plans : Plans) (old : World) (k : IsKept plans (view old))
     (h : IfSome old.coordinator.running (IsHeard old)) where
   stays_so : (new : World) → new ≡ old → IsFollowed old new
-  stays_so new e = subst (IsFollowed old) (sym e) (coarse.same refl, h)
+  stays_so new e = subst (IsFollowed old) (sym e) (coarse.same refl, h, inl refl)
 
   -- what a call was refused with is seen nowhere
   told_so : (made : World) (reason : Refusal) → IsFollowed old made →
@@ -157,6 +173,7 @@ module _ (plans : Plans) (old : World) (k : IsKept plans (view old))
     f.0,
     beside_heard made (refuses_with made reason)
         (same_beside made (refuses_with made reason) refl refl refl) made.coordinator.running f.1,
+    f.2,
   )
 
   refused_so : (causes : List Cause) (new : World) → world.IsRefused old causes new →
@@ -193,8 +210,12 @@ module _ (plans : Plans) (old : World) (k : IsKept plans (view old))
       (side_of old side) (Edited user edit)) ≡ None → status_of old (At side) ≢ Down →
       EditsSide old side (Edited user edit) made → IsFollowed old made
   edits_so side user edit made none up g =
-      (edits_follow old side user edit made none up g, heard_of made g)
+      (edits_follow old side user edit made none up g, heard_of made g, inl (still made g))
     where
+      still : (made : World) → EditsSide old side (Edited user edit) made →
+          made.reports ≡ old.reports
+      still _ (edits journal events lawful writes) = side_reports old side _ [] events
+
       heard_of : (made : World) → EditsSide old side (Edited user edit) made →
           IfSome made.coordinator.running (IsHeard made)
       heard_of _ (edits journal events lawful writes) =
@@ -205,11 +226,13 @@ module _ (plans : Plans) (old : World) (k : IsKept plans (view old))
   compacts_so _ _ (compacts_side side journal c) = (
     compacts_follow old side journal c,
     side_heard old side _ [] [] nothing_asked (nothing_said old.sent) h,
+    inl (side_reports old side _ [] []),
   )
   compacts_so _ _ (compacts_archive journal c) = (
     compacts_archive_follow old journal c,
     after_running old (archive_writes old journal [])
         journal.status old.coordinator.running (archive_beside old journal) h,
+    inl (append-nil old.reports),
   )
 
   opens_so : (calls : ℕ) (machine : Machine) (made : World) → OpensMachine old calls machine made →
@@ -217,6 +240,7 @@ module _ (plans : Plans) (old : World) (k : IsKept plans (view old))
   opens_so calls _ _ (opens_side side journal events o) = (
     opens_follow old side calls journal events o,
     side_heard old side _ [] events nothing_asked (nothing_said old.sent) h,
+    inl (side_reports old side _ [] events),
   )
   opens_so calls _ _ (opens_archive journal kept o) =
       opens_archive_follow plans old k h calls journal kept o
@@ -227,6 +251,7 @@ module _ (plans : Plans) (old : World) (k : IsKept plans (view old))
   device_so machine status arms failed up = (
     device_follows old machine status arms failed up,
     device_heard old machine status arms failed h,
+    inl (device_reports old machine status arms failed),
   )
 
   fails_so : (machine : Machine) (calls : ℕ) (status left : Status) (made : World) →
@@ -258,7 +283,7 @@ module _ (plans : Plans) (old : World) (k : IsKept plans (view old))
       CoordinatorTakes old.pair old.coordinator from session number reply machine call →
       IsFollowed old (coordinator_goes old machine call)
   answer_so from session number reply c _ _ (ignores none) =
-      (coarse.same (nothing_given old), heard_still old h)
+      (coarse.same (nothing_given old), heard_still old h, inl (append-nil old.reports))
   answer_so from session number reply c _ _ (takes r request new call expected t) =
       takes_follow plans old k r expected.runs
       (subst (λ o. IfSome o (IsHeard old)) expected.runs h) from number reply
@@ -276,15 +301,11 @@ module _ (plans : Plans) (old : World) (k : IsKept plans (view old))
         side_heard old side machine
             (says side session number reply) events (says_no_request side session number reply)
             (says_after plans old k side session number request machine reply events asked t) h,
+        inl (side_reports old side machine (says side session number reply) events),
       )
   delivers_so _ c _ (to_coordinator side session number reply machine call t) =
       answer_so side session number reply
       (c (Answers side session number reply) refl) machine call t
-
-  was_sent : (n : ℕ) (m : Message) → slice_get old.sent n ≡ Some m → Contains old.sent m
-  was_sent n m e =
-      subst (Contains old.sent) (get_or_from_slice_get old.sent n m m e)
-      (Contains-get_or old.sent n m (slice_get_within old.sent n m e))
 
   ticks_so : (new : World) → Ticks old new → IsFollowed old new
   ticks_so _ (ticks machine call g) = ticks_follow plans old k h machine call g
@@ -312,7 +333,7 @@ module _ (plans : Plans) (old : World) (k : IsKept plans (view old))
   step_follows Start new g =
       calls_so Coordinator (start_causes old.pair old.coordinator) (Starts old) new starts_so g
   step_follows (Deliver message) new g =
-      delivers_so (slice_get old.sent message) (was_sent message) new g
+      delivers_so (slice_get old.sent message) (sent_at old.sent message) new g
   step_follows Tick new g = ticks_so new g
   step_follows (Checkpoint machine) new g =
       calls_so machine (full_generation (generation_of old machine))
@@ -335,11 +356,16 @@ module _ (plans : Plans) (old : World) (k : IsKept plans (view old))
 pub runs_follow : (steps : List Step) (plans : Plans) (old new : World) → IsKept plans (view old) →
     IfSome old.coordinator.running (IsHeard old) → Runs old steps new →
     FollowsAll (view old) (view new) × IfSome new.coordinator.running (IsHeard new)
+    × (AllTold old → AllTold new)
 runs_follow [] plans old new k h e =
-    subst (λ w. FollowsAll (view old) (view w) × IfSome w.coordinator.running (IsHeard w)) (sym e)
-    (nothing_more (view old), h)
+    subst (λ w. FollowsAll (view old) (view w) × IfSome w.coordinator.running (IsHeard w)
+    × (AllTold old → AllTold w)) (sym e)
+    (nothing_more (view old), h, λ told. told)
 runs_follow (step ∷ steps) plans old new k h g =
     let f = step_follows plans old k h step g.0 g.1 in
     let a = step_advances plans (view old) k (view g.0) f.0 in
-    let more = runs_follow steps a.later g.0 new a.kept f.1 g.2 in
-    (one_more (view old) (view g.0) (view new) f.0 more.0, more.1)
+    let more = runs_follow steps a.later g.0 new a.kept f.1 g.2 in (
+      one_more (view old) (view g.0) (view new) f.0 more.0,
+      more.1,
+      λ told. more.2 (step_told old g.0 (grows (view old) (view g.0) f.0) f.2 told),
+    )

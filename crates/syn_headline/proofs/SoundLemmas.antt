@@ -33,7 +33,7 @@ use Rattle.std.proofs.lemmas.List.Quantifiers.{all_pairs_push}
 use Rattle.syn_headline.proofs.Coarse.{IsOfPlan}
 use Rattle.syn_model.proofs.PathLemmas.{strip_prefix-is}
 use Rattle.syn_model.proofs.TreeLemmas.{get-replace}
-use Rattle.syn_headline.proofs.GrownLemmas.{some_in_nothing, made}
+use Rattle.syn_headline.proofs.GrownLemmas.{some_in_nothing}
 
 -- Messages
 

@@ -33,7 +33,6 @@ use Rattle.syn_model.proofs.MarkLemmas.{mark-subtree}
 use Rattle.syn_model.proofs.TreeLemmas.{subtree-replace}
 use Rattle.syn_headline.proofs.GrownLemmas.{fold_one, had-grow, made, extends, length_grows}
 use Rattle.syn_headline.proofs.GrownLemmas.{part_at_stays, still_touched, sound-grow}
-use Rattle.syn_headline.proofs.OutcomeLemmas.{begins}
 
 pub on_both : (P : Which → Type 0) (side : Which) → P side → P (other side) → (s : Which) → P s
 on_both P Left here there Left = here

@@ -36,6 +36,8 @@ use Rattle.syn_headline.proofs.View.{view, view_running, view_coordinator}
 use Rattle.syn_headline.proofs.Walks.{IsLeft, writes_left, keeps_due, IsSettledBy}
 use Rattle.syn_headline.proofs.Remembers.{Remembers, asking_remembers, asking_tells, asking_once}
 use Rattle.syn_headline.proofs.InOrder.{asking_in_order, nothing_in_order, for_side}
+use Rattle.syn_headline.specs.Reported.{IsRefusedFor}
+use Rattle.syn_headline.proofs.Tells.{Tells}
 use Rattle.syn_headline.proofs.Sessions.{IsHeard, GoesBeside, heard_beside}
 
 -- a call that gives nothing
@@ -285,21 +287,25 @@ module _ (plans : Plans) (old : fine_world.World) (k : IsKept plans (view old))
               refl,
             );
         planned = λ some. absurd (true≢false (sym some));
+        logged = tt;
         kept =
             ap (fold since_start [])
             (filter_map-append kept_in old.acknowledged (Kept_by (Session session) ∷ []))
             ∙ fold-append since_start
             [] (filter_map kept_in old.acknowledged) (Session session ∷ []);
         settled = All-nil (IsSettledBy [] []);
+        refused = All-nil (IsRefusedFor [] []);
       }
 
   pub starts_follow : (new : CoordinatorMachine) (call : Call) →
       CoordinatorStarts old.pair old.coordinator new call →
       Follows (view old) (view (coordinator_goes old new call))
       × IfSome new.running (IsHeard (coordinator_goes old new call))
+      × Tells old (coordinator_goes old new call)
   starts_follow _ _ (fine.starts session journal next lawful keeps then_up) = (
     begins_so session next lawful journal keeps then_up,
     heard_on session next lawful journal keeps then_up,
+    inl (append-nil old.reports),
   )
   starts_follow _ _ (fine.start_breaks session journal kept next keeps down) =
-      (breaks_so session next journal kept keeps, tt)
+      (breaks_so session next journal kept keeps, tt, inl (append-nil old.reports))

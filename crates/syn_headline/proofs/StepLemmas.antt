@@ -18,13 +18,13 @@ use Rattle.syn_headline.proofs.Invariant.{Plans, plan_in, Histories, histories_o
 use Rattle.syn_headline.proofs.Invariant.{IsSoundStaging, IsSoundEvent, IsSoundSide, IsHarmless}
 use Rattle.syn_headline.proofs.Invariant.{IsKept, IsSound_request}
 use Rattle.syn_headline.proofs.PlanLemmas.{fenced}
-use Rattle.syn_headline.proofs.GrownLemmas.{made, session_grows, fold_one}
+use Rattle.syn_headline.proofs.GrownLemmas.{session_grows, fold_one}
 use Rattle.syn_headline.proofs.SoundLemmas.{sound-more, sound-keep, item-grow, PlansGrow}
 use Rattle.syn_headline.proofs.SoundLemmas.{kept_session}
 use Rattle.syn_headline.proofs.StagedLemmas.{on_both, token_one}
 use Rattle.syn_headline.proofs.LogLemmas.{scans_of, plan_from}
 use Rattle.syn_headline.proofs.MoveLemmas.{current}
-use Rattle.syn_headline.proofs.SideSteps.{if_some, grows, sound_then}
+use Rattle.syn_headline.proofs.SideSteps.{if_some, grows}
 
 -- The coordinator
 

@@ -26,10 +26,12 @@ use Rattle.syn_headline.proofs.WorldLemmas.{kept_events}
 use Rattle.syn_headline.proofs.View.{view}
 use Rattle.syn_headline.proofs.InOrder.{SaysAfter, position_of}
 use Rattle.syn_headline.proofs.Sessions.{IsHeard, GoesBeside, heard_beside, no_asks}
+use Rattle.syn_headline.proofs.Tells.{Tells}
 
 -- what a step leaves
 abbrev pub IsFollowed : World → World → Type 0
 IsFollowed old new = Follows (view old) (view new) × IfSome new.coordinator.running (IsHeard new)
+    × Tells old new
 
 -- The session is heard still where the coordinator does nothing
 
@@ -122,7 +124,7 @@ served_listing pair has_room side session path served (inl (read, reads, is)) la
     by true e = sym (same_Some _ _ e)
     by false e = sym (same_Some _ _ e)
 served_listing pair has_room side session path served (inr none) later at =
-    absurd (none-some _ (sym (ap (λ s. position_of s.reply) none) ∙ at))
+    absurd (none-some _ (sym (ap (λ s. position_of s.reply) none.1) ∙ at))
 
 says_listing : (pair : ℕ) (machine : SideMachine) (session : ℕ) (path : Path) (new : SideMachine)
     (said : Option Reply) (events : List Event) →

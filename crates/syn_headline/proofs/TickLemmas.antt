@@ -1,12 +1,13 @@
 -- A tick of the coordinator in the coarser picture, and what its session then remembers.
 use Rattle.std.proofs.Common.{◌≡◌, ◌≢◌, ◌<◌, ◌+◌, ℕ, zero, suc, Bool, true≢false, List, ◌∷◌, ◌++◌}
+use Rattle.std.proofs.Common.{◌⊎◌, true, false}
 use Rattle.std.proofs.Common.{refl, sym, ap, ◌∙◌, subst, Option, Some, None, option_map, is_some}
 use Rattle.std.proofs.Common.{append-nil, arith, inl, inr, ◌&&◌, map, length, []}
 use Rattle.std.specs.Prelude.{Contains, IfSome, All, Any}
 use Rattle.std.proofs.lemmas.List.Elements.{All-nil, All-cons, All-contains_itself, All-append}
 use Rattle.std.proofs.lemmas.List.Elements.{Contains-append_left, Contains-append_right}
 use Rattle.std.proofs.lemmas.List.Elements.{Contains-append_cases}
-use Rattle.syn_model.specs.Refusal.{Refusal}
+use Rattle.syn_model.specs.Refusal.{Refusal, Memory, NoAnswer}
 use Rattle.syn_model.specs.Archive.{Kept, CanKeep}
 use Rattle.syn_headline.specs.Machine.{Up}
 use Rattle.syn_headline.specs.Side.{Request, Begin, ListAt, Fetch, Stage, Replace}
@@ -25,7 +26,9 @@ use Rattle.syn_headline.proofs.Coarse as coarse
 use Rattle.syn_headline.proofs.Invariant.{Plans, histories_of, IsHarmless, IsKept, plan_in, IsFresh}
 use Rattle.syn_headline.proofs.View.{view, view_running, view_coordinator}
 use Rattle.syn_headline.proofs.InOrder.{IsSaid, no_answer, after_less}
-use Rattle.syn_headline.proofs.Sessions.{IsHeard}
+use Rattle.syn_headline.proofs.Sessions.{IsHeard, still_logged}
+use Rattle.syn_headline.specs.Reported.{EndsSo, unanswered, out_of_memory}
+use Rattle.syn_headline.proofs.Tells.{Tells, ends_still}
 use Rattle.syn_headline.proofs.Rising.{once_more-length, once_more-rising, may_wait_again}
 use Rattle.std.specs.List.{count_by}
 use Rattle.std.proofs.lemmas.Option.{none-some}
@@ -244,8 +247,10 @@ module _ (plans : Plans) (old : fine_world.World) (k : IsKept plans (view old)) 
     planned =
         λ some. subst (Any (λ made. made.session ≡ r.session)) (sym (append-nil old.log))
         (h.planned some);
+    logged = still_logged old.log (old.log ++ []) r.session r.plan (append-nil old.log) h.logged;
     kept = ap kept_in_session (append-nil old.acknowledged) ∙ h.kept;
     settled = h.settled;
+    refused = h.refused;
   }
 
   unwritten : old.coordinator.journal.writing ≡ None
@@ -358,10 +363,24 @@ pub ticks_follow : (plans : Plans) (old : fine_world.World) (k : IsKept plans (v
     CoordinatorTicks old.coordinator new call →
     Follows (view old) (view (coordinator_goes old new call))
     × IfSome new.running (IsHeard (coordinator_goes old new call))
+    × Tells old (coordinator_goes old new call)
 ticks_follow plans old k h _ _ (fine.no_session none) =
-    (coarse.same (nothing_given old), heard_still old h)
+    (coarse.same (nothing_given old), heard_still old h, inl (append-nil old.reports))
 ticks_follow plans old k h _ _ (fine.resends r e few) =
-    let heard = subst (λ o. IfSome o (IsHeard old)) e h in
-    (resends_so plans old k r e heard, heard_again plans old k r e heard)
+    let heard = subst (λ o. IfSome o (IsHeard old)) e h in (
+      resends_so plans old k r e heard,
+      heard_again plans old k r e heard,
+      inl (append-nil old.reports),
+    )
 ticks_follow plans old k h _ _ (fine.gives_up r why e because) =
-    (gives_up_so plans old k r e (subst (λ o. IfSome o (IsHeard old)) e h) why, tt)
+    let heard = subst (λ o. IfSome o (IsHeard old)) e h in (
+      gives_up_so plans old k r e heard why,
+      tt,
+      ends_still old r why (record old.coordinator { running = None }) heard (by because),
+    )
+  where
+    by : ((fine.is_resent r ≡ true) × (why ≡ NoAnswer))
+        ⊎ ((fine.is_resent r ≡ false) × (why ≡ Memory)) → EndsSo (old.sent ++ []) r (Some why)
+    by (inl resent) = subst (λ w. EndsSo (old.sent ++ []) r (Some w)) (sym resent.1)
+        (unanswered resent.0)
+    by (inr memory) = subst (λ w. EndsSo (old.sent ++ []) r (Some w)) (sym memory.1) out_of_memory

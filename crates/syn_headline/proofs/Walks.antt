@@ -2,7 +2,7 @@
 use Rattle.std.proofs.Common.{◌≡◌, ℕ, zero, suc, Bool, true, false, if◌then◌else◌, ◌||◌, List, []}
 use Rattle.std.proofs.Common.{◌∷◌, ◌++◌, take, refl, sym, ap, ◌∙◌, subst, Some, None, append_assoc}
 use Rattle.std.proofs.Common.{slice_get}
-use Rattle.std.specs.Prelude.{Contains, IfSome, All}
+use Rattle.std.specs.Prelude.{IfSome, All}
 use Rattle.std.specs.List.{list_any}
 use Rattle.std.specs.Ordering.{eq_by_cmp}
 use Rattle.std.proofs.lemmas.List.Elements.{All-nil, All-cons, All-head, All-tail, All-push}
@@ -30,6 +30,7 @@ use Rattle.syn_headline.specs.Coordinator.{archive_refuses, no_checkpoint, check
 use Rattle.syn_headline.specs.Coordinator.{checkpoint_breaks, keeps, record_breaks}
 use Rattle.syn_headline.proofs.Coarse.{AllCanKeep}
 use Rattle.syn_headline.proofs.View.{not_up}
+pub use Rattle.syn_headline.specs.Reported.{IsSettledBy, as_conflict, as_kept, as_refused}
 
 -- a record of an item of the plan
 pub data IsItems (plan : List Planned) (taken : Exchange) (kept : Kept) : Type 0 where
@@ -176,13 +177,6 @@ module _ (pair : ℕ) (plan : List Planned) (taken : Exchange) where
       to_keep.can (of_item walk.cursor to_keep.planned to_keep.at to_keep.due) kept_so
 
 -- Which items are settled
-
-pub data IsSettledBy (kept : List Kept) (refused : List (Refusal × Path)) (planned : Planned) :
-    Type 0 where
-  as_conflict : (path : Path) → planned.item ≡ Conflict path → IsSettledBy kept refused planned
-  as_kept : is_kept kept planned.item ≡ true → IsSettledBy kept refused planned
-  as_refused : (why : Refusal) → Contains refused (why, path_of planned.item) →
-      IsSettledBy kept refused planned
 
 more_kept : (kept more : List Kept) (refused : List (Refusal × Path)) (planned : Planned) →
     IsSettledBy kept refused planned → IsSettledBy (kept ++ more) refused planned

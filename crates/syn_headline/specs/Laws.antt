@@ -38,13 +38,14 @@ PiecesAreUntouched = (pair : ℕ) (has_room : Event → Bool) (side : Side) (ses
     served.reply ≡ Piece total bytes →
     (since ≤ length side.history) × (is_quiet side.history since (length side.history) path ≡ true)
 
--- a repeat of the last replacement is answered done, whatever was staged since
+-- a repeat of the last replacement is answered done, whatever was staged since, and never out of
+-- memory
 abbrev pub RepeatsAreDone : Type 0
 RepeatsAreDone = (pair : ℕ) (has_room : Event → Bool) (side : Side) (session item : ℕ) (path : Path)
     (since size : ℕ) (served : Served) →
     last_token side.history ≡ Some (token_of session item) →
     Serves pair has_room side session (Replace item path since size) served →
-    (served ≡ answer side Done) ⊎ IsOutOfMemory side served
+    served ≡ answer side Done
 
 -- and once there is a later token it is refused as old
 abbrev pub LaterAreOld : Type 0
@@ -55,7 +56,7 @@ LaterAreOld = (pair : ℕ) (has_room : Event → Bool) (side : Side) (session it
     side.history ≡ earlier ++ Replaced (token_of session item) at from new ∷ later →
     last_token side.history ≡ Some last → is_same_token last (token_of session item) ≡ false →
     Serves pair has_room side session (Replace item path since size) served →
-    (served ≡ answer side (Refused OldSession)) ⊎ IsOutOfMemory side served
+    served ≡ answer side (Refused OldSession)
 
 -- so is what is dead otherwise: of a session that is not the one begun last, or below the last or
 -- the staged token
@@ -66,4 +67,4 @@ DeadAreOld = (pair : ℕ) (has_room : Event → Bool) (side : Side) (session ite
     (last_token side.history) false ≡ false →
     is_dead_token side (token_of session item) ≡ true →
     Serves pair has_room side session (Replace item path since size) served →
-    (served ≡ answer side (Refused OldSession)) ⊎ IsOutOfMemory side served
+    served ≡ answer side (Refused OldSession)

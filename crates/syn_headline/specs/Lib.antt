@@ -9,4 +9,5 @@ pub mod Coordinator
 pub mod Acknowledged
 pub mod World
 pub mod Headline
+pub mod Reported
 pub mod Laws

@@ -1,6 +1,6 @@
 -- A machine that keeps a value in a journal on its device: an opening, a record, a checkpoint, a
 -- stop and a failure.
-use Rattle.std.specs.Prelude.{ℕ, suc, Bool, true, false, nat_le, ◌||◌, ◌+◌, ◌-◌, ◌<◌, ◌≤◌, ◌≡◌, ◌⊎◌}
+use Rattle.std.specs.Prelude.{ℕ, suc, Bool, true, false, nat_le, ◌||◌, ◌+◌, ◌-◌, ◌<◌, ◌≡◌, ◌⊎◌}
 use Rattle.std.specs.Prelude.{List, [], ◌∷◌, length, Option, Some, None}
 use Rattle.syn_model.specs.Limits.{half_size}
 use Rattle.syn_model.specs.Path.{Bytes}
@@ -29,14 +29,14 @@ after_calls calls arms = record { fail = arms.fail - calls; stop = arms.stop - c
 
 -- So many device calls in a row: the status and the arms after them, and how many of them failed.
 -- All are made, or one fails, by itself or as it was armed, or the machine is down after one, as a
--- stop was armed
+-- stop was armed, and hears no more of that one
 pub data Meets (arms : Arms) (calls : ℕ) : Status → Arms → ℕ → Type 0 where
   all_made : IsBefore calls arms.fail → IsBefore calls arms.stop →
       Meets arms calls Up (after_calls calls arms) 0
   one_fails : (made : ℕ) → made < calls → IsBefore made arms.fail → IsBefore (suc made) arms.stop →
       Meets arms calls Halted (after_calls (suc made) arms) 1
-  one_stops : (made failed : ℕ) → made < calls → IsBefore made arms.fail → arms.stop ≡ suc made →
-      failed ≤ 1 → (arms.fail ≡ suc made → failed ≡ 1) → Meets arms calls Down unarmed failed
+  one_stops : (made : ℕ) → made < calls → IsBefore made arms.fail → arms.stop ≡ suc made →
+      Meets arms calls Down unarmed 0
 
 -- What it stands for, how many bytes its journal has left, and its generation; where it stopped or
 -- its device failed, whether a checkpoint and which record was being written; and how many of its

@@ -10,6 +10,7 @@ ghost use Rattle.syn_headline.specs.Headline.{EachEntryWasHeld, LeavesPair, Logs
 ghost use Rattle.syn_headline.specs.Headline.{CompleteSessionsSynchronize};
 ghost use Rattle.syn_headline.specs.Headline.{CompleteSessionsReconcile, ReportsItsConflicts};
 ghost use Rattle.syn_headline.specs.Headline.{CountsItsItems, CarriedIsMarked, HeldIsMarked};
+ghost use Rattle.syn_headline.specs.Reported.{EachReportTells, TakesExpected};
 
 /// A step of a side leaves its history or adds one allowed event, and is the one that its staged
 /// bytes spell. It answers a fetch only where nothing touched the path since its position, and a
@@ -24,7 +25,7 @@ pub fn side_laws()
 {}
 
 /// In every run, with stops and failing devices, the machines stand for what was acknowledged, each
-/// replacement is legal, and each plan is logged.
+/// replacement is legal, each plan is logged, and each report tells of its session.
 pub fn run_laws()
     ensures formatted { IsPair formatted }
     ensures stands { RunsStand }
@@ -35,6 +36,8 @@ pub fn run_laws()
     ensures pair { OfEachRun LeavesPair }
     ensures logged { OfEachRun LogsPlans }
     ensures owe { OfEachRun Owes }
+    ensures reports { OfEachRun EachReportTells }
+    ensures taken { TakesExpected }
 {}
 
 /// In every run a complete session without edits leaves the synchronization of what it found and

@@ -33,7 +33,7 @@ pub meets_down : (arms now : Arms) (calls failed : ℕ) (status : Status)
     → Meets arms calls status now failed → status ≡ Down → now ≡ unarmed
 meets_down arms now calls failed Up meets is = absurd (up_not_down is)
 meets_down arms now calls failed Halted meets is = absurd (halted_not_down is)
-meets_down arms _ calls _ Down (one_stops made failed less before stop few same) is = refl
+meets_down arms _ calls _ Down (one_stops made less before stop) is = refl
 
 -- what becomes of a machine that writes an event or takes a request
 pub record Becomes (machine next : SideMachine) (events : List Event) : Type 0 where

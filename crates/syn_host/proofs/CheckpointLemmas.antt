@@ -113,19 +113,19 @@ module _ {D : Type 0} {disk : Ghosts D} (pair : ℕ) (old new : Replica D disk) 
 
   module _ (stops : is_stopped (disk.arms (disk_of new)) ≡ true
       → Stops new_side position (tried_shown new) call) (counted : HasCounted new_side call) where
-    stopped_so : (failed : ℕ) → failed + failed_by old ≤ failed_by new
+    stopped_so : failed_by old ≤ failed_by new
         → is_stopped (disk.arms (disk_of new)) ≡ true
-        → Meets machine.journal.arms 6 Down unarmed failed
+        → Meets machine.journal.arms 6 Down unarmed 0
         → CheckpointsSo pair machine (failed_by old) call
-    stopped_so failed few stopped meets =
+    stopped_so few stopped meets =
         let behind = stops stopped in
-        let next = with_journal machine (under_way Down unarmed failed) in
+        let next = with_journal machine (under_way Down unarmed 0) in
         record {
           next = next;
           checkpoints = subst (λ o. Checkpoints pair machine next (refused_in o)) (sym behind.0)
-              (checkpoints (under_way Down unarmed failed)
+              (checkpoints (under_way Down unarmed 0)
               (not_down pair (side_of old agent) machine runs) none
-              (not_compacted Down unarmed failed (inr refl) meets));
+              (not_compacted Down unarmed 0 (inr refl) meets));
           acknowledges = subst (λ o. Acknowledges o []) (sym behind.0) refl;
           is = behind.1 pair next (record {
             down = refl;
@@ -134,7 +134,7 @@ module _ {D : Type 0} {disk : Ghosts D} (pair : ℕ) (old new : Replica D disk) 
             position_is = position_now;
             tries = λ told writing.
                 absurd (none_not_some told (sym (runs.idle up) ∙ writing));
-            leaves = leaves Down unarmed failed;
+            leaves = leaves Down unarmed 0;
           });
           counts = omega (arith, counted, few);
         }
@@ -194,7 +194,7 @@ module _ {D : Type 0} {disk : Ghosts D} (pair : ℕ) (old new : Replica D disk) 
         elim (made 6 (disk.arms (disk_of old)) (disk.arms (disk_of new)) runs.is.runs makes)
         as (λ _. CheckpointsSo pair machine (failed_by old) call) [
           | goes_on goes meets ↦ compacts goes (met Up arms_now 0 meets)
-          | goes_down stopped meets ↦ stopped_so settles.stops settles.counted 0
+          | goes_down stopped meets ↦ stopped_so settles.stops settles.counted
               (omega (arith, same)) stopped (met Down unarmed 0 meets)
         ]
 
@@ -245,8 +245,8 @@ module _ {D : Type 0} {disk : Ghosts D} (pair : ℕ) (old new : Replica D disk) 
         elim (broken 6 (disk.arms (disk_of old)) (disk.arms (disk_of new)) runs.is.runs breaks)
         as (λ _. CheckpointsSo pair machine (failed_by old) call) [
           | goes_on goes meets ↦ broke goes (met Halted arms_now 1 meets)
-          | goes_down stopped meets ↦ stopped_so settles.stops settles.counted 1
-              (omega (arith, more)) stopped (met Down unarmed 1 meets)
+          | goes_down stopped meets ↦ stopped_so settles.stops settles.counted
+              (omega (arith, more)) stopped (met Down unarmed 0 meets)
         ]
 
 -- it is refused, and nothing changes

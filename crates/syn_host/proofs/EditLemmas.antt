@@ -107,19 +107,19 @@ module _ {D : Type 0} {disk : Ghosts D} (pair : ℕ) (old new : Replica D disk) 
   module _ (stops : is_stopped (disk.arms (disk_of new)) ≡ true
       → Stops new_side position (tried_shown new) call) (counted : HasCounted new_side call)
       (none : first_cause (causes_at machine (causes_of pair machine event)) ≡ None) where
-    stopped_so : (failed : ℕ) → failed + failed_by old ≤ failed_by new
+    stopped_so : failed_by old ≤ failed_by new
         → is_stopped (disk.arms (disk_of new)) ≡ true
-        → Meets machine.journal.arms 4 Down unarmed failed
+        → Meets machine.journal.arms 4 Down unarmed 0
         → EditsSo pair machine (failed_by old) event call
-    stopped_so failed few stopped meets =
+    stopped_so few stopped meets =
         let behind = stops stopped in
-        let next = with_journal machine (writing_it Down unarmed failed) in
+        let next = with_journal machine (writing_it Down unarmed 0) in
         record {
           next = next;
           events = [];
           edits = subst (λ o. Edits pair machine event next [] (refused_in o)) (sym behind.0)
-              (edits (writing_it Down unarmed failed) [] (not_down pair (side_of old agent) machine
-              runs) none lawful (unwritten Down unarmed failed refl (inr refl) meets));
+              (edits (writing_it Down unarmed 0) [] (not_down pair (side_of old agent) machine
+              runs) none lawful (unwritten Down unarmed 0 refl (inr refl) meets));
           acknowledges = subst (λ o. Acknowledges o []) (sym behind.0) refl;
           is = behind.1 pair next (record {
             down = refl;
@@ -127,7 +127,7 @@ module _ {D : Type 0} {disk : Ghosts D} (pair : ℕ) (old new : Replica D disk) 
             unstaged = refl;
             position_is = position_now;
             tries = tries;
-            leaves = leaves Down unarmed failed;
+            leaves = leaves Down unarmed 0;
           });
           counts = omega (arith, counted, few);
         }
@@ -180,7 +180,7 @@ module _ {D : Type 0} {disk : Ghosts D} (pair : ℕ) (old new : Replica D disk) 
         elim (made 4 (disk.arms (disk_of old)) (disk.arms (disk_of new)) runs.is.runs makes)
         as (λ _. EditsSo pair machine (failed_by old) event call) [
           | goes_on goes meets ↦ added goes (met Up arms_now 0 meets)
-          | goes_down stopped meets ↦ stopped_so settles.stops settles.counted none 0
+          | goes_down stopped meets ↦ stopped_so settles.stops settles.counted none
               (omega (arith, same)) stopped (met Down unarmed 0 meets)
         ]
 
@@ -236,8 +236,8 @@ module _ {D : Type 0} {disk : Ghosts D} (pair : ℕ) (old new : Replica D disk) 
         elim (broken 4 (disk.arms (disk_of old)) (disk.arms (disk_of new)) runs.is.runs breaks)
         as (λ _. EditsSo pair machine (failed_by old) event call) [
           | goes_on goes meets ↦ broke goes (met Halted arms_now 1 meets)
-          | goes_down stopped meets ↦ stopped_so settles.stops settles.counted none 1
-              (omega (arith, more)) stopped (met Down unarmed 1 meets)
+          | goes_down stopped meets ↦ stopped_so settles.stops settles.counted none
+              (omega (arith, more)) stopped (met Down unarmed 0 meets)
         ]
 
 -- the edit is refused, and nothing changes

@@ -129,8 +129,8 @@ module _ {D : Type 0} (disk : Ghosts D) (pair : ℕ) (side : DownSide D) (machin
     still_unarmed calls failed status (armed_at now)
         (subst (λ a. Meets a calls status (armed_at now) failed) rests.armed meets),
   )
-  goes_so calls status failed now (goes_down stopped meets) = absurd (never_stops calls failed
-      unarmed (subst (λ a. Meets a calls Down unarmed failed) rests.armed meets))
+  goes_so calls status failed now (goes_down stopped meets) = absurd (never_stops calls 0
+      unarmed (subst (λ a. Meets a calls Down unarmed 0) rests.armed meets))
 
   -- it is opened
   module _ (replica : Replica D disk) (agent : Agent) (outcome : Outcome) (tried : Option Bytes)

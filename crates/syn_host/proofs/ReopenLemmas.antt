@@ -122,18 +122,18 @@ module _ {D : Type 0} {disk : Ghosts D} (pair : ℕ) (old new : Replica D disk) 
   cut_so : (tried : Option Bytes) → TriesWriting machine tried →
       (is_stopped (disk.arms (disk_of new)) ≡ true →
       Stops (side_of new agent) position tried call) → HasCounted (side_of new agent) call →
-      (calls failed : ℕ) → failed + failed_by old ≤ failed_by new →
+      (calls : ℕ) → failed_by old ≤ failed_by new →
       is_stopped (disk.arms (disk_of new)) ≡ true →
-      Meets machine.journal.arms calls Down unarmed failed →
+      Meets machine.journal.arms calls Down unarmed 0 →
       ReopensSo pair machine (failed_by old) call
-  cut_so tried tries settles counted calls failed few stopped meets =
+  cut_so tried tries settles counted calls few stopped meets =
       let behind = settles stopped in
-      let next = with_device machine Down unarmed failed in
+      let next = with_device machine Down unarmed 0 in
       record {
         next = next;
         events = [];
         reopens = subst (λ o. ReopensSide pair machine next [] (refused_in o)) (sym behind.0)
-            (is_cut calls unarmed failed other meets);
+            (is_cut calls unarmed 0 other meets);
         acknowledges = subst (λ o. Acknowledges o []) (sym behind.0) refl;
         is = behind.1 pair next (record {
           down = refl;
@@ -141,7 +141,7 @@ module _ {D : Type 0} {disk : Ghosts D} (pair : ℕ) (old new : Replica D disk) 
           unstaged = refl;
           position_is = position_now;
           tries = tries;
-          leaves = leaves Down unarmed failed;
+          leaves = leaves Down unarmed 0;
         });
         counts = omega (arith, counted, few);
       }
@@ -217,7 +217,7 @@ module _ {D : Type 0} {disk : Ghosts D} (pair : ℕ) (old new : Replica D disk) 
         makes in
         elim found.2 as (λ _. ReopensSo pair machine (failed_by old) call) [
           | goes_on goes meets ↦ opened_so found.0 found.1 goes (met found.0 Up arms_now 0 meets)
-          | goes_down stopped meets ↦ cut_so tried tries settles.stops settles.counted found.0 0
+          | goes_down stopped meets ↦ cut_so tried tries settles.stops settles.counted found.0
               (omega (arith, same)) stopped (met found.0 Down unarmed 0 meets)
         ]
 
@@ -271,8 +271,8 @@ module _ {D : Type 0} {disk : Ghosts D} (pair : ℕ) (old new : Replica D disk) 
                 counts = omega (arith, settles.counted, more);
               }
           | goes_down stopped meets ↦ cut_so (tried_shown new) tries_still settles.stops
-              settles.counted breaks.0 1 (omega (arith, more)) stopped
-              (met breaks.0 Down unarmed 1 meets)
+              settles.counted breaks.0 (omega (arith, more)) stopped
+              (met breaks.0 Down unarmed 0 meets)
         ]
 
     -- memory was refused behind its device calls
@@ -311,7 +311,7 @@ module _ {D : Type 0} {disk : Ghosts D} (pair : ℕ) (old new : Replica D disk) 
                 counts = omega (arith, settles.counted, count);
               }
           | goes_down stopped meets ↦ cut_so (tried_shown new) tries_still settles.stops
-              settles.counted found.0 0 (omega (arith, count)) stopped
+              settles.counted found.0 (omega (arith, count)) stopped
               (met found.0 Down unarmed 0 meets)
         ]
 

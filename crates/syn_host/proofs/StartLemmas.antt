@@ -49,8 +49,8 @@ free_behind old now calls status failed free (goes_on goes meets) = record {
       (subst (λ a. Meets a calls status (armed_at now) failed) free.unarmed_is meets);
 }
 free_behind old now calls status failed free (goes_down stopped meets) =
-    absurd (never_stops calls failed unarmed
-    (subst (λ a. Meets a calls Down unarmed failed) free.unarmed_is meets))
+    absurd (never_stops calls 0 unarmed
+    (subst (λ a. Meets a calls Down unarmed 0) free.unarmed_is meets))
 
 free_still : (old now : DiskArms) → IsFree old → MadeReadsMeet → MakesAtLeast 1 old now
     → IsFree now

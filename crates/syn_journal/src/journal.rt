@@ -39,6 +39,7 @@ use crate::contents::read_contents;
 use crate::half::{HALF_SIZE, Half};
 use crate::layout::{IMAGE_AT, MAX_IMAGE, RECORD_HEADER, RECORD_OVERHEAD};
 use crate::number::{write_u32, write_u64};
+use crate::place::Place;
 use std::alloc::{AllocError, Global};
 use syn_disk::{Arm, DeviceFailed, Disk, Limit};
 
@@ -81,6 +82,7 @@ pub struct Opened<D: Disk> {
 impl<D: Disk> Journal<D> {
     ghost use Rattle.syn_journal.specs.Journal.{disk_of, half_of, generation_of, gate_of, room_of};
     ghost use Rattle.syn_journal.specs.Journal.{value_of, IsTooLong, IsHalted, Stands};
+    ghost use Rattle.syn_journal.specs.Places.{Shows};
     ghost use Rattle.syn_journal.specs.Refusals.{CountsFailures, MakesIfDevice, AfterReads};
     ghost use Rattle.syn_journal.specs.Refusals.{IsFormatRefusal, IsOpenRefusal, IsAppendRefusal};
 
@@ -209,6 +211,32 @@ impl<D: Disk> Journal<D> {
         ensures stands { result ≡ false → Stands self.now (value_of self.now) }
     {
         self.halted
+    }
+
+    /// What it shows of its disk, which a layer above keeps while it reopens the journal.
+    pub fn place(&self) -> Place
+        ensures { Shows self.now result }
+    {
+        Place {
+            half: self.half,
+            generation: self.generation,
+            gate: self.gate,
+            other_is_open: self.other_is_open,
+        }
+    }
+
+    /// Halts the journal as `halt` does, and has it show again what it showed at the place. It
+    /// serves a layer above whose journal was halted before a reopening that it could not take.
+    pub fn halt_at(&mut self, place: Place)
+        ensures halted { IsHalted self.new }
+        ensures disk { disk_of self.new ≡ disk_of self.old }
+        ensures shows { Shows self.new place }
+    {
+        self.half = place.half;
+        self.generation = place.generation;
+        self.gate = place.gate;
+        self.other_is_open = place.other_is_open;
+        self.halted = true;
     }
 
     /// Halts the journal: each later change is refused `Halted`, until it is reopened. It serves a

@@ -10,6 +10,7 @@ mod journal;
 mod laws;
 mod layout;
 mod number;
+mod place;
 mod read;
 
 pub use error::JournalError;
@@ -17,3 +18,4 @@ pub use half::HALF_SIZE;
 pub use journal::{Journal, Opened, Reopened};
 pub use laws::layout_laws;
 pub use layout::MAX_IMAGE;
+pub use place::Place;

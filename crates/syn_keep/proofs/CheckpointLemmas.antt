@@ -194,9 +194,9 @@ module _ {D : Type 0} {disk : Ghosts D} (old new : Archive D disk) (pair : ℕ) 
                 leaves = leaves_either _ refl refl refl refl;
               })
           | goes_down down meets ↦ moves_down
-              (after_device (record machine { compacting = true }) Down unarmed 1) (
+              (after_device (record machine { compacting = true }) Down unarmed 0) (
                 not_compacted Down
-                    unarmed 1 (inr refl) (subst (λ a. Meets a 6 Down unarmed 1) is.armed meets),
+                    unarmed 0 (inr refl) (subst (λ a. Meets a 6 Down unarmed 0) is.armed meets),
                 shows_still _ refl refl,
               ) down refl (leaves_either _ refl refl refl refl)
         ]

@@ -189,8 +189,8 @@ module _ {D : Type 0} {disk : Ghosts D} (old new : Archive D disk) (pair : ℕ) 
                 leaves = leaves_either _ refl refl refl refl;
               })
           | goes_down down meets ↦ moves_down
-              (after_device (record machine { writing = Some kept }) Down unarmed 1) (
-                writes _ _ (unwritten Down unarmed 1 written_now (inr refl) (armed_old meets)),
+              (after_device (record machine { writing = Some kept }) Down unarmed 0) (
+                writes _ _ (unwritten Down unarmed 0 written_now (inr refl) (armed_old meets)),
                 shows_still _ refl refl,
               ) down refl (leaves_either _ refl refl refl refl)
         ]

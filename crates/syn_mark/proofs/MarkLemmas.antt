@@ -12,7 +12,6 @@ use Rattle.std.proofs.lemmas.Bool.Decides.{nat_tests}
 use Rattle.std.proofs.lemmas.List.Elements.{All-nil, All-cons, All-append}
 use Rattle.std.proofs.lemmas.List.{map-append}
 use Rattle.std.proofs.lemmas.Option.{none-some, same_Some}
-use Rattle.std.specs.Borrow.{Bor}
 use Rattle.sha2.specs.Sha256.{sha256, digest_bytes}
 use Rattle.syn_model.specs.Path.{Name, Path, path_cmp, root, strip_prefix}
 use Rattle.syn_model.specs.Tree.{Tree, Content, Contents, Pair, Directory, File, IsPart, at_root}
@@ -31,6 +30,8 @@ use Rattle.syn_placed.proofs.TreeLemmas.{entries-rising, get-rising, rising-entr
 use Rattle.syn_placed.proofs.TreeLemmas.{from_entries-same, entries-one, entries-subtree}
 use Rattle.syn_placed.proofs.TreeLemmas.{within-taken}
 use Rattle.syn_tree.proofs.PartLemmas.{length_under}
+use Rattle.syn_tree.specs.Contents.{found_content}
+use Rattle.syn_tree.specs.declared.content.Found.{Found}
 use Rattle.syn_tree.specs.Lists.{contents_at}
 use Rattle.syn_mark.specs.declared.mark.Mark.{Mark}
 use Rattle.syn_mark.specs.Marks.{content_of, contents_in, marks_with, AreMarks, IsDigestOrDirectory}
@@ -249,14 +250,14 @@ children-mark t path =
     (option_and_then only_name (strip_prefix path pair.0))) es) (sym (entries-mark t))
 
 -- one child more has one mark more
-pub marks-more : (listed : List (Name × Mark)) (read : List (Name × Bor Pair)) (x : Name × Bor Pair)
+pub marks-more : (listed : List (Name × Mark)) (read : List (Name × Found)) (x : Name × Found)
     (m : Mark) → contents_in listed ≡ marks_of (contents_at read) →
-    content_of m ≡ mark_of x.1.now.1 →
+    content_of m ≡ mark_of (found_content x.1) →
     contents_in (listed ++ (x.0, m) ∷ []) ≡ marks_of (contents_at (read ++ x ∷ []))
 marks-more listed read x m so_far is =
     map-append (λ (entry : Name × Mark). (entry.0, content_of entry.1)) listed ((x.0, m) ∷ [])
     ∙ (ap₂ (λ xs c. xs ++ (x.0, c) ∷ []) so_far is
     ∙ sym (ap marks_of
-    (map-append (λ (child : Name × Bor Pair). (child.0, child.1.now.1)) read (x ∷ []))
+    (map-append (λ (child : Name × Found). (child.0, found_content child.1)) read (x ∷ []))
     ∙ map-append (λ (child : Name × Content). (child.0, mark_of child.1)) (contents_at read)
-    ((x.0, x.1.now.1) ∷ [])))
+    ((x.0, found_content x.1) ∷ [])))

@@ -3,6 +3,7 @@ ghost use Rattle.std.specs.Prelude.{◌≡◌, ◌↔◌, ◌⊎◌, Err, false,
 ghost use Rattle.syn_model.specs.Limits.{children};
 ghost use Rattle.syn_model.specs.Mark.{mark, mark_of};
 ghost use Rattle.syn_model.specs.Tree.{is_directory};
+ghost use Rattle.syn_tree.specs.Contents.{found_content};
 ghost use Rattle.syn_tree.specs.Lists.{contents_at};
 ghost use Rattle.syn_mark.specs.Marks.{content_of, contents_in};
 ghost use Rattle.syn_mark.specs.inner.Placings.{marks_of};
@@ -10,7 +11,7 @@ ghost use Rattle.syn_mark.specs.inner.Placings.{marks_of};
 use crate::mark::Mark;
 use std::alloc::Global;
 use syn_path::{Name, Path};
-use syn_tree::{Entry, Found, Tree, TreeError, found_at};
+use syn_tree::{Found, Tree, TreeError};
 
 /// The names in the directory, in byte order, each with the mark of what stands there. Each file in
 /// it is hashed once.
@@ -27,23 +28,23 @@ pub fn list_marks(alloc: Global, tree: &Tree, path: &Path) -> Result<Vec<(Name, 
 }
 
 /// The names, each with the mark of what stands there. Refused 11 where memory is refused.
-fn marks_at(alloc: Global, found: Vec<(Name, &Entry)>) -> Result<Vec<(Name, Mark)>, TreeError>
+fn marks_at(alloc: Global, children: Vec<(Name, Found<'_>)>) -> Result<Vec<(Name, Mark)>, TreeError>
     ensures ok { IfOk result (λ listed. contents_in listed.items
-        ≡ marks_of (contents_at found.entry.items)) }
+        ≡ marks_of (contents_at children.entry.items)) }
     ensures memory { IfErr result (λ e. e ≡ TreeError.Memory) }
 {
-    let mut listed = Vec::with_capacity(alloc, found.len())?;
-    for (name, entry) in found {
-        listed.push((name, mark_at(entry)))?;
+    let mut listed = Vec::with_capacity(alloc, children.len())?;
+    for (name, found) in children {
+        listed.push((name, mark_found(&found)))?;
     }
     Ok(listed)
 }
 
-/// The mark of what stands at the entry's path. It takes no memory.
-pub(crate) fn mark_at(entry: &Entry) -> Mark
-    ensures { content_of result ≡ mark_of entry.now.1 }
+/// The mark of what was found. It takes no memory.
+pub(crate) fn mark_found(found: &Found<'_>) -> Mark
+    ensures { content_of result ≡ mark_of (found_content found.now) }
 {
-    match found_at(entry) {
+    match found {
         Found::File(bytes) => Mark::of_file(bytes),
         Found::Dir => Mark::Dir,
     }

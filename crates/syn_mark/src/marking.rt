@@ -7,12 +7,12 @@ ghost use Rattle.syn_tree.specs.Nodes.{node_tree};
 ghost use Rattle.syn_mark.specs.Marks.{content_of};
 ghost use Rattle.syn_mark.specs.inner.Placings.{marked};
 
-use crate::listing::mark_at;
+use crate::listing::mark_found;
 use crate::mark::Mark;
 use crate::tree::{MOST_NODES, MarkEntry, MarkTree};
 use std::alloc::Global;
 use syn_path::Path;
-use syn_tree::{Entries, Entry, Node, TreeError};
+use syn_tree::{Cursor, Entries, Node, Pair, TreeError};
 
 /// The marks of a file, or of a directory with all below it.
 ///
@@ -35,7 +35,7 @@ fn mark_of_directory(alloc: Global, entries: &Entries) -> Result<MarkTree, TreeE
     ensures full { IfErr result (λ e. e ≢ TreeError.Memory → (e ≡ TreeError.Full)
         × (most_nodes < len entries.now)) }
 {
-    let below = entries.as_slice();
+    let below = entries.iter();
     if below.len() >= MOST_NODES {
         return Err(TreeError::Full);
     }
@@ -45,22 +45,22 @@ fn mark_of_directory(alloc: Global, entries: &Entries) -> Result<MarkTree, TreeE
     Ok(MarkTree::from_marks(list))
 }
 
-/// Puts the mark of each entry behind those that are there. Refused 11 where memory is refused.
-fn push_marks(alloc: Global, list: &mut Vec<MarkEntry>, source: &[Entry]) -> Result<(), TreeError>
-    ensures ok { OnOk result (list.new.items ≡ list.old.items ++ marked source.now) }
+/// Puts the mark of each pair after those that are there. Refused 11 where memory is refused.
+fn push_marks(alloc: Global, list: &mut Vec<MarkEntry>, source: Cursor<'_>) -> Result<(), TreeError>
+    ensures ok { OnOk result (list.new.items ≡ list.old.items ++ marked source.entry) }
     ensures memory { IfErr result (λ e. e ≡ TreeError.Memory) }
 {
-    for entry in source {
-        list.push(marked(alloc, entry)?)?;
+    for pair in source {
+        list.push(marked(alloc, &pair)?)?;
     }
     Ok(())
 }
 
-/// The mark of what stands at the entry's path. Refused 11 where memory is refused.
-fn marked(alloc: Global, entry: &Entry) -> Result<MarkEntry, TreeError>
-    ensures ok { IfOk result (λ made. made ≡ (entry.now.0, mark_of entry.now.1)) }
+/// The mark of what stands at the pair's path. Refused 11 where memory is refused.
+fn marked(alloc: Global, pair: &Pair<'_>) -> Result<MarkEntry, TreeError>
+    ensures ok { IfOk result (λ made. made ≡ (pair.now.0, mark_of pair.now.1)) }
     ensures memory { IfErr result (λ e. e ≡ TreeError.Memory) }
 {
-    let mark = mark_at(entry);
-    Ok(MarkEntry::new(entry.path().copy(alloc)?, mark))
+    let mark = mark_found(&pair.found());
+    Ok(MarkEntry::new(pair.path(alloc)?, mark))
 }

@@ -1,5 +1,6 @@
 //! A transfer, from what was answered last to what is asked next.
-ghost use Rattle.std.specs.Prelude.{◌≡◌, ◌≢◌, ◌⊎◌, ℕ, [], Some, None, Err, Ok, IfOk, MatchResult};
+ghost use Rattle.std.specs.Prelude.{◌≡◌, ◌⊎◌, ℕ, [], Some, None, Err, Ok, IfOk, IfErr, OnErr};
+ghost use Rattle.std.specs.Prelude.{MatchResult};
 ghost use Rattle.syn_headline.specs.Network.{Which};
 ghost use Rattle.syn_headline.specs.Session.{fault_of, fits_piece};
 ghost use Rattle.syn_headline.specs.Side.{Request as Asked, Fetch, Piece};
@@ -43,6 +44,7 @@ pub struct Transfer {
 impl Transfer {
     ghost use Rattle.syn_propagate.specs.Transfers.{EndsBy, Follows, FollowsAny, IsMisfit, IsOver};
     ghost use Rattle.syn_propagate.specs.Transfers.{IsAsking, IsOverUnlessAsking, IsReady};
+    ghost use Rattle.syn_propagate.specs.inner.Progresses.{IsWaiting};
     ghost use Rattle.syn_propagate.specs.Transfers.{TakesMemory, WaitsFor, carriage_of};
     ghost use Rattle.syn_propagate.specs.Transfers.{with_answer};
     ghost use Rattle.syn_propagate.specs.inner.Progresses.{HasReached, HasStagedTo};
@@ -62,8 +64,9 @@ impl Transfer {
     /// from the source, that piece for the other side, and so on, and then the replacement.
     ///
     /// Refused 23 where the answer does not belong to what was asked: it is of another kind, or a
-    /// piece has another length or total than it should; and 11 where memory is refused. After a
-    /// refusal, or once it is done or a side refused it, it is over.
+    /// piece has another length or total than it should; and 11 where memory is refused. After 11
+    /// it is as it was, and takes the same answer again. After 23, or once it is done or a side
+    /// refused it, it is over.
     pub fn step(&mut self, alloc: Global, reply: Option<Reply>) -> Result<Next, TransferError>
         ensures carriage { carriage_of self.new ≡ carriage_of self.old }
 
@@ -94,47 +97,61 @@ impl Transfer {
 
         // What answers nothing that was asked is refused, and a transfer that is over asks nothing.
         ensures misfit { IsMisfit self.old reply → result ≡ Err TransferError.BadMessage }
-        ensures over { MatchResult result (IsOverUnlessAsking self.new) (λ _. IsOver self.new) }
+        ensures over { MatchResult result (IsOverUnlessAsking self.new)
+            (λ e. e ≡ TransferError.BadMessage → IsOver self.new) }
+        ensures unchanged { result ≡ Err TransferError.Memory → self.new ≡ self.old }
     {
-        let progress = self.progress;
-        self.progress = Progress::Over;
         let Some(reply) = reply else {
-            return self.start(alloc, progress);
+            return self.start(alloc);
         };
-        match progress {
-            Progress::Ready => Err(TransferError::BadMessage),
+        match self.progress {
+            Progress::Ready | Progress::Over => self.end(Err(TransferError::BadMessage)),
             Progress::Fetching { offset, total } => match reply {
                 Reply::Piece {
                     total: whole,
                     bytes,
                 } => self.take_piece(alloc, offset, total, whole, bytes),
-                other => or_refused(other),
+                other => self.end(or_refused(other)),
             },
             Progress::Staging { end, total } => match reply {
                 Reply::Staged => self.go_on(alloc, end, total),
-                other => or_refused(other),
+                other => self.end(or_refused(other)),
             },
             Progress::Replacing => match reply {
-                Reply::Done => Ok(Next::Done),
-                other => or_refused(other),
+                Reply::Done => {
+                    self.progress = Progress::Over;
+                    Ok(Next::Done)
+                }
+                other => self.end(or_refused(other)),
             },
-            Progress::Over => Err(TransferError::BadMessage),
         }
     }
 
-    /// Asks for the first piece, where nothing was asked yet.
-    fn start(&mut self, alloc: Global, progress: Progress) -> Result<Next, TransferError>
+    /// It is over with this answer.
+    fn end(&mut self, answer: Result<Next, TransferError>) -> Result<Next, TransferError>
+        ensures answer { result ≡ answer }
+        ensures over { IsOver self.new }
         ensures carriage { carriage_of self.new ≡ carriage_of self.old }
-        ensures starts { (taken : Exchanges) → progress ≡ Progress.Ready
+    {
+        self.progress = Progress::Over;
+        answer
+    }
+
+    /// Asks for the first piece, where nothing was asked yet.
+    fn start(&mut self, alloc: Global) -> Result<Next, TransferError>
+        ensures carriage { carriage_of self.new ≡ carriage_of self.old }
+        ensures starts { (taken : Exchanges) → IsReady self.old
             → IsFresh (carriage_of self.old) taken
             → MatchResult result (FollowsAny self.new taken) (λ e. e ≡ TransferError.Memory) }
-        ensures misfit { progress ≢ Progress.Ready → result ≡ Err TransferError.BadMessage }
-        ensures over { IsOver self.old
-            → MatchResult result (IsOverUnlessAsking self.new) (λ _. IsOver self.new) }
+        ensures misfit { IsOver self.old ⊎ IsWaiting self.old
+            → result ≡ Err TransferError.BadMessage }
+        ensures over { MatchResult result (IsOverUnlessAsking self.new)
+            (λ e. e ≡ TransferError.BadMessage → IsOver self.new) }
+        ensures unchanged { result ≡ Err TransferError.Memory → self.new ≡ self.old }
     {
-        match progress {
+        match self.progress {
             Progress::Ready => self.fetch(alloc, 0, None),
-            _ => Err(TransferError::BadMessage),
+            _ => self.end(Err(TransferError::BadMessage)),
         }
     }
 
@@ -159,11 +176,12 @@ impl Transfer {
             (λ e. (e ≡ TransferError.Memory)
             ⊎ (fault_of taken (source_of c) request answer ≡ Some (refusal_of e))) }
         ensures memory { result ≡ Err TransferError.Memory → bytes.items ≡ [] }
-        ensures over { IsOver self.old
-            → MatchResult result (IsOverUnlessAsking self.new) (λ _. IsOver self.new) }
+        ensures over { MatchResult result (IsOverUnlessAsking self.new)
+            (λ e. e ≡ TransferError.BadMessage → IsOver self.new) }
+        ensures unchanged { result ≡ Err TransferError.Memory → self.new ≡ self.old }
     {
         if !fits_piece(known, offset, total, bytes.len()) {
-            return Err(TransferError::BadMessage);
+            return self.end(Err(TransferError::BadMessage));
         }
         if bytes.is_empty() {
             return self.replace(alloc, total);
@@ -180,8 +198,9 @@ impl Transfer {
         ensures goes_on { (taken : Exchanges)
             → HasStagedTo (carriage_of self.old) taken end total
             → MatchResult result (FollowsAny self.new taken) (λ e. e ≡ TransferError.Memory) }
-        ensures over { IsOver self.old
-            → MatchResult result (IsOverUnlessAsking self.new) (λ _. IsOver self.new) }
+        ensures over { IfOk result (IsOverUnlessAsking self.new) }
+        ensures memory { IfErr result (λ e. e ≡ TransferError.Memory) }
+        ensures unchanged { OnErr result (self.new ≡ self.old) }
     {
         if end < total {
             self.fetch(alloc, end, Some(total))
@@ -201,8 +220,9 @@ impl Transfer {
         ensures asking { IfOk result IsAsking }
         ensures asks { (taken : Exchanges) → HasReached (carriage_of self.old) taken offset total
             → MatchResult result (FollowsAny self.new taken) (λ e. e ≡ TransferError.Memory) }
-        ensures over { IsOver self.old
-            → MatchResult result (IsOverUnlessAsking self.new) (λ _. IsOver self.new) }
+        ensures over { IfOk result (IsOverUnlessAsking self.new) }
+        ensures memory { IfErr result (λ e. e ≡ TransferError.Memory) }
+        ensures unchanged { OnErr result (self.new ≡ self.old) }
     {
         let next = self.carriage.fetch(alloc, offset)?;
         self.progress = Progress::Fetching { offset, total };
@@ -216,8 +236,9 @@ impl Transfer {
         ensures asks { (taken : Exchanges) → IsWhole (carriage_of self.old) taken total
             → IsUnreplaced (carriage_of self.old) taken
             → MatchResult result (FollowsAny self.new taken) (λ e. e ≡ TransferError.Memory) }
-        ensures over { IsOver self.old
-            → MatchResult result (IsOverUnlessAsking self.new) (λ _. IsOver self.new) }
+        ensures over { IfOk result (IsOverUnlessAsking self.new) }
+        ensures memory { IfErr result (λ e. e ≡ TransferError.Memory) }
+        ensures unchanged { OnErr result (self.new ≡ self.old) }
     {
         let next = self.carriage.replace(alloc, total)?;
         self.progress = Progress::Replacing;

@@ -140,8 +140,7 @@ module _ (old new : DiskArms) (open_ : is_stopped old ≡ false) where
   goes_down_behind zero at some before down = absurd (some refl)
   goes_down_behind (suc made) at some before down =
       let both = not_before made old.failure before in
-      goes_down down (one_stops made 0 (omega arith) both.0 (stop_of old.stop (suc made) at)
-      (omega arith) (λ same. absurd (both.1 same)))
+      goes_down down (one_stops made (omega arith) both.0 (stop_of old.stop (suc made) at))
 
   all_meet : (calls : ℕ) → IsAfter calls old new → CallsMeet old new calls Up 0
   all_meet calls a = by old.stop refl
@@ -196,8 +195,8 @@ module _ (old new : DiskArms) (open_ : is_stopped old ≡ false) where
         CallsMeet old new most Halted 1
     was_down zero at some same down = absurd (some refl)
     was_down (suc before) at some same down =
-        goes_down down (one_stops before 1 (omega (arith, few, same)) (earlier old.failure
-        a.not_failed) (stop_of old.stop (suc before) at) (omega arith) (λ _. refl))
+        goes_down down (one_stops before (omega (arith, few, same)) (earlier old.failure
+        a.not_failed) (stop_of old.stop (suc before) at))
       where
         earlier : (fail : ℕ) → IsBefore made fail → IsBefore before fail
         earlier fail (inl none) = inl none
@@ -221,7 +220,7 @@ module _ (old new : DiskArms) (open_ : is_stopped old ≡ false) where
             ∙ is_some (n - made) (λ e. omega (arith, e, is)) in
             let now = new_stop running ∙ ap one_fewer (a.stop ∙ ap (fewer made) at) in
             goes_down (ap is_zero now ∙ is_none ((n - made) - 1) (omega (arith, is))) (one_stops
-            made 1 few a.not_failed (stop_of old.stop n at ∙ is) (omega arith) (λ _. refl))
+            made few a.not_failed (stop_of old.stop n at ∙ is))
         with_stop n at some later false false other another =
             let differs : n ≢ made = λ e. grind (arith, nat_tests) in
             let differs_too : n ≢ suc made = λ e. grind (arith, nat_tests) in

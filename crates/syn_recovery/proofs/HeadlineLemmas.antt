@@ -15,6 +15,7 @@ use Rattle.syn_headline.specs.Headline.{EachEntryWasHeld, LeavesPair, LogsPlans,
 use Rattle.syn_headline.specs.Headline.{CompleteSessionsSynchronize, CompleteSessionsReconcile}
 use Rattle.syn_headline.specs.Headline.{RecoveredIsLegal, EachTokenOnce, ReportsItsConflicts}
 use Rattle.syn_headline.specs.Headline.{CountsItsItems, CarriedIsMarked, HeldIsMarked}
+use Rattle.syn_headline.specs.Reported.{EachReportTells}
 use Rattle.syn_headline.specs.Headline.{RunsStand, StandsFor}
 use Rattle.syn_recovery.specs.Meaning.{Keeping, IsDiskOf, IsOf, MayBeOf, as_kept, with_record}
 use Rattle.syn_recovery.specs.Meaning.{compacted}
@@ -186,6 +187,7 @@ pub record Laws : Type 0 where
   pub counts : OfEachRun CountsItsItems
   pub marked : OfEachRun CarriedIsMarked
   pub kept : OfEachRun HeldIsMarked
+  pub tell : OfEachRun EachReportTells
 
 module _ (laws : Laws) where
   pub headline : Headline
@@ -239,4 +241,5 @@ module _ (laws : Laws) where
         counts = laws.counts old new steps opened.start runs;
         carried = laws.marked old new steps opened.start runs;
         held = laws.kept old new steps opened.start runs;
+        reported = laws.tell old new steps opened.start runs;
       }

@@ -15,7 +15,7 @@ armed_at arms = record { fail = arms.failure; stop = option_map_or (λ calls. ca
 pub data CallsMeet (old new : DiskArms) (calls : ℕ) (status : Status) (failed : ℕ) : Type 0 where
   goes_on : is_stopped new ≡ false → Meets (armed_at old) calls status (armed_at new) failed →
       CallsMeet old new calls status failed
-  goes_down : is_stopped new ≡ true → Meets (armed_at old) calls Down unarmed failed →
+  goes_down : is_stopped new ≡ true → Meets (armed_at old) calls Down unarmed 0 →
       CallsMeet old new calls status failed
 
 -- a call that succeeds: the machine is up, or its stop came right behind the last device call

@@ -10,6 +10,7 @@ use Rattle.syn_headline.specs.Headline.{EachEntryWasHeld, LogsPlans, Owes}
 use Rattle.syn_headline.specs.Headline.{CompleteSessionsSynchronize, CompleteSessionsReconcile}
 use Rattle.syn_headline.specs.Headline.{ReportsItsConflicts, CountsItsItems, CarriedIsMarked}
 use Rattle.syn_headline.specs.Headline.{HeldIsMarked}
+use Rattle.syn_headline.specs.Reported.{EachReportTells}
 use Rattle.syn_recovery.specs.Meaning.{IsDiskOf, IsOf, MayBeOf}
 use Rattle.syn_recovery.specs.Machines.{of_side, of_archive}
 
@@ -80,6 +81,7 @@ pub record IsCrashSafe (before : Stores) (world : World) (disks : Disks) : Type 
   pub counts : CountsItsItems before world
   pub carried : CarriedIsMarked before world
   pub held : HeldIsMarked before world
+  pub reported : EachReportTells before world
 
 -- For every list of steps from three disks, with stops and failing devices at any call of any
 -- machine

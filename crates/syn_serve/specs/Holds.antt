@@ -2,11 +2,11 @@
 use Rattle.std.specs.Prelude.{◌≡◌, ◌⊎◌, ℕ, Some, None, Result, Ok, Err}
 use Rattle.syn_agent.specs.Agents.{side_of}
 use Rattle.syn_agent.specs.Answers.{Answers as AnswersOf, IsUnchanged, room_for}
-use Rattle.syn_agent.specs.Causes.{CountsFailures, TakesMemory}
+use Rattle.syn_agent.specs.Causes.{CountsFailures}
 use Rattle.syn_agent.specs.Machines.{IsOf, Takes}
 use Rattle.syn_agent.specs.declared.agent.Agent.{Agent}
 use Rattle.syn_disk.specs.declared.disk.Disk.{Ghosts}
-use Rattle.syn_headline.specs.Side.{Request, Reply, Refused as Refuses, answer}
+use Rattle.syn_headline.specs.Side.{Request, Reply, Refused as Refuses, TakesMemory, answer}
 use Rattle.syn_headline.specs.SideMachine.{ServesHalted, SideMachine}
 use Rattle.syn_lock.specs.declared.own.Pass.{Pass}
 use Rattle.syn_message.specs.UserReplies.{Told, Edited as IsEdited, Got, Refused}

@@ -169,13 +169,13 @@ module _ {D : Type 0} {disk : Ghosts D} (pair : ℕ) (found left : Replica D dis
                   left = leaves Halted arms_now 1;
                 }))
             | calls.goes_down stopped meets ↦
-                writes (Err e) (writing_it Down unarmed 1)
-                [] up allowed (unwritten Down unarmed 1 refl (inr refl) (met meets)) tt
+                writes (Err e) (writing_it Down unarmed 0)
+                [] up allowed (unwritten Down unarmed 0 refl (inr refl) (met meets)) tt
                 (stops (record {
                   pair_is = readings.memory.pair ∙ is.pair_is;
                   down = refl;
                   stopped = stopped;
-                  left = leaves Down unarmed 1;
+                  left = leaves Down unarmed 0;
                 }))
           ]
 

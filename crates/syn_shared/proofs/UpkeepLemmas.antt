@@ -156,13 +156,13 @@ module _ {D : Type 0} {disk : Ghosts D} (pair : ℕ) (found left : Replica D dis
                 left = leaves Halted arms 1;
               }))
           | calls.goes_down stopped meets ↦
-              compacts (Err e) (under_way Down unarmed 1) allowed (not_compacted Down unarmed 1
+              compacts (Err e) (under_way Down unarmed 0) allowed (not_compacted Down unarmed 0
               (inr refl) (met pair found left agent machine is meets)) tt
               (stops (record {
                 pair_is = memory.pair ∙ is.pair_is;
                 down = refl;
                 stopped = stopped;
-                left = leaves Down unarmed 1;
+                left = leaves Down unarmed 0;
               }))
         ]
 
@@ -257,12 +257,12 @@ module _ {D : Type 0} {disk : Ghosts D} (pair : ℕ) (found left : Replica D dis
                 left = leaves_still Halted arms_then 1;
               })
           | calls.goes_down stopped meets ↦
-              stops_within (Err e) breaks.0 1 unarmed (met pair found left agent machine is meets)
+              stops_within (Err e) breaks.0 0 unarmed (met pair found left agent machine is meets)
               (stops (record {
                 pair_is = memory.pair ∙ is.pair_is;
                 down = refl;
                 stopped = stopped;
-                left = leaves_still Down unarmed 1;
+                left = leaves_still Down unarmed 0;
               }))
         ]
 

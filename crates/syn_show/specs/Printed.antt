@@ -36,6 +36,10 @@ abbrev pub replica_line : ℕ → ℕ → List ℕ
 replica_line pair position = codes "replica pair "
     ++ (decimal pair ++ (codes " position " ++ (decimal position ++ codes "\n")))
 
+-- the first line of a replica that is served, which does not tell its pair
+abbrev pub served_line : ℕ → List ℕ
+served_line position = codes "replica position " ++ (decimal position ++ codes "\n")
+
 -- the line of a file in an archive: its path, and its digest in lower case hexadecimal digits
 abbrev pub digest_line : List (List ℕ) → List ℕ → List ℕ
 digest_line path digest = codes "f " ++

@@ -1,4 +1,5 @@
-//! What is printed of a replica, of a directory of it, of an archive, and of a session that ended.
+//! What is printed of a replica, of a directory of it, of one that is served, of an archive, and of
+//! a session that ended.
 //!
 //! A line says which image it is, with its pair and its numbers. Then each path has a line, in path
 //! order: `d PATH` is a directory, `f PATH LENGTH DIGEST` a file of a replica and `f PATH DIGEST`
@@ -15,5 +16,5 @@ mod named;
 mod report;
 
 pub use error::ShowError;
-pub use lines::{show_archive, show_below, show_replica};
+pub use lines::{show_archive, show_below, show_replica, show_served};
 pub use report::show_report;

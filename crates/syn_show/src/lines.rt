@@ -4,8 +4,8 @@ ghost use Rattle.std.specs.Io.KnownBytes.{Appends};
 ghost use Rattle.std.specs.String.{string_bytes};
 ghost use Rattle.syn_show.specs.Printed.{content_line, digest_line, directory_line};
 ghost use Rattle.syn_show.specs.Printed.{archive_line, file_line, lines_below, lines_of_marks};
-ghost use Rattle.syn_show.specs.Printed.{mark_line, replica_line};
-ghost use Rattle.syn_show.specs.Shown.{archive_shown, replica_shown};
+ghost use Rattle.syn_show.specs.Printed.{mark_line, replica_line, served_line};
+ghost use Rattle.syn_show.specs.Shown.{archive_shown, replica_shown, served_shown};
 
 use crate::error::ShowError;
 use sha2::{Digest, Sha256};
@@ -16,7 +16,7 @@ use syn_disk::Disk;
 use syn_mark::{Mark, MarkEntry};
 use syn_path::Path;
 use syn_replica::Replica;
-use syn_tree::{Entry, Found, Tree, found_at};
+use syn_tree::{Found, Pair, Tree};
 
 /// Prints the whole replica: a line with its numbers, and a line for each path but the root, in
 /// path order.
@@ -33,6 +33,24 @@ pub fn show_replica<D: Disk, W: Write>(
     let line = replica_line(alloc, replica.pair(), replica.position())?;
     output.write_all(line.as_bytes())?;
     show_below(alloc, replica.tree(), &Path::root(alloc), output)
+}
+
+/// Prints the whole tree of a replica that is served: a line with the position that it is of, and a
+/// line for each path but the root, in path order.
+///
+/// Refused 9 where the output cannot be written, and 11 where memory is refused.
+pub fn show_served<W: Write>(
+    alloc: Global,
+    position: u64,
+    tree: &Tree,
+    output: &mut W,
+) -> Result<(), ShowError>
+    ensures { OnOk result (Appends (W.contents output.old) (W.contents output.new)
+        (served_shown position tree.now)) }
+{
+    let line = served_line(alloc, position)?;
+    output.write_all(line.as_bytes())?;
+    show_below(alloc, tree, &Path::root(alloc), output)
 }
 
 /// Prints the whole archive: a line with its numbers, and a line for each path but the root, in
@@ -64,8 +82,8 @@ pub fn show_below<W: Write>(
     ensures { OnOk result (Appends (W.contents output.old) (W.contents output.new)
         (lines_below tree.now directory.now)) }
 {
-    for entry in tree.below(directory) {
-        let line = entry_line(alloc, entry)?;
+    for pair in tree.below(directory) {
+        let line = pair_line(alloc, &pair)?;
         output.write_all(line.as_bytes())?;
     }
     Ok(())
@@ -90,6 +108,13 @@ fn replica_line(alloc: Global, pair: u64, position: u64) -> Result<String, Alloc
     format!(in alloc; "replica pair {pair} position {position}\n")
 }
 
+/// The first line of a replica that is served.
+fn served_line(alloc: Global, position: u64) -> Result<String, AllocError>
+    ensures { IfOk result (λ line. string_bytes line ≡ served_line position) }
+{
+    format!(in alloc; "replica position {position}\n")
+}
+
 /// The first line of an archive.
 fn archive_line(alloc: Global, pair: u64, session: u64) -> Result<String, AllocError>
     ensures { IfOk result (λ line. string_bytes line ≡ archive_line pair session) }
@@ -98,12 +123,13 @@ fn archive_line(alloc: Global, pair: u64, session: u64) -> Result<String, AllocE
 }
 
 /// The line of what stands at a path.
-fn entry_line(alloc: Global, entry: &Entry) -> Result<String, AllocError>
-    ensures { IfOk result (λ line. string_bytes line ≡ content_line entry.now.0 entry.now.1) }
+fn pair_line(alloc: Global, pair: &Pair<'_>) -> Result<String, AllocError>
+    ensures { IfOk result (λ line. string_bytes line ≡ content_line pair.now.0 pair.now.1) }
 {
-    match found_at(entry) {
-        Found::File(bytes) => file_line(alloc, entry.path(), bytes),
-        Found::Dir => directory_line(alloc, entry.path()),
+    let path = pair.path(alloc)?;
+    match pair.found() {
+        Found::File(bytes) => file_line(alloc, &path, bytes),
+        Found::Dir => directory_line(alloc, &path),
     }
 }
 

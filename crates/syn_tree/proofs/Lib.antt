@@ -11,3 +11,4 @@ pub mod ListingLemmas
 pub mod WholeLemmas
 pub mod StripLemmas
 pub mod LawfulLemmas
+pub mod RootedLemmas

@@ -3,7 +3,6 @@ use Rattle.std.proofs.Common.{List, ◌≡◌, ◌<◌, ◌+◌, ℕ, true, fals
 use Rattle.std.proofs.Common.{refl, sym, ap, ap₂, ◌∙◌, Option, Some, None, is_some, slice_index_or}
 use Rattle.std.proofs.Common.{true≢false, arith}
 use Rattle.std.specs.Prelude.{option_map, option_and_then}
-use Rattle.std.specs.Borrow.{Bor}
 use Rattle.std.specs.List.{cons_option}
 use Rattle.std.specs.Ordering.{eq_by_cmp}
 use Rattle.std.specs.FinMap.{entries}
@@ -15,7 +14,9 @@ use Rattle.syn_model.specs.Tree.{Tree, Pair, is_directory_content}
 use Rattle.syn_model.specs.Limits.{children, only_name}
 use Rattle.syn_model.proofs.PathLemmas.{same_path, strip_prefix-append}
 use Rattle.syn_placed.specs.Pairs.{Pairs, rooted, is_child}
+use Rattle.syn_tree.specs.Contents.{found_content}
 use Rattle.syn_tree.specs.Lists.{child_contents, contents_at, kinds_of}
+use Rattle.syn_tree.specs.declared.content.Found.{Found}
 
 no_name : (o : Option Name) → is_some o ≡ false → o ≡ None
 no_name None h = refl
@@ -63,9 +64,9 @@ contents-more above list i x l is =
     (option_and_then only_name (strip_prefix above pair.0))) (take i list) (x ∷ [])
 
 -- one child more has one kind more
-pub kinds-more : (xs : List (Name × Bor Pair)) (x : Name × Bor Pair) →
+pub kinds-more : (xs : List (Name × Found)) (x : Name × Found) →
     kinds_of (contents_at (xs ++ x ∷ []))
-    ≡ kinds_of (contents_at xs) ++ (x.0, is_directory_content (Some x.1.now.1)) ∷ []
+    ≡ kinds_of (contents_at xs) ++ (x.0, is_directory_content (Some (found_content x.1))) ∷ []
 kinds-more [] x = refl
 kinds-more (y ∷ ys) x =
-    ap (λ zs. (y.0, is_directory_content (Some y.1.now.1)) ∷ zs) (kinds-more ys x)
+    ap (λ zs. (y.0, is_directory_content (Some (found_content y.1))) ∷ zs) (kinds-more ys x)

@@ -4,13 +4,14 @@ use Rattle.std.specs.Prelude.{option_map, option_and_then, filter_map, if◌then
 use Rattle.std.specs.List.{list_all}
 use Rattle.std.specs.FinMap.{entries, len}
 use Rattle.syn_model.specs.Path.{Name, Path, IsPath, strip_prefix, is_root}
-use Rattle.std.specs.Borrow.{Bor}
 use Rattle.syn_model.specs.Tree.{Tree, Pair, Content, HasParents, IsPart, is_directory_content}
 use Rattle.syn_model.specs.Limits.{only_name, children, fits_part, fits_path, fits_replica}
 use Rattle.syn_model.specs.Refusal.{Refusal, first_cause}
 use Rattle.syn_model.specs.Standing.{place_causes, full_causes}
 use Rattle.syn_model.specs.Tree as model
 use Rattle.syn_placed.specs.Pairs.{Pairs, under, spelling_length}
+use Rattle.syn_tree.specs.Contents.{found_content}
+use Rattle.syn_tree.specs.declared.content.Found.{Found}
 
 -- names, each with whether it is a directory
 abbrev pub kinds_of : List (Name × Content) → List (Name × Bool)
@@ -52,9 +53,9 @@ child_contents path pairs =
     filter_map (λ pair. option_map (λ name. (name, pair.1))
     (option_and_then only_name (strip_prefix path pair.0))) pairs
 
--- names with references to what stands there
-abbrev pub contents_at : List (Name × Bor Pair) → List (Name × Content)
-contents_at children = map (λ (child : Name × Bor Pair). (child.0, child.1.now.1)) children
+-- names with what was found there
+abbrev pub contents_at : List (Name × Found) → List (Name × Content)
+contents_at children = map (λ (child : Name × Found). (child.0, found_content child.1)) children
 
 -- a pair below the path, without the path before its own
 abbrev pub below_off : Path → Pair → Option Pair

@@ -7,6 +7,8 @@ ghost use Rattle.syn_model.specs.Limits.{fits_path, only_name};
 ghost use Rattle.syn_placed.specs.Pairs.{under};
 ghost use Rattle.syn_tree.specs.Lists.{stripped, child_contents, contents_at};
 
+use crate::content::Found;
+use crate::entry::{Entry, found_at};
 use crate::error::TreeError;
 use std::alloc::Global;
 use std::cmp::Ordering;
@@ -104,11 +106,11 @@ fn push_below<C: Standing>(
 
 /// The names in the directory of these names, each with what stands there. Refused 11 where memory
 /// is refused.
-pub fn children<'a, C: Standing>(
+pub(crate) fn children<'a>(
     alloc: Global,
-    list: &'a [Placed<C>],
+    list: &'a [Entry],
     above: &[Name],
-) -> Result<Vec<(Name, &'a Placed<C>)>, TreeError>
+) -> Result<Vec<(Name, Found<'a>)>, TreeError>
     ensures ok { IfOk result
         (λ found. contents_at found.items ≡ child_contents above.now list.now) }
     ensures memory { IfErr result (λ e. e ≡ TreeError.Memory) }
@@ -116,7 +118,7 @@ pub fn children<'a, C: Standing>(
     let mut found = Vec::new(alloc);
     for entry in list {
         if let Some(name) = child_name(above, entry.path()) {
-            found.push((name.copy(alloc)?, entry))?;
+            found.push((name.copy(alloc)?, found_at(entry)))?;
         }
     }
     Ok(found)

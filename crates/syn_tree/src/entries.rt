@@ -10,9 +10,11 @@ ghost use Rattle.syn_tree.specs.Contents.{IsLawful};
 ghost use Rattle.syn_tree.specs.Entries.{AreEntries, has_few, stands_in, IsLawfulPair, AreLawful};
 
 use crate::content::Found;
+use crate::cursor::Cursor;
 use crate::entry::{Entry, found_at};
 use crate::lawful::{are_bytes, is_path};
 use crate::measures::{LONGEST_FILE, MOST_CHILDREN};
+use crate::pair::Pair;
 use std::alloc::Global;
 use std::marker::Model;
 use syn_path::Path;
@@ -81,14 +83,14 @@ impl Entries {
         Some(Entries { list })
     }
 
-    /// The entries in path order.
-    pub fn as_slice(&self) -> &[Entry]
-        ensures all { rooted result.now ≡ entries self.now }
+    /// What stands below the directory, in path order.
+    pub fn iter(&self) -> Cursor<'_>
+        ensures all { rooted result ≡ entries self.now }
         ensures tree { IsTree self.now }
         ensures part { fits_part self.now ≡ true }
         ensures paths { fits_paths self.now ≡ true }
     {
-        self.list.as_slice()
+        Cursor::over(&self.list)
     }
 
     /// How many names are in the directory at the path, which is taken from the directory that
@@ -98,6 +100,14 @@ impl Entries {
         ensures { result ≡ length (children self.now path.now) }
     {
         count_children_at(&self.list, path)
+    }
+
+    /// How many names are in the directory that the pair is; none where it is a file. The work
+    /// grows with what is below it.
+    pub fn child_count_of(&self, pair: &Pair<'_>) -> usize
+        ensures { result ≡ length (children self.now pair.now.0) }
+    {
+        self.child_count(pair.entry().path())
     }
 
     /// The entries in path order.

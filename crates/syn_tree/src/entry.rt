@@ -28,7 +28,7 @@ impl Standing for Content {
 }
 
 /// What stands at the entry's path, with a file's bytes.
-pub fn found_at(entry: &Entry) -> Found<'_>
+pub(crate) fn found_at(entry: &Entry) -> Found<'_>
     ensures { found_content result ≡ entry.now.1 }
 {
     match entry.standing() {

@@ -4,6 +4,7 @@
 mod change;
 mod content;
 pub mod copies;
+mod cursor;
 mod edit;
 mod entries;
 mod entry;
@@ -11,15 +12,18 @@ mod error;
 mod lawful;
 mod measures;
 mod node;
+mod pair;
 mod placing;
 mod tree;
 
 pub use change::Change;
 pub use content::{Content, Found};
+pub use cursor::Cursor;
 pub use edit::Edit;
 pub use entries::Entries;
-pub use entry::{Entry, found_at};
+pub use entry::Entry;
 pub use error::TreeError;
 pub use measures::{LONGEST_FILE, LONGEST_SPELLING, MOST_CHILDREN};
 pub use node::Node;
+pub use pair::Pair;
 pub use tree::Tree;

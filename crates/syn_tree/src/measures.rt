@@ -3,7 +3,7 @@ ghost use Rattle.std.specs.Prelude.{◌≡◌, ◌≤◌, ◌<◌, ◌+◌, ◌^
 ghost use Rattle.std.specs.Prelude.{option_map, IfSome, IfNone, vec_len, vec_capacity};
 ghost use Rattle.std.specs.FinMap.{find};
 ghost use Rattle.syn_model.specs.Path.{path_cmp, IsPath};
-ghost use Rattle.syn_model.specs.Limits.{last_name_spelling_length};
+ghost use Rattle.syn_model.specs.Limits.{content_spelling_length, last_name_spelling_length};
 ghost use Rattle.syn_tree.specs.Contents.{found_content};
 ghost use Rattle.syn_placed.specs.Pairs.{rooted, AreRising, before, within, behind};
 ghost use Rattle.syn_placed.specs.Pairs.{pair_spelling_length, spelling_length};
@@ -54,10 +54,17 @@ pub(crate) fn entry_spelled(entry: &Entry) -> usize
     ensures length { result ≡ pair_spelling_length entry.now }
     ensures fits { result < 2 ^ 63 + 128 }
 {
-    let name = name_spelled(entry.path());
-    match found_at(entry) {
-        Found::File(bytes) => name + 5 + bytes.len(),
-        Found::Dir => name + 3,
+    name_spelled(entry.path()) + found_spelled(&found_at(entry))
+}
+
+/// How many bytes spell what was found, without what is below it.
+pub(crate) fn found_spelled(found: &Found<'_>) -> usize
+    ensures length { result ≡ content_spelling_length (found_content found.now) }
+    ensures fits { result < 2 ^ 63 + 8 }
+{
+    match found {
+        Found::File(bytes) => 5 + bytes.len(),
+        Found::Dir => 3,
     }
 }
 

@@ -2,22 +2,20 @@
 //! change it.
 ghost use Rattle.std.specs.Prelude.{◌≡◌, ◌≢◌, ◌↔◌, ◌⊎◌, Err, ◌<◌, ◌^◌, ◌&&◌, ◌||◌, not, nat_le};
 ghost use Rattle.std.specs.Prelude.{nat_lt, count_by, ℕ, List, true, false, Some, None, length};
-ghost use Rattle.std.specs.Prelude.{filter, option_map, IfOk, IfErr, OnOk, OnErr};
+ghost use Rattle.std.specs.Prelude.{option_map, IfOk, IfErr, OnOk, OnErr};
 ghost use Rattle.std.specs.FinMap.{entries, get, len};
-ghost use Rattle.syn_model.specs.Tree.{Tree as Pairs, IsTree, empty_directory, is_directory};
-ghost use Rattle.syn_model.specs.Tree.{is_present, subtree, replace};
+ghost use Rattle.syn_model.specs.Tree.{Tree as Pairs, empty_directory, is_directory, subtree};
+ghost use Rattle.syn_model.specs.Tree.{replace};
 ghost use Rattle.syn_model.specs.Event.{Put, MakeDir, Remove, after_edit};
 ghost use Rattle.syn_model.specs.Limits.{children, fits_part, fits_paths, fits_replica};
-ghost use Rattle.syn_model.specs.Limits.{tree_spelling_length};
 ghost use Rattle.syn_model.specs.Path.{Path as Where, parent};
 ghost use Rattle.syn_tree.specs.Lists.{FitsNowhere, listing, kinds_of, contents_at};
 ghost use Rattle.syn_tree.specs.Lists.{replace_refusal, IsMeasured};
 ghost use Rattle.syn_model.specs.Refusal.{first_cause};
 ghost use Rattle.syn_model.specs.Standing.{edit_refusal, place_causes};
-ghost use Rattle.syn_tree.specs.Contents.{found_content};
 ghost use Rattle.syn_tree.specs.Nodes.{part_of};
 ghost use Rattle.syn_tree.specs.Edits.{edit_of};
-ghost use Rattle.syn_placed.specs.Pairs.{rooted, AreRising, is_below, is_child};
+ghost use Rattle.syn_placed.specs.Pairs.{AreRising, is_child};
 ghost use Rattle.syn_tree.specs.Change.{IsPreparedFor, after_change};
 ghost use Rattle.syn_tree.specs.Refusals.{refusal_of, refusal_in};
 
@@ -30,7 +28,7 @@ use crate::entry::Entry;
 use crate::error::TreeError;
 use crate::lawful::are_bytes;
 use crate::measures::{
-    LONGEST_FILE, LONGEST_SPELLING, MOST_CHILDREN, find, measured, name_spelled, spelled, splice,
+    LONGEST_FILE, LONGEST_SPELLING, MOST_CHILDREN, measured, name_spelled, spelled, splice,
 };
 use crate::node::Node;
 use crate::placing::placed;
@@ -38,9 +36,9 @@ use std::alloc::Global;
 use std::marker::Model;
 use syn_path::{Name, Path};
 use syn_placed::Standing;
-use syn_placed::list::{
-    count_children, count_children_at, is_directory, parent_names, part_at, part_below,
-};
+use syn_placed::list::{count_children, is_directory, parent_names, part_at};
+
+mod reading;
 
 /// The most nodes of a tree below its root.
 const MOST_BELOW: usize = 1023;
@@ -81,52 +79,6 @@ impl Tree {
     {
         let list = Vec::with_capacity(alloc, MOST_BELOW)?;
         Ok(Tree { list, spelled: 3 })
-    }
-
-    /// What stands at the path; none where nothing does.
-    pub fn get(&self, path: &Path) -> Option<Found<'_>>
-        ensures { option_map (λ found. found_content found) result ≡ get self.now path.now }
-    {
-        find(&self.list, path.names())
-    }
-
-    /// What stands below the root, in path order.
-    pub fn entries(&self) -> &[Entry]
-        ensures all { rooted result.now ≡ entries self.now }
-        ensures tree { IsTree self.now }
-        ensures fits { fits_replica self.now ≡ true }
-    {
-        self.list.as_slice()
-    }
-
-    /// What stands below the path, without what is at it, in path order; nothing where no directory
-    /// is there.
-    pub fn below(&self, path: &Path) -> &[Entry]
-        ensures { result.now ≡ filter (is_below path.now) (entries self.now) }
-    {
-        part_below(&self.list, path)
-    }
-
-    /// How many nodes there are, with the root.
-    pub fn node_count(&self) -> usize
-        ensures { result ≡ len self.now }
-    {
-        self.list.len() + 1
-    }
-
-    /// How many names are in the directory; none where no directory is there.
-    /// The work grows with what is below the path, and not with the whole tree.
-    pub fn child_count(&self, path: &Path) -> usize
-        ensures { result ≡ length (children self.now path.now) }
-    {
-        count_children_at(&self.list, path)
-    }
-
-    /// How many bytes spell the tree.
-    pub fn spelling_length(&self) -> usize
-        ensures { result ≡ tree_spelling_length self.now }
-    {
-        self.spelled
     }
 
     /// Why nothing may be put at the path or taken from it: it is the root (6), or its parent is no
@@ -362,7 +314,7 @@ impl Tree {
     /// What stands in the directory, with its name, in byte order of the names.
     ///
     /// Refused 5 where no directory is there, and 11 where memory is refused.
-    pub fn children(&self, alloc: Global, path: &Path) -> Result<Vec<(Name, &Entry)>, TreeError>
+    pub fn children(&self, alloc: Global, path: &Path) -> Result<Vec<(Name, Found<'_>)>, TreeError>
         ensures children { IfOk result
             (λ found. contents_at found.items ≡ children self.now path.now) }
         ensures directory { OnOk result (is_directory self.now path.now ≡ true) }
@@ -480,13 +432,13 @@ fn has_place(list: &[Entry], above: &[Name]) -> bool
 }
 
 /// The names, each with whether it is a directory. Refused 11 where memory is refused.
-fn kinds(alloc: Global, children: Vec<(Name, &Entry)>) -> Result<Vec<(Name, bool)>, TreeError>
+fn kinds(alloc: Global, children: Vec<(Name, Found<'_>)>) -> Result<Vec<(Name, bool)>, TreeError>
     ensures ok { IfOk result (λ names. names.items ≡ kinds_of (contents_at children.entry.items)) }
     ensures memory { IfErr result (λ e. e ≡ TreeError.Memory) }
 {
     let mut names = Vec::with_capacity(alloc, children.len())?;
-    for (name, entry) in children {
-        names.push((name, entry.standing().is_directory()))?;
+    for (name, found) in children {
+        names.push((name, found.is_directory()))?;
     }
     Ok(names)
 }

@@ -1,1 +1,2 @@
 pub mod UserLemmas
+mod SideLemmas

@@ -2,3 +2,4 @@ pub mod Refusals
 pub mod Lines
 pub mod Exchanges
 pub mod inner
+pub mod Sides

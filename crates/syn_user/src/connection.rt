@@ -201,7 +201,7 @@ impl<R: Read, W: Write> UserConnection<R, W> {
 }
 
 /// The number of the request behind that of this number.
-fn number_after(number: u32) -> u32
+pub(crate) fn number_after(number: u32) -> u32
     ensures { result ≡ number_after number }
 {
     number.wrapping_add(1)

@@ -7,7 +7,6 @@ use Rattle.std.proofs.Common.{is_lt, is_eq, true≢false}
 use Rattle.std.specs.Prelude.{option_map, option_and_then}
 use Rattle.std.specs.Ordering.{eq_by_cmp, ordering_then, ordering_reverse}
 use Rattle.std.specs.FinMap.{find, entries, get, get-entries}
-use Rattle.std.proofs.lemmas.Option.{none-some, same_Some}
 use Rattle.syn_model.specs.Path.{Name, Path, name_cmp, path_cmp, root, strip_prefix, is_prefix}
 use Rattle.syn_model.specs.Tree.{Tree, Content, Pair, Directory, HasParents, subtree}
 use Rattle.syn_model.specs.Limits.{only_name, children}
@@ -17,6 +16,7 @@ use Rattle.syn_placed.proofs.OrderLemmas.{not_before, between}
 use Rattle.syn_placed.proofs.RisingLemmas.{Rising, After, NoneOf, each-map, filter-drops}
 use Rattle.syn_placed.proofs.FindLemmas.{find_after}
 use Rattle.syn_placed.proofs.TreeLemmas.{rising-entries, within-taken, entries-subtree, taken}
+use Rattle.syn_tree.proofs.RootedLemmas.{is_rooted, after_more}
 
 -- the names in a directory, of the pairs below it
 abbrev pub tops : Pairs → List (Name × Content)
@@ -71,11 +71,6 @@ below_less n m q h = by_name (name_cmp n m) refl h
     by_name Less e k = ap (λ o. ordering_then o (path_cmp q [])) e
     by_name Equal e k = absurd (true≢false (sym (ap is_lt k)))
     by_name Greater e k = absurd (true≢false (sym (ap is_lt k)))
-
-after_more : (q p : Path) (es : Pairs) → path_cmp q p ≡ Less → After p es → After q es
-after_more q p es less h =
-    each-map (λ e. path_cmp p e.0 ≡ Less) (λ e. path_cmp q e.0 ≡ Less)
-    (λ e k. path_total.trans q p e.0 less k) es h
 
 -- nothing is below a place that an earlier pair is behind
 none_within : (at p : Path) (es : Pairs) → After p es → is_lt (path_cmp p at) ≡ false →
@@ -250,27 +245,6 @@ all_grouped ((m ∷ k ∷ q, c) ∷ es) a r h =
     absurd (not_led m k q c es r.0 (h m k q (found_first (m ∷ k ∷ q) c es)))
 
 -- ---- trees
-
--- a tree is what stands at its root, and the parts at its names
-pub record IsRooted (t : Tree) (c : Content) : Type 0 where
-  pub below : Pairs
-  pub whole : entries t ≡ (root, c) ∷ below
-
-pub is_rooted : (t : Tree) (c : Content) → get t root ≡ Some c → IsRooted t c
-is_rooted t c is = by_list (entries t) refl (rising-entries t)
-  where
-    by_list : (es : Pairs) → entries t ≡ es → Rising (entries t) → IsRooted t c
-    by_list [] e r =
-        absurd (none-some _ (ap (find path_cmp root) (sym e) ∙ (sym (get-entries t root) ∙ is)))
-    by_list (([], d) ∷ es) e r =
-        let same : d ≡ c = same_Some _ _
-        (sym (get-entries t root ∙ ap (find path_cmp root) e) ∙ is) in
-        record { below = es; whole = e ∙ ap (λ x. (root, x) ∷ es) same }
-    by_list ((n ∷ q, d) ∷ es) e r =
-        let later = subst Rising e r in
-        let gone = find_after root es (after_more root (n ∷ q) es refl later.0) in
-        absurd (none-some _
-        (sym gone ∙ (ap (find path_cmp root) (sym e) ∙ (sym (get-entries t root) ∙ is))))
 
 -- a file has nothing below it
 pub file_alone : (t : Tree) (c : Content) → HasParents t → get t root ≡ Some c →

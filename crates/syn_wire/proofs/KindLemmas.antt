@@ -14,7 +14,7 @@ use Rattle.syn_wire.specs.inner.Kinds.{Kind, OfContents, OfMarks, spelling_of, f
 use Rattle.syn_wire.specs.inner.Kinds.{IsFileOf, IsPartOf}
 use Rattle.syn_wire.specs.Reads.{NoneBeginsAnother}
 use Rattle.syn_wire.proofs.EventLemmas.{file_tells}
-use Rattle.syn_wire.proofs.GroupLemmas.{is_rooted}
+use Rattle.syn_tree.proofs.RootedLemmas.{is_rooted}
 use Rattle.syn_wire.proofs.MarkLemmas.{few_children, mark_unfolds}
 use Rattle.syn_wire.proofs.NameLemmas.{split}
 use Rattle.syn_wire.proofs.WalkLemmas.{content_by, tree_unfolds}

@@ -14,3 +14,5 @@ pub mod ReadingLemmas
 pub mod MadeLemmas
 pub mod ListedLemmas
 pub mod MarkTreeLemmas
+pub mod WindowLemmas
+pub mod PieceLemmas

@@ -29,7 +29,8 @@ use Rattle.syn_placed.proofs.TreeLemmas.{rising-entries}
 use Rattle.syn_wire.specs.Events.{file_spelling}
 use Rattle.syn_wire.specs.Trees.{last_name_spelling, standing_by, standing_spelling, pair_by}
 use Rattle.syn_wire.specs.Trees.{pair_spelling, SpellingIsWalk, SpellingIsMeasured}
-use Rattle.syn_wire.proofs.GroupLemmas.{IsRooted, is_rooted, file_alone, directory_grouped}
+use Rattle.syn_tree.proofs.RootedLemmas.{IsRooted, is_rooted}
+use Rattle.syn_wire.proofs.GroupLemmas.{file_alone, directory_grouped}
 
 -- ---- the names in a directory
 

@@ -1,6 +1,6 @@
 -- How trees are spelled in one walk over their pairs in path order, and which of them are read.
 use Rattle.std.specs.Prelude.{◌≡◌, ℕ, true, [], ◌∷◌, ◌++◌, length, flat_map}
-use Rattle.std.specs.Int.{to_be_bytes, w16}
+use Rattle.std.specs.Int.{to_be_bytes, w16, w32}
 use Rattle.std.specs.FinMap.{entries}
 use Rattle.syn_model.specs.Path.{Bytes, Path, root}
 use Rattle.syn_model.specs.Tree.{Tree, Content, Directory, File, Pair, HasParents, IsPart, IsTree}
@@ -21,6 +21,11 @@ last_name_spelling (name ∷ next ∷ path) = last_name_spelling (next ∷ path)
 abbrev pub standing_by : (Bytes → Bytes) → ℕ → Content → Bytes
 standing_by file count (File contents) = 1 ∷ file contents.bytes
 standing_by file count Directory = 2 ∷ to_be_bytes w16 count
+
+-- its front: the kind, and the length of a file or the count of a directory
+abbrev pub kind_spelling : ℕ → Content → Bytes
+kind_spelling count (File contents) = 1 ∷ to_be_bytes w32 (length contents.bytes)
+kind_spelling count Directory = 2 ∷ to_be_bytes w16 count
 
 -- a pair of the tree, without what is below it
 abbrev pub pair_by : (Bytes → Bytes) → Tree → Pair → Bytes

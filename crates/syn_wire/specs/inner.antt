@@ -2,3 +2,4 @@
 pub mod Names
 pub mod Kinds
 pub mod Parts
+pub mod Windows

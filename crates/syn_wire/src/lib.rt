@@ -19,9 +19,11 @@ mod marks;
 mod number;
 mod part_reading;
 mod path;
+mod piece;
 mod readable;
 mod tree;
 mod tree_reading;
+mod window;
 
 pub use bytes::{LONGEST_PIECE, read_file, write_file};
 pub use error::WireError;
@@ -31,6 +33,7 @@ pub use marks::{encode_marks, optional_marks_length, write_marks, write_optional
 pub use number::{read_u16, read_u32, read_u64, write_u16, write_u32, write_u64};
 pub use part_reading::copied;
 pub use path::{decode_path, encode_path, path_length, write_path};
+pub use piece::{encode_piece, part_length};
 pub use tree::{encode_node, encode_tree, write_node, write_tree};
 pub use tree_reading::{decode_node, decode_tree};
 

@@ -1,18 +1,21 @@
 //! Trees, and what may stand at a path of one.
-ghost use Rattle.std.specs.Prelude.{◌≡◌, ◌++◌, ◌<◌, ◌^◌, ◌≤◌, length, true, IfOk, OnOk, option_map};
+ghost use Rattle.std.specs.Prelude.{◌≡◌, ◌++◌, ◌∷◌, ◌<◌, ◌^◌, ◌≤◌, length, true, IfOk, OnOk};
+ghost use Rattle.std.specs.Prelude.{option_map};
 ghost use Rattle.syn_model.specs.Limits.{children, fits_content, fits_part};
+ghost use Rattle.syn_model.specs.Path.{IsName};
 ghost use Rattle.syn_model.specs.Spelling.{spelling};
 ghost use Rattle.syn_model.specs.Tree.{Directory, IsPart};
+ghost use Rattle.syn_tree.specs.Contents.{found_content};
 ghost use Rattle.syn_tree.specs.Nodes.{part_of, node_tree};
 ghost use Rattle.syn_wire.specs.Reads.{IsBeginning};
-ghost use Rattle.syn_wire.specs.Trees.{last_name_spelling, standing_spelling};
+ghost use Rattle.syn_wire.specs.Trees.{last_name_spelling, kind_spelling, standing_spelling};
 
 use crate::bytes::write_file;
 use crate::error::WireError;
-use crate::number::write_u16;
+use crate::number::{write_u16, write_u32};
 use std::alloc::Global;
 use syn_path::Path;
-use syn_tree::{Entries, Entry, Found, Node, Tree, found_at};
+use syn_tree::{Entries, Found, Node, Pair, Tree};
 
 pub(crate) const ABSENT: u8 = 0;
 
@@ -51,10 +54,10 @@ pub fn write_tree(out: &mut Vec<u8>, tree: &Tree) -> Result<(), WireError>
     ensures kept { IsBeginning out.old.items out.new.items }
 {
     let root = Path::root(*out.allocator());
-    let list = tree.entries();
+    let pairs = tree.entries();
     write_count(out, tree.child_count(&root))?;
-    for entry in list {
-        write_entry(out, entry, count_in_tree(tree, entry))?;
+    for pair in pairs {
+        write_pair(out, &pair, count_in_tree(tree, &pair))?;
     }
     Ok(())
 }
@@ -101,66 +104,105 @@ fn write_directory(out: &mut Vec<u8>, entries: &Entries) -> Result<(), WireError
     ensures lawful { IsPart entries.now }
 {
     let root = Path::root(*out.allocator());
-    let list = entries.as_slice();
+    let pairs = entries.iter();
     write_count(out, entries.child_count(&root))?;
-    for entry in list {
-        write_entry(out, entry, count_in_entries(entries, entry))?;
+    for pair in pairs {
+        write_pair(out, &pair, count_in_entries(entries, &pair))?;
     }
     Ok(())
 }
 
-// How many names are in the directory at the entry's path. A file is spelled without a count.
-fn count_in_tree(tree: &Tree, entry: &Entry) -> usize
-    ensures spelled { standing_spelling result entry.now.1
-        ≡ standing_spelling (length (children tree.now entry.now.0)) entry.now.1 }
-    ensures few { result ≤ length (children tree.now entry.now.0) }
+// How many names are in the directory that the pair is. A file is spelled without a count.
+pub(crate) fn count_in_tree(tree: &Tree, pair: &Pair<'_>) -> usize
+    ensures spelled { standing_spelling result pair.now.1
+        ≡ standing_spelling (length (children tree.now pair.now.0)) pair.now.1 }
+    ensures few { result ≤ length (children tree.now pair.now.0) }
 {
-    match found_at(entry) {
+    match pair.found() {
         Found::File(_) => 0,
-        Found::Dir => tree.child_count(entry.path()),
+        Found::Dir => tree.child_count_of(pair),
     }
 }
 
 // The same below a directory.
-fn count_in_entries(entries: &Entries, entry: &Entry) -> usize
-    ensures spelled { standing_spelling result entry.now.1
-        ≡ standing_spelling (length (children entries.now entry.now.0)) entry.now.1 }
-    ensures few { result ≤ length (children entries.now entry.now.0) }
+fn count_in_entries(entries: &Entries, pair: &Pair<'_>) -> usize
+    ensures spelled { standing_spelling result pair.now.1
+        ≡ standing_spelling (length (children entries.now pair.now.0)) pair.now.1 }
+    ensures few { result ≤ length (children entries.now pair.now.0) }
 {
-    match found_at(entry) {
+    match pair.found() {
         Found::File(_) => 0,
-        Found::Dir => entries.child_count(entry.path()),
+        Found::Dir => entries.child_count_of(pair),
     }
 }
 
-// Adds the last name of an entry and what stands there, without what is below it.
-fn write_entry(out: &mut Vec<u8>, entry: &Entry, count: usize) -> Result<(), WireError>
+// Adds the last name of a pair and what stands there, without what is below it.
+fn write_pair(out: &mut Vec<u8>, pair: &Pair<'_>, count: usize) -> Result<(), WireError>
     requires count { count < 2 ^ 16 }
-    requires brief { fits_content entry.now.1 ≡ true }
+    requires brief { fits_content pair.now.1 ≡ true }
     ensures added { OnOk result (out.new.items ≡ out.old.items
-        ++ (last_name_spelling entry.now.0 ++ standing_spelling count entry.now.1)) }
+        ++ (last_name_spelling pair.now.0 ++ standing_spelling count pair.now.1)) }
     ensures kept { IsBeginning out.old.items out.new.items }
 {
-    write_last_name(out, entry.path())?;
-    match found_at(entry) {
+    write_name_of(out, pair)?;
+    write_kind(out, &pair.found(), count)?;
+    if let Found::File(bytes) = pair.found() {
+        out.extend_from_slice(bytes)?;
+    }
+    Ok(())
+}
+
+// Adds the kind of what was found, with the length of a file or the count of a directory.
+pub(crate) fn write_kind(
+    out: &mut Vec<u8>,
+    found: &Found<'_>,
+    count: usize,
+) -> Result<(), WireError>
+    requires count { count < 2 ^ 16 }
+    requires brief { fits_content (found_content found.now) ≡ true }
+    ensures added { OnOk result (out.new.items
+        ≡ out.old.items ++ kind_spelling count (found_content found.now)) }
+    ensures kept { IsBeginning out.old.items out.new.items }
+{
+    match found {
         Found::File(bytes) => {
             out.push(FILE)?;
-            write_file(out, bytes)
+            write_u32(out, bytes.len() as u32)
         }
         Found::Dir => write_count(out, count),
     }
 }
 
-// Adds the last name with its length; of the root nothing.
+// Adds the last name of a pair with its length; of the root nothing.
+pub(crate) fn write_name_of(out: &mut Vec<u8>, pair: &Pair<'_>) -> Result<(), WireError>
+    ensures added { OnOk result (out.new.items ≡ out.old.items ++ last_name_spelling pair.now.0) }
+    ensures kept { IsBeginning out.old.items out.new.items }
+{
+    match pair.last_name() {
+        Some(name) => write_name(out, name),
+        None => Ok(()),
+    }
+}
+
+// Adds the last name of a path with its length; of the root nothing.
 pub(crate) fn write_last_name(out: &mut Vec<u8>, path: &Path) -> Result<(), WireError>
     ensures added { OnOk result (out.new.items ≡ out.old.items ++ last_name_spelling path.now) }
     ensures kept { IsBeginning out.old.items out.new.items }
 {
-    if let Some(name) = path.names().last() {
-        let text = name.as_str();
-        out.push(text.len() as u8)?;
-        out.extend_from_slice(text.as_bytes())?;
+    match path.names().last() {
+        Some(name) => write_name(out, name.as_str().as_bytes()),
+        None => Ok(()),
     }
+}
+
+// Adds a name with its length.
+fn write_name(out: &mut Vec<u8>, name: &[u8]) -> Result<(), WireError>
+    requires { IsName name.now }
+    ensures added { OnOk result (out.new.items ≡ out.old.items ++ length name.now ∷ name.now) }
+    ensures kept { IsBeginning out.old.items out.new.items }
+{
+    out.push(name.len() as u8)?;
+    out.extend_from_slice(name)?;
     Ok(())
 }
 

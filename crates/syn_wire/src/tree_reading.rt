@@ -112,6 +112,6 @@ fn read_directory(alloc: Global, fields: &[u8]) -> Result<Option<(Entries, &[u8]
         return Ok(None);
     };
     // what they keep is a directory's
-    let _ = entries.as_slice();
+    let _ = entries.iter();
     Ok(Some((entries, rest)))
 }

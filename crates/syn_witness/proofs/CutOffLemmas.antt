@@ -84,8 +84,8 @@ start_is_recovered = record {
           cut_start,
           starts cut_start.coordinator _ (start_breaks 1 cut_start.coordinator.journal [] refl
               (writes cut_start.coordinator.journal
-              [] (unwritten Down unarmed 0 refl (inr refl) (one_stops 1 0 (omega arith) (inl refl)
-              refl (omega arith) (λ e. absurd (omega (arith, e)))))) (λ e. up_not_down (sym e))),
+              [] (unwritten Down unarmed 0 refl (inr refl) (one_stops 1 (omega arith) (inl refl)
+              refl))) (λ e. up_not_down (sym e))),
           refl,
         ),
       ),
@@ -160,7 +160,7 @@ cuts_it = to_side Right 1 3 (Replace 0 a_path 1 6) cut_right.right None []
     (adds (answer right_done Done) replacement cut_right.right.journal
     [] refl (inl (Some one, inl reads_one, done_is)) refl
     (unwritten Down unarmed 0 refl (inr refl)
-    (one_stops 1 0 (omega arith) (inl refl) refl (omega arith) (λ e. absurd (omega (arith, e))))))
+    (one_stops 1 (omega arith) (inl refl) refl)))
 
 pub replacement_is_recovered : ReplacementIsRecovered
 unfolding armed_right cut_right recovered_right
@@ -244,7 +244,7 @@ breaks_off =
     })
     (ap (λ size. nat_le size 4194252) (letter_size 97 (49 ∷ [])))
     (writes cut_archive.coordinator.journal [] (unwritten Down unarmed 0 refl (inr refl)
-    (one_stops 1 0 (omega arith) (inl refl) refl (omega arith) (λ e. absurd (omega (arith, e))))))
+    (one_stops 1 (omega arith) (inl refl) refl)))
     (λ e. up_not_down (sym e))
 
 cuts_record : Steps armed_archive (Deliver 13) cut_archive

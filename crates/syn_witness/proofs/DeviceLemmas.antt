@@ -227,7 +227,7 @@ one_failed : (arms : Arms) (calls : ℕ) (status : Status) (after : Arms) (faile
     Meets arms calls status after failed → status ≡ Halted → failed ≡ 1
 one_failed arms calls _ _ _ (all_made fail stop) e = absurd (up_not_halted e)
 one_failed arms calls _ _ _ (one_fails made few fail stop) e = refl
-one_failed arms calls _ _ _ (one_stops made failed few fail stop once at) e =
+one_failed arms calls _ _ _ (one_stops made few fail stop) e =
     let x : Down ≡ Halted = e in
     cc
 

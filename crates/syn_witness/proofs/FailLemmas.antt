@@ -177,8 +177,8 @@ cuts room generation finds = record {
             refl,
             cut_off_world,
             compacts_side Left cut_off_world.left.journal
-                (not_compacted Down unarmed 0 (inr refl) (one_stops 4 0 (omega arith)
-                (inl refl) refl (omega arith) (λ e. absurd (omega (arith, e))))),
+                (not_compacted Down unarmed 0 (inr refl) (one_stops 4 (omega arith)
+                (inl refl) refl)),
             refl,
           ),
         ),

@@ -61,7 +61,7 @@ meets_counted base arms calls failures _ _ _ least (all_made fail stop) =
     (omega (arith, least), λ e. absurd (up_not_halted e))
 meets_counted base arms calls failures _ _ _ least (one_fails made few fail stop) =
     (omega (arith, least), λ _. omega (arith, least))
-meets_counted base arms calls failures _ _ failed least (one_stops made _ few fail stop once at) =
+meets_counted base arms calls failures _ _ _ least (one_stops made few fail stop) =
     (omega (arith, least), λ e. absurd (down_not_halted e))
 
 with_none : (base : ℕ) (status : Status) (failures : ℕ) → IsCounted base status failures →

@@ -64,7 +64,7 @@ meets_safe arms calls _ _ _ none (all_made fail stop) =
     (up_not_down, none_left arms.stop calls none)
 meets_safe arms calls _ _ _ none (one_fails made few fail stop) =
     (halted_not_down, none_left arms.stop (suc made) none)
-meets_safe arms calls _ _ _ none (one_stops made failed few fail stop once at) =
+meets_safe arms calls _ _ _ none (one_stops made few fail stop) =
     absurd (omega (arith, none, stop))
 
 -- What a journal's calls leave
@@ -343,7 +343,7 @@ passed : (arms : Arms) (status : Status) (after : Arms) (failed : ℕ) →
     Meets arms 4 status after failed → status ≡ Up → IsBefore 4 arms.fail × IsBefore 4 arms.stop
 passed arms _ _ _ (all_made fail stop) e = (fail, stop)
 passed arms _ _ _ (one_fails made few fail stop) e = absurd (let x : Halted ≡ Up = e in cc)
-passed arms _ _ _ (one_stops made failed few fail stop once at) e =
+passed arms _ _ _ (one_stops made few fail stop) e =
     absurd (let x : Down ≡ Up = e in cc)
 
 answered_acknowledged : (machine : Machine) (made : World) →
@@ -396,7 +396,7 @@ stopped_within : (arms : Arms) (status : Status) (after : Arms) (failed : ℕ) �
 unfolding IsWithin
 stopped_within arms _ _ _ (all_made fail stop) e = absurd (up_not_down e)
 stopped_within arms _ _ _ (one_fails made few fail stop) e = absurd (halted_not_down e)
-stopped_within arms _ _ _ (one_stops made failed few fail stop once at) e =
+stopped_within arms _ _ _ (one_stops made few fail stop) e =
     (omega (arith, stop), omega (arith, few, stop))
 
 written_within : (pair : ℕ) (old new : Journaled History Event) (event : Event)

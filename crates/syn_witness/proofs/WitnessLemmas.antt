@@ -86,8 +86,8 @@ stop_is_recovered = record {
     (
       cut_world,
       edits_so armed_world Left 1 put_one cut_world.left.journal [] cut_world refl refl edit_allowed
-          (unwritten Down unarmed 0 refl (inr refl) (one_stops 2 0 (omega arith)
-          (inl refl) refl (omega arith) (λ e. absurd (omega (arith, e))))) refl,
+          (unwritten Down unarmed 0 refl (inr refl) (one_stops 2 (omega arith)
+          (inl refl) refl)) refl,
       (
         recovered_world,
         inr (

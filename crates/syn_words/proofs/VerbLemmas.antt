@@ -6,7 +6,7 @@ use Rattle.std.proofs.lemmas.Option.{none-some, same_Some}
 use Rattle.clap.specs.Words.{Row, Text, first_of}
 use Rattle.syn_words.specs.Reads.{AreGiven, HasPlace, HasUser, HasValues, IsEdit, HasNumber}
 use Rattle.syn_words.specs.Reads.{IsGiven}
-use Rattle.syn_words.specs.Reads.{IsNoNumber, IsNumber, IsOtherKind, IsPathless, IsWrong, IsWrongIn}
+use Rattle.syn_words.specs.Reads.{IsNoNumber, IsNumber, IsOtherKind, IsWrong, IsWrongIn}
 use Rattle.syn_words.specs.Reads.{MayHaveNumber, NothingReads, kind_word, verb_of}
 use Rattle.syn_words.specs.Verbs.{edit_verb, name_of, values_of, word_of}
 use Rattle.syn_words.specs.declared.line.Change.{Change}
@@ -31,11 +31,13 @@ verb_at t =
     (cond (bytes_eq t (codes "rm")) verb.Remove
     (cond (bytes_eq t (codes "show")) verb.Show
     (cond (bytes_eq t (codes "check")) verb.Check
+    (cond (bytes_eq t (codes "log")) verb.Log
     (cond (bytes_eq t (codes "export")) verb.Export
     (cond (bytes_eq t (codes "import")) verb.Import
     (cond (bytes_eq t (codes "serve")) verb.Serve
     (cond (bytes_eq t (codes "sync")) verb.Sync
-    (cond (bytes_eq t (codes "run")) verb.Run verb.Simulate))))))))))
+    (cond (bytes_eq t (codes "run")) verb.Run
+    (cond (bytes_eq t (codes "plan")) verb.Plan verb.Simulate))))))))))))
 
 verb_at-word : (v : Verb) → verb_at (word_of v) ≡ v
 unfolding verb_at
@@ -45,11 +47,13 @@ verb_at-word verb.MakeDir = refl
 verb_at-word verb.Remove = refl
 verb_at-word verb.Show = refl
 verb_at-word verb.Check = refl
+verb_at-word verb.Log = refl
 verb_at-word verb.Export = refl
 verb_at-word verb.Import = refl
 verb_at-word verb.Serve = refl
 verb_at-word verb.Sync = refl
 verb_at-word verb.Run = refl
+verb_at-word verb.Plan = refl
 verb_at-word verb.Simulate = refl
 
 pub same_verb : (a b : Verb) → word_of a ≡ word_of b → a ≡ b
@@ -75,18 +79,21 @@ values_given rows (line.Format kind pair file) has =
 values_given rows (line.Edit edit) has =
     edit_given rows edit.change
     (file_given rows edit.place has.0, ((has.1.0, has.1.1), ((edit.path.now, has.2), tt)))
-values_given rows (line.Show file) has = (file_given rows (place.File file) has.0, tt)
+values_given rows (line.Show place) has = (file_given rows place has.0, tt)
 values_given rows (line.ShowPath place path) has = (file_given rows place has.0, tt)
 values_given rows (line.Check file) has = ((file.now, has), tt)
-values_given rows (line.Export file folder path existing) has =
-    ((file.now, has.0), ((folder.now, has.1), tt))
-values_given rows (line.Import file user folder path is_skipping) has =
-    ((file.now, has.0), ((has.1.0, has.1.1), ((folder.now, has.2), tt)))
+values_given rows (line.Log file lines) has = ((file.now, has.0), tt)
+values_given rows (line.Export exported) has =
+    (file_given rows exported.place has.0, ((exported.folder.now, has.1), tt))
+values_given rows (line.Import imported) has =
+    (file_given rows imported.place has.0, ((has.1.0, has.1.1), ((imported.folder.now, has.2), tt)))
 values_given rows (line.Serve file address connections) has =
     ((file.now, has.0), ((address.now, has.1), tt))
 values_given rows (line.Sync archive left right) has =
     ((archive.now, has.0), ((left.now, has.1), ((right.now, has.2), tt)))
 values_given rows (line.Run left right archive) has =
+    ((left.now, has.0), ((right.now, has.1), ((archive.now, has.2), tt)))
+values_given rows (line.Plan left right archive is_served) has =
     ((left.now, has.0), ((right.now, has.1), ((archive.now, has.2), tt)))
 values_given rows (line.Simulate script is_traced) has = ((script.now, has.0), tt)
 
@@ -112,12 +119,10 @@ no_number : (bits : ℕ) (rows : List Row) (id : Text) (n : ℕ) → IsNoNumber 
 no_number bits rows id n wrong has =
     wrong.2 n (subst (λ t. IsNumber bits t n) (same_Some has.0 wrong.0 (sym has.1 ∙ wrong.1)) has.2)
 
-no_connections : (rows : List Row) (most : Option ℕ) →
-    IsNoNumber 64 rows (name_of value.Connections) →
-    MayHaveNumber 64 rows (name_of value.Connections) most → ⊥
-no_connections rows None wrong has = no_text _ wrong.0 has wrong.1
-no_connections rows (Some n) wrong has =
-    no_number 64 rows (name_of value.Connections) n wrong has
+no_optional_number : (rows : List Row) (id : Text) (most : Option ℕ) → IsNoNumber 64 rows id →
+    MayHaveNumber 64 rows id most → ⊥
+no_optional_number rows id None wrong has = no_text _ wrong.0 has wrong.1
+no_optional_number rows id (Some n) wrong has = no_number 64 rows id n wrong has
 
 is_edit : Verb → Bool
 is_edit verb.Put = true
@@ -160,8 +165,8 @@ module _ (rows : List Row) where
   importer_right : (l : Line) → verb_of l ≡ verb.Import → IsNoNumber 32 rows (name_of value.User) →
       HasValues rows l → ⊥
   unfolding is_edit
-  importer_right (line.Import file user folder path is_skipping) is wrong has =
-      no_number 32 rows (name_of value.User) user wrong has.1
+  importer_right (line.Import imported) is wrong has =
+      no_number 32 rows (name_of value.User) imported.user wrong has.1
   importer_right (line.Edit edit) is wrong has = no_edit edit.change verb.Import is refl
   importer_right _ is wrong has = cc
 
@@ -174,23 +179,24 @@ module _ (rows : List Row) where
       IsNoNumber 64 rows (name_of value.Connections) → HasValues rows l → ⊥
   unfolding is_edit
   connections_right (line.Serve file address connections) is wrong has =
-      no_connections rows connections wrong has.2
+      no_optional_number rows (name_of value.Connections) connections wrong has.2
   connections_right (line.Edit edit) is wrong has = no_edit edit.change verb.Serve is refl
   connections_right _ is wrong has = cc
 
-  path_right : (l : Line) → verb_of l ≡ verb.Show → IsPathless rows → HasValues rows l → ⊥
+  lines_right : (l : Line) → verb_of l ≡ verb.Log → IsNoNumber 64 rows (name_of value.Lines) →
+      HasValues rows l → ⊥
   unfolding is_edit
-  path_right (line.Show file) is wrong has = has.0.1 wrong.0
-  path_right (line.ShowPath place path) is wrong has = no_text _ path.now wrong.1 has.1
-  path_right (line.Edit edit) is wrong has = no_edit edit.change verb.Show is refl
-  path_right _ is wrong has = cc
+  lines_right (line.Log file lines) is wrong has =
+      no_optional_number rows (name_of value.Lines) lines wrong has.1
+  lines_right (line.Edit edit) is wrong has = no_edit edit.change verb.Log is refl
+  lines_right _ is wrong has = cc
 
   none_wrong : (l : Line) (told : ValueName) → IsWrong (verb_of l) rows told → HasValues rows l → ⊥
   none_wrong l value.Kind wrong has = kind_right l wrong.0 wrong.1 has
   none_wrong l value.Pair wrong has = pair_right l wrong.0 wrong.1 has
   none_wrong l value.User wrong has = user_right l wrong.0 wrong.1 has
   none_wrong l value.Connections wrong has = connections_right l wrong.0 wrong.1 has
-  none_wrong l value.Path wrong has = path_right l wrong.0 wrong.1 has
+  none_wrong l value.Lines wrong has = lines_right l wrong.0 wrong.1 has
   none_wrong l _ wrong has = wrong
 
   none_lacking : (l : Line) (told : ValueName) → IsLacking (verb_of l) rows told →

@@ -31,8 +31,8 @@ use Rattle.syn_words.specs.Verbs.{name_of, values_of, verbs, word_of}
 use Rattle.syn_words.specs.declared.value.ValueName.{ValueName}
 use Rattle.syn_words.specs.declared.verb.Verb.{Verb}
 use Rattle.syn_words.specs.declared.verb.Verb.TheVariants.{Format, Put, MakeDir, Remove, Show}
-use Rattle.syn_words.specs.declared.verb.Verb.TheVariants.{Check, Export, Import, Serve, Sync, Run}
-use Rattle.syn_words.specs.declared.verb.Verb.TheVariants.{Simulate}
+use Rattle.syn_words.specs.declared.verb.Verb.TheVariants.{Check, Log, Export, Import, Serve, Sync}
+use Rattle.syn_words.specs.declared.verb.Verb.TheVariants.{Run, Plan, Simulate}
 use Rattle.syn_words.specs.declared.error.LineError.{LineError}
 use Rattle.syn_words.specs.declared.error.LineError.TheVariants.{Usage, Value, Memory}
 use Rattle.syn_words.specs.inner.Lacking.{IsLackOf}
@@ -248,6 +248,7 @@ stands Remove =
     record { named = refl; gives = refl; requires = (refl, refl, (refl, refl, (refl, refl, tt))) }
 stands Show = record { named = refl; gives = refl; requires = (refl, refl, tt) }
 stands Check = record { named = refl; gives = refl; requires = (refl, refl, tt) }
+stands Log = record { named = refl; gives = refl; requires = (refl, refl, tt) }
 stands Export = record { named = refl; gives = refl; requires = (refl, refl, (refl, refl, tt)) }
 stands Import =
     record { named = refl; gives = refl; requires = (refl, refl, (refl, refl, (refl, refl, tt))) }
@@ -255,6 +256,8 @@ stands Serve = record { named = refl; gives = refl; requires = (refl, refl, (ref
 stands Sync =
     record { named = refl; gives = refl; requires = (refl, refl, (refl, refl, (refl, refl, tt))) }
 stands Run =
+    record { named = refl; gives = refl; requires = (refl, refl, (refl, refl, (refl, refl, tt))) }
+stands Plan =
     record { named = refl; gives = refl; requires = (refl, refl, (refl, refl, (refl, refl, tt))) }
 stands Simulate = record { named = refl; gives = refl; requires = (refl, refl, tt) }
 
@@ -293,12 +296,18 @@ sound = (
           (
             verb_sound Check,
             (
-              verb_sound Export,
+              verb_sound Log,
               (
-                verb_sound Import,
+                verb_sound Export,
                 (
-                  verb_sound Serve,
-                  (verb_sound Sync, (verb_sound Run, (verb_sound Simulate, (help_sound, tt)))),
+                  verb_sound Import,
+                  (
+                    verb_sound Serve,
+                    (
+                      verb_sound Sync,
+                      (verb_sound Run, (verb_sound Plan, (verb_sound Simulate, (help_sound, tt)))),
+                    ),
+                  ),
                 ),
               ),
             ),

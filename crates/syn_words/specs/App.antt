@@ -4,11 +4,11 @@ use Rattle.clap.specs.declared.builder.action.ArgAction.TheVariants.{SetTrue}
 use Rattle.clap.specs.Words.{App, Rule, Text, new_app, new_rule, with_rule, with_subcommand}
 use Rattle.syn_words.specs.Verbs.{name_of, values_of, verbs, word_of}
 use Rattle.syn_words.specs.declared.value.ValueName.{ValueName}
-use Rattle.syn_words.specs.declared.value.ValueName.TheVariants.{Path, Connections}
+use Rattle.syn_words.specs.declared.value.ValueName.TheVariants.{Path, Connections, Lines}
 use Rattle.syn_words.specs.declared.verb.Verb.{Verb}
 use Rattle.syn_words.specs.declared.verb.Verb.TheVariants.{Format, Put, MakeDir, Remove, Show}
-use Rattle.syn_words.specs.declared.verb.Verb.TheVariants.{Check, Export, Import, Serve, Sync, Run}
-use Rattle.syn_words.specs.declared.verb.Verb.TheVariants.{Simulate}
+use Rattle.syn_words.specs.declared.verb.Verb.TheVariants.{Check, Log, Export, Import, Serve, Sync}
+use Rattle.syn_words.specs.declared.verb.Verb.TheVariants.{Run, Plan, Simulate}
 
 abbrev pub required_rule : Text → Rule
 required_rule id = record (new_rule id) { required = true }
@@ -44,14 +44,16 @@ with_options MakeDir app = with_served app
 with_options Remove app = with_served app
 with_options Show app = with_served (with_rule app (new_rule (name_of Path)))
 with_options Check app = app
-with_options Export app = with_rule
+with_options Log app = with_rule app (new_rule (name_of Lines))
+with_options Export app = with_served (with_rule
     (with_rule (with_rule app (new_rule (name_of Path))) (flag_rule (codes "update")))
-    (flag_rule (codes "delete"))
-with_options Import app =
-    with_rule (with_rule app (new_rule (name_of Path))) (flag_rule (codes "skip"))
+    (flag_rule (codes "delete")))
+with_options Import app = with_served
+    (with_rule (with_rule app (new_rule (name_of Path))) (flag_rule (codes "skip")))
 with_options Serve app = with_rule app (option_rule (name_of Connections) (codes "connections"))
 with_options Sync app = app
 with_options Run app = app
+with_options Plan app = with_served app
 with_options Simulate app = with_rule app (flag_rule (codes "trace"))
 
 abbrev pub verb_app : Verb → App

@@ -75,14 +75,16 @@ kind_word Archive = codes "archive"
 abbrev pub verb_of : Line → Verb
 verb_of (line.Format kind pair file) = verb.Format
 verb_of (line.Edit edit) = edit_verb edit.change
-verb_of (line.Show file) = verb.Show
+verb_of (line.Show place) = verb.Show
 verb_of (line.ShowPath place path) = verb.Show
 verb_of (line.Check file) = verb.Check
-verb_of (line.Export file folder path existing) = verb.Export
-verb_of (line.Import file user folder path is_skipping) = verb.Import
+verb_of (line.Log file lines) = verb.Log
+verb_of (line.Export exported) = verb.Export
+verb_of (line.Import imported) = verb.Import
 verb_of (line.Serve file address connections) = verb.Serve
 verb_of (line.Sync archive left right) = verb.Sync
 verb_of (line.Run left right archive) = verb.Run
+verb_of (line.Plan left right archive is_served) = verb.Plan
 verb_of (line.Simulate script is_traced) = verb.Simulate
 
 -- the values of a line are those that are given
@@ -92,18 +94,20 @@ HasValues rows (line.Format kind pair file) = HasText rows (name_of value.Kind) 
 HasValues rows (line.Edit edit) = HasPlace rows edit.place
     × HasNumber 32 rows (name_of value.User) edit.user
     × HasText rows (name_of value.Path) edit.path.now
-HasValues rows (line.Show file) = HasPlace rows (place.File file)
-    × (first_of (name_of value.Path) rows ≡ None)
+HasValues rows (line.Show place) = HasPlace rows place × (first_of (name_of value.Path) rows ≡ None)
 HasValues rows (line.ShowPath place path) = HasPlace rows place
     × HasText rows (name_of value.Path) path.now
 HasValues rows (line.Check file) = HasText rows (name_of value.File) file.now
-HasValues rows (line.Export file folder path existing) =
-    HasText rows (name_of value.File) file.now × HasText rows (name_of value.Folder) folder.now
-    × MayHaveText rows (name_of value.Path) path × HasExisting rows existing
-HasValues rows (line.Import file user folder path is_skipping) =
-    HasText rows (name_of value.File) file.now × HasNumber 32 rows (name_of value.User) user
-    × HasText rows (name_of value.Folder) folder.now × MayHaveText rows (name_of value.Path) path
-    × (IsTrue is_skipping ↔ IsSet rows (codes "skip"))
+HasValues rows (line.Log file lines) = HasText rows (name_of value.File) file.now
+    × MayHaveNumber 64 rows (name_of value.Lines) lines
+HasValues rows (line.Export exported) = HasPlace rows exported.place
+    × HasText rows (name_of value.Folder) exported.folder.now
+    × MayHaveText rows (name_of value.Path) exported.path × HasExisting rows exported.existing
+HasValues rows (line.Import imported) = HasPlace rows imported.place
+    × HasNumber 32 rows (name_of value.User) imported.user
+    × HasText rows (name_of value.Folder) imported.folder.now
+    × MayHaveText rows (name_of value.Path) imported.path
+    × (IsTrue imported.is_skipping ↔ IsSet rows (codes "skip"))
 HasValues rows (line.Serve file address connections) = HasText rows (name_of value.File) file.now
     × HasText rows (name_of value.Address) address.now
     × MayHaveNumber 64 rows (name_of value.Connections) connections
@@ -112,6 +116,10 @@ HasValues rows (line.Sync archive left right) = HasText rows (name_of value.Arch
 HasValues rows (line.Run left right archive) = HasText rows (name_of value.Left) left.now
     × HasText rows (name_of value.Right) right.now
     × HasText rows (name_of value.Archive) archive.now
+HasValues rows (line.Plan left right archive is_served) =
+    HasText rows (name_of value.Left) left.now × HasText rows (name_of value.Right) right.now
+    × HasText rows (name_of value.Archive) archive.now
+    × (IsTrue is_served ↔ IsSet rows (codes "served"))
 HasValues rows (line.Simulate script is_traced) = HasText rows (name_of value.Script) script.now
     × (IsTrue is_traced ↔ IsSet rows (codes "trace"))
 
@@ -145,10 +153,6 @@ IsOtherKind rows = (text : Text) × HasText rows (name_of value.Kind) text
 abbrev pub IsNoNumber : ℕ → List Row → Text → Type 0
 IsNoNumber bits rows id = (text : Text) × HasText rows id text × ((n : ℕ) → ¬ IsNumber bits text n)
 
--- a server is asked for no path, and it lists no whole image
-abbrev pub IsPathless : List Row → Type 0
-IsPathless rows = IsSet rows (codes "served") × (first_of (name_of value.Path) rows ≡ None)
-
 abbrev pub IsEdit : Verb → Type 0
 IsEdit v = (change : Change) × (v ≡ edit_verb change)
 
@@ -157,15 +161,14 @@ abbrev pub HasUser : Verb → Type 0
 HasUser v = IsEdit v ⊎ (v ≡ verb.Import)
 
 -- this value of the command is wrong: the KIND or the PAIR of a format, the USER of an edit or an
--- import, the number of connections of a server, or the PATH that is missing to show what a server
--- has
+-- import, the number of connections of a server, or that of the lines of a log
 abbrev pub IsWrong : Verb → List Row → ValueName → Type 0
 IsWrong v rows value.Kind = (v ≡ verb.Format) × IsOtherKind rows
 IsWrong v rows value.Pair = (v ≡ verb.Format) × IsNoNumber 64 rows (name_of value.Pair)
 IsWrong v rows value.User = HasUser v × IsNoNumber 32 rows (name_of value.User)
 IsWrong v rows value.Connections =
     (v ≡ verb.Serve) × IsNoNumber 64 rows (name_of value.Connections)
-IsWrong v rows value.Path = (v ≡ verb.Show) × IsPathless rows
+IsWrong v rows value.Lines = (v ≡ verb.Log) × IsNoNumber 64 rows (name_of value.Lines)
 IsWrong v rows _ = ⊥
 
 -- the name is that of a command, each value that the command requires is given, and this one is

@@ -6,11 +6,12 @@ use Rattle.syn_words.specs.declared.line.Change.TheVariants as change
 use Rattle.syn_words.specs.declared.value.ValueName.{ValueName}
 use Rattle.syn_words.specs.declared.value.ValueName.TheVariants.{Command, Kind, Pair, User, File}
 use Rattle.syn_words.specs.declared.value.ValueName.TheVariants.{Path, Folder, Address, Connections}
-use Rattle.syn_words.specs.declared.value.ValueName.TheVariants.{Archive, Left, Right, Script}
+use Rattle.syn_words.specs.declared.value.ValueName.TheVariants.{Lines, Archive, Left, Right}
+use Rattle.syn_words.specs.declared.value.ValueName.TheVariants.{Script}
 use Rattle.syn_words.specs.declared.verb.Verb.{Verb}
 use Rattle.syn_words.specs.declared.verb.Verb.TheVariants.{Format, Put, MakeDir, Remove, Show}
-use Rattle.syn_words.specs.declared.verb.Verb.TheVariants.{Check, Export, Import, Serve, Sync, Run}
-use Rattle.syn_words.specs.declared.verb.Verb.TheVariants.{Simulate}
+use Rattle.syn_words.specs.declared.verb.Verb.TheVariants.{Check, Log, Export, Import, Serve, Sync}
+use Rattle.syn_words.specs.declared.verb.Verb.TheVariants.{Run, Plan, Simulate}
 
 -- the word of a command
 abbrev pub word_of : Verb → Text
@@ -20,17 +21,19 @@ word_of MakeDir = codes "mkdir"
 word_of Remove = codes "rm"
 word_of Show = codes "show"
 word_of Check = codes "check"
+word_of Log = codes "log"
 word_of Export = codes "export"
 word_of Import = codes "import"
 word_of Serve = codes "serve"
 word_of Sync = codes "sync"
 word_of Run = codes "run"
+word_of Plan = codes "plan"
 word_of Simulate = codes "simulate"
 
 -- all commands
 abbrev pub verbs : List Verb
-verbs = Format ∷ Put ∷ MakeDir ∷ Remove ∷ Show ∷ Check ∷ Export ∷ Import ∷ Serve ∷ Sync ∷ Run
-    ∷ Simulate ∷ []
+verbs = Format ∷ Put ∷ MakeDir ∷ Remove ∷ Show ∷ Check ∷ Log ∷ Export ∷ Import ∷ Serve ∷ Sync
+    ∷ Run ∷ Plan ∷ Simulate ∷ []
 
 -- the id of a value for `clap`
 abbrev pub name_of : ValueName → Text
@@ -43,6 +46,7 @@ name_of Path = codes "PATH"
 name_of Folder = codes "DIR"
 name_of Address = codes "ADDR"
 name_of Connections = codes "N"
+name_of Lines = codes "N"
 name_of Archive = codes "ARCHIVE"
 name_of Left = codes "LEFT"
 name_of Right = codes "RIGHT"
@@ -56,11 +60,13 @@ values_of MakeDir = File ∷ User ∷ Path ∷ []
 values_of Remove = File ∷ User ∷ Path ∷ []
 values_of Show = File ∷ []
 values_of Check = File ∷ []
+values_of Log = File ∷ []
 values_of Export = File ∷ Folder ∷ []
 values_of Import = File ∷ User ∷ Folder ∷ []
 values_of Serve = File ∷ Address ∷ []
 values_of Sync = Archive ∷ Left ∷ Right ∷ []
 values_of Run = Left ∷ Right ∷ Archive ∷ []
+values_of Plan = Left ∷ Right ∷ Archive ∷ []
 values_of Simulate = Script ∷ []
 
 -- the command of an edit

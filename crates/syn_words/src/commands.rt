@@ -26,6 +26,9 @@ const VERBOSE: &str = "Explains a refusal in plain words, and tells each item of
 /// What the help says of the flag by which a server is asked.
 const SERVED: &str = "Asks the server at HOST:PORT, which stands in the place of FILE";
 
+/// What the help says of the flag by which two servers are asked for a plan.
+const BOTH_SERVED: &str = "Asks the servers at LEFT and at RIGHT, each HOST:PORT";
+
 /// What the help says of the flag by which a simulation tells its steps.
 const TRACE: &str = "Prints each message, stop and opening before the reports";
 
@@ -126,12 +129,18 @@ fn with_optional<'a>(
         Verb::Import => {
             let help: &'a str = ValueName::Path.help(verb);
             let path = Arg::new(alloc, "PATH").help(help);
-            with_flag(alloc, command.arg(path)?, "skip", SKIP)
+            let skipping = with_flag(alloc, command.arg(path)?, "skip", SKIP)?;
+            with_flag(alloc, skipping, "served", SERVED)
         }
         Verb::Serve => {
             let help: &'a str = ValueName::Connections.help(verb);
             with_option(alloc, command, "N", "connections", help)
         }
+        Verb::Log => {
+            let help: &'a str = ValueName::Lines.help(verb);
+            command.arg(Arg::new(alloc, "N").help(help))
+        }
+        Verb::Plan => with_flag(alloc, command, "served", BOTH_SERVED),
         Verb::Simulate => with_flag(alloc, command, "trace", TRACE),
         Verb::Format | Verb::Check | Verb::Sync | Verb::Run => Ok(command),
     }
@@ -146,7 +155,8 @@ fn with_export_options<'a>(alloc: Global, command: Command<'a>) -> Result<Comman
     let help: &'a str = ValueName::Path.help(Verb::Export);
     let path = Arg::new(alloc, "PATH").help(help);
     let updating = with_flag(alloc, command.arg(path)?, "update", UPDATE)?;
-    with_flag(alloc, updating, "delete", DELETE)
+    let deleting = with_flag(alloc, updating, "delete", DELETE)?;
+    with_flag(alloc, deleting, "served", SERVED)
 }
 
 /// The whole command.

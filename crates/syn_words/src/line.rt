@@ -63,6 +63,25 @@ pub struct EditLine<'a> {
     pub path: &'a str,
 }
 
+/// An export of a directory of a replica into a folder. With no path it is the root.
+#[derive(Clone, Copy, Debug, PartialEq, Eq)]
+pub struct ExportLine<'a> {
+    pub place: Place<'a>,
+    pub folder: &'a str,
+    pub path: Option<&'a str>,
+    pub existing: Existing,
+}
+
+/// An import of a folder into a directory of a replica, by a user. With no path it is the root.
+#[derive(Clone, Copy, Debug, PartialEq, Eq)]
+pub struct ImportLine<'a> {
+    pub place: Place<'a>,
+    pub user: u32,
+    pub folder: &'a str,
+    pub path: Option<&'a str>,
+    pub is_skipping: bool,
+}
+
 /// A command with its values.
 #[derive(Clone, Copy, Debug, PartialEq, Eq)]
 pub enum Line<'a> {
@@ -74,9 +93,9 @@ pub enum Line<'a> {
     },
     /// Edits a replica.
     Edit(EditLine<'a>),
-    /// Prints the whole image in a file.
+    /// Prints a whole image.
     Show {
-        file: &'a str,
+        place: Place<'a>,
     },
     /// Prints what stands at the path.
     ShowPath {
@@ -87,22 +106,15 @@ pub enum Line<'a> {
     Check {
         file: &'a str,
     },
-    /// Writes what a directory of a replica has into a folder. With no path it is the root.
-    Export {
+    /// Prints the last events of the replica in a file, so many at most.
+    Log {
         file: &'a str,
-        folder: &'a str,
-        path: Option<&'a str>,
-        existing: Existing,
+        lines: Option<u64>,
     },
-    /// Makes a directory of a replica what a folder is, by edits of the user. With no path it is
-    /// the root.
-    Import {
-        file: &'a str,
-        user: u32,
-        folder: &'a str,
-        path: Option<&'a str>,
-        is_skipping: bool,
-    },
+    /// Writes what a directory of a replica has into a folder.
+    Export(ExportLine<'a>),
+    /// Makes a directory of a replica what a folder is.
+    Import(ImportLine<'a>),
     /// Serves the replica in a file at the address, until so many connections were served.
     Serve {
         file: &'a str,
@@ -120,6 +132,14 @@ pub enum Line<'a> {
         left: &'a str,
         right: &'a str,
         archive: &'a str,
+    },
+    /// Prints what a session would do of the replicas in two files, or that are served at two
+    /// addresses, and of the archive in a file.
+    Plan {
+        left: &'a str,
+        right: &'a str,
+        archive: &'a str,
+        is_served: bool,
     },
     /// Runs the steps of a script on a world of three machines in memory, and tells each of them
     /// where it is traced.

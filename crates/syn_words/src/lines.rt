@@ -1,6 +1,6 @@
 //! The line of each command, from the values that `clap` found.
-ghost use Rattle.std.specs.Prelude.{◌≡◌, IfOk, IfErr, None};
-ghost use Rattle.clap.specs.Words.{first_of, found_of, rows_of};
+ghost use Rattle.std.specs.Prelude.{◌≡◌, IfOk, IfErr};
+ghost use Rattle.clap.specs.Words.{found_of, rows_of};
 ghost use Rattle.syn_words.specs.Reads.{HasExisting, HasNumber, HasPlace, HasText, IsNoNumber};
 ghost use Rattle.syn_words.specs.Reads.{MayHaveNumber, kind_word};
 ghost use Rattle.syn_words.specs.Verbs.{edit_verb, name_of};
@@ -8,7 +8,7 @@ ghost use Rattle.syn_words.specs.inner.Lacking.{IsLack, IsLineOf};
 ghost use Rattle.syn_words.specs.declared.line.Change.{Change as Edits};
 
 use crate::error::LineError;
-use crate::line::{Change, EditLine, Existing, ImageKind, Line};
+use crate::line::{Change, EditLine, Existing, ExportLine, ImageKind, ImportLine, Line};
 use crate::value::ValueName;
 use crate::values::{image_kind, is_set, number, optional_text, place, text, user};
 use crate::verb::Verb;
@@ -26,11 +26,13 @@ pub(crate) fn line_of<'a>(verb: Verb, found: &ArgMatches<'a>) -> Result<Line<'a>
         Verb::Remove => edit_line(Change::Remove, found),
         Verb::Show => show_line(found),
         Verb::Check => check_line(found),
+        Verb::Log => log_line(found),
         Verb::Export => export_line(found),
         Verb::Import => import_line(found),
         Verb::Serve => serve_line(found),
         Verb::Sync => sync_line(found),
         Verb::Run => run_line(found),
+        Verb::Plan => plan_line(found),
         Verb::Simulate => simulate_line(found),
     }
 }
@@ -88,31 +90,15 @@ fn user_given(found: &ArgMatches<'_>) -> Result<u32, LineError>
     user(text(found, ValueName::User)?)
 }
 
-/// What is to be printed. A server is asked for a path alone, since it lists no whole image.
+/// What is to be printed: what stands at a path, or with no path the whole image.
 fn show_line<'a>(found: &ArgMatches<'a>) -> Result<Line<'a>, LineError>
     ensures ok { IfOk result (IsLineOf Verb.Show (rows_of (found_of found.now))) }
     ensures lacks { IfErr result (IsLack Verb.Show (rows_of (found_of found.now))) }
 {
+    let place = place(found)?;
     match optional_text(found, ValueName::Path) {
-        Some(path) => {
-            let place = place(found)?;
-            Ok(Line::ShowPath { place, path })
-        }
-        None => show_image_line(found),
-    }
-}
-
-/// The whole image is to be printed.
-fn show_image_line<'a>(found: &ArgMatches<'a>) -> Result<Line<'a>, LineError>
-    requires { first_of (name_of ValueName.Path) (rows_of (found_of found.now)) ≡ None }
-    ensures ok { IfOk result (IsLineOf Verb.Show (rows_of (found_of found.now))) }
-    ensures lacks { IfErr result (IsLack Verb.Show (rows_of (found_of found.now))) }
-{
-    let file = text(found, ValueName::File)?;
-    if is_set(found, "served") {
-        Err(LineError::Value(ValueName::Path))
-    } else {
-        Ok(Line::Show { file })
+        Some(path) => Ok(Line::ShowPath { place, path }),
+        None => Ok(Line::Show { place }),
     }
 }
 
@@ -124,20 +110,40 @@ fn check_line<'a>(found: &ArgMatches<'a>) -> Result<Line<'a>, LineError>
     Ok(Line::Check { file })
 }
 
+fn log_line<'a>(found: &ArgMatches<'a>) -> Result<Line<'a>, LineError>
+    ensures ok { IfOk result (IsLineOf Verb.Log (rows_of (found_of found.now))) }
+    ensures lacks { IfErr result (IsLack Verb.Log (rows_of (found_of found.now))) }
+{
+    let file = text(found, ValueName::File)?;
+    let lines = lines_given(found)?;
+    Ok(Line::Log { file, lines })
+}
+
+fn lines_given(found: &ArgMatches<'_>) -> Result<Option<u64>, LineError>
+    ensures ok { IfOk result (MayHaveNumber 64 (rows_of (found_of found.now))
+        (name_of ValueName.Lines)) }
+    ensures lacks { IfErr result (IsLack Verb.Log (rows_of (found_of found.now))) }
+{
+    match optional_text(found, ValueName::Lines) {
+        Some(text) => Ok(Some(number(text, ValueName::Lines)?)),
+        None => Ok(None),
+    }
+}
+
 fn export_line<'a>(found: &ArgMatches<'a>) -> Result<Line<'a>, LineError>
     ensures ok { IfOk result (IsLineOf Verb.Export (rows_of (found_of found.now))) }
     ensures lacks { IfErr result (IsLack Verb.Export (rows_of (found_of found.now))) }
 {
-    let file = text(found, ValueName::File)?;
+    let place = place(found)?;
     let folder = text(found, ValueName::Folder)?;
     let path = optional_text(found, ValueName::Path);
     let existing = existing_given(found);
-    Ok(Line::Export {
-        file,
+    Ok(Line::Export(ExportLine {
+        place,
         folder,
         path,
         existing,
-    })
+    }))
 }
 
 /// What is asked of a folder that has something.
@@ -157,18 +163,18 @@ fn import_line<'a>(found: &ArgMatches<'a>) -> Result<Line<'a>, LineError>
     ensures ok { IfOk result (IsLineOf Verb.Import (rows_of (found_of found.now))) }
     ensures lacks { IfErr result (IsLack Verb.Import (rows_of (found_of found.now))) }
 {
-    let file = text(found, ValueName::File)?;
+    let place = place(found)?;
     let user = importer_given(found)?;
     let folder = text(found, ValueName::Folder)?;
     let path = optional_text(found, ValueName::Path);
     let is_skipping = is_set(found, "skip");
-    Ok(Line::Import {
-        file,
+    Ok(Line::Import(ImportLine {
+        place,
         user,
         folder,
         path,
         is_skipping,
-    })
+    }))
 }
 
 fn importer_given(found: &ArgMatches<'_>) -> Result<u32, LineError>
@@ -229,6 +235,22 @@ fn run_line<'a>(found: &ArgMatches<'a>) -> Result<Line<'a>, LineError>
         left,
         right,
         archive,
+    })
+}
+
+fn plan_line<'a>(found: &ArgMatches<'a>) -> Result<Line<'a>, LineError>
+    ensures ok { IfOk result (IsLineOf Verb.Plan (rows_of (found_of found.now))) }
+    ensures lacks { IfErr result (IsLack Verb.Plan (rows_of (found_of found.now))) }
+{
+    let left = text(found, ValueName::Left)?;
+    let right = text(found, ValueName::Right)?;
+    let archive = text(found, ValueName::Archive)?;
+    let is_served = is_set(found, "served");
+    Ok(Line::Plan {
+        left,
+        right,
+        archive,
+        is_served,
     })
 }
 

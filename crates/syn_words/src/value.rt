@@ -16,6 +16,7 @@ pub enum ValueName {
     Folder,
     Address,
     Connections,
+    Lines,
     Archive,
     Left,
     Right,
@@ -36,7 +37,7 @@ impl ValueName {
             ValueName::Path => "PATH",
             ValueName::Folder => "DIR",
             ValueName::Address => "ADDR",
-            ValueName::Connections => "N",
+            ValueName::Connections | ValueName::Lines => "N",
             ValueName::Archive => "ARCHIVE",
             ValueName::Left => "LEFT",
             ValueName::Right => "RIGHT",
@@ -48,9 +49,10 @@ impl ValueName {
     pub fn wanted(self) -> &'static str {
         match self {
             ValueName::Kind => "'replica' or 'archive'",
-            ValueName::Pair | ValueName::Connections => "a decimal number below 2^64",
+            ValueName::Pair | ValueName::Connections | ValueName::Lines => {
+                "a decimal number below 2^64"
+            }
             ValueName::User => "a decimal number below 2^32",
-            ValueName::Path => "given with '--served'",
             _ => "there",
         }
     }
@@ -68,6 +70,12 @@ impl ValueName {
             (ValueName::Folder, Verb::Import) => "The folder that is read",
             (ValueName::Left, Verb::Sync) => "HOST:PORT of the server of the left replica",
             (ValueName::Right, Verb::Sync) => "HOST:PORT of the server of the right replica",
+            (ValueName::Left, Verb::Plan) => {
+                "The file that has the left replica, or with '--served' HOST:PORT of its server"
+            }
+            (ValueName::Right, Verb::Plan) => {
+                "The file that has the right replica, or with '--served' HOST:PORT of its server"
+            }
             _ => self.plain_help(),
         }
     }
@@ -84,6 +92,7 @@ impl ValueName {
             ValueName::Folder => "The folder, which is missing or empty without '--update'",
             ValueName::Address => "HOST:PORT to listen at",
             ValueName::Connections => "Ends when N connections were served, below 2^64",
+            ValueName::Lines => "Prints N lines at most: all where no number is given",
             ValueName::Archive => "The file that has the archive",
             ValueName::Left => "The file that has the left replica",
             ValueName::Right => "The file that has the right replica",
@@ -98,7 +107,10 @@ fn file_help(verb: Verb) -> &'static str {
         Verb::Put | Verb::MakeDir | Verb::Remove | Verb::Show => {
             "The file that has the image, or with '--served' HOST:PORT of its server"
         }
-        Verb::Export | Verb::Import | Verb::Serve => "The file that has the replica",
+        Verb::Export | Verb::Import => {
+            "The file that has the replica, or with '--served' HOST:PORT of its server"
+        }
+        Verb::Serve | Verb::Log => "The file that has the replica",
         _ => "The file that has the image",
     }
 }

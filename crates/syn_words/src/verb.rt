@@ -20,6 +20,8 @@ pub enum Verb {
     Show,
     /// Prints the numbers of an image.
     Check,
+    /// Prints the last events of a replica.
+    Log,
     /// Writes a part of a replica into a folder.
     Export,
     /// Makes a part of a replica what a folder is.
@@ -30,24 +32,28 @@ pub enum Verb {
     Sync,
     /// Runs a session of two replicas in files.
     Run,
+    /// Prints what a session would do.
+    Plan,
     /// Runs the steps of a script.
     Simulate,
 }
 
 impl Verb {
     /// All commands, in the order of the help.
-    pub const ALL: [Verb; 12] = [
+    pub const ALL: [Verb; 14] = [
         Verb::Format,
         Verb::Put,
         Verb::MakeDir,
         Verb::Remove,
         Verb::Show,
         Verb::Check,
+        Verb::Log,
         Verb::Export,
         Verb::Import,
         Verb::Serve,
         Verb::Sync,
         Verb::Run,
+        Verb::Plan,
         Verb::Simulate,
     ];
 
@@ -62,11 +68,13 @@ impl Verb {
             Verb::Remove => "rm",
             Verb::Show => "show",
             Verb::Check => "check",
+            Verb::Log => "log",
             Verb::Export => "export",
             Verb::Import => "import",
             Verb::Serve => "serve",
             Verb::Sync => "sync",
             Verb::Run => "run",
+            Verb::Plan => "plan",
             Verb::Simulate => "simulate",
         }
     }
@@ -80,12 +88,12 @@ impl Verb {
             Verb::Put | Verb::MakeDir | Verb::Remove => {
                 &[ValueName::File, ValueName::User, ValueName::Path]
             }
-            Verb::Show | Verb::Check => &[ValueName::File],
+            Verb::Show | Verb::Check | Verb::Log => &[ValueName::File],
             Verb::Export => &[ValueName::File, ValueName::Folder],
             Verb::Import => &[ValueName::File, ValueName::User, ValueName::Folder],
             Verb::Serve => &[ValueName::File, ValueName::Address],
             Verb::Sync => &[ValueName::Archive, ValueName::Left, ValueName::Right],
-            Verb::Run => &[ValueName::Left, ValueName::Right, ValueName::Archive],
+            Verb::Run | Verb::Plan => &[ValueName::Left, ValueName::Right, ValueName::Archive],
             Verb::Simulate => &[ValueName::Script],
         }
     }
@@ -103,6 +111,7 @@ impl Verb {
             }
             Verb::Show => "Prints an image, or a file or a directory of it",
             Verb::Check => "Opens an image, and prints its numbers",
+            Verb::Log => "Prints the last events of a replica, the newest first",
             Verb::Export => "Writes a replica, or a directory of it, into the folder DIR",
             Verb::Import => {
                 "Makes a replica, or a directory of it, what the folder DIR is, by edits of USER"
@@ -110,6 +119,7 @@ impl Verb {
             Verb::Serve => "Serves the replica in FILE at ADDR, to users and to `syn sync`",
             Verb::Sync => "Runs one session of two replicas that are served, and prints its report",
             Verb::Run => "Runs one session of two replicas in files, and prints its report",
+            Verb::Plan => "Prints what a session would do, and does nothing",
             Verb::Simulate => {
                 "Runs a script of steps on two replicas, an archive and their sessions, in memory"
             }
@@ -129,11 +139,13 @@ pub(crate) fn read_verb(word: &str) -> Option<Verb>
         "rm" => Some(Verb::Remove),
         "show" => Some(Verb::Show),
         "check" => Some(Verb::Check),
+        "log" => Some(Verb::Log),
         "export" => Some(Verb::Export),
         "import" => Some(Verb::Import),
         "serve" => Some(Verb::Serve),
         "sync" => Some(Verb::Sync),
         "run" => Some(Verb::Run),
+        "plan" => Some(Verb::Plan),
         "simulate" => Some(Verb::Simulate),
         _ => None,
     }

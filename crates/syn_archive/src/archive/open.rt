@@ -7,6 +7,7 @@ ghost use Rattle.syn_model.specs.Archive.{Archive as KeptArchive, Kept, after_ke
 ghost use Rattle.syn_archive.specs.Disks.{DiskStands, IsOpenRefusal, IsReopenRefusal, IsWanted};
 ghost use Rattle.syn_archive.specs.Refusals.{AfterReads, CountsFailures, refusal_of};
 ghost use Rattle.syn_model.specs.Refusal.{Memory};
+ghost use Rattle.syn_journal.specs.Places.{Shows};
 
 use super::Archive;
 use crate::error::ArchiveError;
@@ -15,7 +16,7 @@ use crate::opening::{read_archive, read_own};
 use std::alloc::Global;
 use syn_disk::Disk;
 use syn_image::ArchiveImage;
-use syn_journal::{Journal, Opened};
+use syn_journal::{Journal, Opened, Place};
 
 impl<D: Disk> Archive<D> {
     ghost use Rattle.syn_archive.specs.Archive.{pair_of, shown, disk_of};
@@ -89,8 +90,8 @@ impl<D: Disk> Archive<D> {
     ///
     /// Refused 9 where a device call fails, 18 where the disk holds no image, 19 where its layout
     /// is broken or it means no archive of the pair, and 11 where memory is refused. After 11 the
-    /// archive is as it was, halted or not; after any other refusal it is halted. Nothing is
-    /// written.
+    /// archive is as it was, halted or not; after any other refusal it is halted. One that was
+    /// halted then shows what it showed. Nothing is written.
     pub fn reopen(&mut self, alloc: Global) -> Result<(), ArchiveError>
         // It shows what the disk stands for, and stands for each archive that the disk stands for.
         ensures given { OnOk result
@@ -118,6 +119,8 @@ impl<D: Disk> Archive<D> {
         ensures room { (kept : KeptArchive) → Stands self.old kept
             → IfErr result (λ _. KeepsReadings self.old self.new) }
         ensures halted { IfErr result (λ _. IsHalted self.old → IsHalted self.new) }
+        ensures remembers { IsHalted self.old
+            → IfErr result (λ _. KeepsReadings self.old self.new) }
         ensures unchanged { (kept : KeptArchive) → Stands self.old kept
             → IfErr result (λ e. (e ≡ ArchiveError.Device) ⊎ Stands self.new kept) }
 
@@ -135,6 +138,7 @@ impl<D: Disk> Archive<D> {
     {
         opening_laws();
         let was_halted = self.journal.is_halted();
+        let place = self.journal.place();
         let found = self.journal.reopen(alloc)?;
         match read_own(alloc, &found.image, self.pair, &found.records) {
             Ok(read) => {
@@ -143,23 +147,25 @@ impl<D: Disk> Archive<D> {
                 Ok(())
             }
             Err(error) => {
-                self.settle(was_halted, error);
+                self.settle(was_halted, place, error);
                 Err(error)
             }
         }
     }
 
-    /// Halts the archive where it was halted, or its disk means none of the pair. Where memory was
-    /// refused, one that ran goes on.
-    fn settle(&mut self, was_halted: bool, error: ArchiveError)
+    /// Halts the archive where it was halted, as it was at the place, or where its disk means none
+    /// of the pair. Where memory was refused, one that ran goes on.
+    fn settle(&mut self, was_halted: bool, place: Place, error: ArchiveError)
         ensures halted { was_halted ≡ true → IsHalted self.new }
         ensures halts { refusal_of error ≢ Memory → IsHalted self.new }
         ensures goes_on { was_halted ≡ false → error ≡ ArchiveError.Memory → self.new ≡ self.old }
         ensures disk { disk_of self.new ≡ disk_of self.old }
-        ensures readings { KeepsReadings self.old self.new }
+        ensures memory { SameMemory self.old self.new }
+        ensures shows { was_halted ≡ true → Shows self.new.journal place }
+        ensures readings { was_halted ≡ false → KeepsReadings self.old self.new }
     {
         if was_halted {
-            self.journal.halt();
+            self.journal.halt_at(place);
             return;
         }
         match error {

@@ -2,6 +2,8 @@
 use Rattle.std.specs.Prelude.{◌≡◌, ℕ, true, List, [], ◌∷◌, Option, Some}
 use Rattle.syn_archive.specs.Archive.{disk_of}
 use Rattle.syn_archive.specs.declared.archive.Archive.{Archive}
+use Rattle.syn_coordinator.specs.Coordinators.{BreaksNothing, BreaksOff}
+use Rattle.syn_coordinator.specs.declared.coordinator.Coordinator.{Coordinator}
 use Rattle.syn_disk.specs.Arms.{is_stopped}
 use Rattle.syn_disk.specs.declared.disk.Disk.{Ghosts}
 use Rattle.syn_headline.specs.Coordinator.{Advances, EndsFor, Exchange, Running, Walk, past}
@@ -16,12 +18,19 @@ use Rattle.syn_keep.specs.declared.tried.Tried.{Tried}
 use Rattle.syn_model.specs.Archive.{Kept}
 use Rattle.syn_refusal.specs.Refusals.{cause_of}
 use Rattle.syn_refusal.specs.declared.refusal.Refusal.{Refusal}
+use Rattle.syn_refusal.specs.declared.refusal.Refusal.TheVariants as refusal
 
 -- what was kept then
 abbrev pub kept_by : Kept → Due → List Kept
 kept_by what Recorded = what ∷ []
 kept_by what (Refused why) = []
 kept_by what (Ends why) = []
+
+-- what was due breaks off only where it ends for the device
+abbrev pub BreaksBy : {D : Type 0} → {disk : Ghosts D} → Coordinator D disk → Coordinator D disk →
+    Due → Type 0
+BreaksBy old new (Ends refusal.Device) = BreaksOff old new
+BreaksBy old new _ = BreaksNothing old new
 
 -- It goes past the item, whose record is kept or refused; or the session ends at it; or the machine
 -- was stopped there

@@ -30,8 +30,9 @@ use syn_refusal::Refusal;
 use syn_session::{Asks, Course, Sending, Session};
 
 impl<D: Limit> Coordinator<D> {
-    ghost use Rattle.syn_coordinator.specs.Coordinators.{Does, Stands, archive_of, tried_shown};
-    ghost use Rattle.syn_coordinator.specs.Coordinators.{report_shown, runs, written};
+    ghost use Rattle.syn_coordinator.specs.Coordinators.{Breaks, BreaksNothing, BreaksOff, Does};
+    ghost use Rattle.syn_coordinator.specs.Coordinators.{Stands, archive_of, broken, device_of};
+    ghost use Rattle.syn_coordinator.specs.Coordinators.{report_shown, runs, tried_shown, written};
     ghost use Rattle.syn_coordinator.specs.inner.Settling.{IsQuiet};
 
     /// Takes an answer of a side, under the session and the number of its request. It goes on
@@ -60,6 +61,11 @@ impl<D: Limit> Coordinator<D> {
         // An answer that ends no session leaves the last report.
         ensures report { (runs self.new ≡ true) ⊎ (runs self.old ≡ false)
             → report_shown self.new ≡ report_shown self.old }
+        // `kept` tells what was answered 9 in it, which is what was tried and not kept, and then a
+        // device call failed or the machine stopped. Else none failed, and it tells nothing.
+        ensures breaks { ((broken self.new ≡ None) × (tried_shown self.new ≡ tried_shown self.old)
+            × (D.Disk.failures (device_of self.new) ≡ D.Disk.failures (device_of self.old)))
+            ⊎ BreaksOff self.old self.new }
     {
         self.written = Vec::new(alloc);
         self.broke = false;
@@ -122,6 +128,7 @@ impl<D: Limit> Coordinator<D> {
             (exchange_of (which_of from) number (request_of request) (reply_of reply)) session.new
             (written self.new) result }
         ensures report { self.new.report ≡ self.old.report }
+        ensures breaks { Breaks self.old self.new result }
     {
         if session.course.is_some() {
             return self.take_carried(alloc, session, from, request, reply);
@@ -143,6 +150,7 @@ impl<D: Limit> Coordinator<D> {
             → written self.old ≡ [] → TakesSo (archive_of self.new) (tried_shown self.new) pair
             journal running taken session.new (written self.new) result }
         ensures report { self.new.report ≡ self.old.report }
+        ensures breaks { Breaks self.old self.new result }
     {
         let left = session.left.scan.found();
         let right = session.right.scan.found();
@@ -176,6 +184,7 @@ impl<D: Limit> Coordinator<D> {
             (exchange_of (which_of from) number (request_of request) (reply_of reply)) session.new
             (written self.new) result }
         ensures report { self.new.report ≡ self.old.report }
+        ensures breaks { Breaks self.old self.new result }
     {
         transfer_laws();
         drop(request);
@@ -204,6 +213,8 @@ impl<D: Disk> Coordinator<D> {
             (written self.old) asks → Answered self.new pair machine running taken
             (written self.new) (messages_of result.items) }
         ensures report { runs self.new ≡ true → self.new.report ≡ self.old.report }
+        ensures archive { self.new.archive ≡ self.old.archive }
+        ensures kept { (self.new.broke ≡ self.old.broke) × (self.new.tried ≡ self.old.tried) }
     {
         let mut session = session;
         match session.ask(alloc, asks) {

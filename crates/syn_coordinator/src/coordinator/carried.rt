@@ -26,7 +26,7 @@ use syn_scan::Scan;
 use syn_session::{Carrying, Course};
 
 impl<D: Limit> Coordinator<D> {
-    ghost use Rattle.syn_coordinator.specs.Coordinators.{archive_of};
+    ghost use Rattle.syn_coordinator.specs.Coordinators.{Breaks, archive_of};
     ghost use Rattle.syn_coordinator.specs.inner.Carrying.{AsksLater, CarriesOn, EndsCarrying};
     ghost use Rattle.syn_coordinator.specs.inner.Settling.{EndsSo, IsPast, IsQuiet};
 
@@ -55,6 +55,7 @@ impl<D: Limit> Coordinator<D> {
             right.now all) }
         ensures running { self.new.running ≡ self.old.running }
         ensures report { self.new.report ≡ self.old.report }
+        ensures breaks { Breaks self.old self.new result }
     {
         match course.take_answer(alloc, reply) {
             Ok(Carrying::Asks(side, request)) => Ok((side, request)),
@@ -85,6 +86,7 @@ impl<D: Limit> Coordinator<D> {
             (EndsSo self.old self.new pair taken journal before course.new left.now right.now) }
         ensures running { self.new.running ≡ self.old.running }
         ensures report { self.new.report ≡ self.old.report }
+        ensures breaks { Breaks self.old self.new result }
     {
         match self.settle_carried(alloc, course, kept) {
             Ok(()) => self.walk(alloc, course, left, right),
@@ -113,6 +115,7 @@ impl<D: Limit> Coordinator<D> {
             (EndsSo self.old self.new pair taken journal before course.new left.now right.now) }
         ensures running { self.new.running ≡ self.old.running }
         ensures report { self.new.report ≡ self.old.report }
+        ensures breaks { Breaks self.old self.new result }
     {
         match self.give_up(alloc, course, why) {
             Ok(()) => self.walk(alloc, course, left, right),
@@ -139,6 +142,7 @@ impl<D: Limit> Coordinator<D> {
             (EndsSo self.old self.new pair taken journal before course.new left right) }
         ensures running { self.new.running ≡ self.old.running }
         ensures report { self.new.report ≡ self.old.report }
+        ensures breaks { Breaks self.old self.new result }
     {
         match kept {
             // What is carried for an item is never the number of a session.

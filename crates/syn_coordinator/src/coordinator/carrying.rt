@@ -37,7 +37,8 @@ use syn_scan::Scan;
 use syn_session::{Carried, Course, Doing};
 
 impl<D: Limit> Coordinator<D> {
-    ghost use Rattle.syn_coordinator.specs.Coordinators.{archive_of, tried_shown, written};
+    ghost use Rattle.syn_coordinator.specs.Coordinators.{Breaks, archive_of, tried_shown, written};
+    ghost use Rattle.syn_coordinator.specs.inner.Advancing.{BreaksBy};
     ghost use Rattle.syn_coordinator.specs.inner.Settling.{AsksSo, EndsSo, IsPast, IsQuiet};
     ghost use Rattle.syn_coordinator.specs.inner.Settling.{PassesOn};
 
@@ -62,6 +63,7 @@ impl<D: Limit> Coordinator<D> {
             (EndsSo self.old self.new pair taken journal before course.new left right) }
         ensures running { self.new.running ≡ self.old.running }
         ensures report { self.new.report ≡ self.old.report }
+        ensures breaks { Breaks self.old self.new result }
     {
         let due = self.keep(alloc, kept);
         if self.archive.is_cut() {
@@ -92,6 +94,7 @@ impl<D: Limit> Coordinator<D> {
             (tried_shown self.new) result }
         ensures running { self.new.running ≡ self.old.running }
         ensures report { self.new.report ≡ self.old.report }
+        ensures breaks { BreaksBy self.old self.new result }
     {
         if self.written.reserve(1).is_err() {
             drop(kept);
@@ -202,6 +205,7 @@ impl<D: Limit> Coordinator<D> {
             (EndsSo self.old self.new pair taken journal before course.new left.now right.now) }
         ensures running { self.new.running ≡ self.old.running }
         ensures report { self.new.report ≡ self.old.report }
+        ensures breaks { Breaks self.old self.new result }
     {
         for _ in 0..u64::MAX {
             match self.pass(alloc, course, left, right) {
@@ -232,6 +236,7 @@ impl<D: Limit> Coordinator<D> {
             (EndsSo self.old self.new pair taken journal before course.new left.now right.now) }
         ensures running { self.new.running ≡ self.old.running }
         ensures report { self.new.report ≡ self.old.report }
+        ensures breaks { Breaks self.old self.new result }
     {
         match course.doing(alloc, left, right) {
             Ok(Doing::Nothing) => Err(Ended::Settled),

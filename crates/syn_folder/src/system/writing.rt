@@ -5,7 +5,7 @@ use std::alloc::Global;
 use std::fs::{Files, OpenFile, OpenOptions};
 use std::io::{self, Write};
 use syn_path::{Name, Path};
-use syn_tree::{Content, Edit, Entry, Tree};
+use syn_tree::{Edit, Tree};
 
 /// Makes the edit in the folder, which holds the tree.
 pub(super) fn make<F: Files>(
@@ -25,8 +25,9 @@ pub(super) fn make<F: Files>(
             files.create_dir(place_of(alloc, root, path.names())?.as_str())
         }
         Edit::Remove(path) => {
-            for entry in tree.below(path).iter().rev() {
-                remove(alloc, files, root, entry.path(), is_directory(entry))?;
+            for pair in tree.below(path).rev() {
+                let below = pair.path(alloc)?;
+                remove(alloc, files, root, &below, pair.found().is_directory())?;
             }
             let is_directory = match tree.get(path) {
                 Some(found) => found.is_directory(),
@@ -34,14 +35,6 @@ pub(super) fn make<F: Files>(
             };
             remove(alloc, files, root, path, is_directory)
         }
-    }
-}
-
-/// Whether a directory stands there.
-fn is_directory(entry: &Entry) -> bool {
-    match entry.standing() {
-        Content::File(_) => false,
-        Content::Dir => true,
     }
 }
 

@@ -1,7 +1,8 @@
 use Rattle.syn_headline.proofs.StandLemmas.{runs_stand}
 use Rattle.syn_headline.proofs.FormattedLemmas.{formatted_is_pair}
 use Rattle.syn_headline.proofs.FineRuns.{replace_legally, use_tokens_once, hold_archive, leave_pair}
-use Rattle.syn_headline.proofs.FineRuns.{log_plans, owe}
+use Rattle.syn_headline.proofs.FineRuns.{log_plans, owe, tell_reports}
+use Rattle.syn_headline.proofs.TakenAnswers.{take_expected}
 use Rattle.syn_headline.proofs.RecoveredLemmas.{recover_legally}
 use Rattle.syn_headline.proofs.run_laws.Goals as goal
 
@@ -31,3 +32,9 @@ returns-clause-logged c = log_plans
 
 pub returns-clause-owe : goal.returns-clause-owe
 returns-clause-owe c = owe
+
+pub returns-clause-reports : goal.returns-clause-reports
+returns-clause-reports c = tell_reports
+
+pub returns-clause-taken : goal.returns-clause-taken
+returns-clause-taken c = take_expected

@@ -20,4 +20,5 @@ returns-clause-crash_safe c = headline (record {
   counts = c.session_laws.ensures.counts;
   marked = c.session_laws.ensures.marked;
   kept = c.session_laws.ensures.held;
+  tell = c.run_laws.ensures.reports;
 })

@@ -8,6 +8,7 @@ ghost use Rattle.syn_model.specs.History.{History};
 ghost use Rattle.syn_model.specs.Refusal.{Device, Memory};
 ghost use Rattle.syn_journal.specs.Layout.{meaning};
 ghost use Rattle.syn_journal.specs.Opened.{payloads_of, value_read};
+ghost use Rattle.syn_journal.specs.Places.{Shows};
 ghost use Rattle.syn_model.specs.Image.{Gives};
 ghost use Rattle.syn_model.specs.Standing as model_standing;
 ghost use Rattle.syn_replica.specs.Disks.{DiskGives, DiskStands, IsReopenRefusal};
@@ -18,7 +19,7 @@ ghost use Rattle.syn_standing.specs.Readings.{IsOfMeaning};
 use super::Replica;
 use std::alloc::Global;
 use syn_disk::Disk;
-use syn_journal::Reopened;
+use syn_journal::{Place, Reopened};
 use syn_standing::{ReplicaError, Standing, opening_laws, read_replica};
 
 impl<D: Disk> Replica<D> {
@@ -32,7 +33,8 @@ impl<D: Disk> Replica<D> {
     /// Refused 9 where a device call fails, 18 where the disk holds no image, 19 where it means
     /// nothing that a replica of the pair holds or gives fewer events than the replica remembers,
     /// 20 where it is of another pair, and 11 where memory is refused. After 11 the replica is as
-    /// it was, halted or not; after any other refusal it is halted. Nothing is written.
+    /// it was, halted or not; after any other refusal it is halted. One that was halted then shows
+    /// what it showed. Nothing is written.
     pub fn reopen(&mut self, alloc: Global) -> Result<(), ReplicaError>
         // It shows what the disk gives, and stands for each history that the disk stands for.
         ensures given { OnOk result
@@ -78,6 +80,8 @@ impl<D: Disk> Replica<D> {
         ensures room { (history : History) → Stands self.old history
             → IfErr result (λ _. KeepsReadings self.old self.new) }
         ensures halted { IfErr result (λ _. IsHalted self.old → IsHalted self.new) }
+        ensures remembers { IsHalted self.old
+            → IfErr result (λ _. KeepsReadings self.old self.new) }
         ensures unchanged { (history : History) → Stands self.old history
             → IfErr result (λ e. (refusal_of e ≡ Device) ⊎ Stands self.new history) }
 
@@ -95,6 +99,7 @@ impl<D: Disk> Replica<D> {
     {
         opening_laws();
         let was_halted = self.journal.is_halted();
+        let place = self.journal.place();
         let found = self.journal.reopen(alloc)?;
         match self.read_again(alloc, &found) {
             Ok(standing) => {
@@ -103,24 +108,26 @@ impl<D: Disk> Replica<D> {
                 Ok(())
             }
             Err(error) => {
-                self.settle(was_halted, error);
+                self.settle(was_halted, place, error);
                 Err(error)
             }
         }
     }
 
-    /// Halts the replica where it was halted, or its disk does not give what it remembers. Where
-    /// memory was refused, one that ran goes on.
-    fn settle(&mut self, was_halted: bool, error: ReplicaError)
+    /// Halts the replica where it was halted, as it was at the place, or where its disk does not
+    /// give what it remembers. Where memory was refused, one that ran goes on.
+    fn settle(&mut self, was_halted: bool, place: Place, error: ReplicaError)
         ensures halted { was_halted ≡ true → IsHalted self.new }
         ensures halts { refusal_of error ≢ Memory → IsHalted self.new }
         ensures goes_on { was_halted ≡ false → error ≡ ReplicaError.Memory → self.new ≡ self.old }
         ensures disk { disk_of self.new ≡ disk_of self.old }
-        ensures readings { KeepsReadings self.old self.new }
+        ensures memory { SameMemory self.old self.new }
+        ensures shows { was_halted ≡ true → Shows self.new.journal place }
+        ensures readings { was_halted ≡ false → KeepsReadings self.old self.new }
         ensures tried { tried_shown self.new ≡ tried_shown self.old }
     {
         if was_halted {
-            self.journal.halt();
+            self.journal.halt_at(place);
             return;
         }
         match error {

@@ -1,6 +1,6 @@
 //! What sessions ask of a replica.
 ghost use Rattle.std.specs.Prelude.{◌≡◌, ◌≢◌, ◌⊎◌, ◌↔◌, ◌+◌, ◌≤◌, ℕ, length, IfOk, IfErr, OnOk};
-ghost use Rattle.std.specs.Prelude.{IsErrAnd, MatchResult, Err, Ok, Some, true, false, take, drop};
+ghost use Rattle.std.specs.Prelude.{IsErrAnd, MatchResult, Err, Ok, Some, true, false};
 ghost use Rattle.syn_disk.specs.Calls.{Makes};
 ghost use Rattle.syn_disk.specs.Stops.{LeavesOnly};
 ghost use Rattle.syn_model.specs.Limits.{greatest_piece};
@@ -27,11 +27,10 @@ use std::alloc::Global;
 use syn_disk::Disk;
 use syn_history::{Event, Token};
 use syn_journal::JournalError;
-use syn_model::tree_laws;
 use syn_path::Path;
 use syn_standing::{ReplicaError, opening_laws};
-use syn_tree::{Node, Tree};
-use syn_wire::{LONGEST_PIECE, encode_node};
+use syn_tree::Node;
+use syn_wire::{encode_piece, part_length};
 
 /// How many bytes spell the record of a session that begins.
 const BEGAN_LENGTH: usize = 9;
@@ -172,10 +171,10 @@ impl<D: Disk> Replica<D> {
             return Err(ReplicaError::Journal(JournalError::Halted));
         }
         self.standing.check_untouched(path, since)?;
-        let spelled = spelled_at(alloc, self.standing.tree(), path)?;
-        let bytes = cut(&spelled, offset).to_vec(alloc)?;
+        let tree = self.standing.tree();
+        let bytes = encode_piece(alloc, tree, path, offset)?;
         Ok(Piece {
-            total: spelled.len(),
+            total: part_length(tree, path),
             bytes,
         })
     }
@@ -329,30 +328,4 @@ impl<D: Disk> Replica<D> {
         self.standing.tree().check_part(path, new)?;
         Ok(Some(path.copy(alloc)?))
     }
-}
-
-/// The spelling of what stands at the path with all below it. Refused 11 where memory is refused.
-fn spelled_at(alloc: Global, tree: &Tree, path: &Path) -> Result<Vec<u8>, ReplicaError>
-    ensures spelled { IfOk result (λ bytes. bytes.items ≡ spelling (subtree tree.now path.now)) }
-    ensures memory { IfErr result (λ e. refusal_of e ≡ Memory) }
-{
-    tree_laws();
-    let _whole = tree.entries();
-    let node = tree.subtree(alloc, path)?;
-    Ok(encode_node(alloc, node.as_ref())?)
-}
-
-/// The bytes from the offset on, the first of them where there are more than a piece has.
-fn cut(bytes: &[u8], offset: usize) -> &[u8]
-    ensures { result.now ≡ take greatest_piece (drop offset bytes.now) }
-{
-    if offset >= bytes.len() {
-        return &[];
-    }
-    let (_, rest) = bytes.split_at(offset);
-    if rest.len() <= LONGEST_PIECE {
-        return rest;
-    }
-    let (piece, _) = rest.split_at(LONGEST_PIECE);
-    piece
 }

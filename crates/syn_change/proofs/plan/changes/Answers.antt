@@ -11,8 +11,8 @@ remove_extra-requires c =
     c.in_ok-work.ensures
     ∙ (ap (subtree c.args.old.now) c.root.ensures ∙ subtree-root c.args.old.now)
 
-pub returns : goal.returns
-returns c =
+pub returns-clause-made : goal.returns-clause-made
+returns-clause-made c =
     let old = c.args.old.now in
     let work : c.in_ok-work.work ≡ old =
     c.in_ok-work.ensures ∙ (ap (subtree old) c.root.ensures ∙ subtree-root old) in
@@ -21,3 +21,12 @@ returns c =
     c.in_ok-put_missing.ensures.edits old (c.in_ok-remove_extra.ensures.edits old start)
     ∙ is_wanted c.remove_extra.new.work c.args.wanted.now c.put_missing.new.work
     c.in_ok-remove_extra.ensures.trimmed c.in_ok-put_missing.ensures.overlaid
+
+pub returns-clause-none : goal.returns-clause-none
+returns-clause-none c same =
+    let old = c.args.old.now in
+    let work : c.in_ok-work.work ≡ old =
+    c.in_ok-work.ensures ∙ (ap (subtree old) c.root.ensures ∙ subtree-root old) in
+    let removed = c.in_ok-remove_extra.ensures.none (work ∙ same) in
+    let put = c.in_ok-put_missing.ensures.none (removed.0 ∙ (work ∙ same)) in
+    put.1 ∙ (removed.1 ∙ c.new-edits.ensures.items)

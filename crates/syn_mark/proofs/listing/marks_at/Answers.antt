@@ -1,8 +1,7 @@
 use Rattle.std.proofs.Common.{◌≡◌, ◌++◌, ◌∷◌, [], sym, ap, ◌∙◌, append_assoc, append-nil, arith}
-use Rattle.std.specs.Borrow.{Bor}
 use Rattle.std.proofs.lemmas.List.{nil_from_length}
 use Rattle.syn_model.specs.Path.{Name}
-use Rattle.syn_model.specs.Tree.{Pair}
+use Rattle.syn_tree.specs.declared.content.Found.{Found}
 use Rattle.syn_tree.specs.Lists.{contents_at}
 use Rattle.syn_mark.specs.Marks.{contents_in}
 use Rattle.syn_mark.specs.inner.Placings.{marks_of}
@@ -12,14 +11,14 @@ use Rattle.syn_mark.proofs.listing.marks_at.Goals as goal
 pub loop-name-preserved : goal.loop-name-preserved
 loop-name-preserved c =
     let read = c.loop-name.yielded in
-    let x : Name × Bor Pair = (c.in-Some.name, c.in-Some.entry) in
+    let x : Name × Found = (c.in-Some.name, c.in-Some.found) in
     record {
       whole =
           c.loop-name.invariant.whole ∙ (ap (λ xs. read ++ xs) c.in-Some.ensures.steps.0
           ∙ sym (append_assoc read (x ∷ []) c.next.new.self.rest.items));
       pushed =
           ap contents_in c.in_ok-push.ensures.items ∙ marks-more c.loop-name.listed.items read x
-          c.mark_at.result c.loop-name.invariant.pushed c.mark_at.ensures;
+          c.mark_found.result c.loop-name.invariant.pushed c.mark_found.ensures;
     }
 
 pub returns-clause-ok : goal.returns-clause-ok

@@ -6,6 +6,6 @@ use Rattle.syn_mark.proofs.listing.marks_at.Given as goal
 
 abbrev pub invariant-loop-name : goal.invariant-loop-name
 invariant-loop-name l = record {
-  whole : l.fn.found.items ≡ l.yielded ++ l.name-iterator.rest.items;
+  whole : l.fn.children.items ≡ l.yielded ++ l.name-iterator.rest.items;
   pushed : contents_in l.listed.items ≡ marks_of (contents_at l.yielded);
 }

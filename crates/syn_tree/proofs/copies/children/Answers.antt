@@ -1,5 +1,5 @@
 use Rattle.std.proofs.Common.{◌≡◌, ◌++◌, ◌∷◌, [], Some, None, option_map, take, length, sym, ap}
-use Rattle.std.proofs.Common.{◌∙◌, append-nil, arith}
+use Rattle.std.proofs.Common.{ap₂, ◌∙◌, append-nil, arith}
 use Rattle.std.proofs.Math.Seq.{take-length}
 use Rattle.std.proofs.lemmas.List.{map-append}
 use Rattle.std.specs.Prelude.{option_and_then}
@@ -11,10 +11,10 @@ use Rattle.syn_tree.proofs.copies.children.Goals as goal
 use Rattle.syn_tree.proofs.copies.children.Goals.{in-Some+in_ok-copy+in_ok-push, in_default}
 
 pub loop-entry-init : goal.loop-entry-init
-loop-entry-init g c = ap contents_at c.new-found.ensures.items
+loop-entry-init c = ap contents_at c.new-found.ensures.items
 
 pub loop-entry-preserved : goal.loop-entry-preserved
-loop-entry-preserved g c =
+loop-entry-preserved c =
     let above = c.args.above.now in
     let list = c.args.list.now in
     let i = c.loop-entry.entry-index in
@@ -31,8 +31,9 @@ loop-entry-preserved g c =
           let one = one_more above x (Some name) (named ∙ (ap (option_map (λ name. name.now))
           w.in-Some.is ∙ ap (λ n. Some n) (sym w.in_ok-copy.ensures.ok))) in
           rw w.found-is (ap contents_at w.in_ok-push.ensures.items
-          ∙ (map-append _ c.loop-entry.found.items _ ∙ (ap (λ ys. ys ++ (name, x.1) ∷ [])
-          c.loop-entry.invariant ∙ (ap (λ ys. read ++ ys) (sym one) ∙ sym more))))
+          ∙ (map-append _ c.loop-entry.found.items _ ∙ (ap₂ (λ ys there. ys ++ (name, there) ∷ [])
+          c.loop-entry.invariant w.found_at.ensures
+          ∙ (ap (λ ys. read ++ ys) (sym one) ∙ sym more))))
       | in_default w ↦
           let none = one_more above x None
           (named ∙ ap (option_map (λ name. name.now)) w.in_default.is) in
@@ -41,7 +42,7 @@ loop-entry-preserved g c =
     ]
 
 pub returns-clause-ok : goal.returns-clause-ok
-returns-clause-ok g c =
+returns-clause-ok c =
     let ended : c.loop-entry.entry-index ≡ length c.args.list.now =
     omega (arith, c.loop-entry-test.false, c.loop-entry.auto.entry-index-end) in
     c.loop-entry.invariant ∙ ap (child_contents c.args.above.now)

@@ -3,5 +3,5 @@ use Rattle.syn_tree.specs.Lists.{child_contents, contents_at}
 use Rattle.syn_tree.proofs.copies.children.Given as goal
 
 abbrev pub invariant-loop-entry : goal.invariant-loop-entry
-invariant-loop-entry g l =
+invariant-loop-entry l =
     contents_at l.found.items ≡ child_contents l.above (take l.entry-index l.list)

@@ -1,66 +1,78 @@
-use Rattle.std.proofs.Common.{◌≡◌, ◌<◌, ◌^◌, length, take, flat_map, sym, ap, ◌∙◌, subst}
-use Rattle.std.proofs.Common.{append-nil, arith}
+use Rattle.std.proofs.Common.{◌≡◌, ◌<◌, ◌^◌, ◌++◌, ◌∷◌, [], length, flat_map, sym, ap, ◌∙◌, subst}
+use Rattle.std.proofs.Common.{append_assoc, append-nil, arith}
+use Rattle.std.specs.FinMap.{entries}
 use Rattle.syn_model.specs.Limits.{children}
+use Rattle.syn_placed.specs.Pairs.{rooted}
 use Rattle.syn_wire.specs.Events.{file_spelling}
 use Rattle.syn_wire.specs.Trees.{pair_spelling}
 use Rattle.syn_model.proofs.ExitLemmas.{on_ok_of_exit}
 use Rattle.syn_wire.proofs.ByteLemmas.{begins_more, begins_further}
-use Rattle.syn_wire.proofs.WritingLemmas.{pairs_more, whole_written, root_few, entry_fits}
+use Rattle.syn_wire.proofs.WritingLemmas.{pair_more, whole_written, root_few, pair_fits}
 use Rattle.syn_wire.proofs.WritingLemmas.{whole_fits_part}
 use Rattle.syn_wire.proofs.tree.write_tree.Goals as goal
 
-pub loop-entry-init : goal.loop-entry-init
-loop-entry-init c = sym (append-nil c.write_count.new.out.items)
+pub loop-pair-init : goal.loop-pair-init
+loop-pair-init c = record {
+  whole = ap rooted c.into_iter-pair-iterator.ensures.into_iter_gives ∙ c.entries-pairs.ensures.all;
+  written = sym (append-nil c.write_count.new.out.items);
+}
 
-pub loop-entry-preserved : goal.loop-entry-preserved
-loop-entry-preserved c =
-    let t = c.args.tree.now in
-    pairs_more file_spelling t c.entries-list.result.now c.loop-entry.entry-index
-    c.entry-item.result c.count_in_tree.result c.write_count.new.out.items c.loop-entry.out.items
-    c.write_entry.new.out.items
-    c.loop-entry-test.true c.entry-item.is c.count_in_tree.ensures.spelled c.loop-entry.invariant
-    c.in_ok-write_entry.ensures.added
+pub loop-pair-preserved : goal.loop-pair-preserved
+loop-pair-preserved c =
+    let read = c.loop-pair.yielded in
+    let x = c.in-Some.pair in
+    record {
+      whole =
+          ap rooted (append_assoc read (x ∷ []) c.next.new.self
+          ∙ ap (λ xs. read ++ xs) (sym c.in-Some.ensures.steps)) ∙ c.loop-pair.invariant.whole;
+      written =
+          pair_more file_spelling c.args.tree.now read x c.count_in_tree.result
+          c.write_count.new.out.items c.loop-pair.out.items c.write_pair.new.out.items
+          c.count_in_tree.ensures.spelled c.loop-pair.invariant.written
+          c.in_ok-write_pair.ensures.added;
+    }
 
 pub returns-clause-added : goal.returns-clause-added
 returns-clause-added c =
     let t = c.args.tree.now in
-    let list = c.entries-list.result.now in
-    let ended : c.loop-entry.entry-index ≡ length list =
-    omega (arith, c.loop-entry-test.false, c.loop-entry.auto.entry-index-end) in
-    whole_written t list c.loop-entry.entry-index c.child_count.result c.args.out.now.items
-    c.write_count.new.out.items c.loop-entry.out.items
-    c.entries-list.ensures.tree c.entries-list.ensures.all ended
+    let read = c.loop-pair.yielded in
+    let all : rooted read ≡ entries t =
+    ap rooted (sym (append-nil read) ∙ ap (λ xs. read ++ xs) (sym c.in-None.ensures.steps.0))
+    ∙ c.loop-pair.invariant.whole in
+    whole_written t read c.child_count.result c.args.out.now.items c.write_count.new.out.items
+    c.loop-pair.out.items c.entries-pairs.ensures.tree all
     (c.child_count.ensures ∙ ap (λ p. length (children t p)) c.root-root.ensures)
-    c.in_ok-write_count.ensures.added c.loop-entry.invariant
+    c.in_ok-write_count.ensures.added c.loop-pair.invariant.written
 
 pub write_count-requires : goal.write_count-requires
 write_count-requires c =
     let t = c.args.tree.now in
-    let few = root_few t c.entries-list.result.now c.entries-list.ensures.all
-    (whole_fits_part t c.entries-list.ensures.fits) in
+    let few = root_few t c.entries-pairs.result c.entries-pairs.ensures.all
+    (whole_fits_part c.args.tree.now c.entries-pairs.ensures.fits) in
     subst (λ n. n < 2 ^ 16)
     (sym (c.child_count.ensures ∙ ap (λ p. length (children t p)) c.root-root.ensures)) few
 
-pub write_entry-requires-clause-count : goal.write_entry-requires-clause-count
-write_entry-requires-clause-count c =
+pub write_pair-requires-clause-count : goal.write_pair-requires-clause-count
+write_pair-requires-clause-count c =
     let t = c.args.tree.now in
-    let fit = entry_fits t c.entries-list.result.now c.entries-list.ensures.all
-    (whole_fits_part t c.entries-list.ensures.fits) c.loop-entry.entry-index c.entry-item.result
-    c.loop-entry-test.true c.entry-item.is in
+    let read = c.loop-pair.yielded in
+    let fit = pair_fits t (read ++ c.loop-pair.pair-iterator) c.loop-pair.invariant.whole
+    (whole_fits_part t c.entries-pairs.ensures.fits) read c.in-Some.pair c.next.new.self
+    (ap (λ xs. read ++ xs) c.in-Some.ensures.steps) in
     omega (arith, fit.1, c.count_in_tree.ensures.few)
 
-pub write_entry-requires-clause-brief : goal.write_entry-requires-clause-brief
-write_entry-requires-clause-brief c =
-    let t = c.args.tree.now in
-    (entry_fits t c.entries-list.result.now c.entries-list.ensures.all
-    (whole_fits_part t c.entries-list.ensures.fits) c.loop-entry.entry-index c.entry-item.result
-    c.loop-entry-test.true c.entry-item.is).0
+pub write_pair-requires-clause-brief : goal.write_pair-requires-clause-brief
+write_pair-requires-clause-brief c =
+    let read = c.loop-pair.yielded in
+    (pair_fits c.args.tree.now (read ++ c.loop-pair.pair-iterator) c.loop-pair.invariant.whole
+    (whole_fits_part c.args.tree.now c.entries-pairs.ensures.fits) read c.in-Some.pair
+    c.next.new.self (ap (λ xs. read ++ xs) c.in-Some.ensures.steps)).0
 
 pub returns-clause-kept : goal.returns-clause-kept
 returns-clause-kept c =
-    begins_more c.args.out.now.items c.write_count.new.out.items c.loop-entry.out.items (flat_map
-    (pair_spelling c.args.tree.now) (take c.loop-entry.entry-index c.entries-list.result.now))
-    c.write_count.ensures.kept c.loop-entry.invariant
+    begins_more c.args.out.now.items c.write_count.new.out.items c.loop-pair.out.items
+    (flat_map (pair_spelling c.args.tree.now) c.loop-pair.yielded)
+    c.write_count.ensures.kept c.loop-pair.invariant.written
 
 pub returns-in_err-write_count-clause-added : goal.returns-in_err-write_count-clause-added
 returns-in_err-write_count-clause-added c =
@@ -69,16 +81,16 @@ returns-in_err-write_count-clause-added c =
 pub returns-in_err-write_count-clause-kept : goal.returns-in_err-write_count-clause-kept
 returns-in_err-write_count-clause-kept c = c.write_count.ensures.kept
 
-pub returns-in_err-write_entry-clause-added : goal.returns-in_err-write_entry-clause-added
-returns-in_err-write_entry-clause-added c =
-    on_ok_of_exit c.from_residual-in_err-write_entry.result _ _
-    c.from_residual-in_err-write_entry.ensures.1
+pub returns-in_err-write_pair-clause-added : goal.returns-in_err-write_pair-clause-added
+returns-in_err-write_pair-clause-added c =
+    on_ok_of_exit c.from_residual-in_err-write_pair.result _ _
+    c.from_residual-in_err-write_pair.ensures.1
 
-pub returns-in_err-write_entry-clause-kept : goal.returns-in_err-write_entry-clause-kept
-returns-in_err-write_entry-clause-kept c =
+pub returns-in_err-write_pair-clause-kept : goal.returns-in_err-write_pair-clause-kept
+returns-in_err-write_pair-clause-kept c =
     let out = c.args.out.now.items in
-    let so_far = begins_more out c.write_count.new.out.items c.loop-entry.out.items (flat_map
-    (pair_spelling c.args.tree.now) (take c.loop-entry.entry-index c.entries-list.result.now))
-    c.write_count.ensures.kept c.loop-entry.invariant in
-    begins_further out c.loop-entry.out.items c.write_entry.new.out.items so_far
-    c.write_entry.ensures.kept
+    let so_far = begins_more out c.write_count.new.out.items c.loop-pair.out.items
+    (flat_map (pair_spelling c.args.tree.now) c.loop-pair.yielded)
+    c.write_count.ensures.kept c.loop-pair.invariant.written in
+    begins_further out c.loop-pair.out.items c.write_pair.new.out.items so_far
+    c.write_pair.ensures.kept

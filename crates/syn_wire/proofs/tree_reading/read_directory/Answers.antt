@@ -36,7 +36,7 @@ returns c =
     let read = subst (λ o. PartsAreRead OfContents c.root.result c.in-Some.count c.in-Some.below.now
     c.new-list.result.items list (option_map (λ left. left.now) o)) c.in-Some-2.is
     c.in_ok-rest.ensures.spelled in
-    let kept = c.as_slice.ensures in
+    let kept = c.iter.ensures in
     directory_made c.args.fields.now c.in-Some.below.now c.root.result c.in-Some.count
     c.new-list.result.items list c.in-Some-2.rest.now c.in-Some-from_vec.entries c.in-Some.ensures
     c.root.ensures c.new-list.ensures.items read c.in-Some-from_vec.ensures.some

@@ -1,6 +1,6 @@
 use Rattle.std.proofs.Common.{◌∙◌, arith, inl, inr, refl, subst, sym}
 use Rattle.syn_agent.proofs.CauseLemmas.{none_of}
-use Rattle.syn_agent.proofs.ReadingLemmas.{is_piece, is_refused, no_memory}
+use Rattle.syn_agent.proofs.ReadingLemmas.{fetch_takes, is_piece, is_refused, no_memory}
 use Rattle.syn_agent.proofs.agent.Agent.fetch.Goals as goal
 use Rattle.syn_agent.specs.Answers.{Answers}
 use Rattle.syn_headline.specs.Side.{Fetch, Refused}
@@ -19,6 +19,7 @@ pub returns-in-Err-try_from-clause-answers : goal.returns-in-Err-try_from-clause
 returns-in-Err-try_from-clause-answers g c history session stands =
     no_memory c.args.replica.now c.args.self.now history session stands
     (Fetch c.args.path.now c.args.since c.args.offset) why.Memory refl
+    (none_of _ (λ why is. c.in-Ok.ensures.refused history why stands is))
 
 pub returns-in-Err-clause-answers : goal.returns-in-Err-clause-answers
 returns-in-Err-clause-answers g c history session stands =
@@ -29,6 +30,8 @@ returns-in-Err-clause-answers g c history session stands =
     (elim (c.in-Err.ensures.cause history stands) [
       | inl memory ↦ no_memory c.args.replica.now c.args.self.now history session stands
           (Fetch c.args.path.now c.args.since c.args.offset) _ memory
+          (fetch_takes history c.args.path.now c.args.since _
+          (λ why is. c.in-Err.ensures.refused history why stands is) memory)
       | inr some ↦ is_refused c.args.replica.now c.args.self.now history session stands
           c.args.path.now c.args.since c.args.offset _ some
     ])

@@ -1,4 +1,4 @@
-use Rattle.std.proofs.Common.{◌≡◌, ◌∙◌, Err, ap, inl, inr, refl, rules, sym}
+use Rattle.std.proofs.Common.{◌≡◌, ◌∙◌, ℕ, true, Err, ap, inl, inr, refl, rules, sym}
 use Rattle.syn_agent.proofs.CauseLemmas.{refused_one}
 use Rattle.syn_agent.proofs.ReadingLemmas.{absent_is, halted_is, is_listed, is_no_directory}
 use Rattle.syn_agent.proofs.ReadingLemmas.{is_listing, is_there, no_device}
@@ -6,11 +6,13 @@ use Rattle.syn_agent.proofs.ReadingLemmas.{no_memory, own_absent, reading}
 use Rattle.syn_agent.proofs.ReadingLemmas.{running}
 use Rattle.syn_agent.proofs.agent.Agent.list.Goals as goal
 use Rattle.syn_headline.specs.Side.{ListAt, Refused}
+use Rattle.syn_model.specs.History.{History, tree_of}
 use Rattle.syn_model.specs.Refusal as why
+use Rattle.syn_model.specs.Tree.{is_directory}
 use Rattle.syn_refusal.specs.Refusals.{cause_of}
 use Rattle.syn_replica.specs.Refusals.{reading_refusals}
 use Rattle.syn_standing.specs.Refusals.{refusal_in, refusal_of}
-use Rattle.syn_replica.specs.Replica.{tree_shown}
+use Rattle.syn_replica.specs.Replica.{Stands, tree_shown}
 
 pub returns-in-Ok-clause-answers : goal.returns-in-Ok-clause-answers
 returns-in-Ok-clause-answers g c history session stands =
@@ -49,16 +51,10 @@ returns-in_default g c = record {
             (own_absent c.refusal.result (c.refusal.ensures ∙ absent)))
         | inr (inr memory) ↦ no_memory c.args.replica.now c.args.self.now history session stands
             (ListAt c.args.path.now) _ (c.refusal.ensures ∙ memory)
+            (takes history session stands memory)
       ];
   memory = λ history session stands is.
-      let memory : refusal_of c.in-Err.error ≡ why.Memory =
-      sym c.refusal.ensures ∙ refused_one _ _ is in
-      is_there c.args.replica.now c.args.self.now history session stands c.args.path.now
-      (λ none. let found = ap refusal_in (c.in-Err.ensures.absent.1 (
-        running c.args.replica.now c.args.self.now history session stands,
-        none,
-      )) in let same : refusal_of c.in-Err.error ≡ why.Absent = cc in
-      let k : why.Memory ≡ why.Absent = sym memory ∙ same in cc);
+      takes history session stands (sym c.refusal.ensures ∙ refused_one _ _ is);
   device = λ is. no_device reading_refusals c.in-Err.error c.in-Err.ensures.refusals refl
       (sym c.refusal.ensures ∙ refused_one _ _ is);
   halted = λ halted.
@@ -66,3 +62,15 @@ returns-in_default g c = record {
       let same : refusal_of c.in-Err.error ≡ why.Halted = cc in
       ap Refused (c.refusal.ensures ∙ same);
 }
+  where
+    -- memory is refused where there is a directory
+    takes : (history : History) (session : ℕ) → Stands c.args.replica.now history
+        → refusal_of c.in-Err.error ≡ why.Memory
+        → is_directory (tree_of history) c.args.path.now ≡ true
+    takes history session stands memory =
+        is_there c.args.replica.now c.args.self.now history session stands c.args.path.now
+        (λ none. let found = ap refusal_in (c.in-Err.ensures.absent.1 (
+          running c.args.replica.now c.args.self.now history session stands,
+          none,
+        )) in let same : refusal_of c.in-Err.error ≡ why.Absent = cc in
+        let k : why.Memory ≡ why.Absent = sym memory ∙ same in cc)

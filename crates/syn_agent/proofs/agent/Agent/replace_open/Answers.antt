@@ -41,7 +41,8 @@ returns-in-Ok-None-clause-answers g c history stands fresh young =
 pub returns-in-Err-read_part-clause-answers : goal.returns-in-Err-read_part-clause-answers
 returns-in-Err-read_part-clause-answers g c history stands fresh young =
     memory_answers c.args.replica.now c.args.self.now history c.args.token.session
-    c.args.token.item c.args.path.now c.args.since c.args.length stands _
+    c.args.token.item c.args.path.now c.args.since c.args.length stands fresh young
+    c.in-Ok.ensures.none _
     (c.refusal-in-Err-read_part.ensures ∙ only_memory c.in-Err-read_part.error)
 
 pub returns-in-Ok-replace-clause-answers : goal.returns-in-Ok-replace-clause-answers

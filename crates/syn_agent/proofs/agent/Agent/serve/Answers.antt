@@ -4,8 +4,7 @@ use Rattle.syn_agent.proofs.StageLemmas.{stage_answers, stage_device, stage_lawf
 use Rattle.syn_agent.proofs.agent.Agent.serve.Goals as goal
 use Rattle.syn_agent.specs.Agents.{side_of}
 use Rattle.syn_agent.specs.Answers.{Answers, room_for}
-use Rattle.syn_agent.specs.Causes.{TakesMemory}
-use Rattle.syn_headline.specs.Side.{token_of}
+use Rattle.syn_headline.specs.Side.{TakesMemory, token_of}
 use Rattle.syn_message.specs.Replies.{reply_of}
 use Rattle.syn_message.specs.Requests.{request_of}
 use Rattle.syn_replica.specs.Growing.{itself}

@@ -1,4 +1,4 @@
-use Rattle.std.proofs.Common.{[], ◌∷◌, ◌++◌, sym, ap, ◌∙◌, subst}
+use Rattle.std.proofs.Common.{[], ◌∷◌, ◌++◌, sym, ap, ◌∙◌, subst, inl}
 use Rattle.syn_headline.specs.Network.{Left, Right}
 use Rattle.syn_model.specs.Archive.{Archive}
 use Rattle.syn_model.specs.Plan.{plan}
@@ -9,6 +9,7 @@ use Rattle.syn_coordinator.specs.inner.Taking.{TakesEnd, TakesOn}
 use Rattle.syn_session.specs.Passing.{first_reached}
 use Rattle.syn_coordinator.proofs.BeginLemmas.{at_first, begins_asking, begins_ending, no_plan}
 use Rattle.syn_session.specs.declared.session.Asks.TheVariants.{One}
+use Rattle.syn_coordinator.proofs.BreakLemmas.{none_breaks}
 use Rattle.syn_coordinator.proofs.coordinator.Coordinator.begin_course.Goals as goal
 
 pub returns-in_default-clause-step : goal.returns-in_default-clause-step
@@ -73,3 +74,6 @@ returns-in-Err-clause-step g c =
     (c.found-right.ensures.scan Right (running.taken ++ taken ∷ []) (scanned.whole Right)
     (scanned.found Right))
     c.walk-asks.new.self c.walk-asks.new.course c.in-Err.ended walked)
+
+pub returns-in_default-clause-breaks : goal.returns-in_default-clause-breaks
+returns-in_default-clause-breaks g c = inl (none_breaks c.args.self.now)

@@ -1,10 +1,11 @@
-use Rattle.std.proofs.Common.{refl, subst}
+use Rattle.std.proofs.Common.{refl, subst, inl}
 use Rattle.std.specs.Prelude.{Ok}
 use Rattle.syn_message.specs.Replies.{reply_of}
 use Rattle.syn_session.specs.Answering.{exchange_of}
 use Rattle.syn_session.specs.Carrying.{TakesAnswer}
 use Rattle.syn_coordinator.specs.inner.Carrying as carrying
 use Rattle.syn_coordinator.proofs.OnwardLemmas.{carries_further, goes_later}
+use Rattle.syn_coordinator.proofs.BreakLemmas.{none_breaks}
 use Rattle.syn_coordinator.proofs.coordinator.Coordinator.on_carried.Goals as goal
 
 pub returns-in-Ok-Asks-clause-step : goal.returns-in-Ok-Asks-clause-step
@@ -49,3 +50,9 @@ returns-in-Err-clause-step g c pair journal all before to number request is quie
     let took = c.in-Err.ensures.step journal.value c.args.left.now c.args.right.now all before to
     number request carries in
     carrying.at_once c.in-Err.why took.0 refl is quiet took.1
+
+pub returns-in-Ok-Asks-clause-breaks : goal.returns-in-Ok-Asks-clause-breaks
+returns-in-Ok-Asks-clause-breaks g c = none_breaks c.args.self.now
+
+pub returns-in-Err-clause-breaks : goal.returns-in-Err-clause-breaks
+returns-in-Err-clause-breaks g c = inl (none_breaks c.args.self.now)

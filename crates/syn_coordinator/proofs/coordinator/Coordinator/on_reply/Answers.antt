@@ -9,6 +9,9 @@ use Rattle.syn_session.specs.Sendings.{messages_of}
 use Rattle.syn_session.specs.Answering.{exchange_of}
 use Rattle.syn_keep.specs.Machines.{IsMachine}
 use Rattle.syn_image.specs.Archives.{kept_of}
+use Rattle.syn_archive.specs.Archive.{disk_of}
+use Rattle.syn_coordinator.proofs.BreakLemmas.{nothing_told, off_before, off_then, still_breaks}
+use Rattle.syn_coordinator.proofs.BreakLemmas.{then_nothing, told_nothing}
 use Rattle.syn_coordinator.proofs.ReplyLemmas.{answered_does, ends_so, expects, ignored_does}
 use Rattle.syn_coordinator.proofs.ReplyLemmas.{none_expected}
 use Rattle.syn_coordinator.proofs.coordinator.Coordinator.on_reply.Goals as goal
@@ -25,6 +28,11 @@ returns-in_default g c = record {
       (ap (λ w. map kept_of w.items) c.expecting.ensures.kept.0
       ∙ ap (map kept_of) c.new.ensures.items) (ap messages_of c.new-in_default.ensures.items);
   report = λ _. ap (option_map report_model) c.expecting.ensures.report;
+  breaks = inl (
+    told_nothing c.expecting.new.self c.expecting.ensures.kept.1,
+    c.expecting.ensures.kept.2,
+    ap (λ a. g.D.Disk.failures (disk_of a)) c.expecting.ensures.archive,
+  );
 }
 
 pub returns-in-Ok : goal.returns-in-Ok
@@ -53,6 +61,11 @@ returns-in-Ok g c = record {
     | inr idle ↦
         absurd (false≢true (sym idle ∙ ap is_some c.in-Some.ensures.some.1))
   ];
+  breaks = inl (nothing_told c.args.self.now c.expecting.new.self c.ask.new.self
+      c.expecting.ensures.kept.1 c.expecting.ensures.kept.2 c.expecting.ensures.archive
+      (then_nothing c.expecting.new.self c.take.new.self c.ask.new.self c.in-Ok.ensures.breaks
+      (still_breaks c.take.new.self c.ask.new.self c.ask.ensures.kept.0 c.ask.ensures.kept.1
+      c.ask.ensures.archive)));
 }
 
 pub returns-in-Err : goal.returns-in-Err
@@ -83,4 +96,15 @@ returns-in-Err g c = record {
     | inr idle ↦
         absurd (false≢true (sym idle ∙ ap is_some c.in-Some.ensures.some.1))
   ];
+  breaks =
+      let still = still_breaks c.take.new.self c.finish.new.self c.finish.ensures.kept.1
+      c.finish.ensures.kept.2 c.finish.ensures.archive in
+      elim c.in-Err.ensures.breaks [
+        | inl nothing ↦ inl (nothing_told c.args.self.now c.expecting.new.self c.finish.new.self
+            c.expecting.ensures.kept.1 c.expecting.ensures.kept.2 c.expecting.ensures.archive
+            (then_nothing c.expecting.new.self c.take.new.self c.finish.new.self nothing still))
+        | inr off ↦ inr (off_before c.args.self.now c.expecting.new.self c.finish.new.self
+            c.expecting.ensures.archive (off_then c.expecting.new.self c.take.new.self
+            c.finish.new.self off still c.finish.ensures.archive))
+      ];
 }

@@ -1,8 +1,9 @@
-use Rattle.std.proofs.Common.{refl, sym, subst, []}
+use Rattle.std.proofs.Common.{refl, sym, subst, [], inl}
 use Rattle.std.proofs.lemmas.List.{append-nil}
 use Rattle.syn_session.specs.Doings.{IsDoing}
 use Rattle.syn_coordinator.specs.inner.Settling.{AsksSo, EndsSo}
 use Rattle.syn_coordinator.proofs.PassLemmas.{ends_here, ends_settled, further_so, on_past, past_so}
+use Rattle.syn_coordinator.proofs.BreakLemmas.{asks_nothing, none_breaks, nothing_breaks}
 use Rattle.syn_coordinator.proofs.coordinator.Coordinator.pass.Goals as goal
 
 pub returns-in-Ok-Nothing-clause-step : goal.returns-in-Ok-Nothing-clause-step
@@ -66,3 +67,22 @@ pub returns-in-Err-clause-step : goal.returns-in-Err-clause-step
 returns-in-Err-clause-step g c pair journal taken all before is quiet at =
     ends_here pair taken journal before c.args.left.now c.args.right.now c.args.self.now is quiet
     c.args.course.now c.args.course.now at.course_is refl _ refl
+
+pub returns-in-Ok-Nothing-clause-breaks : goal.returns-in-Ok-Nothing-clause-breaks
+returns-in-Ok-Nothing-clause-breaks g c = inl (none_breaks c.args.self.now)
+
+pub returns-in-Ok-Conflict-clause-breaks : goal.returns-in-Ok-Conflict-clause-breaks
+returns-in-Ok-Conflict-clause-breaks g c = nothing_breaks c.args.self.now c.args.self.now
+    c.nothing_asked.result (none_breaks c.args.self.now)
+
+pub returns-in-Ok-Mark-clause-breaks : goal.returns-in-Ok-Mark-clause-breaks
+returns-in-Ok-Mark-clause-breaks g c = asks_nothing c.args.self.now c.settle.new.self
+    c.settle.result c.nothing_asked-in-Ok-Mark.result c.nothing_asked-in-Ok-Mark.ensures
+    c.settle.ensures.breaks
+
+pub returns-in-Ok-Carry-clause-breaks : goal.returns-in-Ok-Carry-clause-breaks
+returns-in-Ok-Carry-clause-breaks g c = nothing_breaks c.args.self.now c.args.self.now
+    c.carry.result (none_breaks c.args.self.now)
+
+pub returns-in-Err-clause-breaks : goal.returns-in-Err-clause-breaks
+returns-in-Err-clause-breaks g c = inl (none_breaks c.args.self.now)

@@ -1,4 +1,4 @@
-use Rattle.std.proofs.Common.{◌∙◌, sym, [], ◌∷◌}
+use Rattle.std.proofs.Common.{◌∙◌, sym, [], ◌∷◌, inl}
 use Rattle.syn_refusal.specs.declared.refusal.Refusal.TheVariants as refusal
 use Rattle.syn_coordinator.specs.declared.ended.Ended.TheVariants.{Early}
 use Rattle.syn_coordinator.specs.inner.Advancing.{kept_by}
@@ -8,6 +8,7 @@ use Rattle.syn_coordinator.proofs.SettleLemmas.{ends_for_memory, is_cut_off, is_
 use Rattle.syn_coordinator.proofs.SettleLemmas.{is_refused, still_is, tries_by}
 use Rattle.syn_keep.specs.declared.due.Due.TheVariants as due
 use Rattle.syn_image.specs.Archives.{kept_of}
+use Rattle.syn_coordinator.proofs.BreakLemmas.{due_breaks}
 use Rattle.syn_coordinator.proofs.coordinator.Coordinator.settle.Goals as goal
 
 pub returns-then-is_cut-clause-step : goal.returns-then-is_cut-clause-step
@@ -86,3 +87,20 @@ returns-in-Ends-clause-step g c pair journal left right taken before planned is 
           (tries_by c.keep-due.new.self.archive (kept_of c.args.kept) c.args.self.now.tried
           c.keep-due.new.self.tried (due.Ends c.in-Ends.why) quiet.0 c.in-Ends.ensures.tried),
     )
+
+pub returns-then-is_cut-clause-breaks : goal.returns-then-is_cut-clause-breaks
+returns-then-is_cut-clause-breaks g c = due_breaks c.args.self.now c.keep-due.new.self
+    c.keep-due.result c.keep-due.ensures.breaks
+
+pub returns-in-Recorded-clause-breaks : goal.returns-in-Recorded-clause-breaks
+returns-in-Recorded-clause-breaks g c = c.in-Recorded.ensures.breaks
+
+pub returns-in-Ok-clause-breaks : goal.returns-in-Ok-clause-breaks
+returns-in-Ok-clause-breaks g c = c.in-Refused.ensures.breaks
+
+pub returns-in-Err-clause-breaks : goal.returns-in-Err-clause-breaks
+returns-in-Err-clause-breaks g c = inl c.in-Refused.ensures.breaks
+
+pub returns-in-Ends-clause-breaks : goal.returns-in-Ends-clause-breaks
+returns-in-Ends-clause-breaks g c = due_breaks c.args.self.now c.keep-due.new.self
+    (due.Ends c.in-Ends.why) c.in-Ends.ensures.breaks

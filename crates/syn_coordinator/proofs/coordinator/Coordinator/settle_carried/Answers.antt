@@ -1,7 +1,8 @@
-use Rattle.std.proofs.Common.{ap, subst}
+use Rattle.std.proofs.Common.{ap, subst, inl}
 use Rattle.syn_headline.specs.Coordinator.{IsDue}
 use Rattle.syn_image.specs.Archives.{kept_of}
 use Rattle.syn_coordinator.proofs.OnwardLemmas.{no_session_due}
+use Rattle.syn_coordinator.proofs.BreakLemmas.{none_breaks}
 use Rattle.syn_coordinator.proofs.coordinator.Coordinator.settle_carried.Goals as goal
 
 pub returns-in-Session-clause-step : goal.returns-in-Session-clause-step
@@ -22,3 +23,6 @@ returns-in-Dir-clause-step g c pair journal left right taken before planned is q
     c.settle-in-Dir.ensures.step pair journal left right taken before planned is quiet course_is at
     (subst (λ k. IsDue c.args.course.now.cursor planned taken (kept_of k)) c.in-Dir.is is_due)
     carries
+
+pub returns-in-Session-clause-breaks : goal.returns-in-Session-clause-breaks
+returns-in-Session-clause-breaks g c = inl (none_breaks c.args.self.now)

@@ -1,4 +1,4 @@
-use Rattle.std.proofs.Common.{sym, ap, ◌∙◌, subst}
+use Rattle.std.proofs.Common.{sym, ap, ◌∙◌, subst, inl}
 use Rattle.std.specs.Prelude.{is_some}
 use Rattle.syn_message.specs.Replies.{reply_of}
 use Rattle.syn_message.specs.Requests.{request_of}
@@ -10,6 +10,7 @@ use Rattle.syn_session.proofs.HearingLemmas.{not_last}
 use Rattle.syn_coordinator.proofs.TickLemmas.{is_none}
 use Rattle.syn_coordinator.proofs.TakeLemmas.{hears_end, hears_on}
 use Rattle.syn_coordinator.proofs.TriedLemmas.{tries_none}
+use Rattle.syn_coordinator.proofs.BreakLemmas.{none_breaks}
 use Rattle.syn_coordinator.proofs.coordinator.Coordinator.take.Goals as goal
 
 pub returns-then-is_some-clause-step : goal.returns-then-is_some-clause-step
@@ -57,3 +58,9 @@ returns-in-Err-clause-step g c =
     (request_of c.args.request) (reply_of c.args.reply)) c.hear.new.self is _
     (tries_none pair c.args.self.now.tried journal quiet.0 quiet.1) _ nothing c.in-Err.why
     (c.in-Err.ensures.step journal.value before running number session answers scans)
+
+pub returns-in-Ok-Some-clause-breaks : goal.returns-in-Ok-Some-clause-breaks
+returns-in-Ok-Some-clause-breaks g c = none_breaks c.args.self.now
+
+pub returns-in-Err-clause-breaks : goal.returns-in-Err-clause-breaks
+returns-in-Err-clause-breaks g c = inl (none_breaks c.args.self.now)

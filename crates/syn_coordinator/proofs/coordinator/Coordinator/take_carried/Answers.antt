@@ -1,8 +1,10 @@
+use Rattle.std.proofs.Common.{inl}
 use Rattle.syn_message.specs.Replies.{reply_of}
 use Rattle.syn_message.specs.Requests.{request_of}
 use Rattle.syn_message.specs.Sides.{which_of}
 use Rattle.syn_session.specs.Stages.{reached_by}
 use Rattle.syn_coordinator.proofs.BeginLemmas.{carries_asking, carries_ending, carries_now}
+use Rattle.syn_coordinator.proofs.BreakLemmas.{none_breaks}
 use Rattle.syn_coordinator.proofs.coordinator.Coordinator.take_carried.Goals as goal
 
 pub returns-in-Ok-clause-step : goal.returns-in-Ok-clause-step
@@ -46,3 +48,6 @@ returns-in-Err-clause-step g c =
     c.args.self.now c.on_carried.new.self nothing c.on_carried.new.course c.in-Err.ended
     (c.in-Err.ensures.step pair journal running.taken
     (reached_by running) side number request is quiet carries)
+
+pub returns-in_default-clause-breaks : goal.returns-in_default-clause-breaks
+returns-in_default-clause-breaks g c = inl (none_breaks c.args.self.now)

@@ -1,8 +1,9 @@
-use Rattle.std.proofs.Common.{refl, subst, ◌∙◌}
+use Rattle.std.proofs.Common.{refl, subst, ◌∙◌, inl}
 use Rattle.std.specs.Prelude.{MatchOption}
 use Rattle.syn_coordinator.specs.inner.Settling.{AsksSo, PassesOn}
 use Rattle.syn_coordinator.proofs.PassLemmas.{at_turn, no_turn, no_turn_left, still_quiet}
 use Rattle.syn_coordinator.proofs.PassLemmas.{turn_asks, turn_ends, turn_past}
+use Rattle.syn_coordinator.proofs.BreakLemmas.{none_breaks, then_ends, then_nothing}
 use Rattle.syn_coordinator.proofs.coordinator.Coordinator.walk.Goals as goal
 
 pub loop-init : goal.loop-init
@@ -12,6 +13,7 @@ loop-init g c = record {
       c.args.right.now all c.args.self.now is quiet c.args.course.now at;
   running = refl;
   report = refl;
+  breaks = none_breaks c.args.self.now;
 }
 
 pub loop-preserved : goal.loop-preserved
@@ -32,6 +34,8 @@ loop-preserved g c = record {
       turn);
   running = c.in-Ok-None.ensures.running ∙ c.loop.invariant.running;
   report = c.in-Ok-None.ensures.report ∙ c.loop.invariant.report;
+  breaks = then_nothing c.args.self.now c.loop.self c.pass.new.self c.loop.invariant.breaks
+      c.in-Ok-None.ensures.breaks;
 }
 
 pub returns-in-Ok-Some-clause-step : goal.returns-in-Ok-Some-clause-step
@@ -66,3 +70,14 @@ returns-clause-step g c pair journal taken all before is quiet at =
     no_turn_left pair taken journal before c.args.left.now c.args.right.now all
     c.args.self.now c.loop.self c.loop.course
     (c.loop.invariant.come pair journal taken all before is quiet at) quiet.1 _ refl
+
+pub returns-in-Ok-Some-clause-breaks : goal.returns-in-Ok-Some-clause-breaks
+returns-in-Ok-Some-clause-breaks g c = then_nothing c.args.self.now c.loop.self c.pass.new.self
+    c.loop.invariant.breaks c.in-Ok-Some.ensures.breaks
+
+pub returns-in-Err-clause-breaks : goal.returns-in-Err-clause-breaks
+returns-in-Err-clause-breaks g c = then_ends c.args.self.now c.loop.self c.pass.new.self
+    c.loop.invariant.breaks c.in-Err.ensures.breaks
+
+pub returns-clause-breaks : goal.returns-clause-breaks
+returns-clause-breaks g c = inl c.loop.invariant.breaks

@@ -1,6 +1,6 @@
 use Rattle.std.proofs.Common.{◌≡◌, ℕ, List}
 use Rattle.syn_headline.specs.Coordinator.{Exchange}
-use Rattle.syn_coordinator.specs.Coordinators.{archive_of}
+use Rattle.syn_coordinator.specs.Coordinators.{BreaksNothing, archive_of}
 use Rattle.syn_keep.specs.Machines.{IsMachine, Journal}
 use Rattle.syn_coordinator.specs.inner.Settling.{HasCome, IsQuiet}
 use Rattle.syn_session.specs.Stages.{Reached}
@@ -16,4 +16,5 @@ invariant-loop g l = record {
       HasCome l.initial.self l.self pair taken journal before l.course l.left l.right all;
   running : l.self.running ≡ l.initial.self.running;
   report : l.self.report ≡ l.initial.self.report;
+  breaks : BreaksNothing l.initial.self l.self;
 }

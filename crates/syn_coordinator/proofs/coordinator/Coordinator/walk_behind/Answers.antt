@@ -1,4 +1,5 @@
 use Rattle.syn_coordinator.proofs.OnwardLemmas.{at_next, later_so, still_quiet}
+use Rattle.syn_coordinator.proofs.BreakLemmas.{then_breaks}
 use Rattle.syn_coordinator.proofs.coordinator.Coordinator.walk_behind.Goals as goal
 
 pub returns-in-Ok-clause-step : goal.returns-in-Ok-clause-step
@@ -20,3 +21,7 @@ pub returns-in-Err-clause-step : goal.returns-in-Err-clause-step
 returns-in-Err-clause-step g c pair journal taken all before planned is quiet out is_due =
     c.in-Err.ensures.step pair journal c.args.left.now c.args.right.now taken before planned is
     quiet out.course_is out.at is_due out.carries
+
+pub returns-in-Ok-clause-breaks : goal.returns-in-Ok-clause-breaks
+returns-in-Ok-clause-breaks g c = then_breaks c.args.self.now c.settle_carried.new.self
+    c.walk.new.self c.in-Ok.ensures.breaks c.walk.result c.walk.ensures.breaks

@@ -1,5 +1,7 @@
+use Rattle.std.proofs.Common.{inl}
 use Rattle.syn_refusal.specs.Refusals.{cause_of}
 use Rattle.syn_coordinator.proofs.OnwardLemmas.{at_next, later_so, refused_so, still_quiet}
+use Rattle.syn_coordinator.proofs.BreakLemmas.{none_breaks}
 use Rattle.syn_coordinator.proofs.coordinator.Coordinator.walk_past.Goals as goal
 
 pub returns-in-Ok-clause-step : goal.returns-in-Ok-clause-step
@@ -24,3 +26,6 @@ returns-in-Err-clause-step g c pair journal taken all before planned is quiet ou
     quiet out.course_is out.at out.apart
     (refused_so pair taken journal before c.args.left.now c.args.right.now all c.args.course.now
     planned out (cause_of c.args.why) refused asked)
+
+pub returns-in-Err-clause-breaks : goal.returns-in-Err-clause-breaks
+returns-in-Err-clause-breaks g c = inl (none_breaks c.args.self.now)

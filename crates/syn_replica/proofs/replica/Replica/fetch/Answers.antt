@@ -4,5 +4,4 @@ use Rattle.syn_replica.proofs.replica.Replica.fetch.Goals as goal
 
 pub returns-clause-short : goal.returns-clause-short
 returns-clause-short g c =
-    let same = ap length c.cut.ensures in
-    omega (arith, c.in_ok-bytes.ensures.len, same, length-take {A = ℕ})
+    omega (arith, ap length c.in_ok-bytes.ensures, length-take {A = ℕ})

@@ -75,8 +75,8 @@ returns-clause-unchanged g c history stands =
 pub returns-clause-grown : goal.returns-clause-grown
 returns-clause-grown g c =
     let value = value_read c.in_ok-found.found.image c.in_ok-found.found.records in
-    unmoved c.args.self.now c.settle.new.self c.settle.ensures.readings.memory.pair
-    c.settle.ensures.readings.memory.standing c.settle.ensures.tried
+    unmoved c.args.self.now c.settle.new.self c.settle.ensures.memory.pair
+    c.settle.ensures.memory.standing c.settle.ensures.tried
     (ap g.D.Disk.seen c.settle.ensures.disk ∙ c.reopen.ensures.untouched.same)
     (λ h. c.settle.ensures.halted (c.is_halted-was_halted.ensures.halted.1 h))
     (λ history stands. let memory = memory_alone c.in-Err.error c.in-Err.ensures.refusals

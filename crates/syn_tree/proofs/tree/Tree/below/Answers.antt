@@ -9,7 +9,7 @@ pub returns : goal.returns
 returns c =
     let at = c.args.path.now in
     let ds = c.self.inside.list.items in
-    c.part_below.ensures
+    c.over.ensures ∙ (c.part_below.ensures
     ∙ (ap (filter (is_below at)) c.deref.ensures.value ∙ (sym (below_rooted at ds)
     ∙ (ap (filter (is_below at)) (sym (entries-with ds c.self.invariant.rising))
-    ∙ ap (λ t. filter (is_below at) (entries t)) c.self.view_is)))
+    ∙ ap (λ t. filter (is_below at) (entries t)) c.self.view_is))))

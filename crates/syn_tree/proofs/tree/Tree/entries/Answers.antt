@@ -6,5 +6,5 @@ use Rattle.syn_tree.proofs.tree.Tree.entries.Goals as goal
 
 pub returns-clause-all : goal.returns-clause-all
 returns-clause-all c =
-    ap rooted c.as_slice.ensures.value ∙ (sym
+    ap rooted (c.over.ensures ∙ c.deref.ensures.value) ∙ (sym
     (entries-with c.self.inside.list.items c.self.invariant.rising) ∙ ap entries c.self.view_is)

@@ -1,0 +1,87 @@
+//! What a session of images that have names, or of served replicas, would do.
+
+use crate::named::{NamedDisks, archive_to_read, replica_to_read};
+use crate::network::reach;
+use crate::sessions::Between;
+use std::alloc::Global;
+use std::io::Write;
+use std::net::{Net, TcpStream};
+use syn_archive::Archive;
+use syn_command::{CommandError, Outcome, outcome_planned};
+use syn_disk::Disk;
+use syn_file::OpenError;
+use syn_mark::MarkTree;
+use syn_plan::{ReplicaSide, Side, counts_of, plan_between, show_plan};
+use syn_replica::Replica;
+use syn_standing::ReplicaError;
+use syn_user::SideConnection;
+
+/// Prints what a session over the archive of that name would do, and answers what there is to do.
+/// Nothing is written, and no session begins.
+///
+/// Refused as an opening to read is, left first and the archive last; 9 where an address cannot be
+/// reached; and as a session ends early that scans both sides. Of files it is refused 12 where both
+/// are one, and 14 and 20 as the session would be; a server does not tell these before it begins.
+pub fn print_plan<H: Net<Stream = TcpStream>, N: NamedDisks, O: Write>(
+    rt: &H,
+    alloc: Global,
+    disks: &N,
+    between: Between<'_>,
+    archive: &str,
+    output: &mut O,
+) -> Result<Outcome, CommandError> {
+    match between {
+        Between::Servers { left, right } => {
+            let archive = archive_to_read(alloc, disks, archive)?;
+            let (left, right) = (reach(rt, left)?, reach(rt, right)?);
+            let mut left = SideConnection::new(alloc, &left, &left);
+            let mut right = SideConnection::new(alloc, &right, &right);
+            print_planned(alloc, &mut left, &mut right, archive.tree(), output)
+        }
+        Between::Named { left, right } => {
+            if left == right {
+                return Err(CommandError::Open(OpenError::Busy));
+            }
+            let left = replica_to_read(alloc, disks, left)?;
+            let right = replica_to_read(alloc, disks, right)?;
+            let archive = archive_to_read(alloc, disks, archive)?;
+            check_begin(&left, &archive)?;
+            check_begin(&right, &archive)?;
+            let (mut left, mut right) = (ReplicaSide::new(&left), ReplicaSide::new(&right));
+            print_planned(alloc, &mut left, &mut right, archive.tree(), output)
+        }
+    }
+}
+
+/// Refuses what the replica would refuse the next session of the archive: 14 where it has seen a
+/// later one, and 20 where it is of another pair.
+fn check_begin<D: Disk, A: Disk>(
+    replica: &Replica<D>,
+    archive: &Archive<A>,
+) -> Result<(), ReplicaError> {
+    if replica.pair() != archive.pair() {
+        return Err(ReplicaError::WrongPair);
+    }
+    if replica.last_session() > archive.last_session().saturating_add(1) {
+        return Err(ReplicaError::OldSession);
+    }
+    Ok(())
+}
+
+/// Prints the plan of both sides with the marks of an archive.
+fn print_planned<L: Side, R: Side, O: Write>(
+    alloc: Global,
+    left: &mut L,
+    right: &mut R,
+    archive: &MarkTree,
+    output: &mut O,
+) -> Result<Outcome, CommandError> {
+    let planned = match plan_between(alloc, left, right, archive) {
+        Ok(planned) => planned,
+        Err(why) => return Err(CommandError::Network(why)),
+    };
+    let (on_left, on_right) = (planned.left.found().tree(), planned.right.found().tree());
+    show_plan(alloc, &planned.items, on_left, on_right, archive, output)?;
+    let conflicts = counts_of(&planned.items).conflicts;
+    Ok(outcome_planned(planned.items.len(), conflicts))
+}

@@ -1,0 +1,84 @@
+//! Reads what a replica's disk has of its events.
+ghost use Rattle.std.specs.Prelude.{◌≡◌, ◌+◌, IfOk};
+ghost use Rattle.syn_history.specs.Events.{event_of};
+ghost use Rattle.syn_model.specs.Spelling.{event_spelling};
+
+use crate::logged::{Logged, What};
+use std::alloc::Global;
+use syn_disk::Disk;
+use syn_history::{Event, Touch};
+use syn_image::decode_image;
+use syn_journal::Journal;
+use syn_standing::ReplicaError;
+use syn_wire::decode_event;
+
+/// What the disk of a replica has of its last events, the oldest first.
+///
+/// Refused 9 where a device call fails, 18 where the disk holds no image, 19 where it holds no
+/// replica, and 11 where memory is refused. Nothing is written.
+pub fn read_log<D: Disk + Drop>(alloc: Global, disk: D) -> Result<Vec<Logged>, ReplicaError> {
+    let opened = match Journal::open(alloc, disk) {
+        Ok(opened) => opened,
+        Err((error, _)) => return Err(ReplicaError::Journal(error)),
+    };
+    let Some((image, _)) = decode_image(alloc, &opened.image)? else {
+        return Err(ReplicaError::Damaged);
+    };
+    let mut logged = Vec::new(alloc);
+    let (older, newer) = image.trail.touches();
+    push_touches(alloc, &mut logged, older)?;
+    push_touches(alloc, &mut logged, newer)?;
+    push_events(alloc, &mut logged, image.trail.position(), &opened.records)?;
+    Ok(logged)
+}
+
+/// Puts the touches behind what is there.
+fn push_touches(
+    alloc: Global,
+    logged: &mut Vec<Logged>,
+    touches: &[Touch],
+) -> Result<(), ReplicaError> {
+    for touch in touches {
+        let position = behind(touch.position())?;
+        let path = touch.path().copy(alloc)?;
+        let what = What::Touched(path);
+        logged.push(Logged { position, what })?;
+    }
+    Ok(())
+}
+
+/// Puts the events that the records are behind what is there, the first at the position.
+fn push_events(
+    alloc: Global,
+    logged: &mut Vec<Logged>,
+    first: u64,
+    records: &[Vec<u8>],
+) -> Result<(), ReplicaError> {
+    let mut position = first;
+    for record in records {
+        position = behind(position)?;
+        let what = What::Whole(event_in(alloc, record)?);
+        logged.push(Logged { position, what })?;
+    }
+    Ok(())
+}
+
+/// The position with the event that was at this one. Refused 19 where there is none.
+fn behind(position: u64) -> Result<u64, ReplicaError>
+    ensures { IfOk result (λ next. next ≡ position + 1) }
+{
+    match position.checked_add(1) {
+        Some(next) => Ok(next),
+        None => Err(ReplicaError::Damaged),
+    }
+}
+
+/// The event that the payload is. Refused 19 where it is none, and 11 where memory is refused.
+fn event_in(alloc: Global, payload: &[u8]) -> Result<Event, ReplicaError>
+    ensures { IfOk result (λ event. event_spelling (event_of event) ≡ payload.now) }
+{
+    match decode_event(alloc, payload)? {
+        Some((event, [])) => Ok(event),
+        _ => Err(ReplicaError::Damaged),
+    }
+}

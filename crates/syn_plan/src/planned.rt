@@ -1,0 +1,79 @@
+//! The plan of a session that does not run.
+ghost use Rattle.std.specs.Prelude.{◌≡◌, IfOk};
+ghost use Rattle.syn_model.specs.Plan.{plan};
+ghost use Rattle.syn_recon.specs.Items.{items_of};
+ghost use Rattle.syn_scan.specs.Found.{scan_of};
+ghost use Rattle.syn_session.specs.Scanning.{found_of};
+
+use crate::side::Side;
+use std::alloc::Global;
+use syn_mark::{MOST_NODES, MarkTree};
+use syn_recon::Item;
+use syn_refusal::Refusal;
+use syn_scan::Scan;
+use syn_session::{Course, SideScan};
+
+/// What a session would do, and what both sides showed.
+#[derive(Debug, Drop)]
+pub struct Planned {
+    pub left: SideScan,
+    pub right: SideScan,
+    /// What would be done, in path order.
+    pub items: Vec<Item>,
+}
+
+/// The plan of a session of both sides with an archive of these marks.
+///
+/// Refused as a session that scans the sides ends early: with what a side refuses a listing, 22
+/// where one has more than 4,096 nodes, 23 where its answers are none, and 11 where memory is
+/// refused.
+pub fn plan_between<L: Side, R: Side>(
+    alloc: Global,
+    left: &mut L,
+    right: &mut R,
+    archive: &MarkTree,
+) -> Result<Planned, Refusal>
+    ensures { IfOk result (λ planned. items_of planned.items.items
+        ≡ plan (scan_of (found_of planned.left)) (scan_of (found_of planned.right)) archive.now) }
+{
+    let left = scan_side(alloc, left)?;
+    let right = scan_side(alloc, right)?;
+    let items = items_between(alloc, left.found(), right.found(), archive)?;
+    Ok(Planned { left, right, items })
+}
+
+/// The items of a session's course between two scans.
+fn items_between(
+    alloc: Global,
+    left: &Scan,
+    right: &Scan,
+    archive: &MarkTree,
+) -> Result<Vec<Item>, Refusal>
+    ensures { IfOk result (λ items. items_of items.items
+        ≡ plan (scan_of left.now) (scan_of right.now) archive.now) }
+{
+    match Course::new(alloc, left, right, archive) {
+        Ok(course) => Ok(course.items),
+        Err(error) => Err(error.refusal()),
+    }
+}
+
+/// What the side shows, once each of its directories was listed.
+fn scan_side<S: Side>(alloc: Global, side: &mut S) -> Result<SideScan, Refusal> {
+    let mut scan = match SideScan::new(alloc) {
+        Ok(scan) => scan,
+        Err(error) => return Err(error.refusal()),
+    };
+    // One call more than there can be directories says that none is left.
+    for _ in 0..=MOST_NODES {
+        match scan.next(alloc) {
+            Ok(Some(path)) => {
+                let reply = side.list(alloc, &path)?;
+                scan.take(alloc, &path, reply)?;
+            }
+            Ok(None) => return Ok(scan),
+            Err(error) => return Err(error.refusal()),
+        }
+    }
+    Err(Refusal::TooLarge)
+}

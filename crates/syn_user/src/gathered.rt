@@ -1,0 +1,86 @@
+//! The spelling of a tree, out of the pieces in which it comes.
+ghost use Rattle.std.specs.Prelude.{◌≡◌, ◌≤◌, ◌+◌, ◌++◌, [], IfOk, OnOk, length, true};
+ghost use Rattle.syn_tree.specs.declared.measures.TheConstants.{LONGEST_SPELLING};
+ghost use Rattle.syn_model.specs.Spelling.{spelling};
+
+use crate::error::UserError;
+use std::alloc::Global;
+use syn_message::LONGEST_PIECE;
+use syn_tree::{LONGEST_SPELLING, Tree};
+use syn_wire::decode_tree;
+
+/// The pieces that came of the spelling of a tree, one behind the other. How long the whole is, the
+/// first of them tells.
+#[derive(Drop)]
+pub(crate) struct Gathered {
+    bytes: Vec<u8>,
+    total: Option<u32>,
+    ghost short: { length bytes.items ≤ LONGEST_SPELLING },
+}
+
+impl Gathered {
+    /// Nothing came yet. It takes no memory.
+    pub(crate) fn new(alloc: Global) -> Gathered
+        ensures { result.bytes.items ≡ [] }
+    {
+        Gathered {
+            bytes: Vec::new(alloc),
+            total: None,
+        }
+    }
+
+    /// The byte from which on the next piece is.
+    pub(crate) fn offset(&self) -> u32 {
+        self.bytes.len() as u32
+    }
+
+    /// Whether all of it came.
+    pub(crate) fn is_whole(&self) -> bool {
+        match self.total {
+            Some(total) => self.bytes.len() == total as usize,
+            None => false,
+        }
+    }
+
+    /// Takes the piece from the offset on.
+    ///
+    /// Refused 23 where it has another total than the first one, more bytes than a tree can have,
+    /// or not all the bytes that it can have; and 11 where memory is refused.
+    pub(crate) fn take(&mut self, total: u32, bytes: &[u8]) -> Result<(), UserError>
+        ensures { OnOk result (self.new.bytes.items ≡ self.old.bytes.items ++ bytes.now) }
+    {
+        let as_told = match self.total {
+            Some(told) => total == told,
+            None => true,
+        };
+        if !as_told || !is_full(self.bytes.len(), total as usize, bytes.len()) {
+            return Err(UserError::BadMessage);
+        }
+        self.total = Some(total);
+        match self.bytes.extend_from_slice(bytes) {
+            Ok(()) => Ok(()),
+            Err(_) => Err(UserError::Memory),
+        }
+    }
+
+    /// The tree that all of it spells.
+    ///
+    /// Refused 23 where it spells none, and 11 where memory is refused.
+    pub(crate) fn tree(&self, alloc: Global) -> Result<Tree, UserError>
+        ensures { IfOk result (λ tree. spelling tree ≡ self.now.bytes.items) }
+    {
+        match decode_tree(alloc, &self.bytes) {
+            Ok(Some((tree, []))) => Ok(tree),
+            Ok(_) => Err(UserError::BadMessage),
+            Err(_) => Err(UserError::Memory),
+        }
+    }
+}
+
+/// A piece from the offset on has as many bytes as it can have, of so many in all as a tree may
+/// have.
+fn is_full(offset: usize, total: usize, count: usize) -> bool
+    ensures { result ≡ true → offset + count ≤ LONGEST_SPELLING }
+{
+    offset <= total && total <= LONGEST_SPELLING && count == LONGEST_PIECE.min(total - offset)
+}

@@ -1,0 +1,228 @@
+//! A connection to a served replica, over which it is asked what a session asks of it.
+ghost use Rattle.std.specs.Prelude.{◌<◌, ◌^◌, IfNone, IfOk, IfSome};
+ghost use Rattle.syn_headline.specs.Side.{IsLawfulBody, Listed, Piece};
+ghost use Rattle.syn_message.specs.Replies.{reply_of};
+ghost use Rattle.syn_message.specs.Requests.{request_of};
+ghost use Rattle.syn_model.specs.Path.{IsPath};
+ghost use Rattle.syn_user.specs.Sides.{ArePiecesOf, IsReplied, ShowsTree, SomeAreReplied};
+ghost use Rattle.syn_user.specs.Sides.{side_line};
+
+use crate::connection::number_after;
+use crate::error::{UserError, closed_by};
+use crate::gathered::Gathered;
+use std::alloc::Global;
+use std::io::{Read, Write};
+use syn_link::{Framer, read_body, write_frame};
+use syn_message::{Asked, Reply, Request, decode_reply, encode_request};
+use syn_path::Path;
+use syn_refusal::Refusal;
+use syn_tree::Tree;
+
+/// The session that the requests are of. A replica tells what it has to each, whichever began last.
+pub(crate) const SESSION: u64 = 1;
+
+/// The most pieces of a tree: one has 32,768 bytes, and a tree at most 524,288.
+const MOST_PIECES: u32 = 16;
+
+/// How often the whole tree is begun anew, where somebody edits meanwhile.
+const MOST_TRIES: u32 = 100;
+
+/// A connection to a served replica: what replies are read from, what requests are written to, and
+/// what came and was not handed out yet. Requests are numbered from 0. No session begins by them,
+/// and they change nothing.
+#[derive(Drop)]
+pub struct SideConnection<R, W> {
+    reader: R,
+    writer: W,
+    framer: Framer,
+    next: u32,
+}
+
+impl<R: Read, W: Write> SideConnection<R, W> {
+    /// A connection on which nothing was asked yet. It takes no memory.
+    pub fn new(alloc: Global, reader: R, writer: W) -> SideConnection<R, W> {
+        SideConnection {
+            reader,
+            writer,
+            framer: Framer::new(alloc),
+            next: 0,
+        }
+    }
+
+    /// Asks for the names in the directory: the reply tells them with their marks, or that no
+    /// directory is there.
+    ///
+    /// Refused as the replica refuses it; 9 where the connection comes to its end, or a read or the
+    /// write fails; 11 where memory is refused; 21 and 22 where a frame with such a length comes;
+    /// and 23 where what comes is no reply to it. After all but the first it is not to be used.
+    pub fn list(&mut self, alloc: Global, path: &Path) -> Result<Reply, UserError>
+        ensures heard { IfOk result (λ reply. IsReplied (side_line R.remaining self.old)
+            (side_line R.remaining self.new) (reply_of reply)) }
+    {
+        let path = copied(alloc, path)?;
+        let reply = self.ask(alloc, Request::List { path })?;
+        match reply {
+            Reply::Listed { .. } | Reply::NotDir { .. } => Ok(reply),
+            Reply::Refused(why) => Err(UserError::Refused(why)),
+            _ => Err(UserError::BadMessage),
+        }
+    }
+
+    /// The whole tree, and the position at which the replica had it. Where somebody edits while its
+    /// pieces come, it is begun anew.
+    ///
+    /// Refused as `list` is, 23 where the pieces that come spell no tree, and 13 where somebody
+    /// edited each of a hundred times.
+    pub fn tree(&mut self, alloc: Global) -> Result<(u64, Tree), UserError>
+        ensures shown { IfOk result (λ found. ShowsTree (side_line R.remaining self.old)
+            (side_line R.remaining self.new) found.0 found.1) }
+    {
+        for _ in 0..MOST_TRIES {
+            let position = self.position(alloc)?;
+            if let Some(tree) = self.tree_at(alloc, position)? {
+                return Ok((position, tree));
+            }
+        }
+        Err(UserError::Refused(Refusal::Touched))
+    }
+
+    /// The position of the replica. It is refused as `list` is.
+    fn position(&mut self, alloc: Global) -> Result<u64, UserError>
+        ensures { IfOk result (λ position. (entries : _) × IsReplied
+            (side_line R.remaining self.old) (side_line R.remaining self.new)
+            (Listed position entries)) }
+    {
+        match self.list(alloc, &Path::root(alloc))? {
+            Reply::Listed { position, .. } => Ok(position),
+            _ => Err(UserError::BadMessage),
+        }
+    }
+
+    /// The whole tree that the replica had at the position; none where it was edited since.
+    ///
+    /// Refused as `list` is, and 23 where the pieces that come spell no tree.
+    fn tree_at(&mut self, alloc: Global, position: u64) -> Result<Option<Tree>, UserError>
+        ensures tree { IfOk result (λ found. IfSome found (ArePiecesOf
+            (side_line R.remaining self.old) (side_line R.remaining self.new))) }
+        ensures none { IfOk result (λ found. IfNone found (SomeAreReplied
+            (side_line R.remaining self.old) (side_line R.remaining self.new))) }
+    {
+        let mut gathered = Gathered::new(alloc);
+        for _ in 0..MOST_PIECES {
+            let Some((total, bytes)) = self.piece(alloc, position, gathered.offset())? else {
+                return Ok(None);
+            };
+            gathered.take(total, &bytes)?;
+            if gathered.is_whole() {
+                return Ok(Some(gathered.tree(alloc)?));
+            }
+        }
+        Err(UserError::BadMessage)
+    }
+
+    /// The piece of the whole tree from that byte on, with the length of all; none where the
+    /// replica was edited since the position. It is refused as `list` is.
+    fn piece(
+        &mut self,
+        alloc: Global,
+        position: u64,
+        offset: u32,
+    ) -> Result<Option<(u32, Vec<u8>)>, UserError>
+        ensures piece { IfOk result (λ found. IfSome found (λ piece. IsReplied
+            (side_line R.remaining self.old) (side_line R.remaining self.new)
+            (Piece piece.0 piece.1.items))) }
+        ensures none { IfOk result (λ found. IfNone found (SomeAreReplied
+            (side_line R.remaining self.old) (side_line R.remaining self.new))) }
+    {
+        is_lawful_fetch(position, offset);
+        let request = Request::Fetch {
+            path: root(alloc),
+            since: position,
+            offset,
+        };
+        match self.ask(alloc, request)? {
+            Reply::Piece { total, bytes } => Ok(Some((total, bytes))),
+            Reply::Refused(Refusal::Touched) => Ok(None),
+            Reply::Refused(why) => Err(UserError::Refused(why)),
+            _ => Err(UserError::BadMessage),
+        }
+    }
+
+    /// Sends the request, and answers the reply to it.
+    fn ask(&mut self, alloc: Global, request: Request) -> Result<Reply, UserError>
+        requires { IsLawfulBody (request_of request) }
+        ensures heard { IfOk result (λ reply. IsReplied (side_line R.remaining self.old)
+            (side_line R.remaining self.new) (reply_of reply)) }
+    {
+        let body = body_of(alloc, self.next, request)?;
+        if write_frame(&mut self.writer, &body).is_err() {
+            return Err(UserError::Device);
+        }
+        self.hear(alloc)
+    }
+
+    /// The reply to the request that was sent, in the next frame. The next number follows.
+    fn hear(&mut self, alloc: Global) -> Result<Reply, UserError>
+        ensures heard { IfOk result (λ reply. IsReplied (side_line R.remaining self.old)
+            (side_line R.remaining self.new) (reply_of reply)) }
+    {
+        let number = self.next;
+        self.next = number_after(number);
+        let body = match read_body(alloc, &mut self.reader, &mut self.framer) {
+            Ok(Some(body)) => body,
+            Ok(None) => return Err(UserError::Device),
+            Err(error) => return Err(closed_by(error)),
+        };
+        match decode_reply(alloc, &body) {
+            Ok(Some(answered)) if answered.session == SESSION && answered.number == number => {
+                Ok(answered.reply)
+            }
+            Ok(_) => Err(UserError::BadMessage),
+            Err(_) => Err(UserError::Memory),
+        }
+    }
+}
+
+/// The body of the request. Refused 11 where memory is refused.
+fn body_of(alloc: Global, number: u32, request: Request) -> Result<Vec<u8>, UserError>
+    requires { IsLawfulBody (request_of request) }
+{
+    let asked = Asked {
+        session: SESSION,
+        number,
+        request,
+    };
+    match encode_request(alloc, &asked) {
+        Ok(body) => Ok(body),
+        Err(_) => Err(UserError::Memory),
+    }
+}
+
+/// The root, whose path is lawful.
+fn root(alloc: Global) -> Path
+    ensures { IsPath result }
+{
+    let root = Path::root(alloc);
+    let _ = root.names();
+    root
+}
+
+/// The path once more. Refused 11 where memory is refused.
+fn copied(alloc: Global, path: &Path) -> Result<Path, UserError>
+    ensures { IfOk result IsPath }
+{
+    let _ = path.names();
+    match path.copy(alloc) {
+        Ok(path) => Ok(path),
+        Err(_) => Err(UserError::Memory),
+    }
+}
+
+/// Eight bytes spell a position, and four an offset.
+fn is_lawful_fetch(position: u64, offset: u32)
+    ensures position { position < 2 ^ 64 }
+    ensures offset { offset < 2 ^ 32 }
+{
+    let _ = position;
+    let _ = offset;
+}
