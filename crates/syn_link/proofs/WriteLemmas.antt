@@ -1,6 +1,6 @@
 -- What a writer has after some of the bytes.
 use Rattle.std.proofs.Common.{◌≡◌, ℕ, ◌-◌, List, [], ◌++◌, length, take, drop, Option, Result, Ok}
-use Rattle.std.proofs.Common.{Err, OnErr, sym, ap, ◌∙◌}
+use Rattle.std.proofs.Common.{Err, OnErr, sym, ap, ap₂, ◌∙◌}
 use Rattle.std.proofs.Common.{append_assoc, append-nil, take-append-drop}
 use Rattle.std.proofs.lemmas.List.{take_rest}
 use Rattle.std.specs.Io.KnownBytes.{Appends, Keeps}
@@ -42,3 +42,9 @@ moves_front all done rest n e =
     e ∙ ap (λ l. done ++ l) (sym (take-append-drop n rest))
     ∙ sym (append_assoc done (take n rest) (drop n rest))
     ∙ ap (λ l. (done ++ take n rest) ++ l) (sym (take_rest rest n))
+
+-- a frame is its bytes, wherever its body is cut
+pub cut_frame : (spelled body front back : Bytes) (n : ℕ) → front ≡ take n body
+    → back ≡ drop n body → (spelled ++ front) ++ back ≡ spelled ++ body
+cut_frame spelled body front back n is_front is_back = append_assoc spelled front back
+    ∙ ap (λ l. spelled ++ l) (ap₂ (λ f b. f ++ b) is_front is_back ∙ take-append-drop n body)

@@ -2,7 +2,9 @@
 ghost use Rattle.std.specs.Prelude.{◌≡◌, ◌≢◌, ◌↔◌, ◌⊎◌, ◌<◌, ◌≤◌, ◌++◌, ℕ, List, Ok, Err, length};
 ghost use Rattle.std.specs.Prelude.{take, IfOk, IfErr, IfSome, IfNone, OnOk, OnErr, Some};
 ghost use Rattle.std.specs.Io.KnownBytes.{Appends, Consumes, IsAtEnd, Keeps};
+ghost use Rattle.std.specs.Int.{to_be_bytes, w32};
 ghost use Rattle.syn_link.specs.declared.frames.TheConstants.{MAX_BODY};
+ghost use Rattle.syn_link.specs.declared.stream.TheConstants.{MOST_JOINED};
 ghost use Rattle.syn_link.specs.Frames.{IsBody, frame_of, AppendsSome};
 ghost use Rattle.syn_link.specs.Streams.{Comes, EndsBefore, ComesAtFault};
 
@@ -15,8 +17,14 @@ use std::io::{ErrorKind, Read, Write};
 /// The most bytes that one call reads.
 const MOST_READ: usize = 16_384;
 
-/// Writes the body as a frame, and flushes. Refused 21 and 22 as `frame`, with nothing written, and
-/// 9 where a write fails: a beginning of the frame is then written. It takes no memory.
+/// The most bytes of a body that are written at once with its length. The others follow.
+const MOST_JOINED: usize = 16_384;
+
+/// Writes the body as a frame, and flushes: a body of up to 16,384 bytes by one write, where the
+/// writer takes it whole. It takes no memory.
+///
+/// Refused 21 and 22 as `frame`, with nothing written, and 9 where a write fails: a beginning of
+/// the frame is then written.
 pub fn write_frame<W: Write>(writer: &mut W, body: &[u8]) -> Result<(), LinkError>
     ensures written { OnOk result
         (Appends (W.contents writer.old) (W.contents writer.new) (frame_of body.now)) }
@@ -29,12 +37,30 @@ pub fn write_frame<W: Write>(writer: &mut W, body: &[u8]) -> Result<(), LinkErro
     ensures memory { IfErr result (λ e. e ≢ LinkError.Memory) }
 {
     check_length(body.len())?;
-    write_whole(writer, &spelled_length(body.len()))?;
-    write_whole(writer, body)?;
+    let (front, rest) = body.split_at(body.len().min(MOST_JOINED));
+    write_front(writer, body.len(), front)?;
+    write_whole(writer, rest)?;
     match writer.flush() {
         Ok(()) => Ok(()),
         Err(_) => Err(LinkError::Device),
     }
+}
+
+/// Writes the length of a body and its first bytes.
+fn write_front<W: Write>(writer: &mut W, total: usize, front: &[u8]) -> Result<(), LinkError>
+    requires total { total ≤ MAX_BODY }
+    requires front { length front.now ≤ MOST_JOINED }
+    ensures written { OnOk result (Appends (W.contents writer.old) (W.contents writer.new)
+        (to_be_bytes w32 total ++ front.now)) }
+    ensures beginning { OnErr result (AppendsSome (W.contents writer.old) (W.contents writer.new)
+        (to_be_bytes w32 total ++ front.now)) }
+    ensures refusals { IfErr result (λ e. e ≡ LinkError.Device) }
+{
+    let mut joined = [0; 4 + MOST_JOINED];
+    joined[..4].copy_from_slice(&spelled_length(total));
+    let count = 4 + front.len();
+    joined[4..count].copy_from_slice(front);
+    write_whole(writer, &joined[..count])
 }
 
 /// Writes all of the bytes, as often as the writer takes some of them.
