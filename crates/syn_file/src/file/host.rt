@@ -4,6 +4,7 @@ ghost use Rattle.syn_file.specs.declared.file.host.Access.{Access};
 
 use std::fs::{File, OpenFile, TryLockError};
 use std::io;
+use std::ops::Range;
 use std::os::fd::AsRawFd;
 use std::os::unix::fs::FileExt;
 
@@ -26,9 +27,9 @@ pub trait HostFile: FileExt + OpenFile + Drop {
     fn try_lock(&self, access: Access) -> Result<(), TryLockError>
         ensures held { OnOk result (is_held self.now access) };
 
-    /// Where the next bytes that the file keeps begin, from `from` on; none where it keeps no more.
-    /// What it does not keep reads as zeros.
-    fn next_kept(&self, from: u64) -> io::Result<Option<u64>>;
+    /// Where the next bytes that the file keeps begin and end, from `from` on; none where it keeps
+    /// no more. What it does not keep reads as zeros.
+    fn next_kept(&self, from: u64) -> io::Result<Option<Range<u64>>>;
 
     /// Lets the system forget what it has in memory of the file and takes for synced. After a sync
     /// that failed in an earlier process that may be other than what the device has.
@@ -37,6 +38,9 @@ pub trait HostFile: FileExt + OpenFile + Drop {
 
 /// `lseek`'s word for the next bytes that a file keeps.
 const SEEK_DATA: i32 = 3;
+
+/// `lseek`'s word for the end of such bytes.
+const SEEK_HOLE: i32 = 4;
 
 /// The error of `lseek` where a file keeps no more bytes.
 const ENXIO: i32 = 6;
@@ -52,21 +56,31 @@ impl HostFile for File {
         }
     }
 
-    fn next_kept(&self, from: u64) -> io::Result<Option<u64>> {
-        let next = libc::lseek(self.as_raw_fd(), from.cast_signed(), SEEK_DATA);
-        if next >= 0 {
-            return Ok(Some(next.cast_unsigned()));
-        }
-        match os::errno() {
-            ENXIO => Ok(None),
-            // The file system does not tell.
-            libc::EINVAL => Ok(Some(from)),
-            error => Err(io::Error::from_raw_os_error(error)),
-        }
+    fn next_kept(&self, from: u64) -> io::Result<Option<Range<u64>>> {
+        let Some(start) = seek(self, from, SEEK_DATA)? else {
+            return Ok(None);
+        };
+        let end = seek(self, start, SEEK_HOLE)?;
+        Ok(end.map(|end| start..end))
     }
 
     fn forget(&self) {
         // It is advice, and a system that does not take it is none the worse.
         let _ = libc::posix_fadvise(self.as_raw_fd(), 0, 0, libc::POSIX_FADV_DONTNEED);
+    }
+}
+
+// The place that `lseek` finds from `from` on; none where it is behind the end of the file. Where
+// the file system does not tell, all is kept.
+fn seek(file: &File, from: u64, whence: i32) -> io::Result<Option<u64>> {
+    let found = libc::lseek(file.as_raw_fd(), from.cast_signed(), whence);
+    if found >= 0 {
+        return Ok(Some(found.cast_unsigned()));
+    }
+    match os::errno() {
+        ENXIO => Ok(None),
+        libc::EINVAL if whence == SEEK_HOLE => Ok(Some(u64::MAX)),
+        libc::EINVAL => Ok(Some(from)),
+        error => Err(io::Error::from_raw_os_error(error)),
     }
 }

@@ -6,6 +6,8 @@ ghost use Rattle.syn_disk.specs.Disk.{overwritten};
 ghost use Rattle.syn_disk.specs.declared.disk.TheConstants.{DISK_SIZE, HALF_SIZE};
 
 use std::alloc::{AllocError, Global};
+use std::io;
+use std::os::unix::fs::FileExt;
 use syn_disk::HALF_SIZE;
 use syn_disk::bytes::{copy_out, extend, overwrite};
 
@@ -52,6 +54,16 @@ impl Part {
         }
     }
 
+    // Reads the bytes from `from` up to `to` from the file, which has the part at `start`.
+    fn load<F: FileExt>(&mut self, file: &F, start: usize, from: usize, to: usize) -> io::Result<()>
+        requires ordered { from ≤ to }
+        requires within { to ≤ HALF_SIZE }
+        requires start { start ≤ HALF_SIZE }
+    {
+        self.reach(to);
+        file.read_exact_at(&mut self.kept[from..to], (start + from) as u64)
+    }
+
     fn write(&mut self, at: usize, bytes: &[u8])
         requires { at + length bytes.now ≤ HALF_SIZE }
         ensures { kept_of self.new ≡ overwritten (kept_of self.old) at bytes.now }
@@ -91,6 +103,22 @@ impl Image {
         let (front, back) = into.split_at_mut(low);
         self.low.read(at.min(HALF_SIZE), front);
         self.high.read(at.saturating_sub(HALF_SIZE), back);
+    }
+
+    /// Reads the bytes from `from` up to `to` from the file. Where a read fails, any of them may be
+    /// other than before.
+    pub fn load<F: FileExt>(&mut self, file: &F, from: usize, to: usize) -> io::Result<()>
+        requires ordered { from ≤ to }
+        requires within { to ≤ DISK_SIZE }
+    {
+        if from < HALF_SIZE {
+            self.low.load(file, 0, from, to.min(HALF_SIZE))?;
+        }
+        if to <= HALF_SIZE {
+            return Ok(());
+        }
+        let from = from.saturating_sub(HALF_SIZE);
+        self.high.load(file, HALF_SIZE, from, to - HALF_SIZE)
     }
 
     pub fn write(&mut self, at: usize, bytes: &[u8])

@@ -15,9 +15,6 @@ use std::fs::TryLockError;
 use std::io;
 use syn_disk::{DISK_SIZE, DeviceFailed, History};
 
-/// How much of a file is read at once as it is opened.
-const CHUNK: usize = 16_384;
-
 /// A file of the operating system, with its bytes in memory. A read takes them from there.
 ///
 /// No contract can say what the system's file holds. One sentence is taken as given: as long as no
@@ -71,25 +68,29 @@ impl<H: HostFile> MirroredFile<H> {
     }
 }
 
-// Reads what the file keeps into an image of zeros.
+// Reads what the file keeps into an image of zeros, each stretch of it at once.
 fn load<H: HostFile>(file: &H, image: &mut Image) -> io::Result<()> {
-    let mut chunk = [0; CHUNK];
-    let mut next = 0;
-    for index in 0..DISK_SIZE / CHUNK {
-        let at = index * CHUNK;
-        let end = (at + CHUNK) as u64;
-        if next < end {
-            let Some(kept) = file.next_kept(next.max(at as u64))? else {
-                return Ok(());
-            };
-            next = kept;
+    let mut at = 0;
+    for _ in 0..DISK_SIZE {
+        let Some(kept) = file.next_kept(at as u64)? else {
+            return Ok(());
+        };
+        let from = within(kept.start).max(at);
+        let to = within(kept.end);
+        if to <= from {
+            return Ok(());
         }
-        if next < end {
-            file.read_exact_at(&mut chunk, at as u64)?;
-            image.write(at, &chunk);
-        }
+        image.load(file, from, to)?;
+        at = to;
     }
     Ok(())
+}
+
+// The place, or the end of a disk where it is behind that.
+fn within(place: u64) -> usize
+    ensures { result ≤ DISK_SIZE }
+{
+    place.min(DISK_SIZE as u64) as usize
 }
 
 impl<H: HostFile> DiskFile for MirroredFile<H> {
