@@ -27,8 +27,11 @@ pub struct MirroredFile<H> {
     /// The ranges that were written since the last sync.
     unsynced: History<usize, usize>,
     history: History<Image, History<usize, usize>>,
+    /// Nothing was written since the last sync, so that another one has nothing to do.
+    is_synced: bool,
     /// A write or a sync failed, so that the file need not hold what is in memory.
     has_failed: bool,
+    ghost synced: { is_synced ≡ true → unsynced ≡ [] },
 }
 
 impl<H: HostFile> MirroredFile<H> {
@@ -63,6 +66,7 @@ impl<H: HostFile> MirroredFile<H> {
             image,
             unsynced,
             history: History::new(),
+            is_synced: false,
             has_failed: false,
         })
     }
@@ -123,6 +127,7 @@ impl<H: HostFile> DiskFile for MirroredFile<H> {
 
     fn write(&mut self, at: usize, bytes: &[u8]) -> Result<(), DeviceFailed> {
         self.history.note(&self.image, &self.unsynced);
+        self.is_synced = false;
         self.unsynced.note(&at, &bytes.len());
         self.image.write(at, bytes);
         match self.file.write_all_at(bytes, at as u64) {
@@ -136,9 +141,13 @@ impl<H: HostFile> DiskFile for MirroredFile<H> {
 
     fn sync(&mut self) -> Result<(), DeviceFailed> {
         self.history.note(&self.image, &self.unsynced);
+        if self.is_synced {
+            return Ok(());
+        }
         match self.file.sync_data() {
             Ok(()) => {
                 self.unsynced = History::new();
+                self.is_synced = true;
                 Ok(())
             }
             Err(_) => {

@@ -12,3 +12,11 @@ returns-in-Ok-clause-time g c = rw c.note.ensures (elapses_noted FileMayLeave _ 
 
 pub returns-in-Err-clause-time : goal.returns-in-Err-clause-time
 returns-in-Err-clause-time g c = rw c.note.ensures (elapses_noted FileMayLeave _ _ _)
+
+pub returns-then-self-clause-durable : goal.returns-then-self-clause-durable
+returns-then-self-clause-durable g c =
+    only_settled _ _ (length-bytes c.args.self.now.image)
+    (λ i. rw (c.args.self.now.synced c.if-self.true) refl)
+
+pub returns-then-self-clause-time : goal.returns-then-self-clause-time
+returns-then-self-clause-time g c = rw c.note.ensures (elapses_noted FileMayLeave _ _ _)
