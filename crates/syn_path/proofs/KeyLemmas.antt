@@ -4,7 +4,8 @@ use Rattle.std.proofs.Common.{◌≡◌, ◌≤◌, ◌<◌, ◌+◌, ◌-◌, �
 use Rattle.std.proofs.Common.{nat_lt, cond, [], ◌∷◌, ◌++◌, length, take, drop, filter}
 use Rattle.std.proofs.Common.{slice_index_or, refl, sym, ap}
 use Rattle.std.proofs.Common.{ap₂, ◌∙◌, subst, replicate, append_assoc, append-nil, length-append}
-use Rattle.std.proofs.Common.{arith, All, eqb}
+use Rattle.std.proofs.Common.{arith, All, eqb, lit<, inl, inr, map, Some, None}
+use Rattle.std.specs.Prelude.{◌⊎◌}
 use Rattle.std.specs.Cmp.Lexicographic.{pointwise, texts_ties}
 use Rattle.std.specs.Prelude.{bytes_eq}
 use Rattle.std.specs.List.{AllByRecursion, slice_split, starts_with, flat_map}
@@ -17,10 +18,25 @@ use Rattle.std.proofs.lemmas.Bool.{ne_eqb, lt-ltb}
 use Rattle.std.proofs.lemmas.List.Elements.{All-tail, All-head, recursion_from_All}
 use Rattle.std.proofs.lemmas.List.Splits.{slice_split_at, slice_split-cons_yes}
 use Rattle.syn_model.specs.Path.{Bytes, Name, Path, path_key, IsName}
-use Rattle.syn_model.specs.Path.{IsPath, is_prefix, path_spelling}
+use Rattle.syn_model.specs.Path.{IsPath, is_prefix, is_root, parent, path_spelling}
 use Rattle.syn_model.proofs.KeyLemmas.{NoZero, no_zero}
-use Rattle.syn_path.specs.Keys.{filled, names_of, IsKey}
-use Rattle.syn_path.proofs.PathLemmas.{by_name, no_byte}
+use Rattle.syn_path.specs.Keys.{filled, names_of, IsKey, IsSpelling}
+use Rattle.std.specs.List.{last_or}
+use Rattle.std.proofs.lemmas.List.Splits.{slice_split_none}
+use Rattle.std.specs.Prelude.{count_by, option_map, Option}
+use Rattle.std.proofs.lemmas.List.Elements.{All-append, All-from_recursion}
+use Rattle.std.proofs.lemmas.List.Sums.{sum_by-append, sum_by-cons}
+use Rattle.std.proofs.lemmas.List.Splits.{length-slice_split}
+use Rattle.std.proofs.Common.{true, true≢false}
+use Rattle.syn_model.proofs.PathLemmas.{parent-append}
+use Rattle.syn_path.proofs.PathLemmas.{by_name, no_byte, above_last, last_lawful, parent_lawful}
+use Rattle.std.specs.Prelude.{slice_get, IsUtf8}
+use Rattle.std.proofs.Common.{get_or, Bor, List}
+use Rattle.std.proofs.lemmas.List.{length-map, take-map}
+use Rattle.std.proofs.Math.Seq.{get_or-append_seam}
+use Rattle.std.proofs.lemmas.Option.{slice_get_past, slice_get-get_or}
+use Rattle.std.proofs.lemmas.Str.{IsUtf8-append, IsUtf8-nil, IsUtf8-from_ascii}
+use Rattle.std.proofs.lemmas.Str.Ascii.{IsAscii-nil, IsAscii-cons}
 
 -- a key has one byte less than the spelling of its path
 pub length-key : (p : Path) → length (path_key p) + 1 ≡ length (path_spelling p)
@@ -77,13 +93,15 @@ unfolding names_of filled names_in
 names_of-filled p lawful =
     names_in_key p (255 - length (path_key p)) (recursion_from_All IsName p lawful.names)
 
-pub is_key : (p : Path) → IsPath p → IsKey (filled p) (length (path_key p))
+pub is_key : (p : Path) → IsPath p →
+    IsKey (filled p) (length (path_key p)) (length (path_key (parent p)))
 is_key p lawful =
     let same = names_of-filled p lawful in
     record {
       lawful = subst IsPath (sym same) lawful;
       spelled = sym (ap filled same);
       counted = sym (ap (λ q. length (path_key q)) same);
+      begun = sym (ap (λ q. length (path_key (parent q))) same);
     }
 
 -- the bytes of the names alone
@@ -181,3 +199,423 @@ written K n bytes src at k is count same size room =
     sym (append_assoc K (n ++ 0 ∷ []) rest ∙ ap (λ xs. K ++ xs) (append_assoc n (0 ∷ []) rest)) in
     ap₂ (λ (xs ys : Bytes). xs ++ (src ++ ys)) front back
     ∙ (ap (λ (xs : Bytes). K ++ (xs ++ 0 ∷ rest)) same ∙ whole)
+
+-- ---- the last name of a key
+
+parent-child : (q : Path) (n : Name) → parent (q ++ n ∷ []) ≡ q
+parent-child q n = parent-append q n [] ∙ append-nil q
+
+-- the names that are taken but for the last
+pub parent_more : (p : Path) (i : ℕ) (n : Name) → i < length p → n ≡ slice_index_or p i n →
+    parent (take (i + 1) p) ≡ take i p
+parent_more p i n l is =
+    ap parent (take_more p i n l ∙ ap (λ x. take i p ++ x ∷ []) (sym is))
+    ∙ parent-child (take i p) n
+
+-- a path is the root, or one with a last name
+abbrev pub Ends : Path → Type 0
+Ends q = (q ≡ []) ⊎ ((above : Path) × ((n : Name) × (q ≡ above ++ n ∷ [])))
+
+pub by_end : (q : Path) → Ends q
+by_end [] = inl refl
+by_end (m ∷ q) =
+    let last = above_last (m ∷ q) (omega arith) in
+    inr (take (length (m ∷ q) - 1) (m ∷ q), (last.0, sym last.1))
+
+front_of : (above : Path) (n : Name) →
+    take (length (path_key above)) (filled (above ++ n ∷ [])) ≡ path_key above
+unfolding filled
+front_of above n =
+    let zeros = replicate (255 - length (path_key (above ++ n ∷ []))) 0 in
+    ap (λ k. take (length (path_key above)) (k ++ zeros)) (key-child above n)
+    ∙ (ap (take (length (path_key above))) (append_assoc (path_key above) (n ++ 0 ∷ []) zeros)
+    ∙ take-append_seam (path_key above) ((n ++ 0 ∷ []) ++ zeros))
+
+-- the bytes of the path above are those before the last name
+pub above-filled : (p : Path) → take (length (path_key (parent p))) (filled p) ≡ path_key (parent p)
+above-filled p = by_last (by_end p)
+  where
+    by_last : Ends p → take (length (path_key (parent p))) (filled p) ≡ path_key (parent p)
+    by_last (inl is) = ap (λ q. take (length (path_key (parent q))) (filled q)) is
+        ∙ sym (ap (λ q. path_key (parent q)) is)
+    by_last (inr (above, (n, is))) =
+        let same = ap parent is ∙ parent-child above n in
+        ap₂ (λ a q. take (length (path_key a)) (filled q)) same is
+        ∙ (front_of above n ∙ sym (ap path_key same))
+
+-- the path above a lawful one is lawful
+pub above_is_path : (p : Path) → IsPath p → IsPath (parent p)
+above_is_path p lawful = by_last (by_end p)
+  where
+    by_last : Ends p → IsPath (parent p)
+    by_last (inl is) = subst (λ q. IsPath (parent q)) (sym is) (subst IsPath is lawful)
+    by_last (inr (above, (n, is))) =
+        subst IsPath (sym (ap parent is ∙ parent-child above n))
+        (parent_lawful above n (subst IsPath is lawful))
+
+-- the bytes of the last name, with the zero byte after it
+pub last_bytes : (above : Path) (n : Name) →
+    drop (length (path_key above)) (path_key (above ++ n ∷ [])) ≡ n ++ 0 ∷ []
+last_bytes above n =
+    ap (drop (length (path_key above))) (key-child above n)
+    ∙ drop-append_seam (path_key above) (n ++ 0 ∷ [])
+
+without_zero : (n : Name) (bytes : Bytes) → bytes ≡ n ++ 0 ∷ [] →
+    take (length bytes - 1) bytes ≡ n
+without_zero n bytes is =
+    let size : length bytes - 1 ≡ length n =
+    omega (arith, ap length is, length-append n (0 ∷ [])) in
+    ap₂ take size is ∙ take-append_seam n (0 ∷ [])
+
+-- what stands there where no byte does
+pub no_last : (p : Path) (bytes : Bytes) →
+    bytes ≡ drop (length (path_key (parent p))) (path_key p) → length bytes < 1 →
+    None ≡ slice_get p (length p - 1)
+no_last p bytes is l = by_last (by_end p)
+  where
+    by_last : Ends p → None ≡ slice_get p (length p - 1)
+    by_last (inl root) = sym (slice_get_past p (length p - 1) (omega (arith, ap length root)))
+    by_last (inr (above, (n, named))) =
+        absurd (omega (
+          arith,
+          l,
+          ap length (is ∙ (ap₂ (λ a q. drop (length (path_key a)) (path_key q))
+              (ap parent named ∙ parent-child above n) named ∙ last_bytes above n)),
+          length-append n (0 ∷ []),
+        ))
+
+-- the last name is what stands before the last zero byte
+pub the_last : (p : Path) (bytes : Bytes) → IsPath p →
+    bytes ≡ drop (length (path_key (parent p))) (path_key p) → 1 ≤ length bytes →
+    (Some (take (length bytes - 1) bytes) ≡ slice_get p (length p - 1))
+    × IsName (take (length bytes - 1) bytes)
+the_last p bytes lawful is l = by_last (by_end p)
+  where
+    by_last : Ends p → (Some (take (length bytes - 1) bytes) ≡ slice_get p (length p - 1))
+        × IsName (take (length bytes - 1) bytes)
+    by_last (inl root) =
+        absurd (omega (
+          arith,
+          l,
+          ap length (is ∙ ap (λ q. drop (length (path_key (parent q))) (path_key q)) root),
+        ))
+    by_last (inr (above, (n, named))) =
+        let cut = is ∙ (ap₂ (λ a q. drop (length (path_key a)) (path_key q))
+        (ap parent named ∙ parent-child above n) named ∙ last_bytes above n) in
+        let name = without_zero n bytes cut in
+        let size : length p - 1 ≡ length above =
+        omega (arith, ap length named, length-append above (n ∷ [])) in
+        let there : slice_get p (length p - 1) ≡ Some n =
+        slice_get-get_or p (length p - 1) n
+        (omega (arith, ap length named, length-append above (n ∷ [])))
+        ∙ ap Some (ap₂ (λ q k. get_or q k n) named size ∙ get_or-append_seam above n [] n) in (
+          ap Some name ∙ sym there,
+          subst IsName (sym name) (last_lawful above n (subst IsPath named lawful)),
+        )
+
+-- ---- a path from the text of its key
+
+pub key_text : (p : Path) → AllByRecursion IsName p → IsUtf8 (path_key p)
+key_text [] h = IsUtf8-nil
+key_text (n ∷ p) h =
+    IsUtf8-append (n ++ 0 ∷ []) (path_key p)
+    (IsUtf8-append n (0 ∷ []) h.0.is_text
+    (IsUtf8-from_ascii (0 ∷ []) (IsAscii-cons 0 [] (lit< tt) IsAscii-nil))) (key_text p h.1)
+
+-- names that are cut at the zero bytes between them
+cut_names : (p : Path) (n : Name) → AllByRecursion IsName p → IsName n →
+    slice_split (λ b. eqb b 0) (path_key p ++ n) ≡ p ++ n ∷ []
+cut_names [] n h k = slice_split_none (λ b. eqb b 0) n (no_zeros n k)
+cut_names (m ∷ p) n h k =
+    ap (slice_split (λ b. eqb b 0)) (append_assoc (m ++ 0 ∷ []) (path_key p) n
+    ∙ append_assoc m (0 ∷ []) (path_key p ++ n))
+    ∙ (slice_split_at (λ b. eqb b 0) m 0 (path_key p ++ n) (no_zeros m h.0) refl
+    ∙ ap (λ names. m ∷ names) (cut_names p n h.1 k))
+
+-- the pieces between the zero bytes are the names, and nothing after them
+pub key_pieces : (p : Path) → AllByRecursion IsName p →
+    slice_split (λ b. eqb b 0) (path_key p) ≡ p ++ [] ∷ []
+key_pieces [] h = refl
+key_pieces (n ∷ p) h =
+    ap (slice_split (λ b. eqb b 0)) (append_assoc n (0 ∷ []) (path_key p))
+    ∙ (slice_split_at (λ b. eqb b 0) n 0 (path_key p) (no_zeros n h.0) refl
+    ∙ ap (λ names. n ∷ names) (key_pieces p h.1))
+
+-- a text that is cut at the zero bytes gives the names, once what follows the last is taken away
+pub names_cut : (p : Path) (text : Bytes) (pieces front : List (Bor (List ℕ))) (k : ℕ) →
+    IsPath p → text ≡ path_key p → map (λ x. x.now) pieces ≡ slice_split (λ b. eqb b 0) text →
+    k ≡ length pieces → front ≡ take (k - 1) pieces → map (λ x. x.now) front ≡ p
+names_cut p text pieces front k lawful is cut count rest =
+    let whole = cut ∙ (ap (slice_split (λ b. eqb b 0)) is
+    ∙ key_pieces p (recursion_from_All IsName p lawful.names)) in
+    let size : k - 1 ≡ length p = omega (
+      arith,
+      count,
+      ap length whole,
+      length-map pieces (λ x. x.now),
+      length-append p ([] ∷ []),
+    ) in
+    ap (map (λ x. x.now)) rest
+    ∙ (sym (take-map (λ x. x.now) (k - 1) pieces)
+    ∙ (ap₂ take size whole ∙ take-append_seam p ([] ∷ [])))
+
+pub parent_taken : (p : Path) → 1 ≤ length p → take (length p - 1) p ≡ parent p
+parent_taken p some = by_last (by_end p)
+  where
+    by_last : Ends p → take (length p - 1) p ≡ parent p
+    by_last (inl is) = absurd (omega (arith, some, ap length is))
+    by_last (inr (above, (n, is))) =
+        let size : length p - 1 ≡ length above =
+        omega (arith, ap length is, length-append above (n ∷ [])) in
+        ap₂ take size is ∙ (take-append_seam above (n ∷ [])
+        ∙ sym (ap parent is ∙ parent-child above n))
+
+pub has_name : (p : Path) → 0 < length (path_key p) → is_root p ≡ false
+has_name [] some = absurd (omega (arith, some))
+has_name (n ∷ p) some = refl
+
+pub key_above : (p : Path) → length (path_key (parent p)) ≤ length (path_key p)
+key_above p = by_last (by_end p)
+  where
+    by_last : Ends p → length (path_key (parent p)) ≤ length (path_key p)
+    by_last (inl is) =
+        omega (
+          arith,
+          ap (λ q. length (path_key (parent q))) is,
+          ap (λ q. length (path_key q)) is,
+        )
+    by_last (inr (above, (n, is))) =
+        omega (
+          arith,
+          ap (λ q. length (path_key q)) (ap parent is ∙ parent-child above n),
+          ap (λ q. length (path_key q)) is,
+          ap length (key-child above n),
+          length-append (path_key above) (n ++ 0 ∷ []),
+        )
+
+pub empty_key : (p : Path) → eqb (length (path_key p)) 0 ≡ is_root p
+empty_key [] = refl
+empty_key (n ∷ p) =
+    ne_eqb (length (path_key (n ∷ p))) 0
+    (λ e. omega (
+      arith,
+      e,
+      length-append (n ++ 0 ∷ []) (path_key p),
+      length-append n (0 ∷ []),
+    ))
+
+-- ---- keys that are made of the bytes of others
+
+-- bytes that are put after others
+pub put_after : (K n bytes src : Bytes) (at k : ℕ) → bytes ≡ K ++ replicate (255 - at) 0 →
+    at ≡ length K → src ≡ n → k ≡ length n → at + k ≤ 255 →
+    put_mid at k bytes src ≡ (K ++ n) ++ replicate (255 - (at + k)) 0
+put_after K n bytes src at k is count same size room =
+    let more : 255 - at - k ≡ 255 - (at + k) = omega (arith, room) in
+    let zeros : Bytes = replicate (255 - at) 0 in
+    let rest : Bytes = replicate (255 - (at + k)) 0 in
+    let front : take at bytes ≡ K =
+    ap₂ (λ (m : ℕ) (xs : Bytes). take m xs) count is ∙ take-append_seam K zeros in
+    let back : drop k (drop at bytes) ≡ rest =
+    ap (drop k) (ap₂ (λ (m : ℕ) (xs : Bytes). drop m xs) count is ∙ drop-append_seam K zeros)
+    ∙ (drop-replicate k (255 - at) 0 ∙ ap (λ m. replicate m 0) more) in
+    ap₂ (λ (xs ys : Bytes). xs ++ (src ++ ys)) front back
+    ∙ (ap (λ (xs : Bytes). K ++ (xs ++ rest)) same ∙ sym (append_assoc K n rest))
+
+-- the bytes of a path's names give the path
+pub names_of-key : (p : Path) (bytes : Bytes) → IsPath p → bytes ≡ path_key p → names_of bytes ≡ p
+unfolding names_of names_in
+names_of-key p bytes lawful is =
+    ap names_in (is ∙ sym (append-nil (path_key p)))
+    ∙ names_in_key p 0 (recursion_from_All IsName p lawful.names)
+
+pub is_spelling : (p : Path) (bytes : Bytes) (start : ℕ) → IsPath p → bytes ≡ path_key p →
+    start ≡ length (path_key (parent p)) → IsSpelling bytes start
+is_spelling p bytes start lawful is begun =
+    let same = names_of-key p bytes lawful is in
+    record {
+      lawful = subst IsPath (sym same) lawful;
+      spelled = is ∙ sym (ap path_key same);
+      begun = begun ∙ sym (ap (λ q. length (path_key (parent q))) same);
+    }
+
+pub spelling_short : (bytes : Bytes) (start : ℕ) → IsSpelling bytes start → length bytes ≤ 254
+spelling_short bytes start own =
+    let is = own.spelled in
+    omega (arith, short_key _ own.lawful, ap length is)
+
+filled_spelling : (p : Path) (bytes : Bytes) → bytes ≡ path_key p →
+    bytes ++ replicate (255 - length bytes) 0 ≡ filled p
+unfolding filled
+filled_spelling p bytes is = ap (λ xs. xs ++ replicate (255 - length xs) 0) is
+
+pub key_of_spelling : (bytes whole : Bytes) (len start : ℕ) → IsSpelling bytes start →
+    whole ≡ bytes ++ replicate (255 - length bytes) 0 → len ≡ length bytes →
+    IsKey whole len start × (names_of whole ≡ names_of bytes)
+key_of_spelling bytes whole len start own is count =
+    let p = names_of bytes in
+    let is' : whole ≡ filled p = is ∙ filled_spelling p bytes own.spelled in
+    let key : IsKey (filled p) (length (path_key p)) (length (path_key (parent p))) =
+    is_key p own.lawful in
+    let count' : length (path_key p) ≡ len = sym (count ∙ ap length own.spelled) in (
+      subst (λ xs. IsKey xs len start) (sym is')
+          (subst (λ n. IsKey (filled p) n start) count'
+          (subst (IsKey (filled p) (length (path_key p))) (sym own.begun) key)),
+      ap names_of is' ∙ names_of-filled p own.lawful,
+    )
+
+no_count : (n : Name) → IsName n → count_by (λ b. eqb b 0) n ≡ 0
+no_count n lawful =
+    let pieces = length-slice_split (λ b. eqb b 0) n in
+    omega (arith, pieces, ap length (slice_split_none (λ b. eqb b 0) n (no_zeros n lawful)))
+
+zero_ended : (n rest : Bytes) → count_by (λ b. eqb b 0) (n ++ 0 ∷ rest)
+    ≡ count_by (λ b. eqb b 0) n + (count_by (λ b. eqb b 0) rest + 1)
+zero_ended n rest =
+    sum_by-append (λ b. cond (eqb b 0) 1 0) n (0 ∷ rest)
+    ∙ ap (λ m. count_by (λ b. eqb b 0) n + m)
+    (sum_by-cons (λ b. cond (eqb b 0) 1 0) 0 rest
+    ∙ (let swap : 1 + count_by (λ b. eqb b 0) rest ≡ count_by (λ b. eqb b 0) rest + 1 =
+    omega arith in swap))
+
+pub count_names : (p : Path) → AllByRecursion IsName p → count_by (λ b. eqb b 0) (path_key p)
+    ≡ length p
+count_names [] h = refl
+count_names (n ∷ p) h =
+    ap (count_by (λ b. eqb b 0)) (append_assoc n (0 ∷ []) (path_key p))
+    ∙ (zero_ended n (path_key p)
+    ∙ omega (arith, no_count n h.0, count_names p h.1))
+
+-- ---- limits and beginnings of paths that are put together
+
+pub under_is_path : (a p : Path) → IsPath a → IsPath p →
+    length (path_key a) + length (path_key p) ≤ 254
+    → length a + length p ≤ 16 → IsPath (a ++ p)
+under_is_path a p ha hp short few = record {
+  names = All-append IsName a p ha.names hp.names;
+  not_deep = omega (arith, few, length-append a p);
+  not_long =
+      omega (
+        arith,
+        short,
+        length-key (a ++ p),
+        ap length (key-append a p),
+        length-append (path_key a) (path_key p),
+      );
+}
+
+pub under_is_short : (a p : Path) → IsPath (a ++ p) →
+    (length (path_key a) + length (path_key p) ≤ 254) × (length a + length p ≤ 16)
+under_is_short a p lawful = (
+  omega (
+    arith,
+    short_key (a ++ p) lawful,
+    ap length (key-append a p),
+    length-append (path_key a) (path_key p),
+  ),
+  let few = lawful.not_deep in omega (arith, few, length-append a p),
+)
+
+pub start_at_root : (a p : Path) → is_root p ≡ true → parent (a ++ p) ≡ parent a
+start_at_root a [] h = ap parent (append-nil a)
+start_at_root a (n ∷ p) h = absurd (true≢false (sym h))
+
+pub start_below : (a p : Path) → is_root p ≡ false →
+    length (path_key (parent (a ++ p))) ≡ length (path_key a) + length (path_key (parent p))
+start_below a [] h = absurd (true≢false h)
+start_below a (n ∷ p) h =
+    ap (λ q. length (path_key q)) (parent-append a n p)
+    ∙ (ap length (key-append a (parent (n ∷ p)))
+    ∙ length-append (path_key a) (path_key (parent (n ∷ p))))
+
+abbrev value_or : Name → Option Name → Name
+value_or n None = n
+value_or n (Some m) = m
+
+last_mapped : (acc : Option (Bor (List ℕ))) (xs : List (Bor (List ℕ))) (q : Path) (n : Name) →
+    map (λ x. x.now) xs ≡ q ++ n ∷ [] → option_map (λ x. x.now) (last_or acc xs) ≡ Some n
+last_mapped acc [] q n is =
+    absurd (omega (arith, ap length is, length-append q (n ∷ [])))
+last_mapped acc (x ∷ []) [] n is = ap Some (ap (λ xs. get_or xs 0 n) is)
+last_mapped acc (x ∷ y ∷ xs) [] n is =
+    absurd (omega (arith, ap length is))
+last_mapped acc (x ∷ xs) (m ∷ q) n is = last_mapped (Some x) xs q n (ap (drop 1) is)
+
+-- where the last name begins, from what stands between the zero bytes
+pub last_start : (p : Path) (bytes : Bytes) (xs : List (Bor (List ℕ))) (last : Bor (List ℕ)) →
+    IsPath p → bytes ≡ path_key p → 1 ≤ length bytes →
+    map (λ x. x.now) xs ≡ slice_split (λ b. eqb b 0) (take (length bytes - 1) bytes) →
+    Some last ≡ last_or None xs →
+    length (take (length bytes - 1) bytes) - length last.now ≡ length (path_key (parent p))
+last_start p bytes xs last lawful is some cut found = by_last (by_end p)
+  where
+    by_last : Ends p →
+        length (take (length bytes - 1) bytes) - length last.now ≡ length (path_key (parent p))
+    by_last (inl root) = absurd (omega (arith, some, ap length (is ∙ ap path_key root)))
+    by_last (inr (above, (n, named))) =
+        let name = last_lawful above n (subst IsPath named lawful) in
+        let front = parent_lawful above n (subst IsPath named lawful) in
+        let whole : bytes ≡ (path_key above ++ n) ++ 0 ∷ [] =
+        is ∙ (ap path_key named ∙ (key-child above n
+        ∙ sym (append_assoc (path_key above) n (0 ∷ [])))) in
+        let names : take (length bytes - 1) bytes ≡ path_key above ++ n =
+        without_zero (path_key above ++ n) bytes whole in
+        let pieces = cut ∙ (ap (slice_split (λ b. eqb b 0)) names
+        ∙ cut_names above n (recursion_from_All IsName above front.names) name) in
+        let last_is = ap (option_map (λ x. x.now)) found ∙ last_mapped None xs above n pieces in
+        let same : last.now ≡ n = ap (value_or n) last_is in
+        omega (
+          arith,
+          ap length names,
+          ap length same,
+          length-append (path_key above) n,
+          ap (λ q. length (path_key q)) (ap parent named ∙ parent-child above n),
+        )
+
+each_back : (a rest : Path) → AllByRecursion IsName (a ++ rest) → AllByRecursion IsName rest
+each_back [] rest h = h
+each_back (n ∷ a) rest h = each_back a rest h.1
+
+-- what follows a path that another begins with
+pub rest_of_prefix : (a p rest : Path) → p ≡ a ++ rest → IsPath p →
+    IsPath rest × ((drop (length (path_key a)) (path_key p) ≡ path_key rest)
+    × (length (path_key (parent p)) - length (path_key a) ≡ length (path_key (parent rest))))
+rest_of_prefix a p rest is lawful = (
+  rest_is_path a rest (subst IsPath is lawful),
+  (
+    ap (drop (length (path_key a))) (ap path_key is ∙ key-append a rest)
+        ∙ drop-append_seam (path_key a) (path_key rest),
+    start_of_rest rest is,
+  ),
+)
+  where
+    rest_is_path : (a rest : Path) → IsPath (a ++ rest) → IsPath rest
+    rest_is_path a rest whole = record {
+      names =
+          All-from_recursion IsName rest
+          (each_back a rest (recursion_from_All IsName (a ++ rest) whole.names));
+      not_deep = let deep = whole.not_deep in omega (arith, deep, length-append a rest);
+      not_long =
+          omega (
+            arith,
+            short_key (a ++ rest) whole,
+            length-key rest,
+            ap length (key-append a rest),
+            length-append (path_key a) (path_key rest),
+          );
+    }
+
+    start_of_rest : (rest : Path) → p ≡ a ++ rest →
+        length (path_key (parent p)) - length (path_key a) ≡ length (path_key (parent rest))
+    start_of_rest [] is =
+        omega (
+          arith,
+          key_above p,
+          ap (λ q. length (path_key q)) (is ∙ append-nil a),
+        )
+    start_of_rest (n ∷ rest) is =
+        omega (
+          arith,
+          ap (λ q. length (path_key (parent q))) is,
+          start_below a (n ∷ rest) refl,
+        )

@@ -1,6 +1,6 @@
 -- The text of a path, and how it is printed.
 use Rattle.std.specs.Prelude.{◌≡◌, ℕ, ◌+◌, Bool, ◌/◌, ◌%◌, ◌||◌, ◌==◌, nat_lt, if◌then◌else◌}
-use Rattle.std.specs.Prelude.{encode_utf8, List, [], ◌∷◌, ◌++◌, codes, Some, bytes_eq, refl}
+use Rattle.std.specs.Prelude.{encode_utf8, [], ◌∷◌, ◌++◌, codes, Some, bytes_eq, refl}
 use Rattle.std.specs.List.{flat_map, join_with_byte}
 use Rattle.std.specs.Str.{chars}
 use Rattle.std.specs.Cmp.{IsPartialOrder, partial_order_from_agreeing_total}

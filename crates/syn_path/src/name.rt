@@ -5,6 +5,7 @@ ghost use Rattle.syn_model.specs.Path.{IsName};
 use crate::error::PathError;
 use std::alloc::Global;
 use std::marker::Model;
+use std::str;
 
 /// A name in a directory: 1 to 64 bytes of UTF-8 without `/` and the zero byte, and neither `.` nor
 /// `..`. Contracts see it as its bytes.
@@ -38,6 +39,19 @@ impl Name {
         }
         let text = String::from_str(alloc, text)?;
         Ok(Name { text })
+    }
+
+    /// The name that the bytes are.
+    ///
+    /// Refused 1 where the bytes are no lawful name, and 11 where memory is refused.
+    pub fn from_bytes(alloc: Global, bytes: &[u8]) -> Result<Name, PathError>
+        ensures ok { IfOk result (λ name. (name ≡ bytes.now) × IsName bytes.now) }
+        ensures bad { IfErr result (λ e. e ≡ PathError.BadPath → ¬ IsName bytes.now) }
+    {
+        match str::from_utf8(bytes) {
+            Ok(text) => Name::parse(alloc, text),
+            Err(_) => Err(PathError::BadPath),
+        }
     }
 
     /// The text of the name.

@@ -3,7 +3,7 @@ ghost use Rattle.std.specs.Prelude.{◌≡◌, ◌↔◌, ◌++◌, ◌∷◌, [
 ghost use Rattle.std.specs.Prelude.{IfOk, IfSome, IfNone, IfErr, IsTrue, Contains, All};
 ghost use Rattle.std.specs.List.{slice_split};
 ghost use Rattle.syn_model.specs.Path.{IsName, IsPath, comparable, is_prefix, path_cmp};
-ghost use Rattle.syn_model.specs.Path.{path_spelling};
+ghost use Rattle.syn_model.specs.Path.{parent, path_spelling};
 ghost use Rattle.syn_path.specs.Paths.{IsPrefix, NamesPath};
 
 use crate::error::PathError;
@@ -54,7 +54,7 @@ impl Path {
         if text.len() > 253 {
             return Err(PathError::BadPath);
         }
-        let pieces = pieces_of(alloc, text)?;
+        let pieces = pieces_of(alloc, text, '/')?;
         if pieces.len() > 16 {
             return Err(PathError::BadPath);
         }
@@ -88,6 +88,17 @@ impl Path {
         ensures { result ≡ self.now }
     {
         Key::of(self.names.as_slice())
+    }
+
+    /// The key of the path without its last name; of the root, that of the root. It takes no
+    /// memory.
+    pub fn parent_key(&self) -> Key
+        ensures { result ≡ parent self.now }
+    {
+        match self.names.as_slice() {
+            [above @ .., _] => Key::of(above),
+            names => Key::of(names),
+        }
     }
 
     /// How many bytes spell the path: a count, and each name with its length.
@@ -156,16 +167,17 @@ impl Path {
     }
 }
 
-/// The pieces of the text between slashes.
-fn pieces_of(alloc: Global, text: &str) -> Result<Vec<&str>, AllocError>
+/// The pieces of the text between the marks, which are one byte each.
+pub(crate) fn pieces_of(alloc: Global, text: &str, mark: char) -> Result<Vec<&str>, AllocError>
+    requires { mark < 128 }
     ensures { IfOk result (λ pieces. map (λ p. p.now) pieces.items
-        ≡ slice_split (λ b. b == 47) text.now) }
+        ≡ slice_split (λ b. b == mark) text.now) }
 {
-    text.split('/').collect(alloc)
+    text.split(mark).collect(alloc)
 }
 
 /// The names that the pieces are.
-fn parse_names(alloc: Global, pieces: &[&str]) -> Result<Vec<Name>, PathError>
+pub(crate) fn parse_names(alloc: Global, pieces: &[&str]) -> Result<Vec<Name>, PathError>
     ensures ok { IfOk result (λ names. (names.items ≡ map (λ p. p.now) pieces.now)
         × All IsName names.items) }
     ensures bad { IfErr result (λ e. e ≡ PathError.BadPath

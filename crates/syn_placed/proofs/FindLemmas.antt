@@ -3,8 +3,9 @@ use Rattle.std.proofs.Common.{◌≡◌, ◌≢◌, ◌<◌, ◌≤◌, ◌==◌
 use Rattle.std.proofs.Common.{◌∷◌, length, slice_index_or, refl, sym, ap, ◌∙◌, Some, None, Ordering}
 use Rattle.std.proofs.Common.{Less, Equal, Greater, is_lt, is_eq, true≢false, arith}
 use Rattle.std.specs.Ordering.{eq_by_cmp, ordering_reverse}
+use Rattle.std.proofs.lemmas.Bool.{ne_eqb}
 use Rattle.std.specs.FinMap.{find}
-use Rattle.syn_model.specs.Path.{Path, path_cmp}
+use Rattle.syn_model.specs.Path.{Path, path_cmp, is_root}
 use Rattle.syn_model.specs.Tree.{Pair, Directory}
 use Rattle.syn_model.proofs.PathLemmas.{path_total, same_path, path_itself}
 use Rattle.syn_placed.specs.Pairs.{Pairs, rooted, is_before, before}
@@ -89,6 +90,10 @@ pub below_root : (q : Path) (es : Pairs) → (length q == 0) ≡ false →
     find path_cmp q (rooted es) ≡ find path_cmp q es
 below_root [] es h = absurd (true≢false h)
 below_root (n ∷ q) es h = refl
+
+pub not_empty : (q : Path) → is_root q ≡ false → (length q == 0) ≡ false
+not_empty [] h = absurd (true≢false h)
+not_empty (n ∷ q) h = ne_eqb (length (n ∷ q)) 0 (λ e. omega (arith, e))
 
 pub there : (q : Path) (es : Pairs) (at : ℕ) (x : Pair) → Rising es → at ≡ length (before q es) →
     at < length es → x ≡ slice_index_or es at x → eq_by_cmp path_cmp x.0 q ≡ true →

@@ -1,6 +1,7 @@
 -- Parents and children of paths.
 use Rattle.std.proofs.Common.{◌≡◌, ◌≤◌, ◌<◌, ◌+◌, ℕ, zero, suc, Bool, true, false, cond}
-use Rattle.std.proofs.Common.{if◌then◌else◌, not, [], ◌∷◌, take, length, refl, sym, ap, ◌∙◌, Some}
+use Rattle.std.proofs.Common.{if◌then◌else◌, not, ◌&&◌, [], ◌∷◌, take, length, refl, sym, ap, ◌∙◌}
+use Rattle.std.proofs.Common.{Some}
 use Rattle.std.proofs.Common.{None, is_some, arith}
 use Rattle.std.specs.Prelude.{option_and_then}
 use Rattle.std.specs.Ordering.{eq_by_cmp}
@@ -57,6 +58,14 @@ pub no_child : (p q : Path) → length q < 1 → is_child p q ≡ false
 no_child [] [] h = refl
 no_child (n ∷ p) [] h = refl
 no_child p (m ∷ q) h = absurd (omega arith)
+
+-- below the root, the parent of a child is the path above it
+pub child-parent : (p q : Path) →
+    (not (is_root q) && eq_by_cmp path_cmp (parent q) p) ≡ is_child p q
+child-parent p [] = sym (no_child p [] (omega arith))
+child-parent p (m ∷ q) =
+    ap (λ a. eq_by_cmp path_cmp a p) (sym (parent-take (m ∷ q) (length q) (omega arith)))
+    ∙ child-take p (m ∷ q) (length q) (omega arith)
 
 -- why nothing may be put at a place
 pub place_root : (t : Tree) (q : Path) → is_root q ≡ true →

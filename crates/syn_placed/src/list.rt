@@ -9,6 +9,7 @@ ghost use Rattle.syn_placed.specs.Pairs.{rooted, AreRising, is_before, is_within
 ghost use Rattle.syn_placed.specs.Pairs.{behind, is_below, is_child};
 
 use crate::placed::{Placed, Standing};
+use crate::runs::{replace_run, run_of};
 use std::cmp::Ordering;
 use syn_path::{Name, Path};
 
@@ -81,16 +82,6 @@ pub fn part_at<'a, C: Standing>(list: &'a [Placed<C>], names: &[Name]) -> &'a [P
 {
     let (start, count) = place_of(list, names);
     run_of(list, start, count)
-}
-
-/// So many entries from the start on.
-fn run_of<C: Standing>(list: &[Placed<C>], start: usize, count: usize) -> &[Placed<C>]
-    requires { start + count ≤ length list.now }
-    ensures { result.now ≡ take count (drop start list.now) }
-{
-    let (_, others) = list.split_at(start);
-    let (run, _) = others.split_at(count);
-    run
 }
 
 /// The entries below the path, without the one at it.
@@ -185,65 +176,4 @@ pub fn replace_part<C: Standing>(list: &mut Vec<Placed<C>>, at: &Path, added: Ve
 {
     let (start, count) = place_of(list, at.names());
     replace_run(list, start, count, added);
-}
-
-/// Puts these entries in the place of so many from the start on.
-fn replace_run<C: Standing>(
-    list: &mut Vec<Placed<C>>,
-    start: usize,
-    count: usize,
-    added: Vec<Placed<C>>,
-)
-    requires bounds { start + count ≤ vec_len list.old }
-    requires room { vec_len list.old + vec_len added ≤ vec_capacity list.old + count }
-    ensures items { list.new.items ≡ take start list.old.items
-        ++ (added.items ++ drop (start + count) list.old.items) }
-    ensures room { vec_capacity list.old ≤ vec_capacity list.new }
-{
-    if count == added.len() {
-        swap_run(list, start, added);
-    } else {
-        take_out(list, start, count);
-        put_in(list, start, added);
-    }
-}
-
-/// Puts the entries in the place of as many; no other entry moves.
-fn swap_run<C: Standing>(list: &mut Vec<Placed<C>>, start: usize, added: Vec<Placed<C>>)
-    requires { start + vec_len added ≤ vec_len list.old }
-    ensures items { list.new.items ≡ take start list.old.items
-        ++ (added.items ++ drop (start + vec_len added) list.old.items) }
-    ensures room { vec_capacity list.new ≡ vec_capacity list.old }
-{
-    let mut added = added;
-    let (_, tail) = list.split_at_mut(start);
-    let (run, _) = tail.split_at_mut(added.len());
-    run.swap_with_slice(&mut added);
-}
-
-/// Takes out so many entries from the start on.
-fn take_out<C: Standing>(list: &mut Vec<Placed<C>>, start: usize, count: usize)
-    requires { start + count ≤ vec_len list.old }
-    ensures items { list.new.items ≡ take start list.old.items
-        ++ drop (start + count) list.old.items }
-    ensures room { vec_capacity list.new ≡ vec_capacity list.old }
-{
-    let (_, tail) = list.split_at_mut(start);
-    tail.rotate_left(count);
-    list.truncate(list.len() - count);
-}
-
-/// Puts the entries in at the place.
-fn put_in<C: Standing>(list: &mut Vec<Placed<C>>, at: usize, added: Vec<Placed<C>>)
-    requires bounds { at ≤ vec_len list.old }
-    requires room { vec_len list.old + vec_len added ≤ vec_capacity list.old }
-    ensures items { list.new.items ≡ take at list.old.items
-        ++ (added.items ++ drop at list.old.items) }
-    ensures room { vec_capacity list.old ≤ vec_capacity list.new }
-{
-    let mut added = added;
-    let more = added.len();
-    let _ = list.append(&mut added);
-    let (_, tail) = list.split_at_mut(at);
-    tail.rotate_right(more);
 }

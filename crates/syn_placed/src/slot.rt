@@ -50,6 +50,14 @@ impl<V: Drop> Slot<V> {
         &self.held.value
     }
 
+    /// The value at another key.
+    pub fn moved(mut self, key: &Key) -> Slot<V>
+        ensures { result ≡ (key.now, self.1) }
+    {
+        self.held.key = *key;
+        self
+    }
+
     /// Puts another value in the place of the one that is there.
     pub fn set(&mut self, value: V)
         ensures { self.new ≡ (self.old.0, value) }

@@ -1,19 +1,21 @@
 -- The names in a directory, one pair after the other.
 use Rattle.std.proofs.Common.{List, ◌≡◌, ◌<◌, ◌+◌, ℕ, true, false, [], ◌∷◌, ◌++◌, length, take}
-use Rattle.std.proofs.Common.{refl, sym, ap, ap₂, ◌∙◌, Option, Some, None, is_some, slice_index_or}
+use Rattle.std.proofs.Common.{refl, sym, ap, ◌∙◌, Option, Some, None, is_some, slice_index_or}
 use Rattle.std.proofs.Common.{true≢false, arith}
 use Rattle.std.specs.Prelude.{option_map, option_and_then}
 use Rattle.std.specs.List.{cons_option}
-use Rattle.std.specs.Ordering.{eq_by_cmp}
 use Rattle.std.specs.FinMap.{entries}
-use Rattle.std.proofs.Math.Seq.{take-length}
 use Rattle.std.proofs.lemmas.List.{take_more}
 use Rattle.std.proofs.lemmas.List.Elements.{filter_map-append}
-use Rattle.syn_model.specs.Path.{Name, Path, path_cmp, strip_prefix}
+use Rattle.syn_model.specs.Path.{Name, Path, strip_prefix}
 use Rattle.syn_model.specs.Tree.{Tree, Pair, is_directory_content}
 use Rattle.syn_model.specs.Limits.{children, only_name}
-use Rattle.syn_model.proofs.PathLemmas.{same_path, strip_prefix-append}
+use Rattle.syn_model.proofs.PathLemmas.{strip_prefix-append}
 use Rattle.syn_placed.specs.Pairs.{Pairs, rooted, is_child}
+use Rattle.syn_placed.proofs.CountLemmas.{child_is}
+use Rattle.std.proofs.Common.{slice_get, ◌-◌, length-append}
+use Rattle.std.proofs.lemmas.Option.{slice_get-get_or}
+use Rattle.std.proofs.Math.Seq.{get_or-append_seam}
 use Rattle.syn_tree.specs.Contents.{found_content}
 use Rattle.syn_tree.specs.Lists.{child_contents, contents_at, kinds_of}
 use Rattle.syn_tree.specs.declared.content.Found.{Found}
@@ -27,17 +29,25 @@ pub not_named : (above path : Path) → is_child above path ≡ false →
     option_and_then only_name (strip_prefix above path) ≡ None
 not_named above path h = no_name (option_and_then only_name (strip_prefix above path)) h
 
+last_got : (above : Path) (name : Name) →
+    slice_get (above ++ name ∷ []) (length (above ++ name ∷ []) - 1) ≡ Some name
+last_got above name =
+    let size : length (above ++ name ∷ []) - 1 ≡ length above =
+    omega (arith, length-append above (name ∷ [])) in
+    ap (slice_get (above ++ name ∷ [])) size
+    ∙ (slice_get-get_or (above ++ name ∷ []) (length above) name
+    (omega (arith, length-append above (name ∷ [])))
+    ∙ ap (λ n. Some n) (get_or-append_seam above name [] name))
+
 -- a child has its last name
-pub named_last : (above path : Path) (k : ℕ) (name : Name) → k + 1 ≡ length path →
-    name ≡ slice_index_or path k name → eq_by_cmp path_cmp (take k path) above ≡ true →
-    option_and_then only_name (strip_prefix above path) ≡ Some name
-named_last above path k name long last same =
-    let whole : path ≡ above ++ name ∷ [] =
-    sym (take-length path)
-    ∙ (ap (λ n. take n path) (sym long) ∙ (take_more path k name (omega (arith, long))
-    ∙ ap₂ (λ p n. p ++ n ∷ []) (same_path (take k path) above same) (sym last))) in
-    ap (option_and_then only_name)
-    (ap (strip_prefix above) whole ∙ strip_prefix-append above (name ∷ []))
+pub named_last : (above path : Path) → is_child above path ≡ true →
+    slice_get path (length path - 1) ≡ option_and_then only_name (strip_prefix above path)
+named_last above path h =
+    let child = child_is above path h in
+    ap (λ q. slice_get q (length q - 1)) child.1
+    ∙ (last_got above child.0
+    ∙ sym (ap (λ q. option_and_then only_name (strip_prefix above q)) child.1
+    ∙ ap (option_and_then only_name) (strip_prefix-append above (child.0 ∷ []))))
 
 -- what one pair adds to the children
 pub one_more : (above : Path) (x : Pair) (o : Option Name) →

@@ -22,6 +22,9 @@ use Rattle.syn_tree.proofs.FitLemmas.{fits-replaced, has_room}
 use Rattle.syn_tree.proofs.PartLemmas.{present_root, present_within, within_rooted, kids_rooted}
 use Rattle.syn_tree.proofs.PartLemmas.{length_replaced, spelling_replaced, spelling_within}
 use Rattle.syn_tree.proofs.PartLemmas.{one_less, some_there}
+use Rattle.std.proofs.Common.{refl, slice_get, Some, None, ◌-◌, sym, ◌∙◌}
+use Rattle.std.proofs.lemmas.Option.{slice_get_within, get_or_from_slice_get, slice_get-get_or}
+use Rattle.std.proofs.lemmas.Option.{none-some}
 
 at_most : (n : ℕ) → nat_le n 524288 ≡ true → n ≤ 524288
 at_most n h = grind (arith, nat_tests)
@@ -126,3 +129,17 @@ last_name-spelled (n ∷ []) name (suc k) long is = absurd (omega arith)
 last_name-spelled (n ∷ m ∷ path) name zero long is = absurd (omega arith)
 last_name-spelled (n ∷ m ∷ path) name (suc k) long is =
     last_name-spelled (m ∷ path) name k (omega arith) is
+
+pub spelled_some : (path : Path) (name : Name) → Some name ≡ slice_get path (length path - 1) →
+    1 + length name ≡ last_name_spelling_length path
+spelled_some path name is =
+    let last = length path - 1 in
+    let within = slice_get_within path last name (sym is) in
+    last_name-spelled path name last (omega (arith, within))
+    (sym (get_or_from_slice_get path last name name (sym is)))
+
+pub spelled_none : (path : Path) → None ≡ slice_get path (length path - 1) →
+    0 ≡ last_name_spelling_length path
+spelled_none [] is = refl
+spelled_none (n ∷ path) is =
+    absurd (none-some _ (is ∙ slice_get-get_or (n ∷ path) (length (n ∷ path) - 1) n (omega arith)))

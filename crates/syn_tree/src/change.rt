@@ -11,13 +11,13 @@ use crate::lawful::is_path;
 use crate::measures::entry_spelled;
 use std::alloc::Global;
 use std::marker::Model;
-use syn_path::Path;
+use syn_path::Key;
 
 /// A change that is ready to be made in a tree, with all memory for it.
 /// Contracts see it as a place with what will stand there.
 #[derive(Debug, Drop)]
 pub struct Change {
-    at: Path,
+    at: Key,
     /// What will stand at and below the place, in path order.
     added: Vec<Entry>,
     /// How many bytes spell what is added.
@@ -41,36 +41,37 @@ impl Model for Change {
 impl Change {
     ghost use Rattle.syn_tree.specs.Change.{taken_from, ArePlaced};
 
-    /// Nothing will stand at the path.
-    pub(crate) fn none(alloc: Global, path: Path) -> Change
-        ensures at { result.at ≡ path }
+    /// Nothing will stand at the path of the key.
+    pub(crate) fn none(alloc: Global, at: &Key) -> Change
+        ensures at { result.at ≡ at.now }
         ensures new { result.new ≡ absent }
     {
-        is_path(&path);
+        is_path(at);
         Change {
-            at: path,
+            at: *at,
             added: Vec::new(alloc),
             size: 0,
         }
     }
 
-    /// This content alone will stand at the path. Refused 11 where memory is refused.
-    pub(crate) fn one(alloc: Global, path: Path, content: Content) -> Result<Change, TreeError>
+    /// This content alone will stand at the path of the key. Refused 11 where memory is refused.
+    pub(crate) fn one(alloc: Global, at: &Key, content: Content) -> Result<Change, TreeError>
         requires { IsLawful (content_of content) }
-        ensures at { IfOk result (λ change. change.at ≡ path) }
+        ensures at { IfOk result (λ change. change.at ≡ at.now) }
         ensures new { IfOk result (λ change. change.new ≡ at_root (content_of content)) }
         ensures memory { IfErr result (λ e. e ≡ TreeError.Memory) }
     {
-        let at = path.copy(alloc)?;
+        is_path(at);
         let mut added = Vec::with_capacity(alloc, 1)?;
-        let entry = Entry::new(path, content);
+        let entry = Entry::new(alloc, at, content)?;
         let size = entry_spelled(&entry);
         added.push(entry)?;
+        let at = *at;
         Ok(Change { at, added, size })
     }
 
     /// These entries will stand at and below the path.
-    pub(crate) fn placed(at: Path, added: Vec<Entry>, size: usize) -> Change
+    pub(crate) fn placed(at: Key, added: Vec<Entry>, size: usize) -> Change
         requires { ArePlaced at added.items size }
         ensures at { result.at ≡ at }
         ensures new { result.new ≡ taken_from at added.items }
@@ -79,7 +80,7 @@ impl Change {
     }
 
     /// The place, what will stand there, and how many bytes spell it.
-    pub(crate) fn into_parts(self) -> (Path, Vec<Entry>, usize)
+    pub(crate) fn into_parts(self) -> (Key, Vec<Entry>, usize)
         ensures at { result.0 ≡ self.at }
         ensures new { taken_from result.0 result.1.items ≡ self.new }
         ensures placed { ArePlaced result.0 result.1.items result.2 }

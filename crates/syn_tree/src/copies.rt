@@ -1,17 +1,13 @@
 //! Entries with another beginning of their paths, of trees and of marks alike.
 ghost use Rattle.std.specs.Prelude.{◌≡◌, ◌≢◌, ◌++◌, ◌∷◌, [], true, false, IfOk, IfErr, OnOk};
-ghost use Rattle.std.specs.Prelude.{option_map, option_and_then};
 ghost use Rattle.std.specs.List.{list_all};
-ghost use Rattle.syn_model.specs.Path.{IsPath, strip_prefix};
-ghost use Rattle.syn_model.specs.Limits.{fits_path, only_name};
+ghost use Rattle.syn_model.specs.Path.{IsPath};
+ghost use Rattle.syn_model.specs.Limits.{fits_path};
 ghost use Rattle.syn_placed.specs.Pairs.{under};
-ghost use Rattle.syn_tree.specs.Lists.{stripped, child_contents, contents_at};
+ghost use Rattle.syn_tree.specs.Lists.{stripped};
 
-use crate::content::Found;
-use crate::entry::{Entry, found_at};
 use crate::error::TreeError;
 use std::alloc::Global;
-use std::cmp::Ordering;
 use syn_path::{Name, Path, PathError};
 use syn_placed::{Placed, Standing};
 
@@ -102,41 +98,4 @@ fn push_below<C: Standing>(
     let content = entry.standing().copy(alloc)?;
     copies.push(Placed::new(path, content))?;
     Ok(())
-}
-
-/// The names in the directory of these names, each with what stands there. Refused 11 where memory
-/// is refused.
-pub(crate) fn children<'a>(
-    alloc: Global,
-    list: &'a [Entry],
-    above: &[Name],
-) -> Result<Vec<(Name, Found<'a>)>, TreeError>
-    ensures ok { IfOk result
-        (λ found. contents_at found.items ≡ child_contents above.now list.now) }
-    ensures memory { IfErr result (λ e. e ≡ TreeError.Memory) }
-{
-    let mut found = Vec::new(alloc);
-    for entry in list {
-        if let Some(name) = child_name(above, entry.path()) {
-            found.push((name.copy(alloc)?, found_at(entry)))?;
-        }
-    }
-    Ok(found)
-}
-
-/// The last name of the path, where it stands in the directory of these names.
-fn child_name<'a>(above: &[Name], path: &'a Path) -> Option<&'a Name>
-    ensures { option_map (λ name. name.now) result
-        ≡ option_and_then only_name (strip_prefix above.now path.now) }
-{
-    match path.names() {
-        [] => None,
-        [before @ .., name] => {
-            if before.cmp(&above) == Ordering::Equal {
-                Some(name)
-            } else {
-                None
-            }
-        }
-    }
 }

@@ -17,8 +17,8 @@ use crate::measures::{LONGEST_FILE, MOST_CHILDREN};
 use crate::pair::Pair;
 use std::alloc::Global;
 use std::marker::Model;
-use syn_path::Path;
-use syn_placed::list::{are_rising, count_children, count_children_at, is_directory, parent_names};
+use syn_path::{Key, Path};
+use syn_placed::ranges::{are_rising, count_children, count_children_at, is_directory};
 
 /// What stands below a directory, in path order: 256 entries a directory, 16,384 bytes a file, and
 /// each path, taken from the directory, within the limits of a path. The number of nodes and their
@@ -58,7 +58,7 @@ impl Entries {
     }
 
     /// These entries, which are lawful.
-    pub(crate) fn lawful(list: Vec<Entry>) -> Entries
+    pub fn lawful(list: Vec<Entry>) -> Entries
         requires { AreEntries list.items }
         ensures { result ≡ tree_with list.items }
     {
@@ -77,7 +77,7 @@ impl Entries {
         if !all_stand(&list) {
             return None;
         }
-        if count_children(&list, &[]) > MOST_CHILDREN {
+        if count_children(&list, &Key::root()) > MOST_CHILDREN {
             return None;
         }
         Some(Entries { list })
@@ -99,7 +99,7 @@ impl Entries {
     pub fn child_count(&self, path: &Path) -> usize
         ensures { result ≡ length (children self.now path.now) }
     {
-        count_children_at(&self.list, path)
+        count_children_at(&self.list, &path.key())
     }
 
     /// How many names are in the directory that the pair is; none where it is a file. The work
@@ -107,7 +107,7 @@ impl Entries {
     pub fn child_count_of(&self, pair: &Pair<'_>) -> usize
         ensures { result ≡ length (children self.now pair.now.0) }
     {
-        self.child_count(pair.entry().path())
+        count_children_at(&self.list, pair.entry().key())
     }
 
     /// The entries in path order.
@@ -141,8 +141,8 @@ fn stands_among(list: &[Entry], entry: &Entry) -> bool
     ensures value { result ≡ stands_in list.now entry.now }
     ensures lawful { IsLawfulPair entry.now }
 {
-    is_path(entry.path());
-    let placed = is_directory(list, parent_names(entry.path()));
+    is_path(entry.key());
+    let placed = is_directory(list, &entry.key().parent());
     let brief = is_brief(entry);
     let few = has_few(list, entry);
     placed && brief && few
@@ -153,7 +153,7 @@ fn has_few(list: &[Entry], entry: &Entry) -> bool
     requires { AreRising (rooted list.now) }
     ensures { result ≡ has_few list.now entry.now }
 {
-    !found_at(entry).is_directory() || count_children_at(list, entry.path()) <= MOST_CHILDREN
+    !found_at(entry).is_directory() || count_children_at(list, entry.key()) <= MOST_CHILDREN
 }
 
 /// The entry is a directory, or a file within its limit.

@@ -1,13 +1,13 @@
-//! The entries of a tree: paths, each with a file or a directory.
+//! The entries of a tree: keys of paths, each with a file or a directory.
 ghost use Rattle.std.specs.Prelude.{◌≡◌};
 ghost use Rattle.syn_tree.specs.Contents.{content_of, found_content};
 
 use crate::content::{Content, Found};
 use std::alloc::{AllocError, Global};
-use syn_placed::{Placed, Standing};
+use syn_placed::{Keyed, Standing};
 
 /// An entry of a tree.
-pub type Entry = Placed<Content>;
+pub type Entry = Keyed<Content>;
 
 impl Standing for Content {
     ghost content = { content_of };

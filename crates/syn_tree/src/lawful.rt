@@ -2,7 +2,7 @@
 ghost use Rattle.syn_model.specs.Event.{AreBytes};
 ghost use Rattle.syn_model.specs.Path.{IsPath};
 
-use syn_path::Path;
+use syn_path::Key;
 
 /// Each byte is below 256.
 pub(crate) fn are_bytes(bytes: &[u8])
@@ -11,9 +11,9 @@ pub(crate) fn are_bytes(bytes: &[u8])
     let _ = bytes;
 }
 
-/// The path is a lawful one.
-pub(crate) fn is_path(path: &Path)
-    ensures { IsPath path.now }
+/// The path of the key is a lawful one.
+pub(crate) fn is_path(key: &Key)
+    ensures { IsPath key.now }
 {
-    let _ = path.names();
+    let _ = key.is_root();
 }

@@ -13,6 +13,7 @@ mod lawful;
 mod measures;
 mod node;
 mod pair;
+mod parts;
 mod placing;
 mod tree;
 

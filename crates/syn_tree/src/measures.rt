@@ -10,8 +10,9 @@ ghost use Rattle.syn_placed.specs.Pairs.{pair_spelling_length, spelling_length};
 
 use crate::content::Found;
 use crate::entry::{Entry, found_at};
-use syn_path::{Name, Path};
-use syn_placed::list::{entry_at, part_at, replace_part};
+use crate::lawful::is_path;
+use syn_path::Key;
+use syn_placed::ranges::{entry_at, part_at, replace_part};
 
 /// The most bytes of the spelling of a replica's tree.
 pub const LONGEST_SPELLING: usize = 524_288;
@@ -22,29 +23,30 @@ pub const MOST_CHILDREN: usize = 256;
 /// The most bytes of a file.
 pub const LONGEST_FILE: usize = 16_384;
 
-/// What stands at the path of these names, of entries below a root directory.
-pub(crate) fn find<'a>(list: &'a [Entry], names: &[Name]) -> Option<Found<'a>>
+/// What stands at the path of the key, of entries below a root directory.
+pub(crate) fn find<'a>(list: &'a [Entry], at: &Key) -> Option<Found<'a>>
     requires { AreRising (rooted list.now) }
     ensures { option_map (λ found. found_content found) result
-        ≡ find path_cmp names.now (rooted list.now) }
+        ≡ find path_cmp at.now (rooted list.now) }
 {
-    if names.is_empty() {
+    if at.is_root() {
         return Some(Found::Dir);
     }
-    match entry_at(list, names) {
+    match entry_at(list, at) {
         Some(entry) => Some(found_at(entry)),
         None => None,
     }
 }
 
 /// How many bytes spell the last name with its length; none for the root.
-pub(crate) fn name_spelled(path: &Path) -> usize
-    ensures length { result ≡ last_name_spelling_length path.now }
+pub(crate) fn name_spelled(key: &Key) -> usize
+    ensures length { result ≡ last_name_spelling_length key.now }
     ensures short { result ≤ 65 }
-    ensures lawful { IsPath path.now }
+    ensures lawful { IsPath key.now }
 {
-    match path.names().last() {
-        Some(name) => 1 + name.as_str().len(),
+    is_path(key);
+    match key.last_name() {
+        Some(name) => 1 + name.len(),
         None => 0,
     }
 }
@@ -54,7 +56,7 @@ pub(crate) fn entry_spelled(entry: &Entry) -> usize
     ensures length { result ≡ pair_spelling_length entry.now }
     ensures fits { result < 2 ^ 63 + 128 }
 {
-    name_spelled(entry.path()) + found_spelled(&found_at(entry))
+    name_spelled(entry.key()) + found_spelled(&found_at(entry))
 }
 
 /// How many bytes spell what was found, without what is below it.
@@ -97,7 +99,7 @@ pub(crate) fn measured(list: &[Entry]) -> Option<usize>
 
 /// Puts these entries in the place of what is at and below the path, and answers how many bytes
 /// spelled that.
-pub(crate) fn splice(list: &mut Vec<Entry>, at: &Path, added: Vec<Entry>) -> usize
+pub(crate) fn splice(list: &mut Vec<Entry>, at: &Key, added: Vec<Entry>) -> usize
     requires rising { AreRising list.old.items }
     requires brief { spelling_length (within at.now list.old.items) ≤ 524288 }
     requires room { length (before at.now list.old.items) + length
@@ -107,7 +109,7 @@ pub(crate) fn splice(list: &mut Vec<Entry>, at: &Path, added: Vec<Entry>) -> usi
     ensures room { vec_capacity list.old ≤ vec_capacity list.new }
     ensures removed { result ≡ spelling_length (within at.now list.old.items) }
 {
-    let removed = spelled(part_at(list, at.names()));
+    let removed = spelled(part_at(list, at));
     replace_part(list, at, added);
     removed
 }

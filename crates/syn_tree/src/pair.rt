@@ -43,7 +43,7 @@ impl<'a> Pair<'a> {
     pub fn path(&self, alloc: Global) -> Result<Path, AllocError>
         ensures { IfOk result (λ path. path ≡ self.now.0) }
     {
-        match self.entry.path().copy(alloc) {
+        match self.entry.key().to_path(alloc) {
             Ok(path) => Ok(path),
             Err(_) => Err(AllocError),
         }
@@ -55,10 +55,7 @@ impl<'a> Pair<'a> {
             ≡ slice_get self.now.0 (length self.now.0 - 1) }
         ensures lawful { IfSome result (λ name. IsName name.now) }
     {
-        match self.entry.path().names().last() {
-            Some(name) => Some(name.as_str().as_bytes()),
-            None => None,
-        }
+        self.entry.key().last_name()
     }
 
     /// What stands at the path, with a file's bytes.

@@ -5,20 +5,20 @@ ghost use Rattle.syn_tree.specs.Nodes.{part_of};
 ghost use Rattle.syn_tree.specs.Lists.{IsPlaceable, FitsNowhere};
 
 use crate::content::Content;
-use crate::copies::push_under;
 use crate::entries::Entries;
 use crate::entry::Entry;
 use crate::error::TreeError;
 use crate::lawful::{are_bytes, is_path};
 use crate::measures::LONGEST_FILE;
 use crate::node::Node;
+use crate::parts::push_under;
 use std::alloc::Global;
-use syn_path::Path;
+use syn_path::Key;
 
 /// The entries of the part with the path put before theirs.
 ///
 /// Refused 7 where they fit nowhere at that path, and 11 where memory is refused.
-pub(crate) fn placed(alloc: Global, at: &Path, new: Option<Node>) -> Result<Vec<Entry>, TreeError>
+pub(crate) fn placed(alloc: Global, at: &Key, new: Option<Node>) -> Result<Vec<Entry>, TreeError>
     ensures ok { IfOk result (λ list. IsPlaceable at.now (part_of new) list.items) }
     ensures full { IfErr result (λ e. e ≢ TreeError.Memory → (e ≡ TreeError.Full)
         × FitsNowhere at.now (part_of new)) }
@@ -32,7 +32,7 @@ pub(crate) fn placed(alloc: Global, at: &Path, new: Option<Node>) -> Result<Vec<
 }
 
 /// A file at the path.
-fn placed_file(alloc: Global, at: &Path, bytes: Vec<u8>) -> Result<Vec<Entry>, TreeError>
+fn placed_file(alloc: Global, at: &Key, bytes: Vec<u8>) -> Result<Vec<Entry>, TreeError>
     ensures ok { IfOk result (λ list. IsPlaceable at.now (file bytes.items) list.items) }
     ensures full { IfErr result (λ e. e ≢ TreeError.Memory → (e ≡ TreeError.Full)
         × FitsNowhere at.now (file bytes.items)) }
@@ -43,19 +43,19 @@ fn placed_file(alloc: Global, at: &Path, bytes: Vec<u8>) -> Result<Vec<Entry>, T
         return Err(TreeError::Full);
     }
     let mut list = Vec::new(alloc);
-    list.push(Entry::new(at.copy(alloc)?, Content::File(bytes)))?;
+    list.push(Entry::new(alloc, at, Content::File(bytes))?)?;
     Ok(list)
 }
 
 /// A directory at the path, with what is below it.
-fn placed_directory(alloc: Global, at: &Path, entries: Entries) -> Result<Vec<Entry>, TreeError>
+fn placed_directory(alloc: Global, at: &Key, entries: Entries) -> Result<Vec<Entry>, TreeError>
     ensures ok { IfOk result (λ list. IsPlaceable at.now entries list.items) }
     ensures full { IfErr result (λ e. e ≢ TreeError.Memory → (e ≡ TreeError.Full)
         × FitsNowhere at.now entries) }
 {
     is_path(at);
     let mut list = Vec::new(alloc);
-    list.push(Entry::new(at.copy(alloc)?, Content::Dir))?;
-    push_under(alloc, &mut list, at, entries.into_vec())?;
+    list.push(Entry::new(alloc, at, Content::Dir)?)?;
+    push_under(&mut list, at, entries.into_vec())?;
     Ok(list)
 }

@@ -21,7 +21,6 @@ ghost use Rattle.syn_tree.specs.Refusals.{refusal_of, refusal_in};
 
 use crate::change::Change;
 use crate::content::{Content, Found};
-use crate::copies::{below, children};
 use crate::edit::Edit;
 use crate::entries::Entries;
 use crate::entry::Entry;
@@ -31,12 +30,12 @@ use crate::measures::{
     LONGEST_FILE, LONGEST_SPELLING, MOST_CHILDREN, measured, name_spelled, spelled, splice,
 };
 use crate::node::Node;
+use crate::parts::{below, children};
 use crate::placing::placed;
 use std::alloc::Global;
 use std::marker::Model;
-use syn_path::{Name, Path};
-use syn_placed::Standing;
-use syn_placed::list::{count_children, is_directory, parent_names, part_at};
+use syn_path::{Key, Name, Path};
+use syn_placed::ranges::{count_children, is_directory, part_at};
 
 mod reading;
 
@@ -86,10 +85,10 @@ impl Tree {
     pub fn check_place(&self, path: &Path) -> Result<(), TreeError>
         ensures { refusal_in result ≡ first_cause (place_causes self.now path.now) }
     {
-        let [above @ .., _] = path.names() else {
+        if path.key().is_root() {
             return Err(TreeError::Root);
-        };
-        if is_directory(&self.list, above) {
+        }
+        if is_directory(&self.list, &path.parent_key()) {
             Ok(())
         } else {
             Err(TreeError::NoParent)
@@ -105,7 +104,7 @@ impl Tree {
         ensures { (new : Pairs) → IsMeasured path.now new nodes size → result
             ≡ fits_replica (replace self.now path.now new) }
     {
-        let part = part_at(&self.list, path.names());
+        let part = part_at(&self.list, &path.key());
         let count = self.list.len() - part.len() + nodes;
         let length = self.spelled - spelled(part) + size;
         let room = has_room(&self.list, path, !part.is_empty(), nodes);
@@ -131,7 +130,7 @@ impl Tree {
     fn is_directory_at(&self, path: &Path) -> bool
         ensures { result ≡ is_directory self.now path.now }
     {
-        is_directory(&self.list, path.names())
+        is_directory(&self.list, &path.key())
     }
 
     /// Why a file of so many bytes is not put.
@@ -146,7 +145,7 @@ impl Tree {
         if size > LONGEST_FILE {
             return Err(TreeError::Full);
         }
-        if self.fits(path, 1, name_spelled(path) + 5 + size) {
+        if self.fits(path, 1, name_spelled(&path.key()) + 5 + size) {
             Ok(())
         } else {
             Err(TreeError::Full)
@@ -161,7 +160,7 @@ impl Tree {
         if self.get(path).is_some() {
             return Err(TreeError::Exists);
         }
-        if self.fits(path, 1, name_spelled(path) + 3) {
+        if self.fits(path, 1, name_spelled(&path.key()) + 3) {
             Ok(())
         } else {
             Err(TreeError::Full)
@@ -208,10 +207,10 @@ impl Tree {
         match edit {
             Edit::Put(path, bytes) => {
                 are_bytes(&bytes);
-                Change::one(alloc, path, Content::File(bytes))
+                Change::one(alloc, &path.key(), Content::File(bytes))
             }
-            Edit::MakeDir(path) => Change::one(alloc, path, Content::Dir),
-            Edit::Remove(path) => Ok(Change::none(alloc, path)),
+            Edit::MakeDir(path) => Change::one(alloc, &path.key(), Content::Dir),
+            Edit::Remove(path) => Ok(Change::none(alloc, &path.key())),
         }
     }
 
@@ -235,8 +234,8 @@ impl Tree {
             → replace_refusal self.now path.now (part_of new) ≡ Some (refusal_of e)) }
     {
         self.check_place(path)?;
-        let at = path.copy(alloc)?;
-        let added = placed(alloc, path, new)?;
+        let at = path.key();
+        let added = placed(alloc, &at, new)?;
         let Some(size) = measured(&added) else {
             return Err(TreeError::Full);
         };
@@ -324,8 +323,8 @@ impl Tree {
     {
         match self.get(path) {
             Some(Found::Dir) => {
-                let names = path.names();
-                children(alloc, part_at(&self.list, names), names)
+                let at = path.key();
+                children(alloc, part_at(&self.list, &at), &at)
             }
             _ => Err(TreeError::Absent),
         }
@@ -356,8 +355,8 @@ impl Tree {
                 Ok(Some(Node::File(bytes)))
             }
             Some(Found::Dir) => {
-                let part = part_at(&self.list, path.names());
-                let list = below(alloc, part, path)?;
+                let at = path.key();
+                let list = below(alloc, part_at(&self.list, &at), &at)?;
                 Ok(Some(Node::Dir(Entries::lawful(list))))
             }
         }
@@ -418,11 +417,11 @@ fn has_room(list: &[Entry], path: &Path, stands: bool, nodes: usize) -> bool
         (stands || (not (nat_lt 0 nodes) || nat_lt
         (count_by (λ pair. is_child (parent path.now) pair.0) list.now) 256)) }
 {
-    stands || nodes == 0 || has_place(list, parent_names(path))
+    stands || nodes == 0 || has_place(list, &path.parent_key())
 }
 
-/// The directory of these names has not the most entries.
-fn has_place(list: &[Entry], above: &[Name]) -> bool
+/// The directory at the path of the key has not the most entries.
+fn has_place(list: &[Entry], above: &Key) -> bool
     requires { AreRising list.now }
     ensures { result ≡ nat_lt (count_by (λ pair. is_child above.now pair.0) list.now) 256 }
 {

@@ -13,7 +13,8 @@ use crate::spelling_laws;
 use crate::tree::{ABSENT, DIRECTORY, FILE};
 use std::alloc::Global;
 use syn_path::Path;
-use syn_tree::{Entries, LONGEST_FILE, Node, Tree, TreeError};
+use syn_placed::Placed;
+use syn_tree::{Content, Entries, Entry, LONGEST_FILE, Node, Tree, TreeError};
 
 /// The tree that the bytes begin with, and the rest; none where no front of them is the spelling of
 /// a tree within all limits of a replica.
@@ -108,10 +109,21 @@ fn read_directory(alloc: Global, fields: &[u8]) -> Result<Option<(Entries, &[u8]
     let Some(rest) = read_parts(alloc, &mut list, &Path::root(alloc), count, below)? else {
         return Ok(None);
     };
-    let Some(entries) = Entries::from_vec(list) else {
+    let Some(entries) = Entries::from_vec(keyed(alloc, list)?) else {
         return Ok(None);
     };
     // what they keep is a directory's
     let _ = entries.iter();
     Ok(Some((entries, rest)))
+}
+
+// The entries with the keys of their paths.
+fn keyed(alloc: Global, list: Vec<Placed<Content>>) -> Result<Vec<Entry>, WireError>
+    ensures { IfOk result (λ entries. entries.items ≡ list.items) }
+{
+    let mut entries = Vec::with_capacity(alloc, list.len())?;
+    for placed in list {
+        entries.push(Entry::of(alloc, placed)?)?;
+    }
+    Ok(entries)
 }

@@ -70,7 +70,8 @@ impl<F: Files> Reading<'_, '_, F> {
         let there = self.files.symlink_metadata(place.as_str())?;
         if there.is_dir() {
             self.list(alloc, &path)?;
-            self.found.push(Entry::new(path, Content::Dir))?;
+            self.found
+                .push(Entry::new(alloc, &path.key(), Content::Dir)?)?;
         } else if !there.is_file() {
             self.note(alloc, path, Strangeness::Kind)?;
         } else if there.len() > LONGEST_FILE as u64 {
@@ -90,7 +91,8 @@ impl<F: Files> Reading<'_, '_, F> {
         if bytes.len() > LONGEST_FILE {
             self.note(alloc, path, Strangeness::Size)
         } else {
-            self.found.push(Entry::new(path, Content::File(bytes)))?;
+            let entry = Entry::new(alloc, &path.key(), Content::File(bytes))?;
+            self.found.push(entry)?;
             Ok(())
         }
     }

@@ -12,14 +12,14 @@ use crate::cursor::Cursor;
 use crate::measures::{find, found_spelled, spelled};
 use crate::pair::Pair;
 use syn_path::Path;
-use syn_placed::list::{count_children_at, part_below};
+use syn_placed::ranges::{count_children_at, part_below};
 
 impl Tree {
     /// What stands at the path; none where nothing does.
     pub fn get(&self, path: &Path) -> Option<Found<'_>>
         ensures { option_map (λ found. found_content found) result ≡ get self.now path.now }
     {
-        find(&self.list, path.names())
+        find(&self.list, &path.key())
     }
 
     /// What stands below the root, in path order.
@@ -36,7 +36,7 @@ impl Tree {
     pub fn below(&self, path: &Path) -> Cursor<'_>
         ensures { result ≡ filter (is_below path.now) (entries self.now) }
     {
-        Cursor::over(part_below(&self.list, path))
+        Cursor::over(part_below(&self.list, &path.key()))
     }
 
     /// How many nodes there are, with the root.
@@ -51,7 +51,7 @@ impl Tree {
     pub fn child_count(&self, path: &Path) -> usize
         ensures { result ≡ length (children self.now path.now) }
     {
-        count_children_at(&self.list, path)
+        count_children_at(&self.list, &path.key())
     }
 
     /// How many names are in the directory that the pair is; none where it is a file. The work
@@ -59,7 +59,7 @@ impl Tree {
     pub fn child_count_of(&self, pair: &Pair<'_>) -> usize
         ensures { result ≡ length (children self.now pair.now.0) }
     {
-        self.child_count(pair.entry().path())
+        count_children_at(&self.list, pair.entry().key())
     }
 
     /// How many bytes spell the tree.
@@ -75,7 +75,7 @@ impl Tree {
         ensures { result ≡ tree_spelling_length (subtree self.now path.now) }
     {
         match self.get(path) {
-            Some(found) => found_spelled(&found) + spelled(part_below(&self.list, path)),
+            Some(found) => found_spelled(&found) + spelled(part_below(&self.list, &path.key())),
             None => 0,
         }
     }

@@ -1,9 +1,10 @@
 use Rattle.std.proofs.Common.{◌≡◌, ◌≤◌, ◌+◌, ◌-◌, ◌++◌, take, length, replicate, sym, ap, ap₂, ◌∙◌}
 use Rattle.std.proofs.Common.{arith}
 use Rattle.std.proofs.Math.Seq.{take-length}
-use Rattle.syn_model.specs.Path.{path_key}
+use Rattle.syn_model.specs.Path.{path_key, parent}
 use Rattle.syn_path.specs.Keys.{filled}
 use Rattle.syn_path.proofs.KeyLemmas.{short_key, key_within, key_more, length-key_more, written}
+use Rattle.syn_path.proofs.KeyLemmas.{parent_more}
 use Rattle.syn_path.proofs.key.spelling_of.Goals as goal
 
 pub overflow_add-end : goal.overflow_add-end
@@ -62,6 +63,9 @@ loop-name-preserved c =
           ∙ ap₂ (λ xs m. xs ++ replicate (255 - m) 0)
           (sym (key_more names i x c.loop-name-test.true c.name-item.is)) same;
       len = omega (arith, ap length name, more, at);
+      start =
+          at ∙ sym (ap (λ q. length (path_key q))
+          (parent_more names i x c.loop-name-test.true c.name-item.is));
     }
 
 pub returns-clause-bytes : goal.returns-clause-bytes
@@ -74,3 +78,11 @@ returns-clause-bytes c =
     c.loop-name.invariant.bytes
     ∙ ap₂ (λ xs m. xs ++ replicate (255 - m) 0) whole
     (c.loop-name.invariant.len ∙ ap length whole)
+
+pub returns-clause-start : goal.returns-clause-start
+returns-clause-start c =
+    let names = c.args.names.now in
+    let at : c.loop-name.name-index ≡ length names =
+    omega (arith, c.loop-name-test.false, c.loop-name.auto.name-index-end) in
+    c.loop-name.invariant.start ∙ ap (λ q. length (path_key (parent q)))
+    (ap (λ n. take n names) at ∙ take-length names)

@@ -1,12 +1,10 @@
-use Rattle.std.proofs.Common.{rules, ◌≡◌, ◌++◌, ◌∷◌, ◌<◌, ◌+◌, ℕ, List, [], arith, map, length}
-use Rattle.std.proofs.Common.{get_or, take, subst, sym, ◌∙◌, ap, Bor, refl, Err}
-use Rattle.std.specs.Prelude.{All, IfErr}
+use Rattle.std.proofs.Common.{◌≡◌, ◌++◌, ◌∷◌, [], arith, map, length}
+use Rattle.std.proofs.Common.{take, subst, sym, ◌∙◌, ap}
 use Rattle.std.proofs.Math.Seq.{take-length}
 use Rattle.std.proofs.lemmas.Result.{err_from_is_err_and}
 use Rattle.std.proofs.lemmas.List.{map_more, get_or-map, length-map}
 use Rattle.std.proofs.lemmas.List.Elements.{All-append, All-cons, All-nil}
 use Rattle.syn_model.specs.Path.{IsName}
-use Rattle.syn_path.proofs.PathLemmas.{not_all_names}
 use Rattle.syn_path.proofs.path.parse_names.Goals as goal
 
 pub returns-in_err-name-clause-bad : goal.returns-in_err-name-clause-bad

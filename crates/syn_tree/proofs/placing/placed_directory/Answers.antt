@@ -1,7 +1,5 @@
 use Rattle.std.proofs.Common.{◌++◌, ◌∷◌, [], ap, ap₂, ◌∙◌}
 use Rattle.std.proofs.lemmas.Result.{err_from_is_err_and}
-use Rattle.syn_model.specs.Path.{Path}
-use Rattle.syn_model.specs.Tree.{Directory}
 use Rattle.syn_placed.specs.Pairs.{under}
 use Rattle.syn_tree.proofs.PlaceableLemmas.{placeable_directory, nowhere_directory}
 use Rattle.syn_tree.proofs.placing.placed_directory.Goals as goal
@@ -19,9 +17,8 @@ returns-in_err-push_under-clause-full c =
 pub returns-clause-ok : goal.returns-clause-ok
 returns-clause-ok c =
     let at = c.args.at.now in
-    let entry = c.new.ensures ∙ ap (λ (p : Path). (p, Directory)) c.in_ok-copy.ensures.ok in
     let first = c.in_ok-push.ensures.items
-    ∙ ap₂ (λ xs x. xs ++ x ∷ []) c.new-list.ensures.items entry in
+    ∙ ap₂ (λ xs x. xs ++ x ∷ []) c.new-list.ensures.items c.in_ok-new.ensures in
     let pairs = c.in_ok-push_under.ensures.ok
     ∙ ap (λ xs. xs ++ under at c.into_vec.result.items) first in
     placeable_directory at c.args.entries c.into_vec.result.items c.push_under.new.list.items

@@ -1,7 +1,6 @@
-use Rattle.std.proofs.Common.{◌++◌, ◌∷◌, [], length, refl, ap, ap₂, ◌∙◌, subst, arith}
+use Rattle.std.proofs.Common.{◌++◌, ◌∷◌, [], length, refl, ap₂, ◌∙◌, subst, arith}
 use Rattle.std.proofs.lemmas.Bool.{le-leb, lt-leb}
 use Rattle.syn_model.specs.Tree.{File, contents_of}
-use Rattle.syn_model.specs.Path.{Path}
 use Rattle.syn_model.specs.Event.{AreBytes}
 use Rattle.syn_tree.proofs.PlaceableLemmas.{placeable_one, nowhere_content}
 use Rattle.syn_tree.proofs.placing.placed_file.Goals as goal
@@ -18,10 +17,8 @@ pub returns-clause-ok : goal.returns-clause-ok
 returns-clause-ok c =
     let bytes = c.args.bytes.items in
     let at = c.args.at.now in
-    let entry = c.new.ensures
-    ∙ ap (λ (p : Path). (p, File (contents_of bytes))) c.in_ok-copy.ensures.ok in
     let pairs = c.in_ok-push.ensures.items
-    ∙ ap₂ (λ xs x. xs ++ x ∷ []) c.new-list.ensures.items entry in
+    ∙ ap₂ (λ xs x. xs ++ x ∷ []) c.new-list.ensures.items c.in_ok-new.ensures in
     placeable_one at (File (contents_of bytes)) c.push.new.self.items c.is_path.ensures
     (subst AreBytes c.deref.ensures.value c.are_bytes.ensures) (le-leb (length bytes) 16384
     (omega (arith, c.if-len-gt-LONGEST_FILE.false, c.len.ensures, c.args.bytes.ok))) pairs

@@ -1,4 +1,7 @@
-use Rattle.std.proofs.Common.{option_map, subst}
+use Rattle.std.proofs.Common.{◌≡◌, option_map, subst}
+use Rattle.std.specs.FinMap.{entries}
+use Rattle.syn_placed.specs.Pairs.{rooted}
+use Rattle.syn_tree.specs.Entries.{AreEntries}
 use Rattle.syn_wire.specs.inner.Kinds.{OfContents}
 use Rattle.syn_wire.specs.inner.Parts.{PartsAreRead, ReadsParts}
 use Rattle.syn_wire.proofs.MadeLemmas.{no_directory_read, no_parts_read, all_entries, not_made}
@@ -28,7 +31,8 @@ returns-in_default-from_vec c t rest begins =
     let all = all_entries c.args.fields.now c.in-Some.below.now c.root.result c.in-Some.count
     c.in-Some.ensures c.root.ensures c.new-list.result.items list c.in-Some-2.rest.now
     c.new-list.ensures.items read t rest begins.lawful begins.spelled in
-    not_made t list begins.lawful all c.in_default-from_vec.ensures.none
+    not_made t list begins.lawful all
+    (subst (λ es. ¬ AreEntries es) c.in_ok-keyed.ensures c.in_default-from_vec.ensures.none)
 
 pub returns : goal.returns
 returns c =
@@ -39,5 +43,7 @@ returns c =
     let kept = c.iter.ensures in
     directory_made c.args.fields.now c.in-Some.below.now c.root.result c.in-Some.count
     c.new-list.result.items list c.in-Some-2.rest.now c.in-Some-from_vec.entries c.in-Some.ensures
-    c.root.ensures c.new-list.ensures.items read c.in-Some-from_vec.ensures.some
+    c.root.ensures c.new-list.ensures.items read
+    (subst (λ es. rooted es ≡ entries c.in-Some-from_vec.entries) c.in_ok-keyed.ensures
+    c.in-Some-from_vec.ensures.some)
     (record { tree = kept.tree; fits = kept.part; paths = kept.paths })

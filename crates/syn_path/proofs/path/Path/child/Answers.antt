@@ -1,5 +1,5 @@
-use Rattle.std.proofs.Common.{rules, ◌≡◌, ◌++◌, ◌∷◌, [], ◌+◌, ◌<◌, ◌≤◌, length, arith, refl}
-use Rattle.syn_model.specs.Path.{IsPath, path_spelling}
+use Rattle.std.proofs.Common.{rules, ◌≡◌, ◌++◌, ◌∷◌, [], ◌+◌, ◌<◌, ◌≤◌, length, refl}
+use Rattle.syn_model.specs.Path.{path_spelling}
 use Rattle.syn_path.proofs.PathLemmas.{child_lawful}
 use Rattle.syn_path.proofs.path.Path.child.Goals as goal
 

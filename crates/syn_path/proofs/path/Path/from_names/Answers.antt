@@ -1,4 +1,4 @@
-use Rattle.std.proofs.Common.{rules, ◌≡◌, ◌≤◌, List, ℕ, length, refl, ap, sym, subst, arith}
+use Rattle.std.proofs.Common.{◌≤◌, length, refl, subst, arith}
 use Rattle.std.specs.Prelude.{All}
 use Rattle.syn_model.specs.Path.{IsName, IsPath, path_spelling}
 use Rattle.syn_path.proofs.path.Path.from_names.Goals as goal

@@ -1,6 +1,4 @@
-use Rattle.std.proofs.Common.{rules, ◌≡◌, ◌∙◌, ◌++◌, ap, ap₂, sym, true, subst}
-use Rattle.std.specs.List.{starts_with}
-use Rattle.std.specs.Prelude.{bytes_eq}
+use Rattle.std.proofs.Common.{◌≡◌, ◌∙◌, ap, ap₂, sym}
 use Rattle.syn_model.specs.Path.{is_prefix}
 use Rattle.syn_path.proofs.PathLemmas.{is_prefix-starts_with, prefix_from_test, test_from_append}
 use Rattle.syn_path.proofs.path.Path.is_prefix.Goals as goal

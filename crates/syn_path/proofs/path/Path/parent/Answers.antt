@@ -1,7 +1,5 @@
-use Rattle.std.proofs.Common.{rules, ◌≡◌, ◌++◌, ◌∷◌, ◌-◌, ◌<◌, ℕ, List, [], arith, length, take}
+use Rattle.std.proofs.Common.{rules, ◌≡◌, ◌-◌, ◌<◌, length, take}
 use Rattle.std.proofs.Common.{subst, sym, ◌∙◌}
-use Rattle.std.specs.Prelude.{slice_index_or}
-use Rattle.std.proofs.lemmas.List.{take_more}
 use Rattle.syn_model.specs.Path.{IsPath}
 use Rattle.syn_path.proofs.PathLemmas.{above_last, parent_lawful}
 use Rattle.syn_path.proofs.path.Path.parent.Goals as goal

@@ -1,11 +1,10 @@
-use Rattle.std.proofs.Common.{rules, ◌≡◌, ◌≢◌, ◌≤◌, ◌<◌, arith, map, codes, length, ap, sym, ◌∙◌}
-use Rattle.std.proofs.Common.{subst, Bor, List, ℕ, eqb}
+use Rattle.std.proofs.Common.{rules, ◌≡◌, ◌≢◌, arith, map, codes, length, ap, sym, ◌∙◌}
+use Rattle.std.proofs.Common.{subst, eqb}
 use Rattle.std.specs.List.{All, slice_split}
 use Rattle.std.proofs.lemmas.List.{length-map}
 use Rattle.std.proofs.lemmas.Result.{err_from_is_err_and}
 use Rattle.syn_model.specs.Path.{IsName}
-use Rattle.syn_path.specs.Paths.{NamesPath}
-use Rattle.syn_path.proofs.PathLemmas.{pieces_of_named, length_of_named, named_by_pieces}
+use Rattle.syn_path.proofs.PathLemmas.{pieces_of_named, named_by_pieces}
 use Rattle.syn_path.proofs.path.Path.parse.Goals as goal
 
 pub returns-then-len-gt16-clause-bad : goal.returns-then-len-gt16-clause-bad

@@ -6,11 +6,11 @@ use Rattle.syn_tree.proofs.change.Change.none.Goals as goal
 
 pub invariant_of-result : goal.invariant_of-result
 invariant_of-result c =
-    placed_part c.args.path absent c.new.result.items 0
-    (under_none c.args.path c.new.result.items c.new.ensures.items) c.is_path.ensures nothing_part
+    placed_part c.args.at.now absent c.new.result.items 0
+    (under_none c.args.at.now c.new.result.items c.new.ensures.items) c.is_path.ensures nothing_part
     (sym (ap spelling_length c.new.ensures.items))
 
 pub returns-clause-new : goal.returns-clause-new
 returns-clause-new c =
-    taken_same c.args.path absent c.new.result.items
-    (under_none c.args.path c.new.result.items c.new.ensures.items)
+    taken_same c.args.at.now absent c.new.result.items
+    (under_none c.args.at.now c.new.result.items c.new.ensures.items)

@@ -1,4 +1,5 @@
-use Rattle.std.proofs.Common.{◌≡◌, ◌≤◌, ◌<◌, ℕ, [], nat_le, true, false, true≢false, sym, ap, ◌∙◌}
+use Rattle.std.proofs.Common.{◌≡◌, ◌≤◌, ◌<◌, ℕ, [], nat_le, true, false, true≢false, sym, ap, ap₂}
+use Rattle.std.proofs.Common.{◌∙◌}
 use Rattle.std.proofs.Common.{subst, arith}
 use Rattle.std.specs.List.{list_all}
 use Rattle.std.proofs.lemmas.Bool.Decides.{nat_tests}
@@ -26,7 +27,7 @@ pub returns-then-count_children-gt-MOST_CHILDREN-clause-none :
 returns-then-count_children-gt-MOST_CHILDREN-clause-none c is =
     let ds = c.args.list.items in
     let count : c.count_children.result ≡ kids [] ds = c.count_children.ensures
-    ∙ ap (kids []) c.deref-3.ensures.value in
+    ∙ ap₂ kids c.root.ensures c.deref-3.ensures.value in
     absurd (true≢false (sym (entries_stand ds is).1 ∙ (ap (λ n. nat_le n 256) (sym count)
     ∙ many c.count_children.result c.if-count_children-gt-MOST_CHILDREN.true)))
 
@@ -34,7 +35,7 @@ pub invariant_of-result : goal.invariant_of-result
 invariant_of-result c =
     let ds = c.args.list.items in
     let count : c.count_children.result ≡ kids [] ds = c.count_children.ensures
-    ∙ ap (kids []) c.deref-3.ensures.value in
+    ∙ ap₂ kids c.root.ensures c.deref-3.ensures.value in
     let rising = subst (λ xs. AreRising (rooted xs)) c.deref.ensures.value
     (c.are_rising.ensures.0 c.if-not-are_rising.false) in
     let stand = ap (λ xs. list_all (stands_in xs) xs) (sym c.deref-2.ensures.value)

@@ -1,6 +1,8 @@
-use Rattle.std.proofs.Common.{◌+◌, Some, None, if◌then◌else◌, refl, sym, ap, ◌∙◌}
+use Rattle.std.proofs.Common.{◌+◌, Some, None, if◌then◌else◌, refl, sym, ap, ◌∙◌, subst}
 use Rattle.syn_model.specs.Tree.{Directory, at_root}
 use Rattle.syn_model.specs.Refusal.{Full}
+use Rattle.syn_model.specs.Path.{IsPath}
+use Rattle.syn_model.specs.Limits.{last_name_spelling_length}
 use Rattle.syn_tree.specs.Contents.{found_content}
 use Rattle.syn_tree.specs.Refusals.{refusal_in}
 use Rattle.syn_tree.proofs.CheckLemmas.{make_answer, measured_one, found_present}
@@ -14,7 +16,9 @@ returns-then-fits c =
     let none = sym (found_present (λ found. found_content found) t p c.get.result c.get.ensures)
     ∙ (sym c.is_some.ensures ∙ c.if-is_some.false) in
     let fits = c.fits.ensures (at_root Directory) (measured_one p Directory (c.name_spelled.result
-    + 3) c.name_spelled.ensures.lawful refl (ap (λ n. n + 3) c.name_spelled.ensures.length)) in
+    + 3) (subst IsPath c.key.ensures c.name_spelled.ensures.lawful) refl
+    (ap (λ n. n + 3) (c.name_spelled.ensures.length
+    ∙ ap last_name_spelling_length c.key.ensures))) in
     sym (make_answer t p place none
     ∙ ap (λ b. if b then None else Some Full) (sym fits ∙ c.if-fits.true))
 
@@ -26,6 +30,8 @@ returns-else-fits c =
     let none = sym (found_present (λ found. found_content found) t p c.get.result c.get.ensures)
     ∙ (sym c.is_some.ensures ∙ c.if-is_some.false) in
     let fits = c.fits.ensures (at_root Directory) (measured_one p Directory (c.name_spelled.result
-    + 3) c.name_spelled.ensures.lawful refl (ap (λ n. n + 3) c.name_spelled.ensures.length)) in
+    + 3) (subst IsPath c.key.ensures c.name_spelled.ensures.lawful) refl
+    (ap (λ n. n + 3) (c.name_spelled.ensures.length
+    ∙ ap last_name_spelling_length c.key.ensures))) in
     sym (make_answer t p place none
     ∙ ap (λ b. if b then None else Some Full) (sym fits ∙ c.if-fits.false))

@@ -1,7 +1,10 @@
 use Rattle.std.proofs.Common.{◌+◌, Some, None, if◌then◌else◌, length, refl, sym, ap, ◌∙◌, arith}
+use Rattle.std.proofs.Common.{subst}
 use Rattle.std.proofs.lemmas.Bool.{le-leb, lt-leb}
 use Rattle.syn_model.specs.Tree.{File, contents_of, at_root}
 use Rattle.syn_model.specs.Refusal.{Full}
+use Rattle.syn_model.specs.Path.{IsPath}
+use Rattle.syn_model.specs.Limits.{last_name_spelling_length}
 use Rattle.syn_tree.specs.Refusals.{refusal_in}
 use Rattle.syn_tree.proofs.CheckLemmas.{put_answer, measured_one, too_long}
 use Rattle.syn_tree.proofs.tree.Tree.check_put.Goals as goal
@@ -25,7 +28,11 @@ returns-then-fits c bytes e =
     let small = le-leb (length bytes) 16384 (omega (arith, e, c.if-size-gt-LONGEST_FILE.false)) in
     let fits = c.fits.ensures (at_root (File (contents_of bytes)))
     (measured_one p (File (contents_of bytes)) (c.name_spelled.result + 5 + c.args.size)
-    c.name_spelled.ensures.lawful small (omega (arith, e, c.name_spelled.ensures.length))) in
+    (subst IsPath c.key.ensures c.name_spelled.ensures.lawful) small (omega (
+      arith,
+      e,
+      c.name_spelled.ensures.length ∙ ap last_name_spelling_length c.key.ensures,
+    ))) in
     sym (put_answer t p bytes place other
     ∙ ap (λ b. if b then None else Some Full) (sym fits ∙ c.if-fits.true))
 
@@ -38,6 +45,10 @@ returns-else-fits c bytes e =
     let small = le-leb (length bytes) 16384 (omega (arith, e, c.if-size-gt-LONGEST_FILE.false)) in
     let fits = c.fits.ensures (at_root (File (contents_of bytes)))
     (measured_one p (File (contents_of bytes)) (c.name_spelled.result + 5 + c.args.size)
-    c.name_spelled.ensures.lawful small (omega (arith, e, c.name_spelled.ensures.length))) in
+    (subst IsPath c.key.ensures c.name_spelled.ensures.lawful) small (omega (
+      arith,
+      e,
+      c.name_spelled.ensures.length ∙ ap last_name_spelling_length c.key.ensures,
+    ))) in
     sym (put_answer t p bytes place other
     ∙ ap (λ b. if b then None else Some Full) (sym fits ∙ c.if-fits.false))

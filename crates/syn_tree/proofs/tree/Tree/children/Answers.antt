@@ -20,7 +20,7 @@ returns-in-Some-Dir-clause-children c =
     let p = c.args.path.now in
     let ds = c.self.inside.list.items in
     let whole = ap entries (sym c.self.view_is) ∙ entries-with ds c.self.invariant.rising in
-    let part = c.part_at.ensures ∙ ap₂ within c.names-names.ensures.names c.deref.ensures.value in
-    let same = ap₂ child_contents c.names-names.ensures.names part
+    let part = c.part_at.ensures ∙ ap₂ within c.key-at.ensures c.deref.ensures.value in
+    let same = ap₂ child_contents c.key-at.ensures part
     ∙ (contents-within p ds ∙ sym (children-entries t p ds whole)) in
     carried _ _ c.children.result (λ names h. h ∙ same) c.children.ensures.ok

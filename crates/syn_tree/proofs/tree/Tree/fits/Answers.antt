@@ -14,7 +14,7 @@ use Rattle.syn_tree.proofs.tree.Tree.fits.Goals as goal
 pub overflow_sub-count : goal.overflow_sub-count
 overflow_sub-count c =
     let ds = c.self.inside.list.items in
-    let part = c.part_at-part.ensures ∙ ap₂ within c.names.ensures.names c.deref.ensures.value in
+    let part = c.part_at-part.ensures ∙ ap₂ within c.key.ensures c.deref.ensures.value in
     omega (
       arith,
       ap length part,
@@ -27,7 +27,7 @@ overflow_sub-count c =
 pub spelled-requires : goal.spelled-requires
 spelled-requires c =
     let ds = c.self.inside.list.items in
-    let part = c.part_at-part.ensures ∙ ap₂ within c.names.ensures.names c.deref.ensures.value in
+    let part = c.part_at-part.ensures ∙ ap₂ within c.key.ensures c.deref.ensures.value in
     let free = place_free _ c.args.path.now
     (subst (λ t. first_cause (place_causes t c.args.path.now) ≡ None)
     (sym c.self.view_is) c.requires.place) in
@@ -42,7 +42,7 @@ spelled-requires c =
 pub overflow_sub-length : goal.overflow_sub-length
 overflow_sub-length c =
     let ds = c.self.inside.list.items in
-    let part = c.part_at-part.ensures ∙ ap₂ within c.names.ensures.names c.deref.ensures.value in
+    let part = c.part_at-part.ensures ∙ ap₂ within c.key.ensures c.deref.ensures.value in
     let free = place_free _ c.args.path.now
     (subst (λ t. first_cause (place_causes t c.args.path.now) ≡ None)
     (sym c.self.view_is) c.requires.place) in
@@ -66,7 +66,7 @@ pub returns : goal.returns
 returns c new of =
     let ds = c.self.inside.list.items in
     let at = c.args.path.now in
-    let part = c.part_at-part.ensures ∙ ap₂ within c.names.ensures.names c.deref.ensures.value in
+    let part = c.part_at-part.ensures ∙ ap₂ within c.key.ensures c.deref.ensures.value in
     let place = subst (λ t. first_cause (place_causes t at) ≡ None)
     (sym c.self.view_is) c.requires.place in
     let count = c.len.result - length c.part_at-part.result.now + c.args.nodes in

@@ -8,6 +8,6 @@ use Rattle.syn_tree.proofs.tree.Tree.get.Goals as goal
 pub returns : goal.returns
 returns c =
     c.find.ensures
-    ∙ (ap₂ (λ q es. find path_cmp q (rooted es)) c.names.ensures.names c.deref.ensures.value
+    ∙ (ap₂ (λ q es. find path_cmp q (rooted es)) c.key.ensures c.deref.ensures.value
     ∙ (sym (get-with c.self.inside.list.items c.args.path.now c.self.invariant.rising)
     ∙ ap (λ t. get t c.args.path.now) c.self.view_is))

@@ -9,6 +9,6 @@ use Rattle.syn_tree.proofs.tree.Tree.is_directory_at.Goals as goal
 pub returns : goal.returns
 returns c =
     c.is_directory.ensures ∙ ap is_directory_content
-    (ap₂ (λ q es. find path_cmp q (rooted es)) c.names.ensures.names c.deref.ensures.value
+    (ap₂ (λ q es. find path_cmp q (rooted es)) c.key.ensures c.deref.ensures.value
     ∙ (sym (get-with c.self.inside.list.items c.args.path.now c.self.invariant.rising)
     ∙ ap (λ t. get t c.args.path.now) c.self.view_is))

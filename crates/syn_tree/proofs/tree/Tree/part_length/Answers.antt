@@ -15,7 +15,8 @@ use Rattle.syn_tree.proofs.tree.Tree.part_length.Goals as goal
 below_is : (c : goal.After-part_below) →
     c.part_below.result.now ≡ filter (is_below c.args.path.now) (rooted c.self.inside.list.items)
 below_is c =
-    c.part_below.ensures ∙ (ap (filter (is_below c.args.path.now)) c.deref.ensures.value
+    c.part_below.ensures
+    ∙ (ap₂ (λ p xs. filter (is_below p) xs) c.key.ensures c.deref.ensures.value
     ∙ sym (below_rooted c.args.path.now c.self.inside.list.items))
 
 short : (c : goal.After-part_below) → spelling_length c.part_below.result.now ≤ 524288

@@ -1,10 +1,12 @@
-use Rattle.std.proofs.Common.{◌≡◌, ◌<◌, Some, None, if◌then◌else◌, length, sym, ap, ap₂, ◌∙◌, subst}
+use Rattle.std.proofs.Common.{◌≡◌, ◌<◌, Some, None, if◌then◌else◌, length, refl, sym, ap, ap₂, ◌∙◌}
+use Rattle.std.proofs.Common.{subst}
 use Rattle.std.proofs.Common.{arith}
 use Rattle.std.proofs.lemmas.Result.{err_from_is_err_and}
 use Rattle.syn_model.specs.Path.{parent, is_root}
 use Rattle.syn_model.specs.Tree.{replace, is_directory}
 use Rattle.syn_model.specs.Limits.{fits_replica}
 use Rattle.syn_model.specs.Refusal.{Full}
+use Rattle.syn_tree.specs.Lists.{IsPlaceable}
 use Rattle.syn_tree.specs.Nodes.{part_of}
 use Rattle.syn_placed.specs.Pairs.{spelling_length}
 use Rattle.syn_tree.specs.Refusals.{refusal_in, refusal_of}
@@ -22,7 +24,9 @@ returns-in_err-added-clause-refused c =
     let place = sym c.check_place.ensures ∙ ap refusal_in c.in_ok-check_place.was in
     rw (p.1, p.2) (λ other. let full = c.in_err-added.ensures.full other in
     replace_answer t c.args.path.now (part_of c.args.new) place ∙ (ap
-    (λ b. if b then None else Some Full) (full.1 t) ∙ sym (ap (λ e. Some (refusal_of e)) full.0)))
+    (λ b. if b then None else Some Full)
+    (ap (λ p. fits_replica (replace t p (part_of c.args.new))) (sym c.key-at.ensures) ∙ full.1 t)
+    ∙ sym (ap (λ e. Some (refusal_of e)) full.0)))
 
 pub returns-in_default-clause-refused : goal.returns-in_default-clause-refused
 returns-in_default-clause-refused c other =
@@ -31,19 +35,21 @@ returns-in_default-clause-refused c other =
     let place = sym c.check_place.ensures ∙ ap refusal_in c.in_ok-check_place.was in
     let large : 524288 < spelling_length c.in_ok-added.added.items =
     subst (λ xs. 524288 < spelling_length xs) c.deref.ensures.value c.in_default.ensures.none in
-    replace_answer t c.args.path.now u place ∙ ap (λ b. if b then None else Some Full) (nowhere_size
-    c.args.path.now u c.in_ok-added.added.items c.in_ok-added.ensures.ok.placed large t)
+    replace_answer t c.args.path.now u place ∙ ap (λ b. if b then None else Some Full)
+    (ap (λ p. fits_replica (replace t p u)) (sym c.key-at.ensures)
+    ∙ nowhere_size c.key-at.result u c.in_ok-added.added.items
+    c.in_ok-added.ensures.ok.placed large t)
 
 pub placed-requires-then-fits : goal.placed-requires-then-fits
 placed-requires-then-fits c =
     let size = c.in-Some.ensures.some.0 ∙ ap spelling_length c.deref.ensures.value in
-    placeable_placed c.args.path.now c.in_ok-at.at (part_of c.args.new) c.in_ok-added.added.items
-    c.in-Some.size c.in_ok-added.ensures.ok c.in_ok-at.ensures.ok size
+    placeable_placed c.key-at.result c.key-at.result (part_of c.args.new)
+    c.in_ok-added.added.items c.in-Some.size c.in_ok-added.ensures.ok refl size
 
 pub returns-then-fits-clause-new : goal.returns-then-fits-clause-new
 returns-then-fits-clause-new c =
-    c.placed-then-fits.ensures.new ∙ placeable_new c.args.path.now c.in_ok-at.at
-    (part_of c.args.new) c.in_ok-added.added.items c.in_ok-added.ensures.ok c.in_ok-at.ensures.ok
+    c.placed-then-fits.ensures.new ∙ placeable_new c.key-at.result c.key-at.result
+    (part_of c.args.new) c.in_ok-added.added.items c.in_ok-added.ensures.ok refl
 
 pub returns-then-fits-clause-ready : goal.returns-then-fits-clause-ready
 returns-then-fits-clause-ready c =
@@ -55,8 +61,9 @@ returns-then-fits-clause-ready c =
     let count : c.len.result ≡ length c.in_ok-added.added.items =
     omega (arith, c.len.ensures, c.in_ok-added.added.ok) in
     let fits = sym (c.fits.ensures u (placeable_measured c.args.path.now u c.in_ok-added.added.items
-    c.len.result c.in-Some.size c.in_ok-added.ensures.ok count size)) ∙ c.if-fits.true in
-    let at = c.placed-then-fits.ensures.at ∙ c.in_ok-at.ensures.ok in
+    c.len.result c.in-Some.size (subst (λ p. IsPlaceable p u c.in_ok-added.added.items)
+    c.key-at.ensures c.in_ok-added.ensures.ok) count size)) ∙ c.if-fits.true in
+    let at = c.placed-then-fits.ensures.at ∙ c.key-at.ensures in
     let new = returns-then-fits-clause-new c in
     record {
       below = ap is_root at ∙ free.0;
@@ -73,7 +80,8 @@ returns-then-fits-clause-allowed c =
     let count : c.len.result ≡ length c.in_ok-added.added.items =
     omega (arith, c.len.ensures, c.in_ok-added.added.ok) in
     let fits = sym (c.fits.ensures u (placeable_measured c.args.path.now u c.in_ok-added.added.items
-    c.len.result c.in-Some.size c.in_ok-added.ensures.ok count size)) ∙ c.if-fits.true in
+    c.len.result c.in-Some.size (subst (λ p. IsPlaceable p u c.in_ok-added.added.items)
+    c.key-at.ensures c.in_ok-added.ensures.ok) count size)) ∙ c.if-fits.true in
     replace_answer t c.args.path.now u place ∙ ap (λ b. if b then None else Some Full) fits
 
 pub returns-else-fits-clause-refused : goal.returns-else-fits-clause-refused
@@ -85,5 +93,6 @@ returns-else-fits-clause-refused c other =
     let count : c.len.result ≡ length c.in_ok-added.added.items =
     omega (arith, c.len.ensures, c.in_ok-added.added.ok) in
     let fits = sym (c.fits.ensures u (placeable_measured c.args.path.now u c.in_ok-added.added.items
-    c.len.result c.in-Some.size c.in_ok-added.ensures.ok count size)) ∙ c.if-fits.false in
+    c.len.result c.in-Some.size (subst (λ p. IsPlaceable p u c.in_ok-added.added.items)
+    c.key-at.ensures c.in_ok-added.ensures.ok) count size)) ∙ c.if-fits.false in
     replace_answer t c.args.path.now u place ∙ ap (λ b. if b then None else Some Full) fits

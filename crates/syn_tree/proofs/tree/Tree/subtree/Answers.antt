@@ -35,8 +35,8 @@ lawful-requires c =
     ∙ ap (λ f. Some (found_content f)) c.in-Some-Dir.field-0-is) in
     stripped_lawful t c.args.path.now ds c.in_ok-list-in-Some-Dir.list.items all
     (subst IsTree c.self.view_is c.self.invariant.tree) limits.0 limits.1 dir
-    (c.in_ok-list-in-Some-Dir.ensures.ok ∙ (ap (stripped c.args.path.now)
-    (c.part_at-part.ensures ∙ ap₂ within c.names.ensures.names c.deref.ensures.value)
+    (c.in_ok-list-in-Some-Dir.ensures.ok ∙ (ap₂ stripped c.key-at.ensures
+    (c.part_at.ensures ∙ ap₂ within c.key-at.ensures c.deref.ensures.value)
     ∙ stripped-within c.args.path.now ds))
 
 pub returns-in-None-clause-ok : goal.returns-in-None-clause-ok
@@ -68,5 +68,5 @@ returns-in_ok-list-in-Some-Dir-clause-ok c =
     let copies = c.in_ok-list-in-Some-Dir.list.items in
     c.lawful.ensures ∙ whole_tree (subtree t c.args.path.now) copies
     (stripped_entries t c.args.path.now ds copies all dir (c.in_ok-list-in-Some-Dir.ensures.ok
-    ∙ (ap (stripped c.args.path.now) (c.part_at-part.ensures ∙ ap₂ within c.names.ensures.names
-    c.deref.ensures.value) ∙ stripped-within c.args.path.now ds)))
+    ∙ (ap₂ stripped c.key-at.ensures (c.part_at.ensures
+    ∙ ap₂ within c.key-at.ensures c.deref.ensures.value) ∙ stripped-within c.args.path.now ds)))

@@ -1,6 +1,6 @@
 use Rattle.std.proofs.Common.{◌≡◌, take}
 use Rattle.syn_tree.specs.Lists.{child_contents, contents_at}
-use Rattle.syn_tree.proofs.copies.children.Given as goal
+use Rattle.syn_tree.proofs.parts.children.Given as goal
 
 abbrev pub invariant-loop-entry : goal.invariant-loop-entry
 invariant-loop-entry l =

@@ -1,6 +1,6 @@
 use Rattle.std.proofs.Common.{ap, ◌∙◌, ◌-◌, take, drop, arith}
 use Rattle.syn_placed.proofs.SpliceLemmas.{run_taken_out}
-use Rattle.syn_placed.proofs.list.take_out.Goals as goal
+use Rattle.syn_placed.proofs.runs.take_out.Goals as goal
 
 pub returns-clause-items : goal.returns-clause-items
 returns-clause-items g c =

@@ -7,8 +7,8 @@ use Rattle.syn_model.specs.Path.{strip_prefix}
 use Rattle.syn_model.specs.Limits.{only_name}
 use Rattle.syn_tree.specs.Lists.{child_contents, contents_at}
 use Rattle.syn_tree.proofs.ListingLemmas.{contents-more, one_more}
-use Rattle.syn_tree.proofs.copies.children.Goals as goal
-use Rattle.syn_tree.proofs.copies.children.Goals.{in-Some+in_ok-copy+in_ok-push, in_default}
+use Rattle.syn_tree.proofs.parts.children.Goals as goal
+use Rattle.syn_tree.proofs.parts.children.Goals.{in-Some+in_ok-from_bytes+in_ok-push, in_default}
 
 pub loop-entry-init : goal.loop-entry-init
 loop-entry-init c = ap contents_at c.new-found.ensures.items
@@ -23,13 +23,13 @@ loop-entry-preserved c =
     let read = child_contents above (take i list) in
     let named : option_and_then only_name (strip_prefix above x.0)
     ≡ option_map (λ name. name.now) c.child_name.result =
-    sym (c.child_name.ensures
-    ∙ ap (λ q. option_and_then only_name (strip_prefix above q)) c.path.ensures) in
+    sym (c.child_name.ensures.name
+    ∙ ap (λ q. option_and_then only_name (strip_prefix above q)) c.key.ensures) in
     elim c.match-child_name.branch [
-      | in-Some+in_ok-copy+in_ok-push w ↦
-          let name = w.in_ok-copy.field-0 in
+      | in-Some+in_ok-from_bytes+in_ok-push w ↦
+          let name = w.in_ok-from_bytes.field-0 in
           let one = one_more above x (Some name) (named ∙ (ap (option_map (λ name. name.now))
-          w.in-Some.is ∙ ap (λ n. Some n) (sym w.in_ok-copy.ensures.ok))) in
+          w.in-Some.is ∙ ap (λ n. Some n) (sym w.in_ok-from_bytes.ensures.ok.0))) in
           rw w.found-is (ap contents_at w.in_ok-push.ensures.items
           ∙ (map-append _ c.loop-entry.found.items _ ∙ (ap₂ (λ ys there. ys ++ (name, there) ∷ [])
           c.loop-entry.invariant w.found_at.ensures

@@ -1,6 +1,6 @@
 use Rattle.std.proofs.Common.{rules, ap, ◌∙◌, ◌≡◌, ◌++◌, take, drop, arith}
 use Rattle.syn_placed.proofs.SpliceLemmas.{run_put_in}
-use Rattle.syn_placed.proofs.list.put_in.Goals as goal
+use Rattle.syn_placed.proofs.runs.put_in.Goals as goal
 
 pub returns-clause-items : goal.returns-clause-items
 returns-clause-items g c =
