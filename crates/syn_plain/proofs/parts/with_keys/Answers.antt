@@ -1,0 +1,16 @@
+use Rattle.std.proofs.Common.{◌++◌, ◌∷◌, [], sym, ap, ap₂, ◌∙◌, append_assoc}
+use Rattle.syn_plain.proofs.parts.with_keys.Goals as goal
+
+pub loop-entry-preserved : goal.loop-entry-preserved
+loop-entry-preserved c =
+    let read = c.loop-entry.yielded in
+    let x = c.in-Some.entry in
+    record {
+      whole =
+          c.loop-entry.invariant.whole ∙ (ap (λ xs. read ++ xs) c.in-Some.ensures.steps.0
+          ∙ sym (append_assoc read (x ∷ []) c.next.new.self.rest.items));
+      pushed =
+          c.in_ok-push.ensures.items
+          ∙ ap₂ (λ xs y. xs ++ y ∷ []) c.loop-entry.invariant.pushed
+          (c.in_ok-of.ensures);
+    }

@@ -1,0 +1,100 @@
+use Rattle.std.proofs.Common.{◌≡◌, ◌+◌, ◌-◌, refl, sym, ap, ap₂, ◌∙◌, subst, arith, vec_capacity}
+use Rattle.syn_model.specs.Path.{Path}
+use Rattle.syn_model.specs.Tree.{Tree}
+use Rattle.syn_placed.specs.Pairs.{Pairs, tree_with}
+use Rattle.syn_tree.specs.Change.{Replacement, taken_from, IsPreparedFor, after_change}
+use Rattle.syn_tree.proofs.MeasureLemmas.{kept_size, part_size}
+use Rattle.syn_tree.proofs.MakeLemmas.{made_kept, made_tree, made_room}
+use Rattle.syn_plain.proofs.plain.PlainTree.make.Goals as goal
+
+-- the change with its parts
+same_change : (at : Path) (added : Pairs) (change : Replacement) → at ≡ change.at →
+    taken_from at added ≡ change.new →
+    ◌≡◌ {A = Replacement} (record { at = at; new = taken_from at added }) change
+same_change at added change e k = λ i. record { at = e i; new = k i }
+
+ready : (at : Path) (added : Pairs) (change : Replacement) (t u : Tree) → at ≡ change.at →
+    taken_from at added ≡ change.new → t ≡ u → IsPreparedFor u change →
+    IsPreparedFor t (record { at = at; new = taken_from at added })
+ready at added change t u e k is h =
+    subst (λ w. IsPreparedFor w (record { at = at; new = taken_from at added })) (sym is)
+    (subst (IsPreparedFor u) (sym (same_change at added change e k)) h)
+
+pub splice-removed-requires-clause-brief : goal.splice-removed-requires-clause-brief
+splice-removed-requires-clause-brief c =
+    let ds = c.self.inside.list.items in
+    let at = c.into_parts-at.result.0 in
+    let prepared = ready at c.into_parts-at.result.1.items c.args.change
+    (tree_with ds) c.args.self.now c.into_parts-at.ensures.at c.into_parts-at.ensures.new
+    c.self.view_is c.requires in
+    omega (
+      arith,
+      part_size ds c.self.inside.spelled _ at c.self.invariant prepared.below,
+      kept_size ds c.self.inside.spelled _ c.self.invariant,
+    )
+
+pub splice-removed-requires-clause-room : goal.splice-removed-requires-clause-room
+splice-removed-requires-clause-room c =
+    let ds = c.self.inside.list.items in
+    let at = c.into_parts-at.result.0 in
+    let added = c.into_parts-at.result.1.items in
+    let change : Replacement = record { at = at; new = taken_from at added } in
+    let prepared = ready at added c.args.change (tree_with ds) c.args.self.now
+    c.into_parts-at.ensures.at c.into_parts-at.ensures.new c.self.view_is c.requires in
+    let room = made_room ds c.self.inside.spelled (vec_capacity c.self.inside.list) change added
+    c.into_parts-at.result.2 c.self.invariant prepared c.into_parts-at.ensures.placed refl in
+    omega (arith, room, c.into_parts-at.result.1.ok)
+
+pub overflow_sub-self : goal.overflow_sub-self
+overflow_sub-self c =
+    let ds = c.self.inside.list.items in
+    let at = c.into_parts-at.result.0 in
+    let prepared = ready at c.into_parts-at.result.1.items c.args.change
+    (tree_with ds) c.args.self.now c.into_parts-at.ensures.at c.into_parts-at.ensures.new
+    c.self.view_is c.requires in
+    omega (
+      arith,
+      part_size ds c.self.inside.spelled _ at c.self.invariant prepared.below,
+      c.splice-removed.ensures.removed,
+    )
+
+pub overflow_add-self : goal.overflow_add-self
+overflow_add-self c =
+    let ds = c.self.inside.list.items in
+    let at = c.into_parts-at.result.0 in
+    let added = c.into_parts-at.result.1.items in
+    let change : Replacement = record { at = at; new = taken_from at added } in
+    let prepared = ready at added c.args.change (tree_with ds) c.args.self.now
+    c.into_parts-at.ensures.at c.into_parts-at.ensures.new c.self.view_is c.requires in
+    let kept = made_kept ds c.self.inside.spelled (vec_capacity c.self.inside.list) change added
+    c.into_parts-at.result.2 c.self.invariant prepared c.into_parts-at.ensures.placed refl _ _
+    (vec_capacity c.self.inside.list) refl refl (omega arith) in
+    omega (arith, kept_size _ _ _ kept, c.splice-removed.ensures.removed)
+
+pub returns : goal.returns
+returns c =
+    let ds = c.self.inside.list.items in
+    let at = c.into_parts-at.result.0 in
+    let added = c.into_parts-at.result.1.items in
+    let change : Replacement = record { at = at; new = taken_from at added } in
+    let prepared = ready at added c.args.change (tree_with ds) c.args.self.now
+    c.into_parts-at.ensures.at c.into_parts-at.ensures.new c.self.view_is c.requires in
+    made_tree ds c.self.inside.spelled (vec_capacity c.self.inside.list) change added
+    c.into_parts-at.result.2 c.self.invariant prepared c.into_parts-at.ensures.placed
+    refl c.splice-removed.new.list.items c.splice-removed.ensures.items
+    ∙ ap₂ after_change c.self.view_is
+    (same_change at added c.args.change c.into_parts-at.ensures.at c.into_parts-at.ensures.new)
+
+pub invariant_of-self : goal.invariant_of-self
+invariant_of-self c =
+    let ds = c.self.inside.list.items in
+    let at = c.into_parts-at.result.0 in
+    let added = c.into_parts-at.result.1.items in
+    let change : Replacement = record { at = at; new = taken_from at added } in
+    let prepared = ready at added c.args.change (tree_with ds) c.args.self.now
+    c.into_parts-at.ensures.at c.into_parts-at.ensures.new c.self.view_is c.requires in
+    made_kept ds c.self.inside.spelled
+    (vec_capacity c.self.inside.list) change added c.into_parts-at.result.2 c.self.invariant
+    prepared c.into_parts-at.ensures.placed refl c.splice-removed.new.list.items _ _
+    c.splice-removed.ensures.items (ap (λ n. c.self.inside.spelled - n + c.into_parts-at.result.2)
+    c.splice-removed.ensures.removed) c.splice-removed.ensures.room

@@ -1,0 +1,89 @@
+use Rattle.std.proofs.Common.{◌≡◌, ◌<◌, Some, None, if◌then◌else◌, length, sym, ap, ap₂, ◌∙◌, subst}
+use Rattle.std.proofs.Common.{arith}
+use Rattle.std.proofs.lemmas.Result.{err_from_is_err_and}
+use Rattle.syn_model.specs.Path.{parent, is_root}
+use Rattle.syn_model.specs.Tree.{replace, is_directory}
+use Rattle.syn_model.specs.Limits.{fits_replica}
+use Rattle.syn_model.specs.Refusal.{Full}
+use Rattle.syn_tree.specs.Nodes.{part_of}
+use Rattle.syn_placed.specs.Pairs.{spelling_length}
+use Rattle.syn_tree.specs.Refusals.{refusal_in, refusal_of}
+use Rattle.syn_tree.proofs.CheckLemmas.{replace_answer}
+use Rattle.syn_placed.proofs.ParentLemmas.{place_free}
+use Rattle.syn_tree.proofs.PlaceableLemmas.{placeable_measured, placeable_placed, placeable_new}
+use Rattle.syn_tree.proofs.PlaceableLemmas.{nowhere_size}
+use Rattle.syn_plain.proofs.plain.PlainTree.prepare_replace.Goals as goal
+
+pub returns-in_err-added-clause-refused : goal.returns-in_err-added-clause-refused
+returns-in_err-added-clause-refused c =
+    let p = err_from_is_err_and c.from_residual-in_err-added.result
+    c.from_residual-in_err-added.ensures.1 in
+    let t = c.args.self.now in
+    let place = sym c.check_place.ensures ∙ ap refusal_in c.in_ok-check_place.was in
+    rw (p.1, p.2) (λ other. let full = c.in_err-added.ensures.full other in
+    replace_answer t c.args.path.now (part_of c.args.new) place ∙ (ap
+    (λ b. if b then None else Some Full) (full.1 t) ∙ sym (ap (λ e. Some (refusal_of e)) full.0)))
+
+pub returns-in_default-clause-refused : goal.returns-in_default-clause-refused
+returns-in_default-clause-refused c other =
+    let t = c.args.self.now in
+    let u = part_of c.args.new in
+    let place = sym c.check_place.ensures ∙ ap refusal_in c.in_ok-check_place.was in
+    let large : 524288 < spelling_length c.in_ok-added.added.items =
+    subst (λ xs. 524288 < spelling_length xs) c.deref.ensures.value c.in_default.ensures.none in
+    replace_answer t c.args.path.now u place ∙ ap (λ b. if b then None else Some Full) (nowhere_size
+    c.args.path.now u c.in_ok-added.added.items c.in_ok-added.ensures.ok.placed large t)
+
+pub placed-requires-then-fits : goal.placed-requires-then-fits
+placed-requires-then-fits c =
+    let size = c.in-Some.ensures.some.0 ∙ ap spelling_length c.deref.ensures.value in
+    placeable_placed c.args.path.now c.in_ok-at.at (part_of c.args.new) c.in_ok-added.added.items
+    c.in-Some.size c.in_ok-added.ensures.ok c.in_ok-at.ensures.ok size
+
+pub returns-then-fits-clause-new : goal.returns-then-fits-clause-new
+returns-then-fits-clause-new c =
+    c.placed-then-fits.ensures.new ∙ placeable_new c.args.path.now c.in_ok-at.at
+    (part_of c.args.new) c.in_ok-added.added.items c.in_ok-added.ensures.ok c.in_ok-at.ensures.ok
+
+pub returns-then-fits-clause-ready : goal.returns-then-fits-clause-ready
+returns-then-fits-clause-ready c =
+    let t = c.args.self.now in
+    let u = part_of c.args.new in
+    let place = sym c.check_place.ensures ∙ ap refusal_in c.in_ok-check_place.was in
+    let free = place_free t c.args.path.now place in
+    let size = c.in-Some.ensures.some.0 ∙ ap spelling_length c.deref.ensures.value in
+    let count : c.len.result ≡ length c.in_ok-added.added.items =
+    omega (arith, c.len.ensures, c.in_ok-added.added.ok) in
+    let fits = sym (c.fits.ensures u (placeable_measured c.args.path.now u c.in_ok-added.added.items
+    c.len.result c.in-Some.size c.in_ok-added.ensures.ok count size)) ∙ c.if-fits.true in
+    let at = c.placed-then-fits.ensures.at ∙ c.in_ok-at.ensures.ok in
+    let new = returns-then-fits-clause-new c in
+    record {
+      below = ap is_root at ∙ free.0;
+      parent = ap (λ p. is_directory t (parent p)) at ∙ free.1;
+      fits = ap₂ (λ p w. fits_replica (replace t p w)) at new ∙ fits;
+    }
+
+pub returns-then-fits-clause-allowed : goal.returns-then-fits-clause-allowed
+returns-then-fits-clause-allowed c =
+    let t = c.args.self.now in
+    let u = part_of c.args.new in
+    let place = sym c.check_place.ensures ∙ ap refusal_in c.in_ok-check_place.was in
+    let size = c.in-Some.ensures.some.0 ∙ ap spelling_length c.deref.ensures.value in
+    let count : c.len.result ≡ length c.in_ok-added.added.items =
+    omega (arith, c.len.ensures, c.in_ok-added.added.ok) in
+    let fits = sym (c.fits.ensures u (placeable_measured c.args.path.now u c.in_ok-added.added.items
+    c.len.result c.in-Some.size c.in_ok-added.ensures.ok count size)) ∙ c.if-fits.true in
+    replace_answer t c.args.path.now u place ∙ ap (λ b. if b then None else Some Full) fits
+
+pub returns-else-fits-clause-refused : goal.returns-else-fits-clause-refused
+returns-else-fits-clause-refused c other =
+    let t = c.args.self.now in
+    let u = part_of c.args.new in
+    let place = sym c.check_place.ensures ∙ ap refusal_in c.in_ok-check_place.was in
+    let size = c.in-Some.ensures.some.0 ∙ ap spelling_length c.deref.ensures.value in
+    let count : c.len.result ≡ length c.in_ok-added.added.items =
+    omega (arith, c.len.ensures, c.in_ok-added.added.ok) in
+    let fits = sym (c.fits.ensures u (placeable_measured c.args.path.now u c.in_ok-added.added.items
+    c.len.result c.in-Some.size c.in_ok-added.ensures.ok count size)) ∙ c.if-fits.false in
+    replace_answer t c.args.path.now u place ∙ ap (λ b. if b then None else Some Full) fits

@@ -1,0 +1,117 @@
+//! What a plain tree finds and measures in its entries.
+ghost use Rattle.std.specs.Prelude.{◌≡◌, ◌≤◌, ◌<◌, ◌+◌, ◌^◌, ◌++◌, ◌∷◌, length};
+ghost use Rattle.std.specs.Prelude.{option_map, IfSome, IfNone, vec_len, vec_capacity};
+ghost use Rattle.std.specs.FinMap.{find};
+ghost use Rattle.syn_model.specs.Path.{path_cmp, IsPath};
+ghost use Rattle.syn_model.specs.Limits.{content_spelling_length, last_name_spelling_length};
+ghost use Rattle.syn_tree.specs.Contents.{found_content};
+ghost use Rattle.syn_placed.specs.Pairs.{rooted, AreRising, before, within, behind};
+ghost use Rattle.syn_placed.specs.Pairs.{pair_spelling_length, spelling_length};
+
+use syn_path::{Name, Path};
+use syn_placed::Placed;
+use syn_placed::list::{entry_at, part_at, replace_part};
+use syn_tree::{Content, Found, LONGEST_SPELLING};
+
+/// An entry of a plain tree: a path with a file or a directory.
+pub(crate) type Entry = Placed<Content>;
+
+/// What stands at the entry's path, with a file's bytes.
+pub(crate) fn found_at(entry: &Entry) -> Found<'_>
+    ensures { found_content result ≡ entry.now.1 }
+{
+    match entry.standing() {
+        Content::File(bytes) => Found::File(bytes),
+        Content::Dir => Found::Dir,
+    }
+}
+
+/// What stands at the path of these names, of entries below a root directory.
+pub(crate) fn find<'a>(list: &'a [Entry], names: &[Name]) -> Option<Found<'a>>
+    requires { AreRising (rooted list.now) }
+    ensures { option_map (λ found. found_content found) result
+        ≡ find path_cmp names.now (rooted list.now) }
+{
+    if names.is_empty() {
+        return Some(Found::Dir);
+    }
+    match entry_at(list, names) {
+        Some(entry) => Some(found_at(entry)),
+        None => None,
+    }
+}
+
+/// How many bytes spell the last name with its length; none for the root.
+pub(crate) fn name_spelled(path: &Path) -> usize
+    ensures length { result ≡ last_name_spelling_length path.now }
+    ensures short { result ≤ 65 }
+    ensures lawful { IsPath path.now }
+{
+    match path.names().last() {
+        Some(name) => 1 + name.as_str().len(),
+        None => 0,
+    }
+}
+
+/// How many bytes spell the entry, without what is below it.
+pub(crate) fn entry_spelled(entry: &Entry) -> usize
+    ensures length { result ≡ pair_spelling_length entry.now }
+    ensures fits { result < 2 ^ 63 + 128 }
+{
+    name_spelled(entry.path()) + found_spelled(&found_at(entry))
+}
+
+/// How many bytes spell what was found, without what is below it.
+pub(crate) fn found_spelled(found: &Found<'_>) -> usize
+    ensures length { result ≡ content_spelling_length (found_content found.now) }
+    ensures fits { result < 2 ^ 63 + 8 }
+{
+    match found {
+        Found::File(bytes) => 5 + bytes.len(),
+        Found::Dir => 3,
+    }
+}
+
+/// How many bytes spell the entries.
+pub(crate) fn spelled(list: &[Entry]) -> usize
+    requires { spelling_length list.now ≤ 524288 }
+    ensures { result ≡ spelling_length list.now }
+{
+    let mut size = 0;
+    for entry in list {
+        size += entry_spelled(entry);
+    }
+    size
+}
+
+/// How many bytes spell the entries; none where that is more than the longest spelling of a tree.
+pub(crate) fn measured(list: &[Entry]) -> Option<usize>
+    ensures some { IfSome result (λ size. (size ≡ spelling_length list.now) × (size ≤ 524288)) }
+    ensures none { IfNone result (524288 < spelling_length list.now) }
+{
+    let mut size = 0;
+    for entry in list {
+        size += entry_spelled(entry);
+        if size > LONGEST_SPELLING {
+            return None;
+        }
+    }
+    Some(size)
+}
+
+/// Puts these entries in the place of what is at and below the path, and answers how many bytes
+/// spelled that.
+pub(crate) fn splice(list: &mut Vec<Entry>, at: &Path, added: Vec<Entry>) -> usize
+    requires rising { AreRising list.old.items }
+    requires brief { spelling_length (within at.now list.old.items) ≤ 524288 }
+    requires room { length (before at.now list.old.items) + length
+        (behind at.now list.old.items) + vec_len added ≤ vec_capacity list.old }
+    ensures items { list.new.items ≡ before at.now list.old.items
+        ++ (added.items ++ behind at.now list.old.items) }
+    ensures room { vec_capacity list.old ≤ vec_capacity list.new }
+    ensures removed { result ≡ spelling_length (within at.now list.old.items) }
+{
+    let removed = spelled(part_at(list, at.names()));
+    replace_part(list, at, added);
+    removed
+}
