@@ -11,6 +11,7 @@ mod keeper;
 mod server;
 mod sessions;
 mod shares;
+mod streams;
 mod worker;
 
 pub use console::Plain;

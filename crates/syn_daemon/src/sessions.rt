@@ -11,9 +11,9 @@ ghost use Rattle.syn_sync.specs.Refusals.{Refuses};
 
 use crate::gates::Gates;
 use crate::server::serve;
+use crate::streams::{MOST_SECONDS, Streams};
 use log::{Log, warn};
 use std::alloc::Global;
-use std::io::{Read, Write};
 use std::net::{Net, OpenListener, TcpListener, TcpStream, ToSocketAddrs};
 use std::sync::Wait;
 use std::thread;
@@ -24,9 +24,6 @@ use syn_disk::{Disk, Limit};
 use syn_refusal::Refusal;
 use syn_shared::SharedReplica;
 use syn_sync::{Driver, Link, Watch};
-
-/// How long a session waits for a side that sends nothing. Then the side counts as gone.
-const MOST_SECONDS: u64 = 60;
 
 /// Drives one session with the servers at these addresses, each `HOST:PORT`, and closes both
 /// connections. The coordinator has the report.
@@ -63,7 +60,7 @@ pub fn sync<H: Net<Listener = TcpListener, Stream = TcpStream>, C: Limit, V: Wat
     if are_of_one(&left, &right) {
         return Err(Refusal::Busy);
     }
-    drive(alloc, coordinator, (&left, &left), (&right, &right), watch)
+    drive(alloc, coordinator, Streams::new(&left, &right), watch)
 }
 
 /// Serves both replicas on loopback ports that the system picks, drives one session with the two
@@ -170,22 +167,15 @@ fn drive_started<C: Limit, V: Watch>(
     if !started {
         return (coordinator, Err(Refusal::Memory));
     }
-    let driven = drive(
-        alloc,
-        &mut coordinator,
-        (&left, &left),
-        (&right, &right),
-        watch,
-    );
+    let driven = drive(alloc, &mut coordinator, Streams::new(&left, &right), watch);
     (coordinator, driven)
 }
 
-/// Drives one session over two connections, each with its reader and writer.
-fn drive<R: Read + Drop, W: Write + Drop, C: Limit, V: Watch>(
+/// Drives one session over the two connections.
+fn drive<C: Limit, V: Watch>(
     alloc: Global,
     coordinator: &mut Coordinator<C>,
-    left: (R, W),
-    right: (R, W),
+    mut streams: Streams<'_>,
     watch: &mut V,
 ) -> Result<(), Refusal>
     ensures drives { (pair : ℕ) (machine : CoordinatorMachine)
@@ -198,9 +188,9 @@ fn drive<R: Read + Drop, W: Write + Drop, C: Limit, V: Watch>(
     ensures ended { OnOk result (runs coordinator.new ≡ false) }
     ensures goes { OnOk result (is_stopped (C.Disk.arms (device_of coordinator.new)) ≡ false) }
 {
-    let left = Link::new(alloc, left.0, left.1);
-    let right = Link::new(alloc, right.0, right.1);
-    Driver::new(left, right).run(alloc, coordinator, watch)
+    let left = Link::new(alloc, streams.left, streams.left);
+    let right = Link::new(alloc, streams.right, streams.right);
+    Driver::new(left, right).run(alloc, coordinator, &mut streams, watch)
 }
 
 /// A port of this machine alone that the system picks, with a connection to it that waits to be
@@ -241,7 +231,7 @@ fn reach<H: Net<Listener = TcpListener, Stream = TcpStream>, A: ToSocketAddrs>(
     match TcpStream::connect(rt, address) {
         Ok(stream) => {
             let _ = stream.set_nodelay(true);
-            let _ = stream.set_read_timeout(Some(Duration::from_secs(MOST_SECONDS)));
+            let _ = stream.set_read_timeout(Some(Duration::from_secs(MOST_SECONDS.into())));
             Ok(stream)
         }
         Err(_) => Err(Refusal::Device),

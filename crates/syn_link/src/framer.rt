@@ -1,6 +1,7 @@
 //! Bodies out of a stream that may be cut anywhere.
 ghost use Rattle.std.specs.Prelude.{◌≡◌, ◌≢◌, ◌↔◌, ◌⊎◌, ◌≤◌, ◌++◌, [], ℕ, List, Err, drop, IfOk};
-ghost use Rattle.std.specs.Prelude.{IfErr, OnOk, OnErr, MatchResult, option_map, vec_len};
+ghost use Rattle.std.specs.Prelude.{IfErr, None, OnOk, OnErr, MatchResult, false, option_map};
+ghost use Rattle.std.specs.Prelude.{vec_len};
 ghost use Rattle.syn_link.specs.Frames.{IsFront, ClaimsNothing, ClaimsTooMuch};
 
 use crate::error::LinkError;
@@ -59,6 +60,14 @@ impl Framer {
         self.buffer.copy_within(self.taken.., 0);
         self.buffer.truncate(left);
         self.taken = 0;
+    }
+
+    /// Whether `next` needs no more bytes: a whole frame came, or a length that no frame has.
+    pub fn is_ready(&self) -> bool
+        ensures { (result ≡ false) ↔ IsFront self.now None self.now }
+    {
+        let (_, rest) = self.buffer.split_at(self.taken);
+        !matches!(first_body(rest), Ok(None))
     }
 
     /// Hands out the body of the first frame; none where no whole frame came yet.

@@ -20,6 +20,7 @@ ghost use Rattle.syn_sync.specs.Runs.{step_of};
 ghost use Rattle.syn_sync.specs.inner.Calling.{Calls, IsUnended, Starting};
 
 use crate::link::Link;
+use crate::readiness::Readiness;
 use crate::watch::Watch;
 use std::alloc::Global;
 use std::io::{Read, Write};
@@ -57,19 +58,21 @@ impl<R: Read, W: Write> Driver<R, W> {
     }
 
     /// Runs a session to its end: the coordinator starts it, its requests go to their sides, and
-    /// the replies come back to it. The left side is read first where both have to answer. Where
-    /// the start is refused 8, a checkpoint makes room in the archive, once. The watch is told it
-    /// all.
+    /// the replies come back to it. Where both sides have to answer, the one that is ready is read,
+    /// and the left one where both are. Where the start is refused 8, a checkpoint makes room in
+    /// the archive, once. The watch is told it all.
     ///
-    /// Where a link closes, or the coordinator waits for nothing, the session is given up: it ends
-    /// 25, and what that would send again is dropped. The coordinator has the report.
+    /// Where a link closes, no side is ready in time, or the coordinator waits for nothing, the
+    /// session is given up: it ends 25, and what that would send again is dropped. The coordinator
+    /// has the report.
     ///
     /// Refused as `start` is, or as the checkpoint is; then no session ran. Refused 9 also where
     /// the coordinator's machine was stopped, and 25 where the session could not be ended.
-    pub fn run<D: Limit, V: Watch>(
+    pub fn run<D: Limit, S: Readiness, V: Watch>(
         &mut self,
         alloc: Global,
         coordinator: &mut Coordinator<D>,
+        readiness: &mut S,
         watch: &mut V,
     ) -> Result<(), Refusal>
         ensures drives { (pair : ℕ) (machine : CoordinatorMachine)
@@ -95,15 +98,17 @@ impl<R: Read, W: Write> Driver<R, W> {
         }
         self.send_all(alloc, &sends);
         tell_sent(watch, &sends);
-        self.go_on(alloc, coordinator, watch);
+        self.go_on(alloc, coordinator, readiness, watch);
         give_up(alloc, coordinator)
     }
 
-    /// Goes on with the session until it ends, a link closes, or the coordinator waits for nothing.
-    fn go_on<D: Limit, V: Watch>(
+    /// Goes on with the session until it ends, a link closes, neither side is ready in time, or the
+    /// coordinator waits for nothing.
+    fn go_on<D: Limit, S: Readiness, V: Watch>(
         &mut self,
         alloc: Global,
         coordinator: &mut Coordinator<D>,
+        readiness: &mut S,
         watch: &mut V,
     )
         ensures { (pair : ℕ) (machine : CoordinatorMachine)
@@ -119,7 +124,7 @@ impl<R: Read, W: Write> Driver<R, W> {
             if !coordinator.is_running() {
                 return;
             }
-            let Some(from) = self.next_side(coordinator) else {
+            let Some(from) = self.next_side(coordinator, readiness) else {
                 return;
             };
             let Some(answered) = self.receive(alloc, from) else {
@@ -136,22 +141,39 @@ impl<R: Read, W: Write> Driver<R, W> {
         }
     }
 
-    /// The side that is read next, for which the coordinator waits: the left one where it waits for
-    /// both. None where a link is closed or it waits for none.
-    fn next_side<D: Limit>(&self, coordinator: &Coordinator<D>) -> Option<Side>
+    /// The side that is read next, for which the coordinator waits: the one that is ready where it
+    /// waits for both. None where a link is closed, neither is ready in time, or it waits for none.
+    fn next_side<D: Limit, S: Readiness>(
+        &self,
+        coordinator: &Coordinator<D>,
+        readiness: &mut S,
+    ) -> Option<Side>
         ensures { (pair : ℕ) (machine : CoordinatorMachine) → Stands coordinator.now pair machine
             → IfSome result (λ side. is_waiting machine.running (which_of side) ≡ true) }
     {
         if !self.left.is_open() || !self.right.is_open() {
             return None;
         }
-        if coordinator.waits_on(Side::Left) {
+        let left = coordinator.waits_on(Side::Left);
+        let right = coordinator.waits_on(Side::Right);
+        match (left, right) {
+            (true, true) => self.ready_side(readiness),
+            (true, false) => Some(Side::Left),
+            (false, true) => Some(Side::Right),
+            (false, false) => None,
+        }
+    }
+
+    /// The side that is ready: one whose next reply came already, or else one with bytes to read.
+    /// The left one where both are, and none where neither is in time.
+    fn ready_side<S: Readiness>(&self, readiness: &mut S) -> Option<Side> {
+        if self.left.holds_reply() {
             return Some(Side::Left);
         }
-        if coordinator.waits_on(Side::Right) {
+        if self.right.holds_reply() {
             return Some(Side::Right);
         }
-        None
+        readiness.wait()
     }
 
     /// The next reply of the side; none where its link is closed, or comes to be.

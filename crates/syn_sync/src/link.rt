@@ -1,6 +1,6 @@
 //! A connection to a side.
-ghost use Rattle.std.specs.Prelude.{◌≡◌, [], true, false, IfNone, IfSome};
-ghost use Rattle.syn_link.specs.Frames.{frame_of};
+ghost use Rattle.std.specs.Prelude.{◌≡◌, ◌↔◌, [], true, false, IfNone, IfSome, None};
+ghost use Rattle.syn_link.specs.Frames.{IsFront, frame_of};
 ghost use Rattle.syn_message.specs.Replies.{answering_of};
 ghost use Rattle.syn_message.specs.Requests.{asking_of, asking_spelling};
 ghost use Rattle.syn_sync.specs.Lines.{Hears, held_by, is_open, line_of, reader_of, writer_of};
@@ -51,6 +51,14 @@ impl<R: Read, W: Write> Link<R, W> {
         ensures { result ≡ is_open self.now }
     {
         self.open
+    }
+
+    /// Whether the next call of `receive` needs no more bytes: a whole frame came, or a length that
+    /// no frame has.
+    pub(crate) fn holds_reply(&self) -> bool
+        ensures { (result ≡ false) ↔ IsFront (held_by self.now) None (held_by self.now) }
+    {
+        self.framer.is_ready()
     }
 
     /// Writes the request as a frame, and flushes. Where that fails, or memory is refused, the
