@@ -1,56 +1,106 @@
--- Replies that came, one after another.
-use Rattle.std.proofs.Common.{◌≡◌, ◌++◌, ◌∷◌, ℕ, List, [], map, flat_map, refl, sym, ap, ap₂, ◌∙◌}
-use Rattle.std.proofs.Common.{subst, append-nil}
-use Rattle.std.proofs.lemmas.List.{map-append}
+-- What was asked of a side, and what came.
+use Rattle.std.proofs.Common.{◌≡◌, ◌+◌, ◌++◌, ◌∷◌, ℕ, [], length, Option, refl, sym, ap, ap₂, ◌∙◌}
+use Rattle.std.proofs.Common.{subst, append-nil, zero-add, add-zero, add_assoc, length-append}
 use Rattle.std.proofs.lemmas.Grind.{flat_map-append}
-use Rattle.syn_headline.specs.Side.{Reply, Piece}
-use Rattle.syn_link.specs.Frames.{Bytes}
+use Rattle.std.proofs.lemmas.Result.{IfOk-weaker}
+use Rattle.std.specs.Io.KnownBytes.{Appends}
+use Rattle.std.specs.Prelude.{Result, IfOk}
+use Rattle.syn_headline.specs.Side.{Piece, Refused, Request}
+use Rattle.syn_link.specs.Frames.{Bytes, frame_of}
+use Rattle.syn_message.specs.Replies.{reply_of}
+use Rattle.syn_message.specs.Requests.{IsLawfulAsking, asking_spelling}
+use Rattle.syn_message.specs.declared.reply.Reply.{Reply}
+use Rattle.syn_model.specs.Refusal.{Touched}
 use Rattle.syn_model.specs.Spelling.{spelling}
 use Rattle.syn_model.specs.Tree.{Tree}
-use Rattle.syn_user.specs.Sides.{ArePiecesOf, AreReplied, IsReplied, SideLine, SomeAreReplied}
-use Rattle.syn_user.specs.Sides.{piece_reply}
+use Rattle.syn_user.specs.Sides.{ArePiecesOf, AreFetched, IsHeard, IsReplied, IsTouchedSince}
+use Rattle.syn_user.specs.Sides.{Pieces, SideLine, asking_at, bytes_of, root_from}
+use Rattle.syn_user.specs.declared.error.UserError.{UserError}
 
-replied_twice : (a b c : SideLine) (first second : List Reply) → AreReplied a first b
-    → AreReplied b second c → AreReplied a (first ++ second) c
-replied_twice a b c [] second one two = subst (λ l. AreReplied l second c) one two
-replied_twice a b c (reply ∷ more) second (between, replied, one) two =
-    (between, replied, replied_twice between b c more second one two)
+-- the line once a request was written
+abbrev pub sent_line : SideLine → Option Bytes → SideLine
+sent_line line written = record {
+  given = line.given;
+  held = line.held;
+  written = written;
+  next = line.next;
+}
 
-one_more : (a b c : SideLine) (replies : List Reply) (reply : Reply) → AreReplied a replies b
-    → IsReplied b c reply → AreReplied a (replies ++ reply ∷ []) c
-one_more a b c replies reply came is =
-    replied_twice a b c replies (reply ∷ []) came (c, is, refl)
+-- a request that was written is replied to by what is heard then
+pub replied_so : (old new : SideLine) (request : Request) (written : Option Bytes)
+    → IsLawfulAsking (asking_at old request)
+    → Appends old.written written (frame_of (asking_spelling (asking_at old request)))
+    → new.written ≡ written → (r : Result Reply UserError)
+    → IfOk r (λ reply. IsHeard (sent_line old written) new (reply_of reply))
+    → IfOk r (λ reply. IsReplied old new request (reply_of reply))
+replied_so old new request written lawful adds same r =
+    IfOk-weaker r (λ reply. IsHeard (sent_line old written) new (reply_of reply))
+    (λ reply. IsReplied old new request (reply_of reply)) (λ reply heard. record {
+      asked = record {
+        lawful = lawful;
+        written = subst (λ w. Appends old.written w
+            (frame_of (asking_spelling (asking_at old request)))) (sym same) adds;
+      };
+      heard = record { lawful = heard.lawful; came = heard.came; next = heard.next };
+    })
 
-pub some_more : (a b c : SideLine) → SomeAreReplied a b → SomeAreReplied b c → SomeAreReplied a c
-some_more a b c (first, one) (second, two) =
-    (first ++ second, replied_twice a b c first second one two)
-
-pub one_replied : (a b : SideLine) (reply : Reply) → IsReplied a b reply → SomeAreReplied a b
-one_replied a b reply is = (reply ∷ [], (b, is, refl))
-
--- pieces that came, and what they are one behind the other
-abbrev pub Gathers : SideLine → SideLine → Bytes → Type 0
-Gathers a b bytes = (pieces : List (ℕ × Bytes)) × AreReplied a (map piece_reply pieces) b
-    × (flat_map (λ piece. piece.1) pieces ≡ bytes)
-
-pub none_gathered : (a : SideLine) → Gathers a a []
-none_gathered a = ([], refl, refl)
-
-pub piece_gathered : (a b c : SideLine) (bytes more : Bytes) (total : ℕ) → Gathers a b bytes
-    → IsReplied b c (Piece total more) → Gathers a c (bytes ++ more)
-piece_gathered a b c bytes more total (pieces, came, same) is =
-    let piece : ℕ × Bytes = (total, more) in (
-      pieces ++ piece ∷ [],
-      subst (λ replies. AreReplied a replies c) (sym (map-append piece_reply pieces (piece ∷ [])))
-          (one_more a b c (map piece_reply pieces) (Piece total more) came is),
-      flat_map-append (λ (p : ℕ × Bytes). p.1) pieces (piece ∷ [])
-          ∙ ap₂ (λ x y. x ++ y) same (append-nil more),
+-- one piece more, from where those before it ended
+fetched_more : (position offset end : ℕ) (a b c : SideLine) (pieces : Pieces) (piece : ℕ × Bytes)
+    → offset + length (bytes_of pieces) ≡ end → AreFetched position a offset pieces b
+    → IsReplied b c (root_from position end) (Piece piece.0 piece.1)
+    → AreFetched position a offset (pieces ++ piece ∷ []) c
+fetched_more position offset end a b c [] piece ends came is =
+    let at : end ≡ offset = sym ends ∙ add-zero offset in (
+      c,
+      subst (λ n. IsReplied a c (root_from position n) (Piece piece.0 piece.1)) at
+          (subst (λ l. IsReplied l c (root_from position end) (Piece piece.0 piece.1)) came is),
+      refl,
+    )
+fetched_more position offset end a b c (first ∷ more) piece ends (between, replied, came) is =
+    let on : (offset + length first.1) + length (bytes_of more) ≡ end =
+    add_assoc offset (length first.1) (length (bytes_of more))
+    ∙ (ap (λ n. offset + n) (sym (length-append first.1 (bytes_of more))) ∙ ends) in (
+      between,
+      replied,
+      fetched_more position (offset + length first.1) end between b c more piece
+          on came is,
     )
 
-pub some_gathered : (a b : SideLine) (bytes : Bytes) → Gathers a b bytes → SomeAreReplied a b
-some_gathered a b bytes (pieces, came, same) = (map piece_reply pieces, came)
+-- pieces that came, and what they are one behind the other
+abbrev pub Gathers : ℕ → SideLine → SideLine → Bytes → Type 0
+Gathers position a b bytes = (pieces : Pieces) × AreFetched position a 0 pieces b
+    × (bytes_of pieces ≡ bytes)
 
-pub pieces_of : (a b : SideLine) (bytes : Bytes) (tree : Tree) → Gathers a b bytes
-    → spelling tree ≡ bytes → ArePiecesOf a b tree
-pieces_of a b bytes tree (pieces, came, same) spells =
+pub none_gathered : (position : ℕ) (a : SideLine) → Gathers position a a []
+none_gathered position a = ([], refl, refl)
+
+-- a piece that was asked for from where those before it ended, and the refusal where it was touched
+module _ (position : ℕ) (a b c : SideLine) (bytes : Bytes) (offset : ℕ)
+    (ends : offset ≡ length bytes) where
+  pub piece_gathered : (more : Bytes) (total : ℕ) → Gathers position a b bytes
+      → IsReplied b c (root_from position offset) (Piece total more)
+      → Gathers position a c (bytes ++ more)
+  piece_gathered more total (pieces, came, same) is =
+      let piece : ℕ × Bytes = (total, more) in (
+        pieces ++ piece ∷ [],
+        fetched_more position 0 offset a b c pieces piece
+            (zero-add (length (bytes_of pieces)) ∙ (ap length same ∙ sym ends)) came is,
+        flat_map-append (λ (p : ℕ × Bytes). p.1) pieces (piece ∷ [])
+            ∙ ap₂ (λ x y. x ++ y) same (append-nil more),
+      )
+
+  pub touched_so : Gathers position a b bytes
+      → IsReplied b c (root_from position offset) (Refused Touched)
+      → IsTouchedSince position a c
+  touched_so (pieces, came, same) is = record {
+    pieces = pieces;
+    between = b;
+    came = came;
+    touched = subst (λ n. IsReplied b c (root_from position n) (Refused Touched))
+        (ends ∙ ap length (sym same)) is;
+  }
+
+pub pieces_of : (position : ℕ) (a b : SideLine) (bytes : Bytes) (tree : Tree)
+    → Gathers position a b bytes → spelling tree ≡ bytes → ArePiecesOf position a b tree
+pieces_of position a b bytes tree (pieces, came, same) spells =
     record { pieces = pieces; came = came; spells = same ∙ sym spells }

@@ -1,60 +1,117 @@
--- What a side of a session tells over a connection, and the tree that it tells.
-use Rattle.std.specs.Prelude.{◌≡◌, ℕ, List, [], ◌∷◌, ◌++◌, Option, Some, map, flat_map}
-use Rattle.syn_headline.specs.Side.{Reply, Listed, Piece}
-use Rattle.syn_link.specs.Frames.{Bytes}
+-- What a side of a session is asked over a connection, what it tells, and the tree that it tells.
+use Rattle.std.specs.Prelude.{◌≡◌, ◌+◌, ℕ, List, [], ◌∷◌, length, Option, Some, flat_map}
+use Rattle.std.specs.Io.KnownBytes.{Appends}
+use Rattle.syn_headline.specs.Side.{Fetch, ListAt, Listed, NotDir, Piece, Refused, Reply, Request}
+use Rattle.syn_link.specs.Frames.{Bytes, frame_of}
 use Rattle.syn_link.specs.Streams.{Comes}
-use Rattle.syn_message.specs.Replies.{Answering, IsLawfulReply, answering_spelling}
+use Rattle.syn_message.specs.Replies.{IsLawfulReply, answering_spelling}
+use Rattle.syn_message.specs.Requests.{Asking, IsLawfulAsking, asking_spelling}
+use Rattle.syn_model.specs.Refusal.{Touched}
 use Rattle.syn_model.specs.Spelling.{spelling}
 use Rattle.syn_model.specs.Tree.{Tree}
+use Rattle.syn_refusal.specs.Refusals.{cause_of}
 use Rattle.syn_user.specs.Exchanges.{number_after}
+use Rattle.syn_user.specs.declared.error.UserError.{UserError}
+use Rattle.syn_user.specs.declared.error.UserError.TheVariants as has
 use Rattle.syn_user.specs.declared.side.SideConnection.{SideConnection}
 use Rattle.syn_user.specs.declared.side.TheConstants.{SESSION}
 
--- what the reader is to give, what came and was not handed out, and the number of the next request
+-- what the reader is to give, what came and was not handed out, what the writer has, and the number
+-- of the next request
 pub record SideLine : Type 0 where
   pub given : Option Bytes
   pub held : Bytes
+  pub written : Option Bytes
   pub next : ℕ
 
-abbrev pub side_line : {R W : Type 0} → (R → Option Bytes) → SideConnection R W → SideLine
-side_line remaining connection = record {
+abbrev pub side_line : {R W : Type 0} → (R → Option Bytes) → (W → Option Bytes)
+    → SideConnection R W → SideLine
+side_line remaining contents connection = record {
   given = remaining connection.reader;
   held = connection.framer;
+  written = contents connection.writer;
   next = connection.next;
 }
 
--- it came in the first frame, as the reply to the request with the number that was next
-pub record IsReplied (old new : SideLine) (reply : Reply) : Type 0 where
-  pub lawful : IsLawfulReply reply
-  pub came : Comes old.given new.given old.held new.held (Some (answering_spelling
-      (record { session = SESSION; number = old.next; reply = reply })))
-  pub next : new.next ≡ number_after old.next
+-- the request with this number, and with the one that is next
+abbrev pub asking_with : ℕ → Request → Asking
+asking_with number request = record { session = SESSION; number = number; request = request }
 
--- these came, one after another
-abbrev pub AreReplied : SideLine → List Reply → SideLine → Type 0
-AreReplied old [] new = new ≡ old
-AreReplied old (reply ∷ more) new =
-    (between : SideLine) × IsReplied old between reply × AreReplied between more new
+abbrev pub asking_at : SideLine → Request → Asking
+asking_at line request = asking_with line.next request
 
--- some came, and nothing else was read
-abbrev pub SomeAreReplied : SideLine → SideLine → Type 0
-SomeAreReplied old new = (replies : List Reply) × AreReplied old replies new
+module _ (old new : SideLine) where
+  -- it was written as a frame, whole, with the number that was next
+  pub record IsAsked (request : Request) : Type 0 where
+    pub lawful : IsLawfulAsking (asking_at old request)
+    pub written : Appends old.written new.written
+        (frame_of (asking_spelling (asking_at old request)))
 
--- a piece, with the length of all that it is of
-abbrev pub piece_reply : ℕ × Bytes → Reply
-piece_reply (total, bytes) = Piece total bytes
+  -- it came in the first frame, as the reply to the request with the number that was next
+  pub record IsHeard (reply : Reply) : Type 0 where
+    pub lawful : IsLawfulReply reply
+    pub came : Comes old.given new.given old.held new.held (Some (answering_spelling
+        (record { session = SESSION; number = old.next; reply = reply })))
+    pub next : new.next ≡ number_after old.next
 
--- pieces came, which spell the tree one behind the other
-pub record ArePiecesOf (old new : SideLine) (tree : Tree) : Type 0 where
-  pub pieces : List (ℕ × Bytes)
-  pub came : AreReplied old (map piece_reply pieces) new
-  pub spells : flat_map (λ piece. piece.1) pieces ≡ spelling tree
+  -- the request was sent, and this came as its reply
+  pub record IsReplied (request : Request) (reply : Reply) : Type 0 where
+    pub asked : IsAsked request
+    pub heard : IsHeard reply
 
--- A listing came, from the position that it tells, and behind it pieces which spell the tree. What
--- came before is of trees that were edited meanwhile.
-pub record ShowsTree (old new : SideLine) (position : ℕ) (tree : Tree) : Type 0 where
-  pub begun : SideLine
-  pub listed : SideLine
-  pub before : SomeAreReplied old begun
-  pub listing : (entries : _) × IsReplied begun listed (Listed position entries)
-  pub pieces : ArePiecesOf listed new tree
+-- a refusal of the replica's came as the reply to the request
+abbrev pub IsRefusedFor : SideLine → SideLine → Request → UserError → Type 0
+IsRefusedFor old new request (has.Refused why) = IsReplied old new request (Refused (cause_of why))
+IsRefusedFor old new request _ = Unit {0}
+
+-- a listing tells the names in a directory, or that none is there
+abbrev pub IsListing : Reply → Type 0
+IsListing (Listed position entries) = Unit {0}
+IsListing (NotDir position) = Unit {0}
+IsListing _ = ⊥
+
+-- the whole tree that the replica had at the position, from that byte of its spelling on
+abbrev pub root_from : ℕ → ℕ → Request
+root_from position offset = Fetch [] position offset
+
+-- pieces with the length of all that they are of, and their bytes one behind the other
+abbrev pub Pieces : Type 0
+Pieces = List (ℕ × Bytes)
+
+abbrev pub bytes_of : Pieces → Bytes
+bytes_of pieces = flat_map (λ piece. piece.1) pieces
+
+-- the pieces came, the first from that byte on, and each from where the one before it ended
+abbrev pub AreFetched : ℕ → SideLine → ℕ → Pieces → SideLine → Type 0
+AreFetched position old offset [] new = new ≡ old
+AreFetched position old offset (piece ∷ more) new = (between : SideLine)
+    × IsReplied old between (root_from position offset) (Piece piece.0 piece.1)
+    × AreFetched position between (offset + length piece.1) more new
+
+-- all pieces of the tree that the replica had at the position came
+pub record ArePiecesOf (position : ℕ) (old new : SideLine) (tree : Tree) : Type 0 where
+  pub pieces : Pieces
+  pub came : AreFetched position old 0 pieces new
+  pub spells : bytes_of pieces ≡ spelling tree
+
+-- some pieces came, and behind them that the replica was edited since the position
+pub record IsTouchedSince (position : ℕ) (old new : SideLine) : Type 0 where
+  pub pieces : Pieces
+  pub between : SideLine
+  pub came : AreFetched position old 0 pieces between
+  pub touched : IsReplied between new (root_from position (length (bytes_of pieces)))
+      (Refused Touched)
+
+-- the root was listed, from the position
+abbrev pub TellsPosition : ℕ → SideLine → SideLine → Type 0
+TellsPosition position old new =
+    (entries : _) × IsReplied old new (ListAt []) (Listed position entries)
+
+-- The replica told its position, and then the pieces of the tree that it had there. Before that it
+-- may have told others, of trees that were edited while their pieces came.
+pub data ShowsTree (position : ℕ) (tree : Tree) (new : SideLine) : SideLine → Type 0 where
+  whole : (old listed : SideLine) → TellsPosition position old listed →
+      ArePiecesOf position listed new tree → ShowsTree position tree new old
+  again : (earlier : ℕ) (old listed touched : SideLine) → TellsPosition earlier old listed →
+      IsTouchedSince earlier listed touched → ShowsTree position tree new touched →
+      ShowsTree position tree new old

@@ -30,7 +30,9 @@ impl Gathered {
     }
 
     /// The byte from which on the next piece is.
-    pub(crate) fn offset(&self) -> u32 {
+    pub(crate) fn offset(&self) -> u32
+        ensures { result ≡ length self.now.bytes.items }
+    {
         self.bytes.len() as u32
     }
 

@@ -1,11 +1,14 @@
 //! A connection to a served replica, over which it is asked what a session asks of it.
-ghost use Rattle.std.specs.Prelude.{◌<◌, ◌^◌, IfNone, IfOk, IfSome};
-ghost use Rattle.syn_headline.specs.Side.{IsLawfulBody, Listed, Piece};
+ghost use Rattle.std.specs.Prelude.{◌≡◌, ◌<◌, ◌^◌, [], IfErr, IfNone, IfOk, IfSome, false};
+ghost use Rattle.syn_headline.specs.Side.{IsLawfulBody, ListAt, Piece, Refused};
 ghost use Rattle.syn_message.specs.Replies.{reply_of};
-ghost use Rattle.syn_message.specs.Requests.{request_of};
+ghost use Rattle.syn_message.specs.Requests.{IsLawfulAsking, asking_spelling, request_of};
 ghost use Rattle.syn_model.specs.Path.{IsPath};
-ghost use Rattle.syn_user.specs.Sides.{ArePiecesOf, IsReplied, ShowsTree, SomeAreReplied};
-ghost use Rattle.syn_user.specs.Sides.{side_line};
+ghost use Rattle.syn_model.specs.Refusal as why;
+ghost use Rattle.syn_user.specs.Sides.{ArePiecesOf, IsHeard, IsListing, IsRefusedFor, IsReplied};
+ghost use Rattle.syn_user.specs.Sides.{IsTouchedSince, ShowsTree, TellsPosition, asking_with};
+ghost use Rattle.syn_user.specs.Sides.{root_from, side_line};
+ghost use Rattle.syn_user.specs.inner.Parts.{is_refusal};
 
 use crate::connection::number_after;
 use crate::error::{UserError, closed_by};
@@ -56,8 +59,13 @@ impl<R: Read, W: Write> SideConnection<R, W> {
     /// write fails; 11 where memory is refused; 21 and 22 where a frame with such a length comes;
     /// and 23 where what comes is no reply to it. After all but the first it is not to be used.
     pub fn list(&mut self, alloc: Global, path: &Path) -> Result<Reply, UserError>
-        ensures heard { IfOk result (λ reply. IsReplied (side_line R.remaining self.old)
-            (side_line R.remaining self.new) (reply_of reply)) }
+        ensures replied { IfOk result (λ reply.
+            IsReplied (side_line R.remaining W.contents self.old)
+            (side_line R.remaining W.contents self.new) (ListAt path.now) (reply_of reply)) }
+        ensures listing { IfOk result (λ reply. IsListing (reply_of reply)) }
+        ensures refused { IfErr result
+            (IsRefusedFor (side_line R.remaining W.contents self.old)
+            (side_line R.remaining W.contents self.new) (ListAt path.now)) }
     {
         let path = copied(alloc, path)?;
         let reply = self.ask(alloc, Request::List { path })?;
@@ -74,8 +82,9 @@ impl<R: Read, W: Write> SideConnection<R, W> {
     /// Refused as `list` is, 23 where the pieces that come spell no tree, and 13 where somebody
     /// edited each of a hundred times.
     pub fn tree(&mut self, alloc: Global) -> Result<(u64, Tree), UserError>
-        ensures shown { IfOk result (λ found. ShowsTree (side_line R.remaining self.old)
-            (side_line R.remaining self.new) found.0 found.1) }
+        ensures shown { IfOk result (λ found. ShowsTree found.0 found.1
+            (side_line R.remaining W.contents self.new)
+            (side_line R.remaining W.contents self.old)) }
     {
         for _ in 0..MOST_TRIES {
             let position = self.position(alloc)?;
@@ -88,9 +97,9 @@ impl<R: Read, W: Write> SideConnection<R, W> {
 
     /// The position of the replica. It is refused as `list` is.
     fn position(&mut self, alloc: Global) -> Result<u64, UserError>
-        ensures { IfOk result (λ position. (entries : _) × IsReplied
-            (side_line R.remaining self.old) (side_line R.remaining self.new)
-            (Listed position entries)) }
+        ensures { IfOk result (λ position. TellsPosition position
+            (side_line R.remaining W.contents self.old)
+            (side_line R.remaining W.contents self.new)) }
     {
         match self.list(alloc, &Path::root(alloc))? {
             Reply::Listed { position, .. } => Ok(position),
@@ -102,10 +111,12 @@ impl<R: Read, W: Write> SideConnection<R, W> {
     ///
     /// Refused as `list` is, and 23 where the pieces that come spell no tree.
     fn tree_at(&mut self, alloc: Global, position: u64) -> Result<Option<Tree>, UserError>
-        ensures tree { IfOk result (λ found. IfSome found (ArePiecesOf
-            (side_line R.remaining self.old) (side_line R.remaining self.new))) }
-        ensures none { IfOk result (λ found. IfNone found (SomeAreReplied
-            (side_line R.remaining self.old) (side_line R.remaining self.new))) }
+        ensures tree { IfOk result (λ found. IfSome found (ArePiecesOf position
+            (side_line R.remaining W.contents self.old)
+            (side_line R.remaining W.contents self.new))) }
+        ensures none { IfOk result (λ found. IfNone found (IsTouchedSince position
+            (side_line R.remaining W.contents self.old)
+            (side_line R.remaining W.contents self.new))) }
     {
         let mut gathered = Gathered::new(alloc);
         for _ in 0..MOST_PIECES {
@@ -128,11 +139,14 @@ impl<R: Read, W: Write> SideConnection<R, W> {
         position: u64,
         offset: u32,
     ) -> Result<Option<(u32, Vec<u8>)>, UserError>
-        ensures piece { IfOk result (λ found. IfSome found (λ piece. IsReplied
-            (side_line R.remaining self.old) (side_line R.remaining self.new)
+        ensures piece { IfOk result (λ found. IfSome found (λ piece.
+            IsReplied (side_line R.remaining W.contents self.old)
+            (side_line R.remaining W.contents self.new) (root_from position offset)
             (Piece piece.0 piece.1.items))) }
-        ensures none { IfOk result (λ found. IfNone found (SomeAreReplied
-            (side_line R.remaining self.old) (side_line R.remaining self.new))) }
+        ensures none { IfOk result (λ found. IfNone found
+            (IsReplied (side_line R.remaining W.contents self.old)
+            (side_line R.remaining W.contents self.new) (root_from position offset)
+            (Refused why.Touched))) }
     {
         is_lawful_fetch(position, offset);
         let request = Request::Fetch {
@@ -151,20 +165,29 @@ impl<R: Read, W: Write> SideConnection<R, W> {
     /// Sends the request, and answers the reply to it.
     fn ask(&mut self, alloc: Global, request: Request) -> Result<Reply, UserError>
         requires { IsLawfulBody (request_of request) }
-        ensures heard { IfOk result (λ reply. IsReplied (side_line R.remaining self.old)
-            (side_line R.remaining self.new) (reply_of reply)) }
+        ensures replied { IfOk result (λ reply.
+            IsReplied (side_line R.remaining W.contents self.old)
+            (side_line R.remaining W.contents self.new) (request_of request) (reply_of reply)) }
+        ensures refused { IfErr result (λ error. is_refusal error ≡ false) }
     {
-        let body = body_of(alloc, self.next, request)?;
-        if write_frame(&mut self.writer, &body).is_err() {
-            return Err(UserError::Device);
+        let body = match body_of(alloc, self.next, request) {
+            Ok(body) => body,
+            Err(error) => return Err(error),
+        };
+        match write_frame(&mut self.writer, &body) {
+            Ok(()) => {}
+            Err(_) => return Err(UserError::Device),
         }
         self.hear(alloc)
     }
 
     /// The reply to the request that was sent, in the next frame. The next number follows.
     fn hear(&mut self, alloc: Global) -> Result<Reply, UserError>
-        ensures heard { IfOk result (λ reply. IsReplied (side_line R.remaining self.old)
-            (side_line R.remaining self.new) (reply_of reply)) }
+        ensures heard { IfOk result (λ reply.
+            IsHeard (side_line R.remaining W.contents self.old)
+            (side_line R.remaining W.contents self.new) (reply_of reply)) }
+        ensures silent { self.new.writer ≡ self.old.writer }
+        ensures refused { IfErr result (λ error. is_refusal error ≡ false) }
     {
         let number = self.next;
         self.next = number_after(number);
@@ -186,6 +209,11 @@ impl<R: Read, W: Write> SideConnection<R, W> {
 /// The body of the request. Refused 11 where memory is refused.
 fn body_of(alloc: Global, number: u32, request: Request) -> Result<Vec<u8>, UserError>
     requires { IsLawfulBody (request_of request) }
+    ensures lawful { IfOk result
+        (λ body. IsLawfulAsking (asking_with number (request_of request))) }
+    ensures body { IfOk result (λ body.
+        body.items ≡ asking_spelling (asking_with number (request_of request))) }
+    ensures refused { IfErr result (λ error. is_refusal error ≡ false) }
 {
     let asked = Asked {
         session: SESSION,
@@ -200,7 +228,8 @@ fn body_of(alloc: Global, number: u32, request: Request) -> Result<Vec<u8>, User
 
 /// The root, whose path is lawful.
 fn root(alloc: Global) -> Path
-    ensures { IsPath result }
+    ensures lawful { IsPath result }
+    ensures root { result ≡ [] }
 {
     let root = Path::root(alloc);
     let _ = root.names();
@@ -209,7 +238,9 @@ fn root(alloc: Global) -> Path
 
 /// The path once more. Refused 11 where memory is refused.
 fn copied(alloc: Global, path: &Path) -> Result<Path, UserError>
-    ensures { IfOk result IsPath }
+    ensures lawful { IfOk result IsPath }
+    ensures same { IfOk result (λ copy. copy ≡ path.now) }
+    ensures refused { IfErr result (λ error. is_refusal error ≡ false) }
 {
     let _ = path.names();
     match path.copy(alloc) {

@@ -1,29 +1,28 @@
 use Rattle.std.proofs.Common.{◌++◌, ◌∙◌, ap, subst, sym}
-use Rattle.syn_user.proofs.SideLemmas.{Gathers, none_gathered, piece_gathered, pieces_of}
-use Rattle.syn_user.proofs.SideLemmas.{some_gathered, some_more}
+use Rattle.syn_user.proofs.SideLemmas.{Gathers, piece_gathered, pieces_of, touched_so}
 use Rattle.syn_user.specs.Sides.{side_line}
 use Rattle.syn_user.proofs.side.SideConnection.tree_at.Goals as goal
 
 pub returns-in_default-clause-none : goal.returns-in_default-clause-none
 returns-in_default-clause-none g c =
-    some_more _ _ _ (some_gathered _ _ _ c.loop.invariant)
+    touched_so _ _ _ _ _ _ c.offset.ensures c.loop.invariant
     (rw c.in_default.is at c.in_ok-total.ensures.none)
 
 pub returns-then-is_whole-clause-tree : goal.returns-then-is_whole-clause-tree
 returns-then-is_whole-clause-tree g c =
     let came = rw c.in-Some.is at c.in_ok-total.ensures.piece in
     let so_far = c.loop.gathered.bytes.items in
-    let all = piece_gathered _ _ _ so_far c.in-Some.bytes.items c.in-Some.total c.loop.invariant
-    came in
+    let all = piece_gathered _ _ _ _ so_far _ c.offset.ensures c.in-Some.bytes.items
+    c.in-Some.total c.loop.invariant came in
     let taken = c.in_ok-take.ensures ∙ ap (λ bs. so_far ++ bs) c.deref.ensures.value in
-    pieces_of _ _ _ _ all (c.in_ok-tree.ensures ∙ taken)
+    pieces_of _ _ _ _ _ all (c.in_ok-tree.ensures ∙ taken)
 
 pub loop-preserved : goal.loop-preserved
 loop-preserved g c =
     let came = rw c.in-Some.is at c.in_ok-total.ensures.piece in
     let so_far = c.loop.gathered.bytes.items in
-    let all = piece_gathered _ _ _ so_far c.in-Some.bytes.items c.in-Some.total c.loop.invariant
-    came in
+    let all = piece_gathered _ _ _ _ so_far _ c.offset.ensures c.in-Some.bytes.items
+    c.in-Some.total c.loop.invariant came in
     let taken = c.in_ok-take.ensures ∙ ap (λ bs. so_far ++ bs) c.deref.ensures.value in
-    let old = side_line g.R.Read.remaining c.args.self.now in
-    subst (Gathers old (side_line g.R.Read.remaining c.piece.new.self)) (sym taken) all
+    let line = side_line g.R.Read.remaining g.W.Write.contents in
+    subst (Gathers c.args.position (line c.args.self.now) (line c.piece.new.self)) (sym taken) all

@@ -4,5 +4,5 @@ use Rattle.syn_user.proofs.side.SideConnection.tree_at.Given as goal
 
 abbrev pub invariant-loop : goal.invariant-loop
 invariant-loop g l =
-    Gathers (side_line g.R.Read.remaining l.initial.self) (side_line g.R.Read.remaining l.self)
-    l.gathered.bytes.items
+    let line = side_line g.R.Read.remaining g.W.Write.contents in
+    Gathers l.position (line l.initial.self) (line l.self) l.gathered.bytes.items
