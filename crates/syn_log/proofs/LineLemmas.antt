@@ -1,6 +1,6 @@
 -- The lines of events, the newest first.
-use Rattle.std.proofs.Common.{◌≡◌, ◌∙◌, ◌+◌, ◌<◌, ◌++◌, ◌∷◌, [], ℕ, List, Option, Some, None, drop}
-use Rattle.std.proofs.Common.{length, reverse, ap, append_assoc, append-nil, get_or}
+use Rattle.std.proofs.Common.{◌≡◌, ◌∙◌, ◌+◌, ◌<◌, ◌++◌, ◌∷◌, [], ℕ, List, drop}
+use Rattle.std.proofs.Common.{length, reverse, ap, append-nil, get_or}
 use Rattle.std.proofs.lemmas.Grind.{flat_map-append}
 use Rattle.std.proofs.lemmas.List.{drop_more, reverse-append}
 use Rattle.syn_log.specs.Printed.{lines_of, logged_line}

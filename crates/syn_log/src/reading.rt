@@ -1,7 +1,9 @@
 //! Reads what a replica's disk has of its events.
-ghost use Rattle.std.specs.Prelude.{◌≡◌, ◌+◌, IfOk};
+ghost use Rattle.std.specs.Prelude.{◌≡◌, ◌+◌, ◌++◌, IfOk, OnOk};
 ghost use Rattle.syn_history.specs.Events.{event_of};
+ghost use Rattle.syn_log.specs.Known.{AddsEvents, TellsLast, entries_of, touched};
 ghost use Rattle.syn_model.specs.Spelling.{event_spelling};
+ghost use Rattle.syn_standing.specs.Readings.{bytes_of_each};
 
 use crate::logged::{Logged, What};
 use std::alloc::Global;
@@ -16,12 +18,14 @@ use syn_wire::decode_event;
 ///
 /// Refused 9 where a device call fails, 18 where the disk holds no image, 19 where it holds no
 /// replica, and 11 where memory is refused. Nothing is written.
-pub fn read_log<D: Disk + Drop>(alloc: Global, disk: D) -> Result<Vec<Logged>, ReplicaError> {
+pub fn read_log<D: Disk + Drop>(alloc: Global, disk: D) -> Result<Vec<Logged>, ReplicaError>
+    ensures { IfOk result (λ logged. TellsLast (D.seen disk) logged.items) }
+{
     let opened = match Journal::open(alloc, disk) {
         Ok(opened) => opened,
         Err((error, _)) => return Err(ReplicaError::Journal(error)),
     };
-    let Some((image, _)) = decode_image(alloc, &opened.image)? else {
+    let Some((image, [])) = decode_image(alloc, &opened.image)? else {
         return Err(ReplicaError::Damaged);
     };
     let mut logged = Vec::new(alloc);
@@ -37,7 +41,10 @@ fn push_touches(
     alloc: Global,
     logged: &mut Vec<Logged>,
     touches: &[Touch],
-) -> Result<(), ReplicaError> {
+) -> Result<(), ReplicaError>
+    ensures { OnOk result
+        (entries_of logged.new.items ≡ entries_of logged.old.items ++ touched touches.now) }
+{
     for touch in touches {
         let position = behind(touch.position())?;
         let path = touch.path().copy(alloc)?;
@@ -47,17 +54,20 @@ fn push_touches(
     Ok(())
 }
 
-/// Puts the events that the records are behind what is there, the first at the position.
+/// Puts the events that the payloads are behind what is there, the first at the position.
 fn push_events(
     alloc: Global,
     logged: &mut Vec<Logged>,
     first: u64,
-    records: &[Vec<u8>],
-) -> Result<(), ReplicaError> {
+    payloads: &[Vec<u8>],
+) -> Result<(), ReplicaError>
+    ensures { OnOk result
+        (AddsEvents first (bytes_of_each payloads.now) logged.old.items logged.new.items) }
+{
     let mut position = first;
-    for record in records {
+    for payload in payloads {
         position = behind(position)?;
-        let what = What::Whole(event_in(alloc, record)?);
+        let what = What::Whole(event_in(alloc, payload)?);
         logged.push(Logged { position, what })?;
     }
     Ok(())
