@@ -11,7 +11,8 @@ use syn_command::{CommandError, Outcome, outcome_planned};
 use syn_disk::Disk;
 use syn_file::OpenError;
 use syn_mark::MarkTree;
-use syn_plan::{ReplicaSide, Side, counts_of, plan_between, show_plan};
+use syn_plan::{Planned, counts_of, plan_between, plan_of_replicas, show_plan};
+use syn_refusal::Refusal;
 use syn_replica::Replica;
 use syn_standing::ReplicaError;
 use syn_user::SideConnection;
@@ -36,7 +37,8 @@ pub fn print_plan<H: Net<Stream = TcpStream>, N: NamedDisks, O: Write>(
             let (left, right) = (reach(rt, left)?, reach(rt, right)?);
             let mut left = SideConnection::new(alloc, &left, &left);
             let mut right = SideConnection::new(alloc, &right, &right);
-            print_planned(alloc, &mut left, &mut right, archive.tree(), output)
+            let planned = plan_between(alloc, &mut left, &mut right, archive.tree());
+            print_planned(alloc, planned, archive.tree(), output)
         }
         Between::Named { left, right } => {
             if left == right {
@@ -47,8 +49,8 @@ pub fn print_plan<H: Net<Stream = TcpStream>, N: NamedDisks, O: Write>(
             let archive = archive_to_read(alloc, disks, archive)?;
             check_begin(&left, &archive)?;
             check_begin(&right, &archive)?;
-            let (mut left, mut right) = (ReplicaSide::new(&left), ReplicaSide::new(&right));
-            print_planned(alloc, &mut left, &mut right, archive.tree(), output)
+            let planned = plan_of_replicas(alloc, &left, &right, archive.tree());
+            print_planned(alloc, planned, archive.tree(), output)
         }
     }
 }
@@ -68,15 +70,14 @@ fn check_begin<D: Disk, A: Disk>(
     Ok(())
 }
 
-/// Prints the plan of both sides with the marks of an archive.
-fn print_planned<L: Side, R: Side, O: Write>(
+/// Prints the plan, where there is one, with the marks of an archive.
+fn print_planned<O: Write>(
     alloc: Global,
-    left: &mut L,
-    right: &mut R,
+    planned: Result<Planned, Refusal>,
     archive: &MarkTree,
     output: &mut O,
 ) -> Result<Outcome, CommandError> {
-    let planned = match plan_between(alloc, left, right, archive) {
+    let planned = match planned {
         Ok(planned) => planned,
         Err(why) => return Err(CommandError::Network(why)),
     };

@@ -1,1 +1,3 @@
 mod PlanLemmas
+mod AskedLemmas
+mod ShownLemmas

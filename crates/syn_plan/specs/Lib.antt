@@ -1,2 +1,4 @@
 pub mod Counting
 pub mod Printed
+pub mod Listings
+pub mod inner

@@ -11,5 +11,5 @@ mod side;
 
 pub use counts::{Counts, counts_of};
 pub use lines::show_plan;
-pub use planned::{Planned, plan_between};
+pub use planned::{Planned, plan_between, plan_of_replicas};
 pub use side::{ReplicaSide, Side};

@@ -1,15 +1,21 @@
 //! The plan of a session that does not run.
 ghost use Rattle.std.specs.Prelude.{◌≡◌, IfOk};
-ghost use Rattle.syn_model.specs.Plan.{plan};
+ghost use Rattle.syn_model.specs.History.{History, tree_of};
+ghost use Rattle.syn_model.specs.Plan.{plan, scan_of as scan_of_tree};
+ghost use Rattle.syn_plan.specs.Listings.{IsScanned};
+ghost use Rattle.syn_plan.specs.inner.Asking.{IsAsked};
 ghost use Rattle.syn_recon.specs.Items.{items_of};
-ghost use Rattle.syn_scan.specs.Found.{scan_of};
+ghost use Rattle.syn_replica.specs.Replica.{Stands};
+ghost use Rattle.syn_scan.specs.Found.{IsWhole, scan_of};
 ghost use Rattle.syn_session.specs.Scanning.{found_of};
 
-use crate::side::Side;
+use crate::side::{ReplicaSide, Side};
 use std::alloc::Global;
+use syn_disk::Disk;
 use syn_mark::{MOST_NODES, MarkTree};
 use syn_recon::Item;
 use syn_refusal::Refusal;
+use syn_replica::Replica;
 use syn_scan::Scan;
 use syn_session::{Course, SideScan};
 
@@ -33,13 +39,31 @@ pub fn plan_between<L: Side, R: Side>(
     right: &mut R,
     archive: &MarkTree,
 ) -> Result<Planned, Refusal>
-    ensures { IfOk result (λ planned. items_of planned.items.items
+    ensures items { IfOk result (λ planned. items_of planned.items.items
         ≡ plan (scan_of (found_of planned.left)) (scan_of (found_of planned.right)) archive.now) }
+    ensures left { IfOk result (λ planned. IsScanned L.lists left.old planned.left left.new) }
+    ensures right { IfOk result (λ planned. IsScanned R.lists right.old planned.right right.new) }
 {
     let left = scan_side(alloc, left)?;
     let right = scan_side(alloc, right)?;
     let items = items_between(alloc, left.found(), right.found(), archive)?;
     Ok(Planned { left, right, items })
+}
+
+/// The plan of a session of both replicas with an archive of these marks, refused as `plan_between`
+/// is. Each replica shows its tree.
+pub fn plan_of_replicas<L: Disk, R: Disk>(
+    alloc: Global,
+    left: &Replica<L>,
+    right: &Replica<R>,
+    archive: &MarkTree,
+) -> Result<Planned, Refusal>
+    ensures { (on_left on_right : History) → Stands left.now on_left
+        → Stands right.now on_right → IfOk result (λ planned. items_of planned.items.items
+        ≡ plan (scan_of_tree (tree_of on_left)) (scan_of_tree (tree_of on_right)) archive.now) }
+{
+    let (mut left, mut right) = (ReplicaSide::new(left), ReplicaSide::new(right));
+    plan_between(alloc, &mut left, &mut right, archive)
 }
 
 /// The items of a session's course between two scans.
@@ -59,7 +83,10 @@ fn items_between(
 }
 
 /// What the side shows, once each of its directories was listed.
-fn scan_side<S: Side>(alloc: Global, side: &mut S) -> Result<SideScan, Refusal> {
+fn scan_side<S: Side>(alloc: Global, side: &mut S) -> Result<SideScan, Refusal>
+    ensures asked { IfOk result (λ scan. IsAsked S.lists side.old scan side.new) }
+    ensures whole { IfOk result (λ scan. IsWhole (found_of scan)) }
+{
     let mut scan = match SideScan::new(alloc) {
         Ok(scan) => scan,
         Err(error) => return Err(error.refusal()),

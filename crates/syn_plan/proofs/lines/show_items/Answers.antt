@@ -1,4 +1,4 @@
-use Rattle.std.proofs.Common.{rules, ◌≡◌, ◌∙◌, ◌++◌, get_or, subst, sym, take}
+use Rattle.std.proofs.Common.{rules, ◌≡◌, get_or, subst, sym, take}
 use Rattle.std.specs.Io.KnownBytes.{Appends}
 use Rattle.syn_plan.proofs.PlanLemmas.{appends_more, one_more}
 use Rattle.syn_plan.proofs.lines.show_items.Goals as goal
