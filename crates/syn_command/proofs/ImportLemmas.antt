@@ -9,11 +9,13 @@ use Rattle.syn_model.specs.Tree.{Tree, empty_directory, replace, subtree}
 use Rattle.syn_model.proofs.TreeLemmas.{subtree-replace}
 use Rattle.syn_disk.specs.declared.disk.Disk.{Ghosts}
 use Rattle.syn_replica.specs.Edits.{event_by}
-use Rattle.syn_replica.specs.Replica.{Stands, tree_shown}
+use Rattle.syn_replica.specs.Disks.{DiskStands}
+use Rattle.syn_replica.specs.Replica.{Stands, pair_of, tree_shown}
 use Rattle.syn_replica.specs.declared.replica.Replica.{Replica}
 use Rattle.syn_tree.specs.Edits.{edit_of}
 use Rattle.syn_tree.specs.declared.edit.Edit.{Edit as Planned}
-use Rattle.syn_command.specs.Imports.{IsBegun, IsImported, LeavesImport, begun}
+use Rattle.syn_command.proofs.MomentLemmas.{Leaves, weaker}
+use Rattle.syn_command.specs.Imports.{IsBegun, IsImported, LeavesImport, before, begun}
 
 -- the tree of a history with edits of a user behind it
 edits_after : (tree : Tree) (user : ℕ) (edits : List Edit) →
@@ -39,6 +41,13 @@ pub mapped : {A : Type 0} (f : A → Edit) (user : ℕ) (xs : List A) →
 mapped f user [] = refl
 mapped f user (x ∷ xs) = ap (λ es. Edited user (f x) ∷ es) (mapped f user xs)
 
+-- edits that were planned over the tree that a replica lends are planned over what it shows
+pub planned_over : (lent shown : Tree) (path : Path) (part : Tree) (edits : List Planned)
+    → lent ≡ shown → after_edits lent (map edit_of edits) ≡ replace lent path part
+    → after_edits shown (map edit_of edits) ≡ replace shown path part
+planned_over lent shown path part edits same makes =
+    subst (λ (t : Tree). after_edits t (map edit_of edits) ≡ replace t path part) same makes
+
 module _ {D : Type 0} {disk : Ghosts D} (old new : Replica D disk) (user : ℕ) (path : Path)
     (part : Tree) (edits : List Planned) (history : History)
     (makes : after_edits (tree_shown old) (map edit_of edits) ≡ replace (tree_shown old) path part)
@@ -47,9 +56,7 @@ module _ {D : Type 0} {disk : Ghosts D} (old new : Replica D disk) (user : ℕ) 
   was = ap (λ (s : Standing). s.tree) stood.remembers.standing
 
   made : after_edits (tree_of history) (map edit_of edits) ≡ replace (tree_of history) path part
-  made =
-      ap (λ (t : Tree). after_edits t (map edit_of edits)) (sym was)
-      ∙ (makes ∙ ap (λ (t : Tree). replace t path part) was)
+  made = planned_over (tree_shown old) (tree_of history) path part edits was makes
 
   pub is_imported : IsImported history user path part new
   is_imported = record {
@@ -66,15 +73,26 @@ module _ {D : Type 0} {disk : Ghosts D} (old new : Replica D disk) (user : ℕ) 
       ∙ (tree_of-edits history user (map edit_of edits) ∙ made)) in
       ap (λ (t : Tree). subtree t path) now ∙ subtree-replace (tree_of history) path part
 
--- a beginning of the edits that were planned is one of those that put the part in its place
-pub leaves_import : {D : Type 0} {disk : Ghosts D} (old : Replica D disk) (pair user : ℕ)
-    (path : Path) (part : Tree) (edits : List Planned) (history : History) (bytes : List ℕ)
-    → after_edits (tree_shown old) (map edit_of edits) ≡ replace (tree_shown old) path part
-    → Stands old history → IsBegun pair history (map (event_by user) edits) bytes
-    → LeavesImport pair history user path part bytes
-leaves_import old pair user path part edits history bytes makes stood is =
-    let was : tree_shown old ≡ tree_of history =
-    ap (λ (s : Standing). s.tree) stood.remembers.standing in
-    begun (map edit_of edits) (ap (λ (t : Tree). after_edits t (map edit_of edits)) (sym was)
-    ∙ (makes ∙ ap (λ (t : Tree). replace t path part) was))
-    (subst (λ es. IsBegun pair history es bytes) (mapped edit_of user edits) is)
+module _ {D : Type 0} {disk : Ghosts D} (old new : Replica D disk) (user : ℕ) (path : Path)
+    (part : Tree) (history : History) (stood : Stands old history) where
+  -- what a stop leaves before any edit
+  pub leaves_before :
+      Leaves old new (λ bytes. DiskStands (pair_of old) bytes history)
+      → Leaves old new (LeavesImport (pair_of old) history user path part)
+  leaves_before still =
+      weaker old new (λ bytes. DiskStands (pair_of old) bytes history)
+      (LeavesImport (pair_of old) history user path part) (λ bytes is. before is) still
+
+  -- a beginning of the edits that were planned is one of those that put the part in its place
+  pub leaves_import : (edits : List Planned)
+      → after_edits (tree_shown old) (map edit_of edits) ≡ replace (tree_shown old) path part
+      → Leaves old new (IsBegun (pair_of old) history (map (event_by user) edits))
+      → Leaves old new (LeavesImport (pair_of old) history user path part)
+  leaves_import edits makes leaves =
+      let was : tree_shown old ≡ tree_of history =
+      ap (λ (s : Standing). s.tree) stood.remembers.standing in
+      let made = planned_over (tree_shown old) (tree_of history) path part edits was makes in
+      weaker old new (IsBegun (pair_of old) history (map (event_by user) edits))
+      (LeavesImport (pair_of old) history user path part) (λ bytes is. begun (map edit_of edits)
+      made (subst (λ es. IsBegun (pair_of old) history es bytes) (mapped edit_of user edits) is))
+      leaves

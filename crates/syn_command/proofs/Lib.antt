@@ -2,3 +2,4 @@ pub mod InputLemmas
 pub mod EditLemmas
 pub mod ImportLemmas
 mod MomentLemmas
+mod SentLemmas

@@ -113,3 +113,18 @@ one_edit_more old between new event made x rest all history whole pair before no
     (λ bytes begun. more_begun (pair_of old) history (map event made) (event x ∷ [])
     (map event rest) (map event all) bytes are
     (subst (λ p. IsBegun p (history ++ map event made) (event x ∷ []) bytes) pair begun)) now)
+
+-- what a stop leaves in the course of one edit, behind a checkpoint if any
+pub edit_leaves : {D : Type 0} {disk : Ghosts D} (old between new : Replica D disk)
+    (history : History) (event : Event) → pair_of between ≡ pair_of old
+    → Leaves old between (λ bytes. DiskStands (pair_of old) bytes history)
+    → Leaves between new (KeepsBeforeOrAfter between history event)
+    → Leaves old new (IsBegun (pair_of old) history (event ∷ []))
+edit_leaves old between new history event pair room edit =
+    let P = IsBegun (pair_of old) history (event ∷ []) in
+    in_turn old between new P
+    (weaker old between (λ bytes. DiskStands (pair_of old) bytes history) P
+    (none_begun (pair_of old) history (event ∷ [])) room)
+    (weaker between new (KeepsBeforeOrAfter between history event) P
+    (λ bytes keeps. subst (λ p. IsBegun p history (event ∷ []) bytes) pair
+    (one_begun between history event bytes keeps)) edit)

@@ -5,3 +5,4 @@ pub mod Imports
 pub mod Printed
 pub mod Shown
 pub mod Status
+pub mod Sent

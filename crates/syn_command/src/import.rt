@@ -7,6 +7,9 @@ ghost use Rattle.syn_disk.specs.Stops.{LeavesOnly};
 ghost use Rattle.syn_replica.specs.Disks.{DiskStands};
 ghost use Rattle.syn_replica.specs.Replica.{Stands, disk_of, pair_of, tree_shown};
 ghost use Rattle.syn_command.specs.Imports.{IsBegun, IsImported, LeavesImport};
+ghost use Rattle.syn_command.specs.Sent.{AreMadeInTurn};
+ghost use Rattle.syn_tree.specs.Edits.{edit_of};
+ghost use Rattle.syn_user.specs.Lines.{line_of};
 
 use crate::error::CommandError;
 use std::alloc::{AllocError, Global};
@@ -139,7 +142,10 @@ pub fn send_edits<R: Read, W: Write, E: Write>(
     is_told: bool,
     errors: &mut E,
 ) -> Result<u64, CommandError>
-    ensures { IfOk result (λ last. last ≡ position + length edits.items) }
+    ensures last { IfOk result (λ last. last ≡ position + length edits.items) }
+    ensures made { OnOk result (AreMadeInTurn user
+        (line_of R.remaining W.contents connection.old) position (map edit_of edits.items)
+        (line_of R.remaining W.contents connection.new)) }
 {
     let mut last = position;
     for edit in edits {
@@ -157,7 +163,8 @@ pub fn send_edits<R: Read, W: Write, E: Write>(
 ///
 /// Refused 13 where it is another: somebody else edited the replica.
 fn next_position(last: u64, made: u64) -> Result<u64, CommandError>
-    ensures { IfOk result (λ next. next ≡ last + 1) }
+    ensures next { IfOk result (λ next. next ≡ last + 1) }
+    ensures made { OnOk result (made ≡ last + 1) }
 {
     if last < made && made - last == 1 {
         Ok(made)

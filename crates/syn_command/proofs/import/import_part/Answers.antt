@@ -1,15 +1,12 @@
-use Rattle.std.proofs.Common.{◌≡◌, ◌++◌, ap, ◌∙◌, sym, map, subst, append-nil}
+use Rattle.std.proofs.Common.{◌++◌, ap, ◌∙◌, map, subst, append-nil}
 use Rattle.syn_model.specs.Event.{Event}
-use Rattle.syn_model.specs.Tree.{Tree, replace, subtree}
-use Rattle.syn_change.specs.Changes.{after_edits}
+use Rattle.syn_model.specs.Tree.{Tree, subtree}
 use Rattle.syn_replica.specs.Edits.{event_by}
-use Rattle.syn_replica.specs.Disks.{DiskStands}
-use Rattle.syn_replica.specs.Replica.{Stands, pair_of, tree_shown}
-use Rattle.syn_command.specs.Imports.{IsBegun, LeavesImport, before}
-use Rattle.syn_command.proofs.MomentLemmas.{still, weaker}
+use Rattle.syn_replica.specs.Replica.{Stands, tree_shown}
+use Rattle.syn_command.proofs.ImportLemmas.{has_part, is_imported, leaves_before, leaves_import}
+use Rattle.syn_command.proofs.ImportLemmas.{planned_over}
+use Rattle.syn_command.proofs.MomentLemmas.{still}
 use Rattle.syn_tree.specs.declared.edit.Edit.{Edit}
-use Rattle.syn_tree.specs.Edits.{edit_of}
-use Rattle.syn_command.proofs.ImportLemmas.{has_part, is_imported, leaves_import}
 use Rattle.syn_command.proofs.import.import_part.Goals as goal
 
 pub returns-clause-part : goal.returns-clause-part
@@ -17,24 +14,20 @@ returns-clause-part g c history stands =
     let old = c.args.replica.now in
     let path = c.args.path.now in
     let part = c.args.part.now in
-    let makes : after_edits (tree_shown old) (map edit_of c.in-Ok.edits.items)
-    ≡ replace (tree_shown old) path part =
-    ap (λ (t : Tree). after_edits t (map edit_of c.in-Ok.edits.items)) (sym c.tree.ensures)
-    ∙ (c.in-Ok.ensures.made ∙ ap (λ (t : Tree). replace t path part) c.tree.ensures) in
-    has_part old c.make_edits.new.replica c.args.user path part c.in-Ok.edits.items history makes
-    stands (c.in_ok-make_edits.ensures.made history stands)
+    let edits = c.in-Ok.edits.items in
+    has_part old c.make_edits.new.replica c.args.user path part edits history
+    (planned_over c.tree.result.now (tree_shown old) path part edits c.tree.ensures
+    c.in-Ok.ensures.made) stands (c.in_ok-make_edits.ensures.made history stands)
 
 pub returns-clause-imported : goal.returns-clause-imported
 returns-clause-imported g c history stands =
     let old = c.args.replica.now in
     let path = c.args.path.now in
     let part = c.args.part.now in
-    let makes : after_edits (tree_shown old) (map edit_of c.in-Ok.edits.items)
-    ≡ replace (tree_shown old) path part =
-    ap (λ (t : Tree). after_edits t (map edit_of c.in-Ok.edits.items)) (sym c.tree.ensures)
-    ∙ (c.in-Ok.ensures.made ∙ ap (λ (t : Tree). replace t path part) c.tree.ensures) in
-    is_imported old c.make_edits.new.replica c.args.user path part c.in-Ok.edits.items history makes
-    stands (c.in_ok-make_edits.ensures.made history stands)
+    let edits = c.in-Ok.edits.items in
+    is_imported old c.make_edits.new.replica c.args.user path part edits history
+    (planned_over c.tree.result.now (tree_shown old) path part edits c.tree.ensures
+    c.in-Ok.ensures.made) stands (c.in_ok-make_edits.ensures.made history stands)
 
 pub returns-clause-none : goal.returns-clause-none
 returns-clause-none g c history stands same =
@@ -49,9 +42,7 @@ returns-clause-none g c history stands same =
 pub returns-in-Err-clause-any_moment : goal.returns-in-Err-clause-any_moment
 returns-in-Err-clause-any_moment g c history stands =
     let old = c.args.replica.now in
-    let pair = pair_of old in
-    weaker old old (λ bytes. DiskStands pair bytes history)
-    (LeavesImport pair history c.args.user c.args.path.now c.args.part.now) (λ bytes is. before is)
+    leaves_before old old c.args.user c.args.path.now c.args.part.now history stands
     (still g.met.D.Disk.only_now old history stands)
 
 pub returns-in_err-make_edits-clause-any_moment : goal.returns-in_err-make_edits-clause-any_moment
@@ -60,15 +51,9 @@ returns-in_err-make_edits-clause-any_moment g c history stands =
     let path = c.args.path.now in
     let part = c.args.part.now in
     let edits = c.in-Ok.edits.items in
-    let event : Edit → Event = event_by c.args.user in
-    let makes : after_edits (tree_shown old) (map edit_of edits)
-    ≡ replace (tree_shown old) path part =
-    ap (λ (t : Tree). after_edits t (map edit_of edits)) (sym c.tree.ensures)
-    ∙ (c.in-Ok.ensures.made ∙ ap (λ (t : Tree). replace t path part) c.tree.ensures) in
-    weaker old c.make_edits.new.replica (IsBegun (pair_of old) history (map event edits))
-    (LeavesImport (pair_of old) history c.args.user path part)
-    (λ bytes is. leaves_import old (pair_of old) c.args.user path part edits history bytes makes
-    stands is) (c.make_edits.ensures.any_moment history stands)
+    leaves_import old c.make_edits.new.replica c.args.user path part history stands edits
+    (planned_over c.tree.result.now (tree_shown old) path part edits c.tree.ensures
+    c.in-Ok.ensures.made) (c.make_edits.ensures.any_moment history stands)
 
 pub returns-clause-any_moment : goal.returns-clause-any_moment
 returns-clause-any_moment g c history stands =
@@ -76,12 +61,6 @@ returns-clause-any_moment g c history stands =
     let path = c.args.path.now in
     let part = c.args.part.now in
     let edits = c.in-Ok.edits.items in
-    let event : Edit → Event = event_by c.args.user in
-    let makes : after_edits (tree_shown old) (map edit_of edits)
-    ≡ replace (tree_shown old) path part =
-    ap (λ (t : Tree). after_edits t (map edit_of edits)) (sym c.tree.ensures)
-    ∙ (c.in-Ok.ensures.made ∙ ap (λ (t : Tree). replace t path part) c.tree.ensures) in
-    weaker old c.make_edits.new.replica (IsBegun (pair_of old) history (map event edits))
-    (LeavesImport (pair_of old) history c.args.user path part)
-    (λ bytes is. leaves_import old (pair_of old) c.args.user path part edits history bytes makes
-    stands is) (c.make_edits.ensures.any_moment history stands)
+    leaves_import old c.make_edits.new.replica c.args.user path part history stands edits
+    (planned_over c.tree.result.now (tree_shown old) path part edits c.tree.ensures
+    c.in-Ok.ensures.made) (c.make_edits.ensures.any_moment history stands)
