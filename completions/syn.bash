@@ -5,7 +5,7 @@ _syn() {
     for ((i = 1; i < COMP_CWORD; i++)); do
         case ${COMP_WORDS[i]} in
             --served) served=-served ;;
-            --connections)
+            --connections | --prefer)
                 i=$((i + 1))
                 [ "${COMP_WORDS[i]}" != = ] || i=$((i + 1))
                 ;;
@@ -17,12 +17,15 @@ _syn() {
     done
     COMPREPLY=()
     case $word/$last in
+        */--prefer) mapfile -t COMPREPLY < <(compgen -W 'left right' -- "$word"); return ;;
         :/* | =/* | */: | */= | */--connections) return ;;
     esac
     local commands='format put mkdir rm show check log export import serve sync run plan simulate help'
     case $command in
         '') options+=' -V --version' ;;
-        put | mkdir | rm | show | plan) options+=' --served' ;;
+        put | mkdir | rm | show) options+=' --served' ;;
+        sync | run) options+=' --prefer' ;;
+        plan) options+=' --prefer --served' ;;
         export) options+=' --update --delete --served' ;;
         import) options+=' --skip --served' ;;
         serve) options+=' --connections' ;;

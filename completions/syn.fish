@@ -24,6 +24,8 @@ complete -c syn -n '__fish_seen_subcommand_from help' -a "$commands"
 complete -c syn -n '__fish_seen_subcommand_from format' -a 'replica archive'
 complete -c syn -n '__fish_seen_subcommand_from put mkdir rm show export import plan' -l served \
     -d 'Ask the server at HOST:PORT in the place of FILE'
+complete -c syn -n '__fish_seen_subcommand_from sync run plan' -l prefer -x -a 'left right' \
+    -d 'Put this side over the other where both changed'
 complete -c syn -n '__fish_seen_subcommand_from serve' -l connections -x \
     -d 'End when so many connections were served'
 complete -c syn -n '__fish_seen_subcommand_from export' -l update \

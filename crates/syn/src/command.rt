@@ -17,8 +17,8 @@ use std::time::Clock;
 use syn_command::{CommandError, Failure, Outcome, Status, print_meanings, report};
 use syn_file::HostFile;
 use syn_files::{
-    Between, NamedDisks, Telling, edit, export, import, print_image, print_log, print_numbers,
-    print_plan, run_session, serve_named, show,
+    Between, NamedDisks, Pairing, Telling, edit, export, import, print_image, print_log,
+    print_numbers, print_plan, run_session, serve_named, show,
 };
 use syn_words::{Line, LineError, read_words};
 
@@ -165,12 +165,8 @@ where
     E: Write,
 {
     let outcome = match (session_of(line), line) {
-        (Some((between, archive)), Line::Plan { .. }) => {
-            print_plan(rt, alloc, disks, between, archive, output)?
-        }
-        (Some((between, archive)), _) => {
-            run_session(rt, alloc, disks, between, archive, telling, output, errors)?
-        }
+        (Some(pairing), Line::Plan { .. }) => print_plan(rt, alloc, disks, pairing, output)?,
+        (Some(pairing), _) => run_session(rt, alloc, disks, pairing, telling, output, errors)?,
         (None, Line::Import(line)) => {
             let is_told = telling != Telling::Nothing;
             let position = import(rt, alloc, disks, files, line, is_told, errors)?;
@@ -186,27 +182,35 @@ where
     Ok(outcome)
 }
 
-/// What the session of the line is between, and its archive, where the line runs or plans one.
-fn session_of<'a>(line: &Line<'a>) -> Option<(Between<'a>, &'a str)> {
-    match *line {
+/// What the session of the line is of, where the line runs or plans one.
+fn session_of<'a>(line: &Line<'a>) -> Option<Pairing<'a>> {
+    let (between, archive, preference) = match *line {
         Line::Sync {
             archive,
             left,
             right,
-        } => Some((Between::Servers { left, right }, archive)),
+            preference,
+        } => (Between::Servers { left, right }, archive, preference),
         Line::Run {
             left,
             right,
             archive,
-        } => Some((Between::Named { left, right }, archive)),
+            preference,
+        } => (Between::Named { left, right }, archive, preference),
         Line::Plan {
             left,
             right,
             archive,
             is_served,
-        } => Some((between(left, right, is_served), archive)),
-        _ => None,
-    }
+            preference,
+        } => (between(left, right, is_served), archive, preference),
+        _ => return None,
+    };
+    Some(Pairing {
+        between,
+        archive,
+        preference,
+    })
 }
 
 /// The replicas of these names, or those that are served at these addresses.

@@ -77,11 +77,13 @@ fn explain<E: Write>(line: &Line<'_>, error: &CommandError, errors: &mut E) {
             archive,
             left,
             right,
+            ..
         }
         | Line::Run {
             left,
             right,
             archive,
+            ..
         }
         | Line::Plan {
             left,

@@ -1,7 +1,7 @@
 -- A session that asks for what comes next.
 use Rattle.std.proofs.Common.{◌≡◌, ◌≤◌, ◌<◌, ◌^◌, ◌⊎◌, ◌+◌, ℕ, zero, suc, Bool, true, false, nat_lt}
 use Rattle.std.proofs.Common.{List, [], ◌∷◌, ◌++◌, length, get_or, refl, sym, ap, ap₂, ◌∙◌, subst}
-use Rattle.std.proofs.Common.{inl, inr, arith}
+use Rattle.std.proofs.Common.{inl, inr, arith, option_map, Option}
 use Rattle.std.specs.Prelude.{All, AllPairs, Contains}
 use Rattle.std.specs.List.{count_by}
 use Rattle.std.proofs.lemmas.Bool.Decides.{nat_tests}
@@ -25,6 +25,8 @@ use Rattle.syn_session.specs.Hearing.{IsFresh}
 use Rattle.syn_session.specs.Sessions.{IsLine}
 use Rattle.syn_session.specs.Stages.{line_of, waiting_of}
 use Rattle.syn_session.proofs.WaitingLemmas.{below_more}
+use Rattle.syn_path.specs.Sides.{which_of}
+use Rattle.syn_path.specs.declared.side.Side.{Side}
 
 -- two that ask for the same thing do so in either order
 pub repeat_back : (a b : Request) → IsRepeat a b → IsRepeat b a
@@ -82,7 +84,7 @@ numbered_at count (request ∷ more) one (suc k, h, e) =
 
 module _ (heard : Running) (old new : Session) (asks : Asks) (is : IsHeard old heard)
     (asked : (side : Which) → IsAskedOn (line_of old side) (line_of new side) (asks_of asks side))
-    (number : new.number ≡ old.number)
+    (number : new.number ≡ old.number) (preferred : new.preference ≡ old.preference)
     (may_wait : (side : Which) → MayWait (waiting_of (line_of old side)
     ++ numbered (line_of old side).asked (asks_of asks side)))
     (apart : (side : Which) → AllPairs (λ one another. ¬ IsRepeat one another)
@@ -232,6 +234,8 @@ module _ (heard : Running) (old new : Session) (asks : Asks) (is : IsHeard old h
     heard_asking =
         record {
           number = is.number ∙ sym number;
+          preference =
+              is.preference ∙ sym (ap (λ (p : Option Side). option_map which_of p) preferred);
           lawful =
               subst (λ n. n < 2 ^ 64) (sym number) is.lawful;
           line = line_asked;

@@ -12,7 +12,7 @@ use Rattle.syn_headline.specs.Network.{Left, Right, Which, other}
 use Rattle.syn_headline.specs.Side.{Begin, Fetch, Listed, ListAt, NotDir, Replace, Request, Stage}
 use Rattle.syn_headline.specs.Side as said
 use Rattle.syn_message.specs.declared.request.Request.{Request as Asked}
-use Rattle.syn_message.specs.declared.side.Side.{Side}
+use Rattle.syn_path.specs.declared.side.Side.{Side}
 use Rattle.syn_model.specs.Plan as planning
 use Rattle.syn_propagate.specs.Transfers.{IsForItem, WaitsFor, WaitsForItem, carriage_of}
 use Rattle.syn_propagate.specs.declared.carriage.Carriage.{Carriage}
@@ -58,7 +58,13 @@ use Rattle.syn_coordinator.proofs.TriedLemmas.{tries_none}
 heard_with : (session : Session) (course : Option Course) (heard : Running) →
     IsHeard session heard → IsHeard (record session { course = course }) heard
 heard_with session course heard h =
-    record { number = h.number; lawful = h.lawful; line = line; once = h.once }
+    record {
+      number = h.number;
+      preference = h.preference;
+      lawful = h.lawful;
+      line = line;
+      once = h.once;
+    }
   where
     line : (side : Which) → IsLine (line_of (record session { course = course }) side) heard side
     line Left = h.line Left
@@ -110,15 +116,17 @@ module _ {D : Type 0} {disk : Ghosts D} (old : Coordinator D disk) (pair : ℕ) 
     }
 
     module _ (items : items_of made.items.items
-        ≡ planning.plan (scan_of left) (scan_of right) journal.value.marks)
+        ≡ planning.plan running.preference (scan_of left) (scan_of right) journal.value.marks)
         (on_left : IsScanBy (WasListedAt (running.taken ++ taken ∷ []) Left)
         (WasNoDirectoryAt (running.taken ++ taken ∷ []) Left) (scan_of left) (position_of left))
         (on_right : IsScanBy (WasListedAt (running.taken ++ taken ∷ []) Right) (WasNoDirectoryAt
         (running.taken ++ taken ∷ []) Right) (scan_of right) (position_of right)) where
       made_it : HasPlan journal.value (hearing running taken) first.plan
-          (made_of running.session journal.value.marks left right (items_of made.items.items) ∷ [])
+          (made_of running.session running.preference journal.value.marks left right
+          (items_of made.items.items) ∷ [])
       made_it =
-          makes (made_of running.session journal.value.marks left right (items_of made.items.items))
+          makes (made_of running.session running.preference journal.value.marks left right
+          (items_of made.items.items))
           (ap (λ (r : Reached). r.plan) heard.reached)
           (makes_plan (hearing running taken) journal.value left right
           (items_of made.items.items) items scanned.begun on_left on_right)

@@ -14,7 +14,7 @@ use Rattle.syn_keep.specs.Tries.{record_of}
 use Rattle.syn_keep.specs.declared.due.Due.{Due}
 use Rattle.syn_keep.specs.declared.due.Due.TheVariants.{Ends}
 use Rattle.syn_message.specs.declared.request.Request.{Request}
-use Rattle.syn_message.specs.declared.side.Side.{Side}
+use Rattle.syn_path.specs.declared.side.Side.{Side}
 use Rattle.syn_refusal.specs.declared.refusal.Refusal.TheVariants as refusal
 
 module _ {D : Type 0} {disk : Ghosts D} where

@@ -16,10 +16,10 @@ use Rattle.syn_headline.specs.Session.{IsStagedTo, WasTaken, first_total, is_wan
 use Rattle.syn_headline.specs.Side.{Begin, Fetch, IsLawfulBody, ListAt, Piece, Replace, Request}
 use Rattle.syn_headline.specs.Side.{Stage, Staged}
 use Rattle.syn_message.specs.Requests.{request_of}
-use Rattle.syn_message.specs.Sides.{which_of}
+use Rattle.syn_path.specs.Sides.{which_of}
 use Rattle.syn_message.specs.declared.request.Request.{Request as Asked}
-use Rattle.syn_message.specs.declared.side.Side.{Side}
-use Rattle.syn_message.specs.declared.side.Side.TheVariants as side_is
+use Rattle.syn_path.specs.declared.side.Side.{Side}
+use Rattle.syn_path.specs.declared.side.Side.TheVariants as side_is
 use Rattle.syn_model.specs.Archive as model
 use Rattle.syn_model.specs.Archive.{Kept, Recorded, kept_refusal}
 use Rattle.syn_model.specs.Decision.{path_of}
@@ -141,7 +141,13 @@ module _ (archive : model.Archive) (running : Running) (plan : List Planned) (pl
 heard_reaching : (session : Session) (running : Running) (taken : Exchange) (after : Reached) →
     IsHeard session (hearing running taken) → IsHeard session (reaching running taken after)
 heard_reaching session running taken after h =
-    record { number = h.number; lawful = h.lawful; line = line; once = once }
+    record {
+      number = h.number;
+      preference = h.preference;
+      lawful = h.lawful;
+      line = line;
+      once = once;
+    }
   where
     line : (side : Which) → IsLine (line_of session side) (reaching running taken after) side
     line Left =

@@ -1,5 +1,5 @@
 -- The plan that a session makes, once both sides are scanned.
-use Rattle.std.proofs.Common.{◌≡◌, ℕ, List, [], ◌∷◌, None, map, get_or, refl, ap, ◌∙◌}
+use Rattle.std.proofs.Common.{◌≡◌, ℕ, List, [], ◌∷◌, None, map, get_or, refl, ap, ◌∙◌, Option}
 use Rattle.std.specs.List.{All}
 use Rattle.std.proofs.lemmas.List.Elements.{All-map}
 use Rattle.syn_headline.specs.Network.{Which, Left, Right}
@@ -43,10 +43,10 @@ sees_both left right items =
     sees item Right = (refl, refl)
 
 -- with the scans and the archive that it was made of
-abbrev pub made_of : ℕ → Tree → Found → Found → List Item → SessionPlan
-made_of session archive left right items = record {
+abbrev pub made_of : ℕ → Option Which → Tree → Found → Found → List Item → SessionPlan
+made_of session preference archive left right items = record {
   session = session;
-  preference = None;
+  preference = preference;
   scan = scans_by left right;
   since = since_by left right;
   archive = archive;
@@ -55,14 +55,16 @@ made_of session archive left right items = record {
 
 -- once both sides had begun, and each scan is that of what its side answered
 pub makes_plan : (running : Running) (archive : Archive) (left right : Found) (items : List Item) →
-    items ≡ model.plan (scan_of left) (scan_of right) archive.marks → BothBegun running.taken →
+    items ≡ model.plan running.preference (scan_of left) (scan_of right) archive.marks → BothBegun
+    running.taken →
     IsScanBy (WasListedAt running.taken Left) (WasNoDirectoryAt running.taken Left) (scan_of left)
     (position_of left) → IsScanBy (WasListedAt running.taken Right)
     (WasNoDirectoryAt running.taken Right) (scan_of right) (position_of right) →
-    MakesPlan running archive (made_of running.session archive.marks left right items)
+    MakesPlan running archive (made_of running.session running.preference archive.marks left right
+    items)
 makes_plan running archive left right items is_plan begun on_left on_right = record {
   of_session = refl;
-  prefers_none = refl;
+  prefers = refl;
   archive_is = refl;
   begun = begun;
   scanned = scanned;

@@ -10,7 +10,7 @@ use Rattle.syn_headline.specs.Coordinator as is_due_by
 use Rattle.syn_headline.specs.Planning.{Planned}
 use Rattle.syn_headline.specs.Side as model
 use Rattle.syn_message.specs.declared.request.Request.{Request as Asked}
-use Rattle.syn_message.specs.declared.side.Side.{Side}
+use Rattle.syn_path.specs.declared.side.Side.{Side}
 use Rattle.syn_model.specs.Archive.{Kept, Session, IsOfItem}
 use Rattle.syn_model.specs.Refusal.{Refusal as Why}
 use Rattle.syn_scan.specs.Found.{Found}

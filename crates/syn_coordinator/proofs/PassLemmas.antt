@@ -12,9 +12,9 @@ use Rattle.syn_headline.specs.Coordinator.{Exchange, settled, stands}
 use Rattle.syn_headline.specs.Planning.{Planned}
 use Rattle.syn_headline.specs.Session.{record_for}
 use Rattle.syn_message.specs.declared.request.Request.{Request as Asked}
-use Rattle.syn_message.specs.declared.side.Side.{Side}
+use Rattle.syn_path.specs.declared.side.Side.{Side}
 use Rattle.syn_message.specs.Requests.{request_of}
-use Rattle.syn_message.specs.Sides.{which_of}
+use Rattle.syn_path.specs.Sides.{which_of}
 use Rattle.syn_model.specs.Archive.{kept_refusal, Kept}
 use Rattle.syn_propagate.specs.Transfers.{Asks, carriage_of}
 use Rattle.syn_refusal.specs.Refusals.{cause_of}

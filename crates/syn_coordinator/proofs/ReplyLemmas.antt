@@ -69,7 +69,9 @@ module _ (pair : ℕ) (machine : CoordinatorMachine) (running : Running) (taken 
       (quiet : machine.journal.writing ≡ None)
       (asked : (side : Which) →
       IsAskedOn (line_of session side) (line_of next side) (asks_of asks side))
-      (number : next.number ≡ session.number) (unstable : next.is_unstable ≡ session.is_unstable)
+      (number : next.number ≡ session.number)
+      (preferred : next.preference ≡ session.preference) (unstable : next.is_unstable ≡
+      session.is_unstable)
       (course : next.course ≡ session.course) where
     abbrev heard : Running
     heard = reaching running taken on.after
@@ -85,11 +87,12 @@ module _ (pair : ℕ) (machine : CoordinatorMachine) (running : Running) (taken 
 
     is_session : IsSession on.now.value next (says heard)
     is_session =
-        let h = heard_asking heard session next asks on.heard asked number on.may.may_wait
+        let h = heard_asking heard session next asks on.heard asked number preferred on.may.may_wait
         on.may.apart
         on.may.fresh in
         record {
           number = h.number;
+          preference = h.preference;
           lawful = h.lawful;
           line = h.line;
           once = h.once;
@@ -99,7 +102,8 @@ module _ (pair : ℕ) (machine : CoordinatorMachine) (running : Running) (taken 
 
     may_ask : AsksNext on.now.value heard (asks_of asks Left) (asks_of asks Right)
     may_ask =
-        asks_next heard session next asks on.heard asked number on.may.may_wait on.may.apart
+        asks_next heard session next asks on.heard asked number preferred on.may.may_wait
+        on.may.apart
         on.may.fresh on.now.value on.may.may on.may.some
 
     -- it asks both sides for what comes next
@@ -124,7 +128,7 @@ module _ (pair : ℕ) (machine : CoordinatorMachine) (running : Running) (taken 
           tries = tries_none pair new.tried on.now untried (on.quiet quiet);
         }) refl
         (ap (λ r. sent_now r (asks_of asks Left) (asks_of asks Right)) same
-        ∙ (sym (sends_that heard session next asks on.heard asked number on.may.may_wait
+        ∙ (sym (sends_that heard session next asks on.heard asked number preferred on.may.may_wait
         on.may.apart) ∙ sym sent))
         (sym (ap (λ s. if is_some s then [] else in_report (report_shown new)) runs_it))
 

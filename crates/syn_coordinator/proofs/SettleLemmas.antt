@@ -172,6 +172,6 @@ pub fresh_for : PlanIsOrderly → (archive : model.Archive) (course : Course) (l
     AreAskedBefore (plan_in course left right) course.cursor all →
     IsFresh (carriage_of carried.transfer) all
 fresh_for orderly archive course left right reached is planned at carried carries all asked =
-    is_fresh (plan_in course left right) (named_once left right is.made.0
-    (items_of course.items.items) is.made.1 orderly) course.cursor planned at
+    is_fresh (plan_in course left right) (named_once is.made.0 left right is.made.1
+    (items_of course.items.items) is.made.2 orderly) course.cursor planned at
     (carriage_of carried.transfer) carries.carriage.item_is carries.carriage.path_is all asked

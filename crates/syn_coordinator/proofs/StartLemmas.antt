@@ -27,6 +27,7 @@ use Rattle.syn_coordinator.proofs.TriedLemmas.{failed_at, fits_in, kept_quiet, t
 use Rattle.syn_coordinator.proofs.TriedLemmas.{tries_none}
 use Rattle.syn_archive.specs.declared.archive.Archive.{Archive}
 use Rattle.syn_keep.specs.Steps.{KeepsSo, moves_on, moves_down}
+use Rattle.syn_model.specs.Which.{Which}
 
 is_up : Status → Bool
 is_up Up = true
@@ -117,8 +118,9 @@ no_session coordinator pair journal is running tries = record {
   tries = tries;
 }
 
-module _ {D : Type 0} {disk : Ghosts D} (old new : Coordinator D disk) (pair : ℕ)
-    (machine : CoordinatorMachine) (idle : runs old ≡ false) where
+module _ {D : Type 0} {disk : Ghosts D} (preference : Option Which)
+    (old new : Coordinator D disk) (pair : ℕ) (machine : CoordinatorMachine)
+    (idle : runs old ≡ false) where
   -- no report stands for it
   no_report : [] ≡ ended_in old new
   no_report = sym (ap (λ b. if b && not (runs new) then in_report (report_shown new) else []) idle)
@@ -130,15 +132,16 @@ module _ {D : Type 0} {disk : Ghosts D} (old new : Coordinator D disk) (pair : �
     -- both sides are to begin the session
     pub started : machine.journal.writing ≡ None → new.tried ≡ None → (session : Ran) →
         new.running ≡ Some session →
-        ((archive : model.Archive) → IsSession archive session (begun number pair)) →
+        ((archive : model.Archive) → IsSession archive session (begun preference number pair)) →
         KeepsSo new.archive pair machine.journal (Session number) (Session number ∷ []) Up →
-        Does old new pair (CoordinatorStarts pair machine) (Session number ∷ [])
-        (sent_now (new_session number) (begins pair) (begins pair))
+        Does old new pair (CoordinatorStarts pair preference machine) (Session number ∷ [])
+        (sent_now (new_session preference number) (begins pair) (begins pair))
     started quiet untried session running begins (moves_on journal (keeps, shown) up is) =
         goes_on _ _ (starts number journal refl (session_fits, pair_fits) keeps up) (record {
           journal = is;
           running =
-              subst (λ s. IsRunning journal.value s (Some (begun number pair))) (sym running)
+              subst (λ s. IsRunning journal.value s (Some (begun preference number pair)))
+              (sym running)
               (begins journal.value);
           quiet = λ _. idle_when_up new.archive pair journal is up;
           untried = λ _. untried;
@@ -168,7 +171,7 @@ module _ {D : Type 0} {disk : Ghosts D} (old new : Coordinator D disk) (pair : �
       HoldsTried new.archive (Session number) new.tried →
       has_room (archive_layout pair) machine.journal (Session number) ≡ true → new.running ≡ None →
       KeepsSo new.archive pair machine.journal (Session number) [] Halted →
-      Does old new pair (CoordinatorStarts pair machine) [] []
+      Does old new pair (CoordinatorStarts pair preference machine) [] []
   start_failed quiet held has running (moves_on journal (keeps, shown) halted is) =
       goes_on _ _ (start_breaks number journal [] refl keeps (halted_not_up halted))
       (no_session new pair journal is running

@@ -8,7 +8,7 @@ ghost use Rattle.syn_headline.specs.Coordinator.{CoordinatorTicks, Running, repo
 ghost use Rattle.syn_headline.specs.Machine.{Halted, Up};
 ghost use Rattle.syn_keep.specs.Machines.{IsMachine, Journal};
 ghost use Rattle.syn_keep.specs.Steps.{KeepsSo};
-ghost use Rattle.syn_message.specs.Sides.{which_of};
+ghost use Rattle.syn_path.specs.Sides.{which_of};
 ghost use Rattle.syn_model.specs.Archive.{Archive as Keeping, Session as Begun};
 ghost use Rattle.syn_model.specs.Refusal.{Memory, first_cause};
 ghost use Rattle.syn_refusal.specs.Refusals.{cause_of};
@@ -173,20 +173,27 @@ impl<D: Disk> Coordinator<D> {
     }
 
     /// Starts a session: its number is kept in the archive, and both sides are to begin it. It
-    /// answers what is to be sent.
+    /// answers what is to be sent. Where both sides changed a path, what the preferred side has
+    /// goes to the other; with no preference each keeps what it has.
     ///
     /// Refused 10 while the archive is halted, 12 while a session runs, 7 where the last session
     /// has the greatest number, 8 where the record does not fit in the archive's journal, 11 where
     /// memory is refused, and 9 where a device call fails. After 9 the archive is halted; after
     /// any other refusal nothing changed.
-    pub fn start(&mut self, alloc: Global) -> Result<Vec<Sending>, SessionError>
+    pub fn start(
+        &mut self,
+        alloc: Global,
+        preference: Option<Side>,
+    ) -> Result<Vec<Sending>, SessionError>
         // It is the step of a coordinator that starts, also where its device fails or is stopped.
         ensures step { (pair : ℕ) (machine : CoordinatorMachine) → Stands self.old pair machine
             → MatchResult result
-            (λ sends. Does self.old self.new pair (CoordinatorStarts pair machine)
+            (λ sends. Does self.old self.new pair (CoordinatorStarts pair
+            (option_map which_of preference) machine)
             (written self.new) (messages_of sends.items))
             (λ e. e ≡ SessionError.Device
-            → Does self.old self.new pair (CoordinatorStarts pair machine) [] []) }
+            → Does self.old self.new pair (CoordinatorStarts pair
+            (option_map which_of preference) machine) [] []) }
 
         // Any other refusal is the first cause that stands, and changes nothing.
         ensures refused { (pair : ℕ) (machine : CoordinatorMachine) → Stands self.old pair machine
@@ -217,7 +224,7 @@ impl<D: Disk> Coordinator<D> {
         let number = self.archive.last_session() + 1;
         let mut written = Vec::new(alloc);
         written.push(Kept::Session(number))?;
-        let (session, sends) = first_requests(alloc, number, self.archive.pair())?;
+        let (session, sends) = first_requests(alloc, number, self.archive.pair(), preference)?;
         self.keep_session(alloc, session, written)?;
         Ok(sends)
     }
@@ -409,22 +416,24 @@ fn is_device(error: ArchiveError) -> bool
     }
 }
 
-/// A session of which nothing was answered, with its first requests. Refused 11 where memory is
-/// refused.
+/// A session with this preference of which nothing was answered, with its first requests. Refused
+/// 11 where memory is refused.
 fn first_requests(
     alloc: Global,
     number: u64,
     pair: u64,
+    preference: Option<Side>,
 ) -> Result<(Session, Vec<Sending>), SessionError>
     ensures begun { (archive : Keeping)
-        → IfOk result (λ first. IsSession archive first.0 (begun number pair)) }
+        → IfOk result (λ first. IsSession archive first.0
+        (begun (option_map which_of preference) number pair)) }
     ensures sends { IfOk result (λ first. messages_of first.1.items
         ≡ begin_messages number pair) }
     ensures number { IfOk result (λ first. first.0.number ≡ number) }
     ensures fits { pair < 2 ^ 64 }
     ensures memory { IfErr result (λ e. e ≡ SessionError.Memory) }
 {
-    let session = Session::new(alloc, number, pair)?;
+    let session = Session::new(alloc, number, pair, preference)?;
     match session.waiting(alloc) {
         Ok(sends) => Ok((session, sends)),
         Err(error) => {

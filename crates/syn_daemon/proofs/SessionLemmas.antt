@@ -1,5 +1,5 @@
 -- A coordinator that nobody called, and refusals of one that was driven.
-use Rattle.std.proofs.Common.{◌≡◌, ℕ, [], false, refl, sym, subst, inl}
+use Rattle.std.proofs.Common.{◌≡◌, ℕ, [], false, refl, sym, subst, inl, Option}
 use Rattle.std.specs.Prelude.{IfErr, None, Result, Ok, Err}
 use Rattle.syn_daemon.specs.Sessions.{DrivesSession, RefusesRun, RefusesSync, drive_refused}
 use Rattle.syn_daemon.specs.Sessions.{no_port, run_refused, unreached}
@@ -13,12 +13,14 @@ use Rattle.syn_coordinator.specs.declared.coordinator.Coordinator.{Coordinator}
 use Rattle.syn_sync.proofs.WriteLemmas.{writes_nothing}
 use Rattle.syn_sync.specs.Drivers.{Lines, Outlets}
 use Rattle.syn_sync.specs.Refusals.{Refuses}
+use Rattle.syn_model.specs.Which.{Which}
 
 module _ {D : Type 0} {disk : Ghosts D} where
   -- it was driven by no act
-  pub untouched : (coordinator : Coordinator D disk) (pair : ℕ) (machine : CoordinatorMachine)
+  pub untouched : {preference : Option Which} (coordinator : Coordinator D disk) (pair : ℕ)
+      (machine : CoordinatorMachine)
       (why : Answer) → Stands coordinator pair machine
-      → DrivesSession coordinator pair machine (Err why)
+      → DrivesSession preference coordinator pair machine (Err why)
   untouched coordinator pair machine why stands =
       let lines : Lines = λ side. record { given = None; held = [] } in
       let outlets : Outlets = λ side. record { written = None; goes = false } in record {

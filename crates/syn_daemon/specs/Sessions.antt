@@ -1,5 +1,5 @@
 -- What a session over two connections was to its coordinator.
-use Rattle.std.specs.Prelude.{◌≡◌, ℕ, OnOk, Result}
+use Rattle.std.specs.Prelude.{◌≡◌, ℕ, OnOk, Result, Option}
 use Rattle.syn_disk.specs.declared.disk.Disk.{Ghosts}
 use Rattle.syn_headline.specs.Coordinator.{CoordinatorMachine}
 use Rattle.syn_model.specs.Refusal.{Busy, Device, Memory, Refusal}
@@ -8,17 +8,19 @@ use Rattle.syn_coordinator.specs.declared.coordinator.Coordinator.{Coordinator}
 use Rattle.syn_sync.specs.Drivers.{Lines, Outlets}
 use Rattle.syn_sync.specs.Refusals.{Refuses}
 use Rattle.syn_sync.specs.Runs.{Begins, Drives}
+use Rattle.syn_model.specs.Which.{Which}
 
 module _ {D : Type 0} {disk : Ghosts D} where
-  -- It was driven over some connections; an Ok says that it was started
-  pub record DrivesSession (new : Coordinator D disk) (pair : ℕ) (machine : CoordinatorMachine)
-      (result : Result Unit Answer) : Type 0 where
+  -- It was driven over some connections; an Ok says that it was started, with the
+  -- preference
+  pub record DrivesSession (preference : Option Which) (new : Coordinator D disk) (pair : ℕ)
+      (machine : CoordinatorMachine) (result : Result Unit Answer) : Type 0 where
     pub lines : Lines
     pub heard : Lines
     pub from : Outlets
     pub to : Outlets
     pub drives : Drives new pair machine lines heard from to
-    pub begins : OnOk result (Begins drives.acts)
+    pub begins : OnOk result (Begins preference drives.acts)
 
   -- A side was not reached, or both are one server, and the coordinator stays as it was; or the
   -- driver refuses it so

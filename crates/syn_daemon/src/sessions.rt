@@ -1,5 +1,6 @@
 //! Sessions over connections to servers.
-ghost use Rattle.std.specs.Prelude.{◌≡◌, ℕ, false, IfErr, OnOk};
+ghost use Rattle.std.specs.Prelude.{◌≡◌, ℕ, false, option_map, IfErr, OnOk};
+ghost use Rattle.syn_path.specs.Sides.{which_of};
 ghost use Rattle.syn_daemon.specs.Sessions.{DrivesSession, RefusesRun, RefusesSync};
 ghost use Rattle.syn_daemon.specs.inner.Started.{RunsSession};
 ghost use Rattle.syn_disk.specs.Arms.{is_stopped};
@@ -21,12 +22,13 @@ use std::thread::{Scope, Threads};
 use std::time::{Clock, Duration};
 use syn_coordinator::Coordinator;
 use syn_disk::{Disk, Limit};
+use syn_path::Side;
 use syn_refusal::Refusal;
 use syn_shared::SharedReplica;
 use syn_sync::{Driver, Link, Watch};
 
-/// Drives one session with the servers at these addresses, each `HOST:PORT`, and closes both
-/// connections. The coordinator has the report.
+/// Drives one session, which prefers a side or none, with the servers at these addresses, each
+/// `HOST:PORT`, and closes both connections. The coordinator has the report.
 ///
 /// Refused 9 where an address cannot be resolved or reached, and 12 where both are of one server,
 /// which would be marked as agreeing with itself: no session runs then. Else refused as
@@ -37,11 +39,12 @@ pub fn sync<H: Net<Listener = TcpListener, Stream = TcpStream>, C: Limit, V: Wat
     coordinator: &mut Coordinator<C>,
     left: &str,
     right: &str,
+    preference: Option<Side>,
     watch: &mut V,
 ) -> Result<(), Refusal>
     ensures drives { (pair : ℕ) (machine : CoordinatorMachine)
         → Stands coordinator.old pair machine
-        → DrivesSession coordinator.new pair machine result }
+        → DrivesSession (option_map which_of preference) coordinator.new pair machine result }
     ensures refused { (pair : ℕ) (machine : CoordinatorMachine)
         → Stands coordinator.old pair machine
         → IfErr result (λ why. RefusesSync coordinator.old coordinator.new pair machine
@@ -60,7 +63,8 @@ pub fn sync<H: Net<Listener = TcpListener, Stream = TcpStream>, C: Limit, V: Wat
     if are_of_one(&left, &right) {
         return Err(Refusal::Busy);
     }
-    drive(alloc, coordinator, Streams::new(&left, &right), watch)
+    let streams = Streams::new(&left, &right);
+    drive(alloc, coordinator, streams, preference, watch)
 }
 
 /// Serves both replicas on loopback ports that the system picks, drives one session with the two
@@ -78,6 +82,7 @@ pub fn run<H, D, C, G, K, V>(
     coordinator: Coordinator<C>,
     left_gates: &G,
     right_gates: &K,
+    preference: Option<Side>,
     watch: &mut V,
 ) -> (Coordinator<C>, Result<(), Refusal>)
 where
@@ -88,7 +93,7 @@ where
     K: Gates + Sync,
     V: Watch,
     ensures drives { (pair : ℕ) (machine : CoordinatorMachine) → Stands coordinator pair machine
-        → DrivesSession result.0 pair machine result.1 }
+        → DrivesSession (option_map which_of preference) result.0 pair machine result.1 }
     ensures refused { (pair : ℕ) (machine : CoordinatorMachine) → Stands coordinator pair machine
         → IfErr result.1 (λ why. RefusesRun coordinator result.0 pair machine (cause_of why)) }
     ensures ended { OnOk result.1 (runs result.0 ≡ false) }
@@ -106,11 +111,19 @@ where
         thread::scope_env(),
         rt,
         move |scope| -> (Coordinator<C>, Result<(), Refusal>)
-            ensures { RunsSession coordinator result.0 result.1 }
+            ensures { RunsSession (option_map which_of preference) coordinator result.0 result.1 }
         {
             let started = start(scope, rt, alloc, left, left_port, left_gates)
                 && start(scope, rt, alloc, right, right_port, right_gates);
-            drive_started(alloc, coordinator, left_line, right_line, started, watch)
+            drive_started(
+                alloc,
+                coordinator,
+                left_line,
+                right_line,
+                started,
+                preference,
+                watch,
+            )
         },
     )
 }
@@ -160,14 +173,16 @@ fn drive_started<C: Limit, V: Watch>(
     left: TcpStream,
     right: TcpStream,
     started: bool,
+    preference: Option<Side>,
     watch: &mut V,
 ) -> (Coordinator<C>, Result<(), Refusal>)
-    ensures { RunsSession coordinator result.0 result.1 }
+    ensures { RunsSession (option_map which_of preference) coordinator result.0 result.1 }
 {
     if !started {
         return (coordinator, Err(Refusal::Memory));
     }
-    let driven = drive(alloc, &mut coordinator, Streams::new(&left, &right), watch);
+    let streams = Streams::new(&left, &right);
+    let driven = drive(alloc, &mut coordinator, streams, preference, watch);
     (coordinator, driven)
 }
 
@@ -176,11 +191,12 @@ fn drive<C: Limit, V: Watch>(
     alloc: Global,
     coordinator: &mut Coordinator<C>,
     mut streams: Streams<'_>,
+    preference: Option<Side>,
     watch: &mut V,
 ) -> Result<(), Refusal>
     ensures drives { (pair : ℕ) (machine : CoordinatorMachine)
         → Stands coordinator.old pair machine
-        → DrivesSession coordinator.new pair machine result }
+        → DrivesSession (option_map which_of preference) coordinator.new pair machine result }
     ensures refused { (pair : ℕ) (machine : CoordinatorMachine)
         → Stands coordinator.old pair machine
         → IfErr result (λ why. Refuses coordinator.old coordinator.new pair machine
@@ -190,7 +206,7 @@ fn drive<C: Limit, V: Watch>(
 {
     let left = Link::new(alloc, streams.left, streams.left);
     let right = Link::new(alloc, streams.right, streams.right);
-    Driver::new(left, right).run(alloc, coordinator, &mut streams, watch)
+    Driver::new(left, right).run(alloc, coordinator, preference, &mut streams, watch)
 }
 
 /// A port of this machine alone that the system picks, with a connection to it that waits to be

@@ -2,7 +2,7 @@
 
 use crate::named::{NamedDisks, archive_to_read, replica_to_read};
 use crate::network::reach;
-use crate::sessions::Between;
+use crate::sessions::{Between, Pairing};
 use std::alloc::Global;
 use std::io::Write;
 use std::net::{Net, TcpStream};
@@ -17,8 +17,8 @@ use syn_replica::Replica;
 use syn_standing::ReplicaError;
 use syn_user::SideConnection;
 
-/// Prints what a session over the archive of that name would do, and answers what there is to do.
-/// Nothing is written, and no session begins.
+/// Prints what a session of the replicas and their archive would do, and answers what there is to
+/// do. Nothing is written, and no session begins.
 ///
 /// Refused as an opening to read is, left first and the archive last; 9 where an address cannot be
 /// reached; and as a session ends early that scans both sides. Of files it is refused 12 where both
@@ -27,17 +27,21 @@ pub fn print_plan<H: Net<Stream = TcpStream>, N: NamedDisks, O: Write>(
     rt: &H,
     alloc: Global,
     disks: &N,
-    between: Between<'_>,
-    archive: &str,
+    pairing: Pairing<'_>,
     output: &mut O,
 ) -> Result<Outcome, CommandError> {
+    let Pairing {
+        between,
+        archive,
+        preference,
+    } = pairing;
     match between {
         Between::Servers { left, right } => {
             let archive = archive_to_read(alloc, disks, archive)?;
             let (left, right) = (reach(rt, left)?, reach(rt, right)?);
             let mut left = SideConnection::new(alloc, &left, &left);
             let mut right = SideConnection::new(alloc, &right, &right);
-            let planned = plan_between(alloc, &mut left, &mut right, archive.tree());
+            let planned = plan_between(alloc, &mut left, &mut right, archive.tree(), preference);
             print_planned(alloc, planned, archive.tree(), output)
         }
         Between::Named { left, right } => {
@@ -49,7 +53,7 @@ pub fn print_plan<H: Net<Stream = TcpStream>, N: NamedDisks, O: Write>(
             let archive = archive_to_read(alloc, disks, archive)?;
             check_begin(&left, &archive)?;
             check_begin(&right, &archive)?;
-            let planned = plan_of_replicas(alloc, &left, &right, archive.tree());
+            let planned = plan_of_replicas(alloc, &left, &right, archive.tree(), preference);
             print_planned(alloc, planned, archive.tree(), output)
         }
     }

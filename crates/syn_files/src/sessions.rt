@@ -14,6 +14,7 @@ use syn_command::{CommandError, Outcome, outcome_of};
 use syn_coordinator::Coordinator;
 use syn_daemon::{OpenGates, run, sync};
 use syn_disk::{Disk, Limit};
+use syn_path::Side;
 use syn_refusal::Refusal;
 use syn_session::Report;
 use syn_shared::SharedReplica;
@@ -29,6 +30,15 @@ pub enum Between<'a> {
     Named { left: &'a str, right: &'a str },
 }
 
+/// Two replicas and their archive, and the side that goes to the other where both changed.
+#[derive(Clone, Copy, Debug)]
+pub struct Pairing<'a> {
+    pub between: Between<'a>,
+    /// The name of the archive.
+    pub archive: &'a str,
+    pub preference: Option<Side>,
+}
+
 /// How much is told of a session as it goes.
 #[derive(Clone, Copy, Debug, PartialEq, Eq)]
 pub enum Telling {
@@ -40,8 +50,8 @@ pub enum Telling {
     ItemsAndCounts,
 }
 
-/// Runs a session over the archive of that name, prints its report, and answers what it came to.
-/// What is told of it goes to `errors`.
+/// Runs a session of the replicas and their archive, prints its report, and answers what it came
+/// to. What is told of it goes to `errors`.
 ///
 /// Refused as an opening of a disk is, left first and the archive last; 9 where an address cannot
 /// be reached; and as the start of a session is.
@@ -49,8 +59,7 @@ pub fn run_session<H, N, O, E>(
     rt: &H,
     alloc: Global,
     disks: &N,
-    between: Between<'_>,
-    archive: &str,
+    pairing: Pairing<'_>,
     telling: Telling,
     output: &mut O,
     errors: &mut E,
@@ -62,11 +71,11 @@ where
     E: Write,
 {
     if let Telling::Nothing = telling {
-        return drive(rt, alloc, disks, between, archive, &mut Unwatched, output);
+        return drive(rt, alloc, disks, pairing, &mut Unwatched, output);
     }
     let counts = telling == Telling::ItemsAndCounts;
     let mut progress = Progress::new(alloc, errors, counts);
-    drive(rt, alloc, disks, between, archive, &mut progress, output)
+    drive(rt, alloc, disks, pairing, &mut progress, output)
 }
 
 /// What watches a session and hears how it ended.
@@ -85,13 +94,12 @@ impl<W: Write> Told for Progress<W> {
     }
 }
 
-/// Runs a session over the archive of that name, and prints its report.
+/// Runs a session of the replicas and their archive, and prints its report.
 fn drive<H, N, V, O>(
     rt: &H,
     alloc: Global,
     disks: &N,
-    between: Between<'_>,
-    archive: &str,
+    pairing: Pairing<'_>,
     watch: &mut V,
     output: &mut O,
 ) -> Result<Outcome, CommandError>
@@ -101,14 +109,23 @@ where
     V: Told,
     O: Write,
 {
-    match between {
+    match pairing.between {
         Between::Servers { left, right } => {
-            let archive = archive_in(alloc, disks, archive)?;
-            drive_served(rt, alloc, left, right, archive, watch, output)
+            let archive = archive_in(alloc, disks, pairing.archive)?;
+            drive_served(
+                rt,
+                alloc,
+                left,
+                right,
+                archive,
+                pairing.preference,
+                watch,
+                output,
+            )
         }
         Between::Named { left, right } => {
             let left = shared_in(alloc, disks, left)?;
-            drive_with(rt, alloc, disks, &left, right, archive, watch, output)
+            drive_with(rt, alloc, disks, &left, right, pairing, watch, output)
         }
     }
 }
@@ -120,6 +137,7 @@ fn drive_served<H, D, V, O>(
     left: &str,
     right: &str,
     archive: Archive<D>,
+    preference: Option<Side>,
     watch: &mut V,
     output: &mut O,
 ) -> Result<Outcome, CommandError>
@@ -130,7 +148,7 @@ where
     O: Write,
 {
     let mut coordinator = Coordinator::new(alloc, archive);
-    let went = sync(rt, alloc, &mut coordinator, left, right, watch);
+    let went = sync(rt, alloc, &mut coordinator, left, right, preference, watch);
     let told = print_session(alloc, went, &coordinator, watch, output);
     drop(coordinator);
     told
@@ -143,7 +161,7 @@ fn drive_with<H, N, V, O>(
     disks: &N,
     left: &SharedReplica<N::Disk>,
     right: &str,
-    archive: &str,
+    pairing: Pairing<'_>,
     watch: &mut V,
     output: &mut O,
 ) -> Result<Outcome, CommandError>
@@ -154,8 +172,17 @@ where
     O: Write,
 {
     let right = shared_in(alloc, disks, right)?;
-    let archive = archive_in(alloc, disks, archive)?;
-    drive_shared(rt, alloc, left, &right, archive, watch, output)
+    let archive = archive_in(alloc, disks, pairing.archive)?;
+    drive_shared(
+        rt,
+        alloc,
+        left,
+        &right,
+        archive,
+        pairing.preference,
+        watch,
+        output,
+    )
 }
 
 /// Serves both replicas on loopback ports as long as a session between them runs. The servers log
@@ -166,6 +193,7 @@ fn drive_shared<H, D, C, V, O>(
     left: &SharedReplica<D>,
     right: &SharedReplica<D>,
     archive: Archive<C>,
+    preference: Option<Side>,
     watch: &mut V,
     output: &mut O,
 ) -> Result<Outcome, CommandError>
@@ -187,6 +215,7 @@ where
         coordinator,
         &gates,
         &gates,
+        preference,
         watch,
     );
     let told = print_session(alloc, went, &coordinator, watch, output);

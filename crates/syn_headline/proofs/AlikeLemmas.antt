@@ -1,6 +1,6 @@
 -- What a plan that is carried out records where both sides had the same.
 use Rattle.std.proofs.Common.{◌≡◌, true, false, List, [], ◌∷◌, ◌++◌, refl, sym, ap, ◌∙◌, subst}
-use Rattle.std.proofs.Common.{Some, true≢false, append_assoc, append-nil, inl, inr, ◌⊎◌}
+use Rattle.std.proofs.Common.{Some, true≢false, append_assoc, append-nil, inl, inr, ◌⊎◌, Option}
 use Rattle.std.specs.Prelude.{Contains}
 use Rattle.std.specs.FinMap.{get}
 use Rattle.std.proofs.lemmas.List.Elements.{All-contains}
@@ -25,10 +25,12 @@ use Rattle.syn_headline.specs.Network.{Which, Left, Right}
 use Rattle.syn_headline.proofs.AnyOrder.{not_below, two_above}
 use Rattle.syn_headline.proofs.CarriedOut.{recorded_file, HasCarriedOut, items_of, alone_of}
 
-module _ (found : Which → Tree) (o : Tree) (plannable : (side : Which) → CanBePlanned (found side))
+module _ (preference : Option Which) (found : Which → Tree) (o : Tree)
+    (plannable : (side : Which) → CanBePlanned (found side))
     (recorded_plannable : CanBePlanned o) (s : Trees)
-    (h : HasCarriedOut found o (items_of found o recorded_plannable.parents)
-    (alone_of found o recorded_plannable.parents) (items_of found o recorded_plannable.parents) s)
+    (h : HasCarriedOut found o (items_of preference found o recorded_plannable.parents)
+    (alone_of preference found o recorded_plannable.parents) (items_of preference found o
+    recorded_plannable.parents) s)
   where
     abbrev a : Tree
     a = found Left
@@ -37,23 +39,25 @@ module _ (found : Which → Tree) (o : Tree) (plannable : (side : Which) → Can
     b = found Right
 
     abbrev items : List Item
-    items = plan (scan_of a) (scan_of b) o
+    items = plan preference (scan_of a) (scan_of b) o
 
     abbrev decided_at : Path → Decision
-    decided_at p = decision (scan_of a) (scan_of b) o p
+    decided_at p = decision preference (scan_of a) (scan_of b) o p
 
     abbrev Reached : Path → Type 0
     Reached = IsReached decided_at
 
     decided : (x : Item) → Contains items x → IsDecided decided_at x
     decided x c =
-        All-contains (IsDecided decided_at) items x (plan_is_decided (scan_of a) (scan_of b) o) c
+        All-contains (IsDecided decided_at) items x (plan_is_decided preference (scan_of a)
+        (scan_of b) o) c
 
     -- no part is put above a path that is reached
     none_above : (p : Path) (x : Item) (n : Name) (r : Path) → Reached p → Contains items x →
         is_mark_dir x ≡ false → p ≡ path_of x ++ n ∷ r → ⊥
     none_above p x n r reached in_x file e =
-        not_below (scan_of a) (scan_of b) o x (decided x in_x) file (reached (path_of x) n r e)
+        not_below preference (scan_of a) (scan_of b) o x (decided x in_x) file
+        (reached (path_of x) n r e)
 
     -- nor is there an item at or below one that is clean
     none_at : (p : Path) (x : Item) (rest : Path) → decided_at p ≡ Clean → Contains items x →
@@ -142,16 +146,18 @@ module _ (found : Which → Tree) (o : Tree) (plannable : (side : Which) → Can
     marked_here : (rest p : Path) → Reached p → AllTheWay p rest →
         get s.archive (p ++ rest) ≡ get (mark a) (p ++ rest)
     marked_here [] p reached way =
-        by_decision a b o (λ d. decided_at p ≡ d → get s.archive (p ++ []) ≡ get (mark a) (p ++ []))
+        by_decision a b o preference (λ d. decided_at p ≡ d → get s.archive (p ++ []) ≡ get (mark a)
+        (p ++ []))
         p
         (λ x y e. clean_stays p [] reached e ∙ clean_same p [] x)
         (λ z w e. subst (λ q. get s.archive q ≡ get (mark a) q) (sym (append-nil p))
         (directory_stays p reached e w ∙ sym (marked_directory p z)))
         (λ z w e. subst (λ q. get s.archive q ≡ get (mark a) q) (sym (append-nil p))
         (h.directories p
-        (plan_has_decided a b o (plannable Left) (plannable Right) recorded_plannable
+        (plan_has_decided preference a b o (plannable Left) (plannable Right) recorded_plannable
         (MarkDir p) (record { reached = reached; decided = inr e })) ∙ sym (marked_directory p z)))
-        (λ z v e. h.recorded (MarkSame p) (plan_has_decided a b o (plannable Left) (plannable Right)
+        (λ z v e. h.recorded (MarkSame p) (plan_has_decided preference a b o (plannable Left)
+        (plannable Right)
         recorded_plannable (MarkSame p) (record { reached = reached; decided = inl e })) refl [])
         (λ z v x y e. absurd (unlike p (here p (way [] [] refl)) z v))
         (λ z v x y e. absurd (unlike p (here p (way [] [] refl)) z v))
@@ -164,13 +170,14 @@ module _ (found : Which → Tree) (o : Tree) (plannable : (side : Which) → Can
         (marked_here r (child p n) (reached_below decided_at p n reached on)
         (λ front back e. subst SameOrBoth (sym (append_assoc p (n ∷ []) front))
         (way (n ∷ front) back (ap (λ w. n ∷ w) e)))) in
-        by_decision a b o
+        by_decision a b o preference
         (λ d. decided_at p ≡ d → get s.archive (p ++ n ∷ r) ≡ get (mark a) (p ++ n ∷ r)) p
         (λ x y e. clean_stays p (n ∷ r) reached e ∙ clean_same p (n ∷ r) x)
         (λ z w e. deeper (subst GoesOn (sym e) tt))
         (λ z w e. deeper (subst GoesOn (sym e) tt))
         (λ z v e. h.recorded (MarkSame p)
-        (plan_has_decided a b o (plannable Left) (plannable Right) recorded_plannable (MarkSame p)
+        (plan_has_decided preference a b o (plannable Left) (plannable Right) recorded_plannable
+        (MarkSame p)
         (record { reached = reached; decided = inl e })) refl (n ∷ r))
         (λ z v x y e. absurd (unlike p (here p (way [] (n ∷ r) refl)) z v))
         (λ z v x y e. absurd (unlike p (here p (way [] (n ∷ r) refl)) z v))

@@ -16,6 +16,8 @@ use Rattle.syn_model.proofs.TreeLemmas.{get-subtree, same_tree, within, beside}
 use Rattle.syn_model.proofs.PlanOrder.{plan_is_decided}
 use Rattle.syn_headline.proofs.PlanLemmas.{decided_by}
 use Rattle.syn_headline.proofs.HarmlessLemmas.{same_item}
+use Rattle.std.proofs.Common.{Option}
+use Rattle.syn_model.specs.Which.{Which}
 
 -- an item that marks no directory stands alone: no other stands at or below its path
 abbrev pub StandAlone : List Item → Type 0
@@ -23,45 +25,51 @@ StandAlone items =
     (x y : Item) (rest : Path) → Contains items x → Contains items y → is_mark_dir x ≡ false →
     path_of y ≡ path_of x ++ rest → x ≡ y
 
-goes_on_at_directory : (a b c d e f g : Bool) (p : Path) (x : Item) →
-    decided_by a b c d e f g p ≡ DoAndGoOn x → is_mark_dir x ≡ true
-goes_on_at_directory true b c d e f g p x h = cc
-goes_on_at_directory false true true d e f g p x h = cc
-goes_on_at_directory false true false true e f g p x h = cc
-goes_on_at_directory false true false false e f g p x h =
+goes_on_at_directory : (r : Option Which) (a b c d e f g : Bool) (p : Path) (x : Item) →
+    decided_by r a b c d e f g p ≡ DoAndGoOn x → is_mark_dir x ≡ true
+goes_on_at_directory r true b c d e f g p x h = cc
+goes_on_at_directory r false true true d e f g p x h = cc
+goes_on_at_directory r false true false true e f g p x h = cc
+goes_on_at_directory r false true false false e f g p x h =
     let same : MarkDir p ≡ x = cc in
     ap is_mark_dir (sym same)
-goes_on_at_directory false false c d true f g p x h = cc
-goes_on_at_directory false false c d false true g p x h = cc
-goes_on_at_directory false false c d false false true p x h = cc
-goes_on_at_directory false false c d false false false p x h = cc
+goes_on_at_directory r false false c d true f g p x h = cc
+goes_on_at_directory r false false c d false true g p x h = cc
+goes_on_at_directory r false false c d false false true p x h = cc
+goes_on_at_directory r false false c d false false false p x h = cc
 
-pub not_below : (l r : Scan) (o : Tree) (x : Item) → IsDecidedAt (decision l r o) x →
-    is_mark_dir x ≡ false → GoesOn (decision l r o (path_of x)) → ⊥
-not_below l r o x d file on = elim d.decided as (λ _. ⊥) [
+pub not_below : (preference : Option Which) (l r : Scan) (o : Tree) (x : Item) → IsDecidedAt
+    (decision preference l r o) x →
+    is_mark_dir x ≡ false → GoesOn (decision preference l r o (path_of x)) → ⊥
+not_below preference l r o x d file on = elim d.decided as (λ _. ⊥) [
   | inl e ↦ subst GoesOn e on
   | inr e ↦
       let p = path_of x in
-      true≢false (sym (goes_on_at_directory (not (dirty l o p || dirty r o p))
+      true≢false (sym (goes_on_at_directory preference (not (dirty l o p || dirty r o p))
       (is_directory_in_both l.marks r.marks p) (is_unstable l p || is_unstable r p)
       (is_directory o p) (is_same_tree (subtree l.marks p) (subtree r.marks p))
       (not (dirty r o p)) (not (dirty l o p)) p x e) ∙ file)
 ]
 
-pub plan_stands_alone : (l r : Scan) (o : Tree) → StandAlone (plan l r o)
-plan_stands_alone l r o x y rest in_x in_y file at = alone rest at
+pub plan_stands_alone : (preference : Option Which) (l r : Scan) (o : Tree) → StandAlone
+    (plan preference l r o)
+plan_stands_alone preference l r o x y rest in_x in_y file at = alone rest at
   where
-    decided : (z : Item) → Contains (plan l r o) z → IsDecidedAt (decision l r o) z
+    decided : (z : Item) → Contains (plan preference l r o) z → IsDecidedAt
+        (decision preference l r o) z
     decided z c =
-        All-contains (IsDecidedAt (decision l r o)) (plan l r o) z (plan_is_decided l r o) c
+        All-contains (IsDecidedAt (decision preference l r o)) (plan preference l r o) z
+        (plan_is_decided preference l r o) c
 
     alone : (rest : Path) → path_of y ≡ path_of x ++ rest → x ≡ y
-    alone [] e = same_item (decision l r o (path_of x)) x y (decided x in_x).decided
-        (subst (λ p. (decision l r o p ≡ Do y) ⊎ (decision l r o p ≡ DoAndGoOn y))
+    alone [] e = same_item (decision preference l r o (path_of x)) x y (decided x in_x).decided
+        (subst (λ p. (decision preference l r o p ≡ Do y) ⊎ (decision preference l r o p ≡ DoAndGoOn
+        y))
         (e ∙ append-nil (path_of x)) (decided y in_y).decided)
     alone (n ∷ r') e =
         absurd
-        (not_below l r o x (decided x in_x) file ((decided y in_y).reached (path_of x) n r' e))
+        (not_below preference l r o x (decided x in_x) file ((decided y in_y).reached (path_of x) n
+        r' e))
 
 -- of two paths above one, one is above the other
 pub two_above : (p q a b : Path) →

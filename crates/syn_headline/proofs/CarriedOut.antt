@@ -1,7 +1,7 @@
 -- What a plan leaves as it is carried out, path by path.
 use Rattle.std.proofs.Common.{◌≡◌, Bool, true, false, if◌then◌else◌, List, [], ◌∷◌, ◌++◌, refl, sym}
 use Rattle.std.proofs.Common.{ap, ap₂, ◌∙◌, subst, Some, None, true≢false, append_assoc, append-nil}
-use Rattle.std.proofs.Common.{arith, inl, inr, ◌⊎◌}
+use Rattle.std.proofs.Common.{arith, inl, inr, ◌⊎◌, Option}
 use Rattle.std.specs.Prelude.{Contains}
 use Rattle.std.specs.FinMap.{get}
 use Rattle.std.proofs.lemmas.List.Elements.{Contains-append_left, Contains-append_right}
@@ -260,154 +260,157 @@ module _ (found : Which → Tree) (o : Tree) (items : List Item) (alone : StandA
           ∙ ap (λ x. record { left = t.left; right = t.right; archive = x }) a
 
 -- The items in the plan's order
-module _ (found : Which → Tree) (o : Tree) (parents : HasParents o) where
-  abbrev pub items_of : List Item
-  items_of = plan (scan_of (found Left)) (scan_of (found Right)) o
+module _ (preference : Option Which) (found : Which → Tree) (o : Tree) (parents : HasParents o)
+  where
+    abbrev pub items_of : List Item
+    items_of = plan preference (scan_of (found Left)) (scan_of (found Right)) o
 
-  abbrev pub found_trees : Trees
-  found_trees = record { left = found Left; right = found Right; archive = o }
+    abbrev pub found_trees : Trees
+    found_trees = record { left = found Left; right = found Right; archive = o }
 
-  pub alone_of : StandAlone items_of
-  alone_of = plan_stands_alone (scan_of (found Left)) (scan_of (found Right)) o
+    pub alone_of : StandAlone items_of
+    alone_of = plan_stands_alone preference (scan_of (found Left)) (scan_of (found Right)) o
 
-  abbrev HasCarried : List Item → Trees → Type 0
-  HasCarried first s = HasCarriedOut found o items_of alone_of first s
+    abbrev HasCarried : List Item → Trees → Type 0
+    HasCarried first s = HasCarriedOut found o items_of alone_of first s
 
-  -- what an item takes from a side is what was found there
-  source_stays : (side : Which) (t : Tree) (x : Item) →
-      CoversSide found o items_of alone_of side t → Contains items_of x → is_to side x ≡ false →
-      is_mark_dir x ≡ false → subtree t (path_of x) ≡ subtree (found side) (path_of x)
-  source_stays side t x covered in_x off file =
-      same_tree (subtree t (path_of x)) (subtree (found side) (path_of x)) (λ rest.
-      get-subtree t (path_of x) rest ∙ (elim (covered (path_of x ++ rest))
-      as (λ _. get t (path_of x ++ rest) ≡ get (found side) (path_of x ++ rest)) [
-        | inl was ↦ absurd (true≢false (sym was.3 ∙ (ap (is_to side) (one_above items_of alone_of
-            was.0 x was.1 rest was.2 in_x (to_file side was.0 was.3) file (sym was.4)) ∙ off)))
-        | inr same ↦ same
-      ] ∙ sym (get-subtree (found side) (path_of x) rest)))
+    -- what an item takes from a side is what was found there
+    source_stays : (side : Which) (t : Tree) (x : Item) →
+        CoversSide found o items_of alone_of side t → Contains items_of x → is_to side x ≡ false →
+        is_mark_dir x ≡ false → subtree t (path_of x) ≡ subtree (found side) (path_of x)
+    source_stays side t x covered in_x off file =
+        same_tree (subtree t (path_of x)) (subtree (found side) (path_of x)) (λ rest.
+        get-subtree t (path_of x) rest ∙ (elim (covered (path_of x ++ rest))
+        as (λ _. get t (path_of x ++ rest) ≡ get (found side) (path_of x ++ rest)) [
+          | inl was ↦ absurd (true≢false (sym was.3 ∙ (ap (is_to side) (one_above items_of alone_of
+              was.0 x was.1 rest was.2 in_x (to_file side was.0 was.3) file (sym was.4)) ∙ off)))
+          | inr same ↦ same
+        ] ∙ sym (get-subtree (found side) (path_of x) rest)))
 
-  recorded_each : (items : List Item) (s : Trees) →
-      IsRecordedForEach items s.archive (carried_out s items).archive
-  recorded_each [] s = refl
-  recorded_each (ToLeft p ∷ items) s =
-      (_, inr (mark (subtree s.right p), refl), recorded_each items (after_item s (ToLeft p)))
-  recorded_each (ToRight p ∷ items) s =
-      (_, inr (mark (subtree s.left p), refl), recorded_each items (after_item s (ToRight p)))
-  recorded_each (MarkSame p ∷ items) s =
-      (_, inr (mark (subtree s.left p), refl), recorded_each items (after_item s (MarkSame p)))
-  recorded_each (MarkDir p ∷ items) s =
-      (_, inr refl, recorded_each items (after_item s (MarkDir p)))
-  recorded_each (Conflict p ∷ items) s = (_, refl, recorded_each items s)
+    recorded_each : (items : List Item) (s : Trees) →
+        IsRecordedForEach items s.archive (carried_out s items).archive
+    recorded_each [] s = refl
+    recorded_each (ToLeft p ∷ items) s =
+        (_, inr (mark (subtree s.right p), refl), recorded_each items (after_item s (ToLeft p)))
+    recorded_each (ToRight p ∷ items) s =
+        (_, inr (mark (subtree s.left p), refl), recorded_each items (after_item s (ToRight p)))
+    recorded_each (MarkSame p ∷ items) s =
+        (_, inr (mark (subtree s.left p), refl), recorded_each items (after_item s (MarkSame p)))
+    recorded_each (MarkDir p ∷ items) s =
+        (_, inr refl, recorded_each items (after_item s (MarkDir p)))
+    recorded_each (Conflict p ∷ items) s = (_, refl, recorded_each items s)
 
-  module _ (first after : List Item) (x : Item) (split : items_of ≡ first ++ x ∷ after)
-      (h : HasCarried first (carried_out found_trees first)) where
-    in_items : Contains items_of x
-    in_items =
-        subst (λ w. Contains w x) (sym split)
-        (Contains-append_right first (x ∷ after) x (0, omega arith, refl))
+    module _ (first after : List Item) (x : Item) (split : items_of ≡ first ++ x ∷ after)
+        (h : HasCarried first (carried_out found_trees first)) where
+      in_items : Contains items_of x
+      in_items =
+          subst (λ w. Contains w x) (sym split)
+          (Contains-append_right first (x ∷ after) x (0, omega arith, refl))
 
-    abbrev now : Trees
-    now = carried_out found_trees first
+      abbrev now : Trees
+      now = carried_out found_trees first
 
-    -- a directory that is marked was none when its turn comes, and had nothing below it
-    marks_directory : (p : Path) → x ≡ MarkDir p → HasMore p now.archive
-        (with_directory now.archive p) × (get (with_directory now.archive p) p ≡ Some Directory)
-    marks_directory p same = directory_more now.archive p (λ n r none.
-        let at : subtree now.archive p ≡ subtree o p =
-        item_finds_archive (scan_of (found Left)) (scan_of (found Right)) o first after
-        (MarkDir p) now.archive parents (split ∙ ap (λ y. first ++ y ∷ after) same)
-        (recorded_each first found_trees) in
-        sym (get-subtree now.archive p (n ∷ r)) ∙ (ap (λ t. get t (n ∷ r)) at ∙ (get-subtree o p (n
-        ∷ r) ∙ nothing_below o p n r parents (sym (moved-directory now.archive o p at) ∙ none))))
+      -- a directory that is marked was none when its turn comes, and had nothing below it
+      marks_directory : (p : Path) → x ≡ MarkDir p → HasMore p now.archive
+          (with_directory now.archive p) × (get (with_directory now.archive p) p ≡ Some Directory)
+      marks_directory p same = directory_more now.archive p (λ n r none.
+          let at : subtree now.archive p ≡ subtree o p =
+          item_finds_archive preference (scan_of (found Left)) (scan_of (found Right)) o first after
+          (MarkDir p) now.archive parents (split ∙ ap (λ y. first ++ y ∷ after) same)
+          (recorded_each first found_trees) in
+          sym (get-subtree now.archive p (n ∷ r)) ∙ (ap (λ t. get t (n ∷ r)) at ∙
+          (get-subtree o p (n
+          ∷ r) ∙ nothing_below o p n r parents (sym (moved-directory now.archive o p at) ∙ none))))
 
-    recorded_is : (t : Tree) (p : Path) (u v : Tree) → subtree u p ≡ subtree v p →
-        replace t p (mark (subtree u p)) ≡ put t p (mark v)
-    recorded_is t p u v e = ap (replace t p) (ap mark e ∙ mark-subtree v p)
+      recorded_is : (t : Tree) (p : Path) (u v : Tree) → subtree u p ≡ subtree v p →
+          replace t p (mark (subtree u p)) ≡ put t p (mark v)
+      recorded_is t p u v e = ap (replace t p) (ap mark e ∙ mark-subtree v p)
 
-    stays_on : (s : Trees) → s.left ≡ now.left → s.right ≡ now.right → (y : Item) →
-        is_to Left y ≡ false → is_to Right y ≡ false → (side : Which) → ((is_to side y ≡ true)
-        × (tree_on s side ≡ put (tree_on now side) (path_of y) (found (other side))))
-        ⊎ ((is_to side y ≡ false) × (tree_on s side ≡ tree_on now side))
-    stays_on s l r y off_left off_right Left = inr (off_left, l)
-    stays_on s l r y off_left off_right Right = inr (off_right, r)
+      stays_on : (s : Trees) → s.left ≡ now.left → s.right ≡ now.right → (y : Item) →
+          is_to Left y ≡ false → is_to Right y ≡ false → (side : Which) → ((is_to side y ≡ true)
+          × (tree_on s side ≡ put (tree_on now side) (path_of y) (found (other side))))
+          ⊎ ((is_to side y ≡ false) × (tree_on s side ≡ tree_on now side))
+      stays_on s l r y off_left off_right Left = inr (off_left, l)
+      stays_on s l r y off_left off_right Right = inr (off_right, r)
 
-    changes_by : (y : Item) → x ≡ y → Changes found now (after_item now y) y
-    changes_by (ToLeft p) same =
-        let at = source_stays Right now.right (ToLeft p) (h.sides Right)
-        (subst (Contains items_of) same in_items) refl refl in
-        record {
-          sides =
-              λ side. elim side as (λ side. ((is_to side (ToLeft p) ≡ true) × (tree_on
-              (after_item now (ToLeft p)) side ≡ put (tree_on now side) p (found (other side))))
-              ⊎ ((is_to side (ToLeft p) ≡ false)
-              × (tree_on (after_item now (ToLeft p)) side ≡ tree_on now side))) [
-                | Left ↦ inl (refl, ap (replace now.left p) at)
-                | Right ↦ inr (refl, refl)
-              ];
-          archive = inl (refl, recorded_is now.archive p now.right (found Right) at);
-        }
-    changes_by (ToRight p) same =
-        let at = source_stays Left now.left (ToRight p) (h.sides Left)
-        (subst (Contains items_of) same in_items) refl refl in
-        record {
-          sides =
-              λ side. elim side as (λ side. ((is_to side (ToRight p) ≡ true) × (tree_on
-              (after_item now (ToRight p)) side ≡ put (tree_on now side) p (found (other side))))
-              ⊎ ((is_to side (ToRight p) ≡ false)
-              × (tree_on (after_item now (ToRight p)) side ≡ tree_on now side))) [
-                | Left ↦ inr (refl, refl)
-                | Right ↦ inl (refl, ap (replace now.right p) at)
-              ];
-          archive = inl (refl, recorded_is now.archive p now.left (found Left) at);
-        }
-    changes_by (MarkSame p) same = record {
-      sides = stays_on (after_item now (MarkSame p)) refl refl (MarkSame p) refl refl;
-      archive =
-          inl (
-            refl,
-            recorded_is now.archive p now.left (found Left) (source_stays Left now.left
-                (MarkSame p) (h.sides Left) (subst (Contains items_of) same in_items) refl refl),
-          );
-    }
-    changes_by (MarkDir p) same = record {
-      sides = stays_on (after_item now (MarkDir p)) refl refl (MarkDir p) refl refl;
-      archive = let more = marks_directory p same in inr (refl, inl (p, refl, more.0, more.1));
-    }
-    changes_by (Conflict p) same = record {
-      sides = stays_on (after_item now (Conflict p)) refl refl (Conflict p) refl refl;
-      archive = inr (refl, inr (refl, refl));
-    }
+      changes_by : (y : Item) → x ≡ y → Changes found now (after_item now y) y
+      changes_by (ToLeft p) same =
+          let at = source_stays Right now.right (ToLeft p) (h.sides Right)
+          (subst (Contains items_of) same in_items) refl refl in
+          record {
+            sides =
+                λ side. elim side as (λ side. ((is_to side (ToLeft p) ≡ true) × (tree_on
+                (after_item now (ToLeft p)) side ≡ put (tree_on now side) p (found (other side))))
+                ⊎ ((is_to side (ToLeft p) ≡ false)
+                × (tree_on (after_item now (ToLeft p)) side ≡ tree_on now side))) [
+                  | Left ↦ inl (refl, ap (replace now.left p) at)
+                  | Right ↦ inr (refl, refl)
+                ];
+            archive = inl (refl, recorded_is now.archive p now.right (found Right) at);
+          }
+      changes_by (ToRight p) same =
+          let at = source_stays Left now.left (ToRight p) (h.sides Left)
+          (subst (Contains items_of) same in_items) refl refl in
+          record {
+            sides =
+                λ side. elim side as (λ side. ((is_to side (ToRight p) ≡ true) × (tree_on
+                (after_item now (ToRight p)) side ≡ put (tree_on now side) p (found (other side))))
+                ⊎ ((is_to side (ToRight p) ≡ false)
+                × (tree_on (after_item now (ToRight p)) side ≡ tree_on now side))) [
+                  | Left ↦ inr (refl, refl)
+                  | Right ↦ inl (refl, ap (replace now.right p) at)
+                ];
+            archive = inl (refl, recorded_is now.archive p now.left (found Left) at);
+          }
+      changes_by (MarkSame p) same = record {
+        sides = stays_on (after_item now (MarkSame p)) refl refl (MarkSame p) refl refl;
+        archive =
+            inl (
+              refl,
+              recorded_is now.archive p now.left (found Left) (source_stays Left now.left
+                  (MarkSame p) (h.sides Left) (subst (Contains items_of) same in_items) refl refl),
+            );
+      }
+      changes_by (MarkDir p) same = record {
+        sides = stays_on (after_item now (MarkDir p)) refl refl (MarkDir p) refl refl;
+        archive = let more = marks_directory p same in inr (refl, inl (p, refl, more.0, more.1));
+      }
+      changes_by (Conflict p) same = record {
+        sides = stays_on (after_item now (Conflict p)) refl refl (Conflict p) refl refl;
+        archive = inr (refl, inr (refl, refl));
+      }
 
-    one_more : HasCarried (first ++ x ∷ []) (carried_out found_trees (first ++ x ∷ []))
-    one_more =
-        subst (HasCarried (first ++ x ∷ []))
-        (sym (fold-append after_item found_trees first (x ∷ [])))
-        (carries_one found o items_of alone_of first now (after_item now x) x (λ y c. subst
-        (λ w. Contains w y) (sym split) (Contains-append_left first (x ∷ after) y c)) in_items h
-        (changes_by x refl))
+      one_more : HasCarried (first ++ x ∷ []) (carried_out found_trees (first ++ x ∷ []))
+      one_more =
+          subst (HasCarried (first ++ x ∷ []))
+          (sym (fold-append after_item found_trees first (x ∷ [])))
+          (carries_one found o items_of alone_of first now (after_item now x) x (λ y c. subst
+          (λ w. Contains w y) (sym split) (Contains-append_left first (x ∷ after) y c)) in_items h
+          (changes_by x refl))
 
-  carried_from : (after first : List Item) → items_of ≡ first ++ after →
-      HasCarried first (carried_out found_trees first) →
-      HasCarried items_of (carried_out found_trees items_of)
-  carried_from [] first split h =
-      let e = split ∙ append-nil first in
-      subst (λ w. HasCarried w (carried_out found_trees w)) (sym e) h
-  carried_from (x ∷ after) first split h =
-      carried_from after (first ++ x ∷ []) (split ∙ sym (append_assoc first (x ∷ []) after))
-      (one_more first after x split h)
+    carried_from : (after first : List Item) → items_of ≡ first ++ after →
+        HasCarried first (carried_out found_trees first) →
+        HasCarried items_of (carried_out found_trees items_of)
+    carried_from [] first split h =
+        let e = split ∙ append-nil first in
+        subst (λ w. HasCarried w (carried_out found_trees w)) (sym e) h
+    carried_from (x ∷ after) first split h =
+        carried_from after (first ++ x ∷ []) (split ∙ sym (append_assoc first (x ∷ []) after))
+        (one_more first after x split h)
 
-  none_first : {x : Item} → Contains [] x → ⊥
-  none_first c = omega (arith, c.1)
+    none_first : {x : Item} → Contains [] x → ⊥
+    none_first c = omega (arith, c.1)
 
-  -- a plan that is carried out
-  pub plan_is_carried :
-      HasCarriedOut found o items_of alone_of items_of (carried_out found_trees items_of)
-  plan_is_carried = carried_from items_of [] refl (record {
-    sides =
-        λ side q. inr (elim side as (λ side. get (tree_on found_trees side) q ≡ get (found side) q)
-        [ Left ↦ refl | Right ↦ refl ]);
-    archive = λ q. inr (inr refl);
-    done = λ side x c. absurd (none_first c);
-    recorded = λ x c. absurd (none_first c);
-    directories = λ p c. absurd (none_first c);
-  })
+    -- a plan that is carried out
+    pub plan_is_carried :
+        HasCarriedOut found o items_of alone_of items_of (carried_out found_trees items_of)
+    plan_is_carried = carried_from items_of [] refl (record {
+      sides =
+          λ side q. inr (elim side as (λ side. get (tree_on found_trees side) q ≡ get (found side)
+          q)
+          [ Left ↦ refl | Right ↦ refl ]);
+      archive = λ q. inr (inr refl);
+      done = λ side x c. absurd (none_first c);
+      recorded = λ x c. absurd (none_first c);
+      directories = λ p c. absurd (none_first c);
+    })

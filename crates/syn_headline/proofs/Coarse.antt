@@ -191,13 +191,11 @@ abbrev pub AllOfSession : ℕ → Sent → Option Running → List Message → T
 AllOfSession pair sent None messages = messages ≡ []
 AllOfSession pair sent (Some running) messages = All (IsOfSession pair sent running) messages
 
--- a plan is made once in a session, of the scans and the archive as they are; no session prefers a
--- side yet
+-- a plan is made once in a session, of the scans and the archive as they are
 pub record MakesPlan (sent : Sent) (archive : Archive) (log : Log) (session : ℕ)
     (made : SessionPlan) : Type 0 where
   pub of_session : made.session ≡ session
   pub once : All (λ earlier. earlier.session ≢ session) log
-  pub prefers_none : made.preference ≡ None
   pub archive_is : made.archive ≡ archive.marks
   pub is : IsPlanOf sent made
 

@@ -1,6 +1,6 @@
 -- What is proved of whole runs, in the coarser picture.
 use Rattle.std.specs.Prelude.{ℕ, true, false, ◌≡◌, ◌≢◌, ◌≤◌, ◌↔◌, List, [], ◌∷◌, ◌++◌, length, take}
-use Rattle.std.specs.Prelude.{None, All, AllPairs, Contains, IfSome}
+use Rattle.std.specs.Prelude.{None, All, AllPairs, Contains, IfSome, Option}
 use Rattle.syn_model.specs.Path.{Path, parent}
 use Rattle.syn_model.specs.Tree.{Tree, subtree, is_directory}
 use Rattle.syn_model.specs.Event.{Token, Replaced, touches}
@@ -14,7 +14,7 @@ use Rattle.syn_headline.specs.Acknowledged.{ArchiveGrown, IsLegal}
 use Rattle.syn_headline.specs.Planning.{IsPlanOf}
 use Rattle.syn_headline.specs.Report.{Report}
 use Rattle.syn_headline.specs.Headline.{IsPair, IsQuietSession, trees_of, HasCounts, IsOtherToken}
-use Rattle.syn_headline.specs.Headline.{UntouchedSince, IsFetched}
+use Rattle.syn_headline.specs.Headline.{UntouchedSince, IsFetched, PlansWith}
 use Rattle.syn_headline.proofs.Coarse.{World, FollowsAll, Waits, side_of}
 
 abbrev pub stores_of : World → Stores
@@ -58,30 +58,34 @@ CompleteSessionsSynchronize before world =
     (report : Report) (found left : Stores) →
     IsQuietSession before world.acknowledged world.reports report found left →
     AreApart (tree_of found.left) (tree_of found.right) →
-    IsSynchronized (trees_of found) (trees_of left)
+    (preference : Option Which) × PlansWith world.log report.session preference
+    × IsSynchronized preference (trees_of found) (trees_of left)
 
 -- And it leaves the archive of that, without this premise
 abbrev pub CompleteSessionsReconcile : Stores → World → Type 0
 CompleteSessionsReconcile before world =
     (report : Report) (found left : Stores) →
     IsQuietSession before world.acknowledged world.reports report found left →
-    IsReconciled (trees_of found) (trees_of left)
+    (preference : Option Which) × PlansWith world.log report.session preference
+    × IsReconciled preference (trees_of found) (trees_of left)
 
 -- Its conflicts are the relevant paths that are dirty on both sides, no directory on both and
 -- unequal
 abbrev pub ReportsItsConflicts : Stores → World → Type 0
 ReportsItsConflicts before world =
     (report : Report) (found left : Stores) →
-    IsQuietSession before world.acknowledged world.reports report found left → (path : Path) →
-    Contains report.conflicts path
-    ↔ IsConflict (tree_of found.left) (tree_of found.right) found.archive.marks path
+    IsQuietSession before world.acknowledged world.reports report found left →
+    (preference : Option Which) × PlansWith world.log report.session preference
+    × ((path : Path) → Contains report.conflicts path
+    ↔ IsConflict preference (tree_of found.left) (tree_of found.right) found.archive.marks path)
 
 -- Its counts are those
 abbrev pub CountsItsItems : Stores → World → Type 0
 CountsItsItems before world =
     (report : Report) (found left : Stores) →
     IsQuietSession before world.acknowledged world.reports report found left →
-    HasCounts found report
+    (preference : Option Which) × PlansWith world.log report.session preference
+    × HasCounts preference found report
 
 -- Each token has one replacement at most
 abbrev pub EachTokenOnce : Stores → World → Type 0

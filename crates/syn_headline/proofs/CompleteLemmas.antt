@@ -96,14 +96,14 @@ module _ (first later : Which → History) (o : Tree) (parents : HasParents o) (
   found side = tree_of (first side)
 
   abbrev pub items : List Item
-  items = items_of found o parents
+  items = items_of both.preference found o parents
 
   abbrev pub alone : StandAlone items
-  alone = alone_of found o parents
+  alone = alone_of both.preference found o parents
 
   -- the plan is that of what was found
   pub items_are : map (λ planned. planned.item) plan ≡ items
-  items_are = is.items ∙ ap₂ (λ l r. items_by l r o) (shown Left).0 (shown Right).0
+  items_are = is.items ∙ ap₂ (λ l r. items_by both.preference l r o) (shown Left).0 (shown Right).0
 
   module _ (item : ℕ) (planned : Planned) (at : slice_get plan item ≡ Some planned) where
     in_items : Contains items planned.item
@@ -118,7 +118,8 @@ module _ (first later : Which → History) (o : Tree) (parents : HasParents o) (
     seen_since : (side : Which) (path : Path) → WritesTo planned.item side path → (s : Which) →
         (seen_on planned s).since ≡ length (first s) + 1
     seen_since side path w s =
-        let writes = writes_at both.scan both.since o planned side path (λ s. (is.scanned s).tree)
+        let writes = writes_at both.preference both.scan both.since o planned side path
+        (λ s. (is.scanned s).tree)
         (planned_is sent session o both plan is item planned at) w
         (writes_path planned.item side path w) in
         writes.since_is s ∙ (shown s).1 writes.above (writes.above_is s).0
@@ -289,8 +290,9 @@ module _ (first later : Which → History) (o : Tree) (parents : HasParents o) (
           }
 
       -- a complete session leaves its plan carried out
-      pub complete_carries_out : left_trees ≡ carried_out (found_trees found o parents) items
+      pub complete_carries_out : left_trees ≡ carried_out (found_trees both.preference found o
+          parents) items
       complete_carries_out =
           carried_same found o items alone left_trees
-          (carried_out (found_trees found o parents) items) all_done
-          (plan_is_carried found o parents)
+          (carried_out (found_trees both.preference found o parents) items) all_done
+          (plan_is_carried both.preference found o parents)

@@ -1,11 +1,11 @@
 -- What is proved of whole runs, of the world itself.
-use Rattle.std.proofs.Common.{List, sym, ap, subst, Option, Some, None, option_map}
+use Rattle.std.proofs.Common.{List, sym, ap, subst, Option, Some, None, option_map, ◌≡◌, ◌∙◌}
 use Rattle.std.specs.Prelude.{IfSome}
-use Rattle.syn_headline.specs.Network.{Left, Right}
+use Rattle.syn_headline.specs.Network.{Left, Right, Which}
 use Rattle.syn_headline.specs.Coordinator.{Running, Waits}
 use Rattle.syn_headline.specs.World.{World, Step, Runs}
 use Rattle.syn_headline.specs.Headline.{IsStart, OfEachRun, EachReplacementIsLegal, EachTokenOnce}
-use Rattle.syn_headline.specs.Headline.{EachEntryWasHeld, LeavesPair, LogsPlans, Owes}
+use Rattle.syn_headline.specs.Headline.{EachEntryWasHeld, LeavesPair, LogsPlans, Owes, PlansWith}
 use Rattle.syn_headline.specs.Headline.{CompleteSessionsSynchronize, CompleteSessionsReconcile}
 use Rattle.syn_headline.specs.Headline.{ReportsItsConflicts, CountsItsItems, CarriedIsMarked}
 use Rattle.syn_headline.proofs.Coarse as coarse
@@ -21,11 +21,14 @@ use Rattle.syn_headline.proofs.SessionRuns.{runs_synchronize, runs_reconcile, ru
 use Rattle.syn_headline.proofs.SessionRuns.{runs_count_items}
 use Rattle.syn_headline.proofs.FetchedLemmas.{runs_mark_carried}
 use Rattle.syn_headline.proofs.CarriedLemmas.{runs_mark_held}
-use Rattle.syn_headline.specs.Headline.{HeldIsMarked}
+use Rattle.syn_headline.specs.Headline.{HeldIsMarked, PreferenceLeavesOne, trees_of}
 use Rattle.syn_headline.specs.Reported.{EachReportTells}
 use Rattle.syn_headline.proofs.ReportedRuns.{AllTold, IsTold}
 use Rattle.std.specs.Prelude.{All}
 use Rattle.std.proofs.lemmas.List.Elements.{All-nil, All-weaker}
+use Rattle.syn_headline.proofs.EarlyLemmas.{entry_is}
+use Rattle.syn_model.proofs.EqualLemmas.{preference_settles}
+use Rattle.syn_model.specs.Plan.{IsSynchronized, IsReconciled}
 
 pub start_view : (old : World) → IsStart old → picture.IsStart (view old)
 start_view old s = record {
@@ -83,6 +86,23 @@ synchronize old new steps s g =
 pub reconcile : OfEachRun CompleteSessionsReconcile
 reconcile old new steps s g =
     runs_reconcile (view old) (view new) (start_view old s) (follows old new steps s g).0
+
+-- a session has one plan, so the preference of that is the one by which the sides are synchronized
+pub leave_one : OfEachRun PreferenceLeavesOne
+leave_one old new steps s g report found left side quiet with apart =
+    let once = (log_plans old new steps s g).0 in
+    let synced = synchronize old new steps s g report found left quiet apart in
+    let recorded = reconcile old new steps s g report found left quiet in
+    let same : (preference : Option Which) → PlansWith new.log report.session preference →
+    preference ≡ Some side = λ preference other.
+    sym other.prefers ∙ (ap (λ made. made.preference)
+    (entry_is new.log with.made once with.logged other.made other.logged
+    (other.of_session ∙ sym with.of_session)) ∙ with.prefers) in
+    preference_settles side (trees_of found) (trees_of left)
+    (subst (λ p. IsSynchronized p (trees_of found) (trees_of left)) (same synced.0 synced.1)
+    synced.2)
+    (subst (λ p. IsReconciled p (trees_of found) (trees_of left)) (same recorded.0 recorded.1)
+    recorded.2)
 
 pub report_conflicts : OfEachRun ReportsItsConflicts
 report_conflicts old new steps s g =

@@ -2,7 +2,7 @@
 -- plan is of.
 use Rattle.std.proofs.Common.{◌≡◌, ◌≤◌, ◌<◌, ℕ, true, false, nat_le, List, ◌∷◌, ◌++◌, length, take}
 use Rattle.std.proofs.Common.{drop, refl, sym, ap, ◌∙◌, subst, Some, true≢false, append-nil, arith}
-use Rattle.std.proofs.Common.{inl, inr, slice_get, fold, []}
+use Rattle.std.proofs.Common.{inl, inr, slice_get, fold, [], ◌⊎◌}
 use Rattle.std.specs.FinMap.{get}
 use Rattle.std.proofs.lemmas.List.{length-append, take-append-le}
 use Rattle.std.proofs.lemmas.List.Elements.{All-contains}
@@ -26,7 +26,7 @@ use Rattle.syn_headline.specs.Network.{Which, other, Sent}
 use Rattle.syn_headline.specs.Planning.{Planned, seen_on, IsPlanOf}
 use Rattle.syn_headline.proofs.Invariant.{Plans, plan_in, Scans, IsPlanFrom, Histories, IsSound}
 use Rattle.syn_headline.proofs.Invariant.{IsStillRecorded, IsTrue, IsBorne, HadMarks, IsUsed}
-use Rattle.syn_headline.proofs.Invariant.{part_at}
+use Rattle.syn_headline.proofs.Invariant.{part_at, IsPreferredIn}
 use Rattle.syn_model.proofs.HistoryLemmas.{first_cause-none, allowed_goes_on}
 use Rattle.syn_model.proofs.MarkLemmas.{mark-subtree}
 use Rattle.syn_model.proofs.QuietLemmas.{quiet_before, tree_at-append, untouched_stays}
@@ -238,11 +238,15 @@ sound-grow plans histories new archive sent sound grows below used = record {
   planned = sound.planned;
   recorded = λ session item planned side path e w.
       let is = made plans histories archive sent sound session item planned e in
-      still_recorded-grow (histories side) (new side) archive session path
-      (seen_on planned side).since (grows side)
-      (fenced plans histories archive sent sound session is.0 is.1
-      (plan_in plans session) is.2 side)
-      (since_reached plans histories archive sent sound session is.0 is.1
-      (plan_in plans session) is.2 item planned side path e w side)
-      (sound.recorded session item planned side path e w);
+      elim (sound.recorded session item planned side path e w)
+      as (λ _. IsStillRecorded (new side) archive session path (seen_on planned side).since
+      ⊎ IsPreferredIn plans session side path) [
+        | inl still ↦ inl (still_recorded-grow (histories side) (new side) archive session path
+            (seen_on planned side).since (grows side)
+            (fenced plans histories archive sent sound session is.0 is.1
+            (plan_in plans session) is.2 side)
+            (since_reached plans histories archive sent sound session is.0 is.1
+            (plan_in plans session) is.2 item planned side path e w side) still)
+        | inr preferred ↦ inr preferred
+      ];
 }

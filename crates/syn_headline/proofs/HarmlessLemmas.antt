@@ -1,7 +1,7 @@
 -- What a session records leaves alone each path of a replacement that may still come.
 use Rattle.std.proofs.Common.{◌≡◌, ◌≤◌, ℕ, Bool, true, false, not, ◌&&◌, ◌||◌, List, [], ◌∷◌, ◌++◌}
 use Rattle.std.proofs.Common.{length, refl, sym, ap, ap₂, ◌∙◌, subst, Some, true≢false, append-nil}
-use Rattle.std.proofs.Common.{arith, inl, inr, if◌then◌else◌, slice_get}
+use Rattle.std.proofs.Common.{arith, inl, inr, if◌then◌else◌, slice_get, Option, None}
 use Rattle.std.specs.Prelude.{Contains}
 use Rattle.std.specs.FinMap.{get}
 use Rattle.std.proofs.lemmas.Option.{same_Some}
@@ -25,7 +25,7 @@ use Rattle.syn_model.proofs.DirectoryLemmas.{below_new_directory}
 use Rattle.syn_model.proofs.PathLemmas.{is_prefix-is}
 use Rattle.syn_model.proofs.TreeLemmas.{get-subtree, subtree-replace_other}
 use Rattle.syn_headline.proofs.PlanLemmas.{IsDecided, IsPlannedFrom, decided_by, goes_on_at}
-use Rattle.syn_headline.proofs.PlanLemmas.{writes_clean, writes_path, planned_is, fenced}
+use Rattle.syn_headline.proofs.PlanLemmas.{writes_freely, writes_path, planned_is, fenced}
 use Rattle.syn_headline.proofs.GrownLemmas.{made}
 use Rattle.syn_headline.proofs.StagedLemmas.{on_both}
 use Rattle.syn_headline.proofs.HeldLemmas.{scan_held}
@@ -60,56 +60,64 @@ same_item d i j (inr x) (inl y) = let e : DoAndGoOn i ≡ Do j = sym x ∙ y in 
 same_item d i j (inr x) (inr y) = let e : DoAndGoOn i ≡ DoAndGoOn j = sym x ∙ y in cc
 
 -- paths that are marked alike are no directory of both
-mark_same : (a b c d e f g : Bool) (p q : Path) →
-    IsDecided (decided_by a b c d e f g p) (MarkSame q) → b ≡ false
-mark_same true b c d e f g p q (inl x) = cc
-mark_same true b c d e f g p q (inr x) = cc
-mark_same false true true d e f g p q (inl x) = cc
-mark_same false true true d e f g p q (inr x) = cc
-mark_same false true false true e f g p q (inl x) = cc
-mark_same false true false true e f g p q (inr x) = cc
-mark_same false true false false e f g p q (inl x) = cc
-mark_same false true false false e f g p q (inr x) = cc
-mark_same false false c d e f g p q x = refl
+mark_same : (r : Option Which) (a b c d e f g : Bool) (p q : Path) →
+    IsDecided (decided_by r a b c d e f g p) (MarkSame q) → b ≡ false
+mark_same r true b c d e f g p q (inl x) = cc
+mark_same r true b c d e f g p q (inr x) = cc
+mark_same r false true true d e f g p q (inl x) = cc
+mark_same r false true true d e f g p q (inr x) = cc
+mark_same r false true false true e f g p q (inl x) = cc
+mark_same r false true false true e f g p q (inr x) = cc
+mark_same r false true false false e f g p q (inl x) = cc
+mark_same r false true false false e f g p q (inr x) = cc
+mark_same r false false c d e f g p q x = refl
 
-pub mark_same_is : (l r : Scan) (o : Tree) (p q : Path) →
-    IsDecided (decision l r o p) (MarkSame q) → is_directory_in_both l.marks r.marks p ≡ false
-mark_same_is l r o p q d =
-    mark_same (not (dirty l o p || dirty r o p)) (is_directory_in_both l.marks r.marks p)
+pub mark_same_is : (preference : Option Which) (l r : Scan) (o : Tree) (p q : Path) →
+    IsDecided (decision preference l r o p) (MarkSame q) → is_directory_in_both l.marks r.marks p ≡
+    false
+mark_same_is preference l r o p q d =
+    mark_same preference (not (dirty l o p || dirty r o p)) (is_directory_in_both l.marks r.marks p)
     (is_unstable l p || is_unstable r p) (is_directory o p)
     (is_same_tree (subtree l.marks p) (subtree r.marks p)) (not (dirty r o p))
     (not (dirty l o p)) p q d
 
 -- and a path that is marked as a directory is one of both
-mark_dir : (a b c d e f g : Bool) (p q : Path) →
-    IsDecided (decided_by a b c d e f g p) (MarkDir q) → b ≡ true
-mark_dir true b c d e f g p q (inl x) = cc
-mark_dir true b c d e f g p q (inr x) = cc
-mark_dir false true c d e f g p q x = refl
-mark_dir false false c d true f g p q (inl x) = cc
-mark_dir false false c d true f g p q (inr x) = cc
-mark_dir false false c d false true g p q (inl x) = cc
-mark_dir false false c d false true g p q (inr x) = cc
-mark_dir false false c d false false true p q (inl x) = cc
-mark_dir false false c d false false true p q (inr x) = cc
-mark_dir false false c d false false false p q (inl x) = cc
-mark_dir false false c d false false false p q (inr x) = cc
+mark_dir : (r : Option Which) (a b c d e f g : Bool) (p q : Path) →
+    IsDecided (decided_by r a b c d e f g p) (MarkDir q) → b ≡ true
+mark_dir r true b c d e f g p q (inl x) = cc
+mark_dir r true b c d e f g p q (inr x) = cc
+mark_dir r false true c d e f g p q x = refl
+mark_dir r false false c d true f g p q (inl x) = cc
+mark_dir r false false c d true f g p q (inr x) = cc
+mark_dir r false false c d false true g p q (inl x) = cc
+mark_dir r false false c d false true g p q (inr x) = cc
+mark_dir r false false c d false false true p q (inl x) = cc
+mark_dir r false false c d false false true p q (inr x) = cc
+mark_dir None false false c d false false false p q (inl x) = cc
+mark_dir None false false c d false false false p q (inr x) = cc
+mark_dir (Some side) false false true d false false false p q (inl x) = cc
+mark_dir (Some side) false false true d false false false p q (inr x) = cc
+mark_dir (Some Left) false false false d false false false p q (inl x) = cc
+mark_dir (Some Left) false false false d false false false p q (inr x) = cc
+mark_dir (Some Right) false false false d false false false p q (inl x) = cc
+mark_dir (Some Right) false false false d false false false p q (inr x) = cc
 
-mark_dir_is : (l r : Scan) (o : Tree) (p q : Path) → IsDecided (decision l r o p) (MarkDir q) →
+mark_dir_is : (preference : Option Which) (l r : Scan) (o : Tree) (p q : Path) →
+    IsDecided (decision preference l r o p) (MarkDir q) →
     is_directory_in_both l.marks r.marks p ≡ true
-mark_dir_is l r o p q d =
-    mark_dir (not (dirty l o p || dirty r o p)) (is_directory_in_both l.marks r.marks p)
+mark_dir_is preference l r o p q d =
+    mark_dir preference (not (dirty l o p || dirty r o p)) (is_directory_in_both l.marks r.marks p)
     (is_unstable l p || is_unstable r p) (is_directory o p)
     (is_same_tree (subtree l.marks p) (subtree r.marks p)) (not (dirty r o p))
     (not (dirty l o p)) p q d
 
 -- nothing is reached below a path that is no directory of both
-not_reached : (scan : Which → Scan) (o : Tree) (p : Path) →
+not_reached : (preference : Option Which) (scan : Which → Scan) (o : Tree) (p : Path) →
     is_directory_in_both (scan Left).marks (scan Right).marks p ≡ false →
-    GoesOn (decision (scan Left) (scan Right) o p) → ⊥
-not_reached scan o p beside g =
-    let l = goes_on_at scan o p g Left in
-    let r = goes_on_at scan o p g Right in
+    GoesOn (decision preference (scan Left) (scan Right) o p) → ⊥
+not_reached preference scan o p beside g =
+    let l = goes_on_at preference scan o p g Left in
+    let r = goes_on_at preference scan o p g Right in
     true≢false (sym (ap₂ (λ a b. a && b) l.0 r.0) ∙ beside)
 
 different : (which other_one : Which) (item : Item) (p q : Path) → WritesTo item which p →
@@ -152,32 +160,34 @@ directory_above archive q n r h =
     ] refl
 
 -- two items of one plan, of which one writes
-module _ (scan : Which → Scan) (since : Which → Path → ℕ) (found : Tree) (due planned : Planned)
-    (due_is : IsPlannedFrom scan since found due)
-    (planned_is : IsPlannedFrom scan since found planned)
+module _ (preference : Option Which) (scan : Which → Scan) (since : Which → Path → ℕ)
+    (found : Tree) (due planned : Planned)
+    (due_is : IsPlannedFrom preference scan since found due)
+    (planned_is : IsPlannedFrom preference scan since found planned)
     (side : Which) (p : Path) (w : WritesTo planned.item side p)
     (at : path_of planned.item ≡ p) where
   -- the item that writes stands at no directory of both, so nothing is reached below it
   none_below : (q : Path) → path_of due.item ≡ q → (n : Name) (r : Path) → q ≡ p ++ n ∷ r → ⊥
   none_below q e n r under =
-      let clean = writes_clean (scan Left) (scan Right) found
-      (path_of planned.item) planned.item side p scan refl refl w planned_is.decided in
-      not_reached scan found p
-      (ap (is_directory_in_both (scan Left).marks (scan Right).marks) (sym at) ∙ clean.0)
+      let free = writes_freely preference scan found (path_of planned.item) planned.item side p w
+      planned_is.decided in
+      not_reached preference scan found p
+      (ap (is_directory_in_both (scan Left).marks (scan Right).marks) (sym at) ∙ free.0)
       (due_is.reached p n r (e ∙ under))
 
   -- nor is it reached below a path that is no directory of both
   not_below : (q : Path) → is_directory_in_both (scan Left).marks (scan Right).marks q ≡ false →
       (n : Name) (r : Path) → p ≡ q ++ n ∷ r → ⊥
   not_below q beside n r under =
-      not_reached scan found q beside (planned_is.reached q n r (at ∙ under))
+      not_reached preference scan found q beside (planned_is.reached q n r (at ∙ under))
 
   -- at one path they are one item
   one_item : (q : Path) → path_of due.item ≡ q → q ≡ p → due.item ≡ planned.item
   one_item q e equal =
-      same_item (decision (scan Left) (scan Right) found (path_of due.item)) due.item planned.item
+      same_item (decision preference (scan Left) (scan Right) found (path_of due.item)) due.item
+      planned.item
       due_is.decided
-      (subst (λ x. IsDecided (decision (scan Left) (scan Right) found x) planned.item)
+      (subst (λ x. IsDecided (decision preference (scan Left) (scan Right) found x) planned.item)
       (at ∙ (sym equal ∙ sym e)) planned_is.decided)
 
 module _ (plans : Plans) (histories : Histories) (archive : Archive) (sent : Sent)
@@ -248,8 +258,10 @@ module _ (plans : Plans) (histories : Histories) (archive : Archive) (sent : Sen
       let is = made plans histories archive sent sound running.session item due e in
       let due_is = planned_is sent running.session is.0 is.1
       (plan_in plans running.session) is.2 item due e in
-      let both = mark_dir_is (is.1.scan Left) (is.1.scan Right) is.0 (path_of due.item) path
-      (subst (IsDecided (decision (is.1.scan Left) (is.1.scan Right) is.0 (path_of due.item)))
+      let both = mark_dir_is is.1.preference (is.1.scan Left) (is.1.scan Right) is.0
+      (path_of due.item) path
+      (subst (IsDecided (decision is.1.preference (is.1.scan Left) (is.1.scan Right) is.0
+      (path_of due.item)))
       kind due_is.decided) in
       let each = and_parts (is_directory (is.1.scan Left).marks (path_of due.item))
       (is_directory (is.1.scan Right).marks (path_of due.item)) both in
@@ -288,8 +300,8 @@ module _ (plans : Plans) (histories : Histories) (archive : Archive) (sent : Sen
             (plan_in plans running.session) is.2 j planned ej' in
             let at = writes_path planned.item side p wp in
             let due_at = writes_path due.item from q w in
-            let clean = writes_clean (is.1.scan Left) (is.1.scan Right) is.0
-            (path_of due.item) due.item from q is.1.scan refl refl w due_is.decided in
+            let free = writes_freely is.1.preference is.1.scan is.0 (path_of due.item) due.item from
+            q w due_is.decided in
             elim (comparable q p) as (λ b. comparable q p ≡ b →
             subtree (after_kept a (Recorded q marks)).marks p ≡ subtree a.marks p) [
               | false ↦ λ apart. recorded_beside a q p marks apart
@@ -297,7 +309,8 @@ module _ (plans : Plans) (histories : Histories) (archive : Archive) (sent : Sen
                   as (λ _. subtree (after_kept a (Recorded q marks)).marks p ≡ subtree a.marks p) [
                     | one x ↦
                         let item_is =
-                        one_item is.1.scan is.1.since is.0 due planned due_is p_is side p
+                        one_item is.1.preference is.1.scan is.1.since is.0 due planned due_is p_is
+                        side p
                         wp at q due_at x in
                         let from_is : side ≡ from = different side from planned.item p q wp
                         (subst (λ i. WritesTo i from q) item_is w) in
@@ -311,11 +324,13 @@ module _ (plans : Plans) (histories : Histories) (archive : Archive) (sent : Sen
                         absurd (true≢false (sym quiet' ∙ (ap (λ k. is_quiet (histories from) k
                         (length (histories from)) q) (sym since_is) ∙ touched)))
                     | above n r x ↦ absurd
-                        (not_below is.1.scan is.1.since is.0 due planned due_is p_is side p wp at q
+                        (not_below is.1.preference is.1.scan is.1.since is.0 due planned due_is p_is
+                        side p wp at q
                         (ap (is_directory_in_both (is.1.scan Left).marks (is.1.scan Right).marks)
-                        (sym due_at) ∙ clean.0) n r x)
+                        (sym due_at) ∙ free.0) n r x)
                     | below n r x ↦ absurd
-                        (none_below is.1.scan is.1.since is.0 due planned due_is p_is
+                        (none_below is.1.preference is.1.scan is.1.since is.0 due planned due_is
+                        p_is
                         side p wp at q due_at n r x)
                   ]
             ] refl;
@@ -338,9 +353,10 @@ module _ (plans : Plans) (histories : Histories) (archive : Archive) (sent : Sen
             (plan_in plans running.session) is.2 j planned ej' in
             let at = writes_path planned.item side p wp in
             let due_at = ap path_of kind in
-            let beside = mark_same_is (is.1.scan Left) (is.1.scan Right) is.0 q q
-            (subst (λ x. IsDecided (decision (is.1.scan Left) (is.1.scan Right) is.0 x)
-            (MarkSame q)) due_at (subst (λ i. IsDecided (decision (is.1.scan Left)
+            let beside = mark_same_is is.1.preference (is.1.scan Left) (is.1.scan Right) is.0 q q
+            (subst (λ x. IsDecided (decision is.1.preference (is.1.scan Left) (is.1.scan Right) is.0
+            x)
+            (MarkSame q)) due_at (subst (λ i. IsDecided (decision is.1.preference (is.1.scan Left)
             (is.1.scan Right) is.0 (path_of due.item)) i) kind due_is.decided)) in
             elim (comparable q p) as (λ b. comparable q p ≡ b →
             subtree (after_kept a (Recorded q marks)).marks p ≡ subtree a.marks p) [
@@ -348,13 +364,15 @@ module _ (plans : Plans) (histories : Histories) (archive : Archive) (sent : Sen
               | true ↦ λ near. elim (meets q p near)
                   as (λ _. subtree (after_kept a (Recorded q marks)).marks p ≡ subtree a.marks p) [
                     | one x ↦ absurd
-                        (subst (λ i. WritesTo i side p) (sym (one_item is.1.scan is.1.since
+                        (subst (λ i. WritesTo i side p) (sym (one_item is.1.preference is.1.scan
+                        is.1.since
                         is.0 due planned due_is p_is side p wp at q due_at x) ∙ kind) wp)
                     | above n r x ↦ absurd
-                        (not_below is.1.scan is.1.since is.0 due planned due_is p_is
+                        (not_below is.1.preference is.1.scan is.1.since is.0 due planned due_is p_is
                         side p wp at q beside n r x)
                     | below n r x ↦ absurd
-                        (none_below is.1.scan is.1.since is.0 due planned due_is p_is
+                        (none_below is.1.preference is.1.scan is.1.since is.0 due planned due_is
+                        p_is
                         side p wp at q due_at n r x)
                   ]
             ] refl;
@@ -382,12 +400,14 @@ module _ (plans : Plans) (histories : Histories) (archive : Archive) (sent : Sen
               | true ↦ λ near. elim (meets q p near)
                   as (λ _. subtree (after_kept a (RecordedDir q)).marks p ≡ subtree a.marks p) [
                     | one x ↦ absurd
-                        (subst (λ i. WritesTo i side p) (sym (one_item is.1.scan is.1.since
+                        (subst (λ i. WritesTo i side p) (sym (one_item is.1.preference is.1.scan
+                        is.1.since
                         is.0 due planned due_is p_is side p wp at q due_at x) ∙ kind) wp)
                     | above n r x ↦ subst (λ w. subtree (after_kept a (RecordedDir q)).marks w
                         ≡ subtree a.marks w) (sym x) (directory_above a q n r tree)
                     | below n r x ↦ absurd
-                        (none_below is.1.scan is.1.since is.0 due planned due_is p_is
+                        (none_below is.1.preference is.1.scan is.1.since is.0 due planned due_is
+                        p_is
                         side p wp at q due_at n r x)
                   ]
             ] refl;

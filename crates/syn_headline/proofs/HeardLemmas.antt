@@ -93,7 +93,6 @@ has_plan sent archive log running _ _ m in_order repeats fresh (fine.makes made 
   record {
     of_session = makes.of_session;
     once = fresh none;
-    prefers_none = makes.prefers_none;
     archive_is = makes.archive_is;
     is = plan_of_sent sent running archive made m in_order repeats makes;
   },

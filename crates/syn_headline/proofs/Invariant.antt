@@ -1,7 +1,7 @@
 -- What each step of a run keeps.
 use Rattle.std.specs.Prelude.{ℕ, ◌≡◌, ◌≢◌, ◌≤◌, ◌==◌, if◌then◌else◌, true, false, List, [], ◌∷◌}
 use Rattle.std.specs.Prelude.{◌++◌, length, take, drop, slice_get, Some, None, All, AllPairs}
-use Rattle.std.specs.Prelude.{Contains, IfSome}
+use Rattle.std.specs.Prelude.{Contains, IfSome, Option}
 use Rattle.std.specs.FinMap.{get}
 use Rattle.syn_model.specs.Path.{Bytes, Name, Path}
 use Rattle.syn_model.specs.Tree.{Tree, Content, Directory, IsTree, subtree, is_directory}
@@ -19,10 +19,12 @@ use Rattle.syn_headline.specs.Network.{Which, other, Asks, Answers, Sent, Number
 use Rattle.syn_headline.specs.Network.{AsksNothingTwice}
 use Rattle.syn_model.specs.Decision.{path_of}
 use Rattle.syn_model.specs.Dirty.{Scan}
-use Rattle.syn_headline.specs.Planning.{Planned, seen_on, Log, IsPlanOf, WritesTo}
+use Rattle.syn_headline.specs.Planning.{Planned, seen_on, Log, IsPlanOf, WritesTo, SessionPlan}
 use Rattle.syn_headline.proofs.Coarse.{World, SideMachine, CoordinatorMachine, side_of, IsOfPlan}
 use Rattle.syn_headline.proofs.Coarse.{RunsOver}
 use Rattle.syn_headline.specs.Machine.{Up}
+use Rattle.syn_headline.specs.Acknowledged.{IsPreferred}
+use Rattle.std.proofs.Common.{◌⊎◌}
 
 -- the history of each side
 abbrev pub Histories : Type 0
@@ -40,8 +42,9 @@ abbrev pub plan_in : Log → ℕ → List Planned
 plan_in [] session = []
 plan_in (made ∷ log) session = if made.session == session then made.plan else plan_in log session
 
--- the scans that a plan was made of
+-- what a plan was made of: the preference, and the scans
 pub record Scans : Type 0 where
+  pub preference : Option Which
   pub scan : Which → Scan
   pub since : Which → Path → ℕ
 
@@ -50,7 +53,7 @@ abbrev pub IsPlanFrom : Sent → ℕ → Tree → Scans → List Planned → Typ
 IsPlanFrom sent session archive scans plan =
     IsPlanOf sent (record {
       session = session;
-      preference = None;
+      preference = scans.preference;
       scan = scans.scan;
       since = scans.since;
       archive = archive;
@@ -123,6 +126,11 @@ IsStillRecorded history archive session path since =
     session ≡ last_session history → is_quiet history since (length history) path ≡ true →
     subtree (mark (tree_of history)) path ≡ subtree archive.marks path
 
+-- each plan of the session prefers the other side there
+abbrev pub IsPreferredIn : Plans → ℕ → Which → Path → Type 0
+IsPreferredIn plans session side path = (made : SessionPlan) → Contains plans made →
+    made.session ≡ session → IsPreferred made side path
+
 -- the path was touched since it was listed, and had then what the item's source had shown
 pub record IsSpent (history : History) (path : Path) (since : ℕ) (marks : Tree) : Type 0 where
   pub touched : is_quiet history since (length history) path ≡ false
@@ -177,6 +185,7 @@ pub record IsSound (plans : Plans) (histories : Histories) (archive : Archive) (
   pub recorded : (session item : ℕ) (planned : Planned) (side : Which) (path : Path) →
       slice_get (plan_in plans session) item ≡ Some planned → WritesTo planned.item side path →
       IsStillRecorded (histories side) archive session path (seen_on planned side).since
+      ⊎ IsPreferredIn plans session side path
   pub used : IsUsed plans histories
 
 -- what an item's source had at its path when it was listed there

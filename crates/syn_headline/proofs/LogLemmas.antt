@@ -65,7 +65,7 @@ plan_in-push (first ∷ log) made once session =
 
 -- what an entry was made of
 abbrev pub scans_of : SessionPlan → Scans
-scans_of made = record { scan = made.scan; since = made.since }
+scans_of made = record { preference = made.preference; scan = made.scan; since = made.since }
 
 pub plan_from : (sent : Sent) (made : SessionPlan) → IsPlanOf sent made →
     IsPlanFrom sent made.session made.archive (scans_of made) made.plan

@@ -21,14 +21,14 @@ use Rattle.syn_headline.specs.Side.{Stage, Replace, Begun, Piece, Refused, Reads
 use Rattle.syn_headline.specs.Side.{staged_bytes, Listed}
 use Rattle.syn_headline.specs.Network.{Which, other, Sent, Asks}
 use Rattle.syn_model.specs.Decision.{path_of}
-use Rattle.syn_headline.specs.Planning.{Planned, seen_on, WritesTo}
+use Rattle.syn_headline.specs.Planning.{Planned, seen_on, WritesTo, IsPlanOf}
 use Rattle.syn_headline.proofs.Invariant.{Plans, plan_in, Histories, IsSound, IsSoundStaging}
 use Rattle.syn_headline.proofs.Invariant.{IsSoundReplacement, IsSoundEvent, IsTrue, IsBorne}
 use Rattle.syn_headline.proofs.Invariant.{HadMarks, IsTruePiece, IsTrueListing, source_of, part_at}
 use Rattle.syn_model.proofs.HistoryLemmas.{first_cause-none}
 use Rattle.syn_model.proofs.QuietLemmas.{quiet_same}
 use Rattle.syn_headline.proofs.PlanLemmas.{writes_path, since_reached, seen_is, writes_of}
-use Rattle.syn_headline.proofs.PlanLemmas.{parent-child}
+use Rattle.syn_headline.proofs.PlanLemmas.{parent-child, planned_is}
 use Rattle.syn_model.proofs.MarkLemmas.{mark-subtree}
 use Rattle.syn_headline.proofs.GrownLemmas.{fold_one, made}
 use Rattle.syn_headline.proofs.OutcomeLemmas.{begins, Outcome, refuses, begins_again, lists}
@@ -38,11 +38,12 @@ use Rattle.std.specs.Prelude.{Contains, IfSome}
 use Rattle.std.specs.Option.{option_map_or}
 use Rattle.syn_headline.proofs.SpellingLemmas.{spellings_tell}
 use Rattle.syn_model.specs.Refusal.{Refusal, OldSession}
-use Rattle.syn_headline.specs.Acknowledged.{Stores, history_of, WasListed, IsLegal}
-use Rattle.syn_headline.proofs.LogLemmas.{entry_of}
+use Rattle.syn_headline.specs.Acknowledged.{Stores, history_of, WasListed, IsLegal, MayOverwrite}
+use Rattle.syn_headline.proofs.LogLemmas.{entry_of, scans_of, plan_from}
 use Rattle.syn_headline.proofs.StagedLemmas.{same_token, path_meets_itself, touched_now, put_there}
 use Rattle.syn_headline.proofs.StagedLemmas.{other_twice, first_piece, next_piece}
 use Rattle.syn_headline.proofs.StagedLemmas.{tree_at_is_tree, tree_at_fits}
+use Rattle.std.proofs.lemmas.List.Elements.{All-contains}
 
 -- A request
 
@@ -380,6 +381,16 @@ legal plans histories archive sent sound side token path since new allowed h sto
     sound.answered (other side) token.session at_source.number
     (Listed (seen_on h.planned (other side)).since (listed (other side)).0)
     (ListAt (parent path)) at_source.answered at_source.asked in
+    let quiet : is_quiet (histories side) (seen_on h.planned side).since (length (histories side))
+    path ≡ true = ap (λ k. is_quiet (histories side) k (length (histories side)) path)
+    (sym h.listed) ∙ h.quiet in
+    let marks_here : subtree (mark (tree_of (history_of stores side))) path
+    ≡ subtree (mark (tree_of (histories side))) path =
+    ap (λ w. subtree (mark (tree_of w)) path) (at side) in
+    let entry_is = All-contains (IsPlanOf sent) plans entry.0 sound.planned entry.1 in
+    let seen_by = (planned_is sent entry.0.session entry.0.archive (scans_of entry.0) entry.0.plan
+    (plan_from sent entry.0 entry_is) token.item h.planned
+    (ap (λ plan. slice_get plan token.item) entry.3 ∙ h.item)).seen side in
     let source_directory =
     ap (λ w. is_directory (tree_at w (seen_on h.planned (other side)).since) (parent path))
     (at (other side)) ∙ true_listing.directory in
@@ -395,13 +406,20 @@ legal plans histories archive sent sound side token path since new allowed h sto
       item = (ap (λ plan. slice_get plan token.item) entry.3 ∙ h.item, h.writes);
       seen = h.listed;
       recorded =
-          sym (mark-subtree (tree_of (history_of stores side)) path)
-          ∙ (mark-subtree (tree_of (history_of stores side)) path
-          ∙ (ap (λ w. subtree (mark (tree_of w)) path) (at side)
-          ∙ (sound.recorded token.session token.item h.planned side path h.item h.writes
-          (current (histories side) token path since new allowed) (ap (λ k. is_quiet
-          (histories side) k (length (histories side)) path) (sym h.listed) ∙ h.quiet)
-          ∙ ap (λ a. subtree a.marks path) (sym archive_is))));
+          elim (sound.recorded token.session token.item h.planned side path h.item h.writes)
+          as (λ _. MayOverwrite entry.0 stores side path) [
+            | inl still ↦ inl (marks_here ∙ (still
+                (current (histories side) token path since new allowed) quiet
+                ∙ ap (λ a. subtree a.marks path) (sym archive_is)))
+            | inr preferred ↦ inr (
+              preferred entry.0 entry.1 entry.2,
+              marks_here ∙ (sym (seen_is plans histories archive sent sound token.session is.0 is.1
+                  (plan_in plans token.session) is.2 token.item h.planned side path h.item h.writes
+                  side quiet)
+                  ∙ (seen_by.0 ∙ ap (subtree (entry.0.scan side).marks)
+                  (writes_path h.planned.item side path h.writes))),
+            )
+          ];
       source = record {
         listed = listed (other side);
         directory = source_directory;

@@ -1,7 +1,7 @@
 -- What the items of a plan tell of the scans that it was made of, and of the histories.
 use Rattle.std.proofs.Common.{option_map, map, ◌≡◌, ◌≤◌, ℕ, suc, Bool, is_some, None, arith, true}
 use Rattle.std.proofs.Common.{false, not, ◌&&◌, ◌||◌, List, [], ◌∷◌, ◌++◌, length, refl, sym, ap}
-use Rattle.std.proofs.Common.{ap₂, ◌∙◌, subst, Some, true≢false, append-nil, inl, inr, ◌⊎◌}
+use Rattle.std.proofs.Common.{ap₂, ◌∙◌, subst, Some, true≢false, append-nil, inl, inr, ◌⊎◌, Option}
 use Rattle.std.proofs.Common.{if◌then◌else◌, slice_get}
 use Rattle.std.specs.Prelude.{Contains}
 use Rattle.std.specs.List.{list_any}
@@ -9,8 +9,8 @@ use Rattle.std.specs.Ordering.{eq_by_cmp}
 use Rattle.std.proofs.lemmas.List.Elements.{Contains-append_left, All-get_or, All-contains}
 use Rattle.std.proofs.lemmas.List.Elements.{Contains-get_or}
 use Rattle.std.proofs.lemmas.Option.{slice_get_within, get_or_from_slice_get, slice_get-map}
-use Rattle.std.proofs.lemmas.Bool.{and_parts, not-true, or_parts}
-use Rattle.syn_model.specs.Plan.{plan as items_of, IsDecided as IsDecidedAt}
+use Rattle.std.proofs.lemmas.Bool.{and_parts, not-true, not-false, or_parts}
+use Rattle.syn_model.specs.Plan.{plan as items_of, IsDecided as IsDecidedAt, IsContested}
 use Rattle.syn_model.proofs.PlanOrder.{plan_is_decided}
 use Rattle.syn_model.specs.Path.{Name, Path, name_cmp, is_prefix, strip_prefix, parent, child}
 use Rattle.syn_model.specs.Tree.{Tree, IsTree, subtree, is_directory, is_directory_content}
@@ -21,10 +21,10 @@ use Rattle.syn_model.specs.History.{tree_of, is_quiet, last_session}
 use Rattle.syn_model.specs.Reconcile.{is_directory_in_both}
 use Rattle.syn_model.specs.Decision.{IsReached, Item, ToLeft, ToRight, MarkSame, MarkDir, Conflict}
 use Rattle.syn_model.specs.Decision.{Decision, Clean, Do, DoAndGoOn, GoOn, decision, path_of}
-use Rattle.syn_model.specs.Decision.{GoesOn}
+use Rattle.syn_model.specs.Decision.{GoesOn, contested}
 use Rattle.syn_headline.specs.Side.{Request, Reply, Begin, ListAt, Fetch, Stage, Replace, Listed}
 use Rattle.syn_headline.specs.Side.{NotDir, Begun}
-use Rattle.syn_headline.specs.Network.{Which, Left, Right, Sent, Asks, Answers, WasAnswered}
+use Rattle.syn_headline.specs.Network.{Which, Left, Right, other, Sent, Asks, Answers, WasAnswered}
 use Rattle.syn_model.specs.Archive.{Archive}
 use Rattle.syn_headline.specs.Planning.{Planned, seen_on, HasBegun, IsScanOf, SeesBoth, SessionPlan}
 use Rattle.syn_headline.specs.Planning.{IsPlanOf, WritesTo}
@@ -88,66 +88,85 @@ plan_of-more sent more made h = record {
 
 -- What is decided
 
-abbrev pub decided_by : Bool → Bool → Bool → Bool → Bool → Bool → Bool → Path → Decision
-decided_by clean both unstable recorded same right left path =
+abbrev pub decided_by : Option Which → Bool → Bool → Bool → Bool → Bool → Bool → Bool → Path →
+    Decision
+decided_by preference clean both unstable recorded same right left path =
     if clean then Clean
     else if both then (if unstable then Do (Conflict path) else if recorded then GoOn
     else DoAndGoOn (MarkDir path))
     else if same then Do (MarkSame path)
     else if right then Do (ToRight path)
     else if left then Do (ToLeft path)
-    else Do (Conflict path)
+    else Do (contested preference unstable path)
 
 abbrev pub IsDecided : Decision → Item → Type 0
 IsDecided decision item = (decision ≡ Do item) ⊎ (decision ≡ DoAndGoOn item)
 
--- an item that writes goes to a side that is clean, and stands at no directory of both
-to_right : (a b c d e f g : Bool) (p q : Path) →
-    IsDecided (decided_by a b c d e f g p) (ToRight q) → (b ≡ false) × (f ≡ true)
-to_right true b c d e f g p q (inl x) = cc
-to_right true b c d e f g p q (inr x) = cc
-to_right false true true d e f g p q (inl x) = cc
-to_right false true true d e f g p q (inr x) = cc
-to_right false true false true e f g p q (inl x) = cc
-to_right false true false true e f g p q (inr x) = cc
-to_right false true false false e f g p q (inl x) = cc
-to_right false true false false e f g p q (inr x) = cc
-to_right false false c d true f g p q (inl x) = cc
-to_right false false c d true f g p q (inr x) = cc
-to_right false false c d false true g p q x = (refl, refl)
-to_right false false c d false false true p q (inl x) = cc
-to_right false false c d false false true p q (inr x) = cc
-to_right false false c d false false false p q (inl x) = cc
-to_right false false c d false false false p q (inr x) = cc
+-- an item that writes goes to a side that is clean, or to one that is not preferred, where both
+-- changed and are stable; and it stands at no directory of both
+abbrev IsFree : Option Which → Which → Bool → Bool → Bool → Type 0
+IsFree preference from clean source_clean unstable = (clean ≡ true)
+    ⊎ ((preference ≡ Some from) × (clean ≡ false) × (source_clean ≡ false) × (unstable ≡ false))
 
-to_left : (a b c d e f g : Bool) (p q : Path) → IsDecided (decided_by a b c d e f g p) (ToLeft q) →
-    (b ≡ false) × (g ≡ true)
-to_left true b c d e f g p q (inl x) = cc
-to_left true b c d e f g p q (inr x) = cc
-to_left false true true d e f g p q (inl x) = cc
-to_left false true true d e f g p q (inr x) = cc
-to_left false true false true e f g p q (inl x) = cc
-to_left false true false true e f g p q (inr x) = cc
-to_left false true false false e f g p q (inl x) = cc
-to_left false true false false e f g p q (inr x) = cc
-to_left false false c d true f g p q (inl x) = cc
-to_left false false c d true f g p q (inr x) = cc
-to_left false false c d false true g p q (inl x) = cc
-to_left false false c d false true g p q (inr x) = cc
-to_left false false c d false false true p q x = (refl, refl)
-to_left false false c d false false false p q (inl x) = cc
-to_left false false c d false false false p q (inr x) = cc
+to_right : (r : Option Which) (a b c d e f g : Bool) (p q : Path) →
+    IsDecided (decided_by r a b c d e f g p) (ToRight q) → (b ≡ false) × IsFree r Left f g c
+to_right r true b c d e f g p q (inl x) = cc
+to_right r true b c d e f g p q (inr x) = cc
+to_right r false true true d e f g p q (inl x) = cc
+to_right r false true true d e f g p q (inr x) = cc
+to_right r false true false true e f g p q (inl x) = cc
+to_right r false true false true e f g p q (inr x) = cc
+to_right r false true false false e f g p q (inl x) = cc
+to_right r false true false false e f g p q (inr x) = cc
+to_right r false false c d true f g p q (inl x) = cc
+to_right r false false c d true f g p q (inr x) = cc
+to_right r false false c d false true g p q x = (refl, inl refl)
+to_right r false false c d false false true p q (inl x) = cc
+to_right r false false c d false false true p q (inr x) = cc
+to_right None false false c d false false false p q (inl x) = cc
+to_right None false false c d false false false p q (inr x) = cc
+to_right (Some side) false false true d false false false p q (inl x) = cc
+to_right (Some side) false false true d false false false p q (inr x) = cc
+to_right (Some Left) false false false d false false false p q x =
+    (refl, inr (refl, refl, refl, refl))
+to_right (Some Right) false false false d false false false p q (inl x) = cc
+to_right (Some Right) false false false d false false false p q (inr x) = cc
+
+to_left : (r : Option Which) (a b c d e f g : Bool) (p q : Path) →
+    IsDecided (decided_by r a b c d e f g p) (ToLeft q) → (b ≡ false) × IsFree r Right g f c
+to_left r true b c d e f g p q (inl x) = cc
+to_left r true b c d e f g p q (inr x) = cc
+to_left r false true true d e f g p q (inl x) = cc
+to_left r false true true d e f g p q (inr x) = cc
+to_left r false true false true e f g p q (inl x) = cc
+to_left r false true false true e f g p q (inr x) = cc
+to_left r false true false false e f g p q (inl x) = cc
+to_left r false true false false e f g p q (inr x) = cc
+to_left r false false c d true f g p q (inl x) = cc
+to_left r false false c d true f g p q (inr x) = cc
+to_left r false false c d false true g p q (inl x) = cc
+to_left r false false c d false true g p q (inr x) = cc
+to_left r false false c d false false true p q x = (refl, inl refl)
+to_left None false false c d false false false p q (inl x) = cc
+to_left None false false c d false false false p q (inr x) = cc
+to_left (Some side) false false true d false false false p q (inl x) = cc
+to_left (Some side) false false true d false false false p q (inr x) = cc
+to_left (Some Right) false false false d false false false p q x =
+    (refl, inr (refl, refl, refl, refl))
+to_left (Some Left) false false false d false false false p q (inl x) = cc
+to_left (Some Left) false false false d false false false p q (inr x) = cc
 
 -- a plan goes on below what is a stable directory on both sides
-pub goes_on_below : (a b c d e f g : Bool) (p : Path) → GoesOn (decided_by a b c d e f g p) →
+pub goes_on_below : (r : Option Which) (a b c d e f g : Bool) (p : Path) → GoesOn
+    (decided_by r a b c d e f g p) →
     (b ≡ true) × (c ≡ false)
-goes_on_below true b c d e f g p x = absurd x
-goes_on_below false true true d e f g p x = absurd x
-goes_on_below false true false d e f g p x = (refl, refl)
-goes_on_below false false c d true f g p x = absurd x
-goes_on_below false false c d false true g p x = absurd x
-goes_on_below false false c d false false true p x = absurd x
-goes_on_below false false c d false false false p x = absurd x
+goes_on_below r true b c d e f g p x = absurd x
+goes_on_below r false true true d e f g p x = absurd x
+goes_on_below r false true false d e f g p x = (refl, refl)
+goes_on_below r false false c d true f g p x = absurd x
+goes_on_below r false false c d false true g p x = absurd x
+goes_on_below r false false c d false false true p x = absurd x
+goes_on_below r false false c d false false false p x = absurd x
 
 pub last_name : (n : Name) (p : Path) → (a : Path) × (m : Name) × (n ∷ p ≡ child a m)
 last_name n [] = ([], n, refl)
@@ -157,11 +176,14 @@ pub parent-child : (a : Path) (n : Name) → parent (child a n) ≡ a
 parent-child a n = parent-append a n [] ∙ append-nil a
 
 -- an item of a plan is what is decided at its path, with what the scans have there
-pub record IsPlannedFrom (scan : Which → Scan) (since : Which → Path → ℕ) (archive : Tree)
+pub record IsPlannedFrom (preference : Option Which) (scan : Which → Scan)
+    (since : Which → Path → ℕ) (archive : Tree)
     (planned : Planned) : Type 0 where
-  pub reached : IsReached (decision (scan Left) (scan Right) archive) (path_of planned.item)
+  pub reached : IsReached (decision preference (scan Left) (scan Right) archive)
+      (path_of planned.item)
   pub decided :
-      IsDecided (decision (scan Left) (scan Right) archive (path_of planned.item)) planned.item
+      IsDecided (decision preference (scan Left) (scan Right) archive (path_of planned.item))
+      planned.item
   pub seen : SeesBoth scan since planned
 
 pub found_item : (items : List Item) (plan : List Planned) (item : ℕ) (planned : Planned) →
@@ -175,11 +197,13 @@ found_item items plan item planned same e =
 
 pub planned_is : (sent : Sent) (session : ℕ) (found : Tree) (both : Scans) (plan : List Planned)
     (is : IsPlanFrom sent session found both plan) (item : ℕ) (planned : Planned) →
-    slice_get plan item ≡ Some planned → IsPlannedFrom both.scan both.since found planned
+    slice_get plan item ≡ Some planned → IsPlannedFrom both.preference both.scan both.since found
+    planned
 planned_is sent session found both plan is item planned e =
-    let decided = All-contains (IsDecidedAt (decision (both.scan Left) (both.scan Right) found))
-    (items_of (both.scan Left) (both.scan Right) found) planned.item
-    (plan_is_decided (both.scan Left) (both.scan Right) found)
+    let decided = All-contains (IsDecidedAt (decision both.preference (both.scan Left)
+    (both.scan Right) found))
+    (items_of both.preference (both.scan Left) (both.scan Right) found) planned.item
+    (plan_is_decided both.preference (both.scan Left) (both.scan Right) found)
     (found_item _ plan item planned is.items e) in
     record {
       reached = decided.reached;
@@ -200,48 +224,77 @@ writes_path (MarkSame at) side path w = absurd w
 writes_path (MarkDir at) side path w = absurd w
 writes_path (Conflict at) side path w = absurd w
 
--- an item that writes is decided where no directory stands on both, and the side that it writes is
--- clean
-pub writes_clean : (l r : Scan) (o : Tree) (p : Path) (item : Item) (side : Which) (path : Path)
-    (scan : Which → Scan) → scan Left ≡ l → scan Right ≡ r → WritesTo item side path →
-    IsDecided (decision l r o p) item →
-    (is_directory_in_both l.marks r.marks p ≡ false) × (dirty (scan side) o p ≡ false)
-writes_clean l r o p (ToLeft at) Left path scan el er w d =
-    let both = to_left (not (dirty l o p || dirty r o p)) (is_directory_in_both l.marks r.marks p)
-    (is_unstable l p || is_unstable r p) (is_directory o p)
-    (is_same_tree (subtree l.marks p) (subtree r.marks p)) (not (dirty r o p))
-    (not (dirty l o p)) p at d in
-    (both.0, ap (λ s. dirty s o p) el ∙ not-true _ both.1)
-writes_clean l r o p (ToRight at) Right path scan el er w d =
-    let both = to_right (not (dirty l o p || dirty r o p)) (is_directory_in_both l.marks r.marks p)
-    (is_unstable l p || is_unstable r p) (is_directory o p)
-    (is_same_tree (subtree l.marks p) (subtree r.marks p)) (not (dirty r o p))
-    (not (dirty l o p)) p at d in
-    (both.0, ap (λ s. dirty s o p) er ∙ not-true _ both.1)
-writes_clean l r o p (ToLeft at) Right path scan el er w d = absurd w
-writes_clean l r o p (ToRight at) Left path scan el er w d = absurd w
-writes_clean l r o p (MarkSame at) side path scan el er w d = absurd w
-writes_clean l r o p (MarkDir at) side path scan el er w d = absurd w
-writes_clean l r o p (Conflict at) side path scan el er w d = absurd w
+contested_in : (l r : Scan) (o : Tree) (p : Path) → dirty l o p ≡ true → dirty r o p ≡ true →
+    (is_unstable l p || is_unstable r p) ≡ false → IsContested l r o p
+contested_in l r o p x y e =
+    let stable = or_parts (is_unstable l p) (is_unstable r p) e in
+    record { left_dirty = x; right_dirty = y; left_stable = stable.0; right_stable = stable.1 }
+
+-- a side may be written at a path: it is clean, or the other is preferred, and both changed and are
+-- stable
+abbrev pub IsFreeAt : Option Which → (Which → Scan) → Tree → Which → Path → Type 0
+IsFreeAt preference scan found side path = (dirty (scan side) found path ≡ false)
+    ⊎ ((preference ≡ Some (other side)) × IsContested (scan Left) (scan Right) found path)
+
+-- an item that writes is decided where no directory stands on both, and the side that it writes may
+-- be written
+pub writes_freely : (r : Option Which) (scan : Which → Scan) (o : Tree) (p : Path) (item : Item)
+    (side : Which) (path : Path) → WritesTo item side path →
+    IsDecided (decision r (scan Left) (scan Right) o p) item →
+    (is_directory_in_both (scan Left).marks (scan Right).marks p ≡ false)
+    × IsFreeAt r scan o side p
+writes_freely r scan o p (ToLeft at) Left path w d =
+    let l = scan Left in
+    let s = scan Right in
+    let both = to_left r (not (dirty l o p || dirty s o p)) (is_directory_in_both l.marks s.marks p)
+    (is_unstable l p || is_unstable s p) (is_directory o p)
+    (is_same_tree (subtree l.marks p) (subtree s.marks p)) (not (dirty s o p))
+    (not (dirty l o p)) p at d in (
+      both.0,
+      elim both.1 as (λ _. IsFreeAt r scan o Left p) [
+        | inl clean ↦ inl (not-true _ clean)
+        | inr h ↦ inr (h.0, contested_in l s o p (not-false _ h.1) (not-false _ h.2) h.3)
+      ],
+    )
+writes_freely r scan o p (ToRight at) Right path w d =
+    let l = scan Left in
+    let s = scan Right in
+    let both = to_right r (not (dirty l o p || dirty s o p))
+    (is_directory_in_both l.marks s.marks p)
+    (is_unstable l p || is_unstable s p) (is_directory o p)
+    (is_same_tree (subtree l.marks p) (subtree s.marks p)) (not (dirty s o p))
+    (not (dirty l o p)) p at d in (
+      both.0,
+      elim both.1 as (λ _. IsFreeAt r scan o Right p) [
+        | inl clean ↦ inl (not-true _ clean)
+        | inr h ↦ inr (h.0, contested_in l s o p (not-false _ h.2) (not-false _ h.1) h.3)
+      ],
+    )
+writes_freely r scan o p (ToLeft at) Right path w d = absurd w
+writes_freely r scan o p (ToRight at) Left path w d = absurd w
+writes_freely r scan o p (MarkSame at) side path w d = absurd w
+writes_freely r scan o p (MarkDir at) side path w d = absurd w
+writes_freely r scan o p (Conflict at) side path w d = absurd w
 
 -- what a directory of both scans that a plan goes on below is on each side
-pub goes_on_at : (scan : Which → Scan) (o : Tree) (p : Path) →
-    GoesOn (decision (scan Left) (scan Right) o p) → (side : Which) →
+pub goes_on_at : (r : Option Which) (scan : Which → Scan) (o : Tree) (p : Path) →
+    GoesOn (decision r (scan Left) (scan Right) o p) → (side : Which) →
     (is_directory (scan side).marks p ≡ true) × (is_unstable (scan side) p ≡ false)
-goes_on_at scan o p g side =
+goes_on_at r scan o p g side =
     let l = scan Left in
-    let r = scan Right in
-    let both = goes_on_below (not (dirty l o p || dirty r o p))
-    (is_directory_in_both l.marks r.marks p) (is_unstable l p || is_unstable r p)
-    (is_directory o p) (is_same_tree (subtree l.marks p) (subtree r.marks p)) (not (dirty r o p))
+    let s = scan Right in
+    let both = goes_on_below r (not (dirty l o p || dirty s o p))
+    (is_directory_in_both l.marks s.marks p) (is_unstable l p || is_unstable s p)
+    (is_directory o p) (is_same_tree (subtree l.marks p) (subtree s.marks p)) (not (dirty s o p))
     (not (dirty l o p)) p g in
-    let ds = and_parts (is_directory l.marks p) (is_directory r.marks p) both.0 in
-    let us = or_parts (is_unstable l p) (is_unstable r p) both.1 in
+    let ds = and_parts (is_directory l.marks p) (is_directory s.marks p) both.0 in
+    let us = or_parts (is_unstable l p) (is_unstable s p) both.1 in
     elim side as (λ side. (is_directory (scan side).marks p ≡ true)
     × (is_unstable (scan side) p ≡ false)) [ Left ↦ (ds.0, us.0) | Right ↦ (ds.1, us.1) ]
 
 -- what is known of an item that writes
-pub record Writes (scan : Which → Scan) (since : Which → Path → ℕ) (found : Tree)
+pub record Writes (preference : Option Which) (scan : Which → Scan) (since : Which → Path → ℕ)
+    (found : Tree)
     (planned : Planned) (side : Which) (path : Path) : Type 0 where
   pub above : Path
   pub name : Name
@@ -250,35 +303,37 @@ pub record Writes (scan : Which → Scan) (since : Which → Path → ℕ) (foun
       (is_directory (scan s).marks above ≡ true) × (is_unstable (scan s) above ≡ false)
   pub since_is : (s : Which) → (seen_on planned s).since ≡ since s above
   pub marks_are : (s : Which) → (seen_on planned s).marks ≡ subtree (scan s).marks path
-  pub clean : dirty (scan side) found path ≡ false
+  pub free : IsFreeAt preference scan found side path
 
 root_is_directory : (t : Tree) → IsTree t → is_directory t [] ≡ true
 root_is_directory t h = ap is_directory_content h.rooted
 
-pub writes_at : (scan : Which → Scan) (since : Which → Path → ℕ) (found : Tree) (planned : Planned)
-    (side : Which) (path : Path) → ((s : Which) → IsTree (scan s).marks) →
-    IsPlannedFrom scan since found planned → WritesTo planned.item side path →
-    path_of planned.item ≡ path → Writes scan since found planned side path
-writes_at scan since found planned side [] trees from w e =
-    let clean = writes_clean (scan Left) (scan Right) found (path_of planned.item) planned.item side
-    [] scan refl refl w from.decided in
+pub writes_at : (preference : Option Which) (scan : Which → Scan) (since : Which → Path → ℕ)
+    (found : Tree) (planned : Planned) (side : Which) (path : Path) →
+    ((s : Which) → IsTree (scan s).marks) →
+    IsPlannedFrom preference scan since found planned → WritesTo planned.item side path →
+    path_of planned.item ≡ path → Writes preference scan since found planned side path
+writes_at preference scan since found planned side [] trees from w e =
+    let free = writes_freely preference scan found (path_of planned.item) planned.item side
+    [] w from.decided in
     absurd (true≢false (sym (ap₂ (λ a b. a && b) (root_is_directory (scan Left).marks (trees Left))
     (root_is_directory (scan Right).marks (trees Right)))
-    ∙ (ap (is_directory_in_both (scan Left).marks (scan Right).marks) (sym e) ∙ clean.0)))
-writes_at scan since found planned side (n ∷ p) trees from w e =
-    let clean = writes_clean (scan Left) (scan Right) found (path_of planned.item) planned.item side
-    (n ∷ p) scan refl refl w from.decided in
+    ∙ (ap (is_directory_in_both (scan Left).marks (scan Right).marks) (sym e) ∙ free.0)))
+writes_at preference scan since found planned side (n ∷ p) trees from w e =
+    let free = writes_freely preference scan found (path_of planned.item) planned.item side
+    (n ∷ p) w from.decided in
     let split = last_name n p in
     record {
       above = split.0;
       name = split.1;
       at = split.2;
-      above_is = goes_on_at scan found split.0 (from.reached split.0 split.1 [] (e ∙ split.2));
+      above_is = goes_on_at preference scan found split.0 (from.reached split.0 split.1 []
+          (e ∙ split.2));
       since_is =
           λ s. (from.seen s).1
           ∙ ap (since s) (ap parent (e ∙ split.2) ∙ parent-child split.0 split.1);
       marks_are = λ s. (from.seen s).0 ∙ ap (subtree (scan s).marks) e;
-      clean = ap (dirty (scan side) found) (sym e) ∙ clean.1;
+      free = subst (IsFreeAt preference scan found side) e free.1;
     }
 
 -- prefixes both ways are one path
@@ -361,9 +416,10 @@ module _ (plans : Plans) (histories : Histories) (archive : Archive) (sent : Sen
 
     module _ (item : ℕ) (planned : Planned) (side : Which) (path : Path)
         (e : slice_get plan item ≡ Some planned) (w : WritesTo planned.item side path) where
-      pub writes_of : Writes both.scan both.since found planned side path
+      pub writes_of : Writes both.preference both.scan both.since found planned side path
       writes_of =
-          writes_at both.scan both.since found planned side path (λ s. (is.scanned s).tree)
+          writes_at both.preference both.scan both.since found planned side path
+          (λ s. (is.scanned s).tree)
           (planned_is sent session found both plan is item planned e) w
           (writes_path planned.item side path w)
 
@@ -389,11 +445,12 @@ module _ (plans : Plans) (histories : Histories) (archive : Archive) (sent : Sen
           at.marks_are s ∙ subst (λ p. subtree (both.scan s).marks p
           ≡ subtree (mark (tree_of (histories s))) p) (sym at.at) seen
 
-      -- the path that an item writes has what was found in the archive, as long as nothing touched
-      -- it
-      pub target_is : is_quiet (histories side) (seen_on planned side).since
+      -- the path that an item writes has what was found in the archive, where it was clean and as
+      -- long as nothing touched it
+      pub target_is : dirty (both.scan side) found path ≡ false → is_quiet (histories side)
+          (seen_on planned side).since
           (length (histories side)) path ≡ true →
           subtree (mark (tree_of (histories side))) path ≡ subtree found path
-      target_is quiet =
+      target_is clean quiet =
           sym (seen_is side quiet)
-          ∙ (writes_of.marks_are side ∙ dirty-safe (both.scan side) found path writes_of.clean)
+          ∙ (writes_of.marks_are side ∙ dirty-safe (both.scan side) found path clean)

@@ -121,7 +121,7 @@ module _ (log : Log) (before : Archive) (whole : IsTree before.marks)
     (archive : Archive) (sent : Sent) (sound : IsSound plans histories archive sent)
     (kept : List Kept) (can : AllCanKeep before kept) (session : ℕ) (plan : List Planned)
     (h : IsUnderway log before histories sent kept session plan)
-    (made : IsQuietPlan sent histories session (archive_of before h.earlier).marks plan)
+    (made : IsQuietPlan log sent histories session (archive_of before h.earlier).marks plan)
     (report : Report) (settled : All (λ planned. IsSettled h.records report planned.item) plan)
     (none : report.refused ≡ [])
     (conflicts : report.conflicts ≡ filter_map (λ planned. conflict_at planned.item) plan)
@@ -211,7 +211,7 @@ module _ (log : Log) (before : Archive) (whole : IsTree before.marks)
   found_trees =
       record { left = tree_of (first Left); right = tree_of (first Right); archive = found.marks }
 
-  left_trees : after_plan found_trees ≡ record {
+  left_trees : after_plan made.scans.preference found_trees ≡ record {
     left = tree_of (histories Left);
     right = tree_of (histories Right);
     archive = (archive_of before kept).marks;
@@ -225,29 +225,33 @@ module _ (log : Log) (before : Archive) (whole : IsTree before.marks)
 
   -- the trees are a synchronization of what was found
   pub synchronized : AreApart (tree_of (first Left)) (tree_of (first Right)) →
-      IsSynchronized found_trees (record {
+      IsSynchronized made.scans.preference found_trees (record {
         left = tree_of (histories Left);
         right = tree_of (histories Right);
         archive = (archive_of before kept).marks;
       })
   synchronized apart =
-      subst (IsSynchronized found_trees) left_trees
-      (plan_synchronizes found_trees (plannable Left) (plannable Right) archive_plannable apart)
+      subst (IsSynchronized made.scans.preference found_trees) left_trees
+      (plan_synchronizes made.scans.preference found_trees (plannable Left) (plannable Right)
+      archive_plannable apart)
 
   -- and the archive is that of it
-  pub reconciled : IsReconciled found_trees (record {
+  pub reconciled : IsReconciled made.scans.preference found_trees (record {
     left = tree_of (histories Left);
     right = tree_of (histories Right);
     archive = (archive_of before kept).marks;
   })
   reconciled =
-      subst (IsReconciled found_trees) left_trees
-      (plan_reconciles found_trees (plannable Left) (plannable Right) archive_plannable)
+      subst (IsReconciled made.scans.preference found_trees) left_trees
+      (plan_reconciles made.scans.preference found_trees (plannable Left) (plannable Right)
+      archive_plannable)
 
   conflicts_planned : (path : Path) → Contains items_of_plan (Conflict path)
-      ↔ IsConflict (tree_of (first Left)) (tree_of (first Right)) found.marks path
+      ↔ IsConflict made.scans.preference (tree_of (first Left)) (tree_of (first Right)) found.marks
+      path
   conflicts_planned path =
-      conflicts_are_planned (tree_of (first Left)) (tree_of (first Right)) found.marks
+      conflicts_are_planned made.scans.preference (tree_of (first Left)) (tree_of (first Right))
+      found.marks
       (plannable Left) (plannable Right) archive_plannable path
 
   conflicts_are : report.conflicts ≡ filter_map conflict_at items_of_plan
@@ -255,7 +259,8 @@ module _ (log : Log) (before : Archive) (whole : IsTree before.marks)
 
   -- and the report has its conflicts
   pub conflicts_reported : (path : Path) → Contains report.conflicts path
-      ↔ IsConflict (tree_of (first Left)) (tree_of (first Right)) found.marks path
+      ↔ IsConflict made.scans.preference (tree_of (first Left)) (tree_of (first Right)) found.marks
+      path
   conflicts_reported path = (
     λ c. (conflicts_planned path).0
         (conflicts_from items_of_plan path (subst (λ w. Contains w path) conflicts_are c)),
@@ -275,7 +280,12 @@ module _ (log : Log) (before : Archive) (whole : IsTree before.marks)
 
   -- each item of the plan is counted
   pub counts_reported : Counts plan h.records report →
-      HasCounts (record { left = first Left; right = first Right; archive = found }) report
+      HasCounts made.scans.preference (record {
+        left = first Left;
+        right = first Right;
+        archive =
+            found;
+      }) report
   counts_reported counts = (
     counts.done ∙ counted is_carrying (λ path. refl),
     counts.marked
@@ -296,5 +306,6 @@ module _ (log : Log) (before : Archive) (whole : IsTree before.marks)
       }) items_of_plan in
       ap (λ a. subtree a.marks path) (sym final_archive)
       ∙ (ap (λ t. subtree t.archive path) trees_are
-      ∙ alike_recorded sides found.marks plannable archive_plannable now
-      (plan_is_carried sides found.marks archive_plannable.parents) path relevant same)
+      ∙ alike_recorded made.scans.preference sides found.marks plannable archive_plannable now
+      (plan_is_carried made.scans.preference sides found.marks archive_plannable.parents) path
+      relevant same)

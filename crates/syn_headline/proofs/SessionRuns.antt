@@ -116,7 +116,7 @@ module _ (old new : World) (s : IsStart old) (g : FollowsAll old new) where
     abbrev acks : List Ack
     acks = take q.acks new.acknowledged
 
-    told : IsTold before acks report
+    told : IsTold before new.log acks report
     told = (watched.told report q.acks q.reported q.complete).1
 
     -- the session started once
@@ -178,21 +178,22 @@ module _ (old new : World) (s : IsStart old) (g : FollowsAll old new) where
         then.1 ((run_kept no_plans old new (start_kept old s) g).1.sound.lawful which))
 
     synchronizes : AreApart (tree_of found.left) (tree_of found.right) →
-        IsSynchronized (trees_of found) (trees_of left)
+        IsSynchronized told.preference (trees_of found) (trees_of left)
     synchronizes apart =
-        subst (λ s. IsSynchronized (trees_of found) (trees_of s)) (sym q.at_end)
+        subst (λ s. IsSynchronized told.preference (trees_of found) (trees_of s)) (sym q.at_end)
         ((told.worth found archive_is left_began right_began).0 apart)
 
-    reconciles : IsReconciled (trees_of found) (trees_of left)
+    reconciles : IsReconciled told.preference (trees_of found) (trees_of left)
     reconciles =
-        subst (λ s. IsReconciled (trees_of found) (trees_of s)) (sym q.at_end)
+        subst (λ s. IsReconciled told.preference (trees_of found) (trees_of s)) (sym q.at_end)
         (told.worth found archive_is left_began right_began).1
 
     has_conflicts : (path : Path) → Contains report.conflicts path
-        ↔ IsConflict (tree_of found.left) (tree_of found.right) found.archive.marks path
+        ↔ IsConflict told.preference (tree_of found.left) (tree_of found.right)
+        found.archive.marks path
     has_conflicts = (told.worth found archive_is left_began right_began).2
 
-    has_counts : HasCounts found report
+    has_counts : HasCounts told.preference found report
     has_counts = (told.worth found archive_is left_began right_began).4
 
     -- a relevant path where both sides had the same is marked
@@ -207,17 +208,23 @@ module _ (old new : World) (s : IsStart old) (g : FollowsAll old new) where
 -- a complete session without edits leaves the synchronization of what it found
 pub runs_synchronize : OfEachRun CompleteSessionsSynchronize
 runs_synchronize old new s g report found left q apart =
-    synchronizes old new s g report found left q apart
+    let tells = told old new s g report found left q in
+    (tells.preference, tells.logged, synchronizes old new s g report found left q apart)
 
 -- and the archive of it
 pub runs_reconcile : OfEachRun CompleteSessionsReconcile
-runs_reconcile old new s g report found left q = reconciles old new s g report found left q
+runs_reconcile old new s g report found left q =
+    let tells = told old new s g report found left q in
+    (tells.preference, tells.logged, reconciles old new s g report found left q)
 
 -- and reports its conflicts
 pub runs_report_conflicts : OfEachRun ReportsItsConflicts
 runs_report_conflicts old new s g report found left q =
-    has_conflicts old new s g report found left q
+    let tells = told old new s g report found left q in
+    (tells.preference, tells.logged, has_conflicts old new s g report found left q)
 
 -- and counts its items
 pub runs_count_items : OfEachRun CountsItsItems
-runs_count_items old new s g report found left q = has_counts old new s g report found left q
+runs_count_items old new s g report found left q =
+    let tells = told old new s g report found left q in
+    (tells.preference, tells.logged, has_counts old new s g report found left q)

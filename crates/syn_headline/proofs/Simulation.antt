@@ -260,10 +260,10 @@ module _ (plans : Plans) (old : World) (k : IsKept plans (view old))
   fails_so machine calls status left _ up (fails_device arms failed meets) =
       device_so machine left arms failed up
 
-  starts_so : (made : World) → first_cause
+  starts_so : (preference : Option Which) (made : World) → first_cause
       ((is_halted (status_of old Coordinator), why.Halted) ∷ start_causes old.pair old.coordinator)
-      ≡ None → status_of old Coordinator ≢ Down → Starts old made → IsFollowed old made
-  starts_so _ none up (world.starts machine call g) =
+      ≡ None → status_of old Coordinator ≢ Down → Starts old preference made → IsFollowed old made
+  starts_so preference _ none up (world.starts machine call g) =
       let first = first_cause-none (is_halted old.coordinator.journal.status, why.Halted)
       (start_causes old.pair old.coordinator) none in
       let last = old.coordinator.journal.value.last_session in
@@ -274,7 +274,7 @@ module _ (plans : Plans) (old : World) (k : IsKept plans (view old))
       let busy = first_cause-none (is_some old.coordinator.running, why.Busy)
       ((nat_le greatest last, why.Full) ∷ room) first.1 in
       let full = first_cause-none (nat_le greatest last, why.Full) room busy.1 in
-      starts_follow plans old k
+      starts_follow preference plans old k
       (neither old.coordinator.journal.status first.0 up) full.0 machine call g
 
   answer_so : (from : Which) (session number : ℕ) (reply : Reply) →
@@ -330,8 +330,9 @@ module _ (plans : Plans) (old : World) (k : IsKept plans (view old))
   step_follows (Edits side user edit) new g =
       calls_so (At side) (causes_of old.pair (side_of old side) (Edited user edit))
       (EditsSide old side (Edited user edit)) new (edits_so side user edit) g
-  step_follows Start new g =
-      calls_so Coordinator (start_causes old.pair old.coordinator) (Starts old) new starts_so g
+  step_follows (Start preference) new g =
+      calls_so Coordinator (start_causes old.pair old.coordinator) (Starts old preference) new
+      (starts_so preference) g
   step_follows (Deliver message) new g =
       delivers_so (slice_get old.sent message) (sent_at old.sent message) new g
   step_follows Tick new g = ticks_so new g

@@ -1,10 +1,10 @@
 -- The invariant is kept as messages are sent, a plan is made, and the archive keeps its items.
 use Rattle.std.proofs.Common.{◌≡◌, ◌≤◌, ℕ, true, false, nat_le, List, ◌∷◌, ◌++◌, refl, sym, ap, ◌∙◌}
 use Rattle.std.proofs.Common.{subst, Some, append-nil, arith, inl, inr, slice_get, ◌≢◌, ◌+◌, zero}
-use Rattle.std.proofs.Common.{suc, not, ◌==◌, None, ◌⊎◌, if◌then◌else◌, []}
+use Rattle.std.proofs.Common.{suc, not, ◌==◌, None, ◌⊎◌, if◌then◌else◌, [], true≢false}
 use Rattle.std.specs.FinMap.{get}
 use Rattle.std.proofs.lemmas.List.Elements.{All-weaker, All-push, All-get_or, Contains-append_left}
-use Rattle.std.proofs.lemmas.List.Elements.{Contains-append_cases}
+use Rattle.std.proofs.lemmas.List.Elements.{Contains-append_cases, All-contains}
 use Rattle.std.proofs.lemmas.Option.{none-some, same_Some}
 use Rattle.syn_model.specs.Path.{Path, is_root, strip_prefix, IsName}
 use Rattle.syn_model.specs.Tree.{Tree, Content, subtree, is_directory, Directory, IsTree, IsPart}
@@ -21,11 +21,11 @@ use Rattle.syn_headline.specs.Network.{AsksNothingTwice}
 use Rattle.syn_headline.specs.Planning.{Planned, seen_on, IsPlanOf, SessionPlan}
 use Rattle.syn_headline.proofs.Invariant.{Plans, plan_in, Histories, IsSound, IsStillRecorded}
 use Rattle.syn_headline.proofs.Invariant.{IsTrue, IsBorne, IsSound_request, IsSpent, IsHeld}
-use Rattle.syn_headline.proofs.Invariant.{IsHeldRecord, IsHarmless, IsFresh}
+use Rattle.syn_headline.proofs.Invariant.{IsHeldRecord, IsHarmless, IsFresh, IsPreferredIn}
 use Rattle.syn_model.proofs.HistoryLemmas.{first_cause-none, get-at_root, replace-is_tree}
 use Rattle.syn_model.proofs.HistoryLemmas.{place-stands, empty-is_tree}
 use Rattle.syn_headline.proofs.LogLemmas.{scans_of, plan_from, no_plan, plan_in-push}
-use Rattle.syn_headline.proofs.PlanLemmas.{of_plan-more, plan_of-more, target_is}
+use Rattle.syn_headline.proofs.PlanLemmas.{of_plan-more, plan_of-more, target_is, writes_of}
 use Rattle.std.specs.Prelude.{Contains, All}
 use Rattle.std.specs.Option.{option_map_or}
 use Rattle.std.proofs.lemmas.Bool.Decides.{nat_tests}
@@ -34,6 +34,7 @@ use Rattle.syn_headline.proofs.Coarse.{IsOfPlan}
 use Rattle.syn_model.proofs.PathLemmas.{strip_prefix-is}
 use Rattle.syn_model.proofs.TreeLemmas.{get-replace}
 use Rattle.syn_headline.proofs.GrownLemmas.{some_in_nothing}
+use Rattle.syn_headline.specs.Acknowledged.{IsPreferred}
 
 -- Messages
 
@@ -230,6 +231,29 @@ nothing_borne pair sent session plan history from (Replace item path since size)
     absurd (some_in_nothing item h.0 h.1)
 nothing_borne pair sent session plan history from request reply h = tt
 
+-- a plan that is made now prefers a side as it says
+preferred_now : (plans : Plans) (entry : SessionPlan) → IsNew plans entry → (n : ℕ) →
+    n ≡ entry.session → (side : Which) (path : Path) → IsPreferred entry side path →
+    IsPreferredIn (plans ++ entry ∷ []) n side path
+preferred_now plans entry new n at side path p made c of =
+    elim (Contains-append_cases plans (entry ∷ []) made c) as (λ _. IsPreferred made side path) [
+      | inl earlier ↦ absurd (All-contains (λ e. e.session ≢ entry.session) plans made new earlier
+          (of ∙ at))
+      | inr here ↦ subst (λ m. IsPreferred m side path) (only_one entry made here) p
+    ]
+
+-- and the plans before it do so still
+preferred_before : (plans : Plans) (entry : SessionPlan) (n : ℕ) →
+    (n == entry.session) ≡ false → (side : Which) (path : Path) →
+    IsPreferredIn plans n side path → IsPreferredIn (plans ++ entry ∷ []) n side path
+preferred_before plans entry n differ side path p made c of =
+    elim (Contains-append_cases plans (entry ∷ []) made c) as (λ _. IsPreferred made side path) [
+      | inl earlier ↦ p made earlier of
+      | inr here ↦
+          let is : entry.session ≡ n = ap (λ e. e.session) (only_one entry made here) ∙ of in
+          absurd (true≢false (grind (arith, nat_tests)))
+    ]
+
 pub sound-plan : (plans : Plans) (histories : Histories) (archive : Archive) (sent : Sent) →
     IsSound plans histories archive sent → (entry : SessionPlan) → IsNew plans entry →
     entry.archive ≡ archive.marks → IsPlanOf sent entry → IsFresh histories entry.session →
@@ -282,12 +306,28 @@ sound-plan plans histories archive sent sound entry new archive_is is fresh = re
   recorded =
       λ n item planned side path e w. elim (n == entry.session) as (λ b. (n == entry.session) ≡ b →
       slice_get (if b then entry.plan else plan_in plans n) item ≡ Some planned →
-      IsStillRecorded (histories side) archive n path (seen_on planned side).since) [
-        | true ↦ λ same e _ quiet.
-            target_is plans histories archive sent sound entry.session entry.archive
-            (scans_of entry) entry.plan (plan_from sent entry is) item planned side path e w quiet
-            ∙ ap (λ marks. subtree marks path) archive_is
-        | false ↦ λ _ e. sound.recorded n item planned side path e w
+      IsStillRecorded (histories side) archive n path (seen_on planned side).since
+      ⊎ IsPreferredIn (plans ++ entry ∷ []) n side path) [
+        | true ↦ λ same e.
+            let from = plan_from sent entry is in
+            let writes = writes_of plans histories archive sent sound entry.session entry.archive
+            (scans_of entry) entry.plan from item planned side path e w in
+            elim writes.free
+            as (λ _. IsStillRecorded (histories side) archive n path (seen_on planned side).since
+            ⊎ IsPreferredIn (plans ++ entry ∷ []) n side path) [
+              | inl clean ↦ inl (λ _ quiet. target_is plans histories archive sent sound
+                  entry.session entry.archive (scans_of entry) entry.plan from item planned side
+                  path
+                  e w clean quiet ∙ ap (λ marks. subtree marks path) archive_is)
+              | inr free ↦ inr (preferred_now plans entry new n (grind (arith, nat_tests)) side path
+                  (record { prefers = free.0; contested = free.1 }))
+            ]
+        | false ↦ λ differ e. elim (sound.recorded n item planned side path e w)
+            as (λ _. IsStillRecorded (histories side) archive n path (seen_on planned side).since
+            ⊎ IsPreferredIn (plans ++ entry ∷ []) n side path) [
+              | inl still ↦ inl still
+              | inr preferred ↦ inr (preferred_before plans entry n differ side path preferred)
+            ]
       ] refl (item_in n item planned e);
 }
   where
@@ -421,7 +461,12 @@ sound-keep plans histories archive sent sound kept can harmless =
       held = kept_held histories archive kept sound.held harmless.held;
       once = sound.once;
       planned = sound.planned;
-      recorded = λ session item planned side path e w current quiet.
-          sound.recorded session item planned side path e w current quiet ∙ sym (harmless.leaves
-          session item planned side path e w current quiet archive sound.marks can);
+      recorded = λ session item planned side path e w.
+          elim (sound.recorded session item planned side path e w)
+          as (λ _. IsStillRecorded (histories side) (after_kept archive kept) session path
+          (seen_on planned side).since ⊎ IsPreferredIn plans session side path) [
+            | inl still ↦ inl (λ current quiet. still current quiet ∙ sym (harmless.leaves session
+                item planned side path e w current quiet archive sound.marks can))
+            | inr preferred ↦ inr preferred
+          ];
     }

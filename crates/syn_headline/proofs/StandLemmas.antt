@@ -108,11 +108,12 @@ answer_value pair old from session number reply _ _ (fine.takes r request new ca
     takes_value pair old r _ new call t
 answer_value pair old from session number reply _ _ (fine.ignores none) = refl
 
-starts_value : (pair : ℕ) (old new : CoordinatorMachine) (call : Call) →
-    CoordinatorStarts pair old new call → new.journal.value ≡ archive_of old.journal.value call.kept
-starts_value pair old _ _ (fine.starts session journal next lawful keeps up) =
+starts_value : (pair : ℕ) (preference : Option Which) (old new : CoordinatorMachine)
+    (call : Call) → CoordinatorStarts pair preference old new call →
+    new.journal.value ≡ archive_of old.journal.value call.kept
+starts_value pair preference old _ _ (fine.starts session journal next lawful keeps up) =
     keeps_value pair old.journal journal (Session session) (Session session ∷ []) keeps
-starts_value pair old _ _ (fine.start_breaks session journal kept next keeps down) =
+starts_value pair preference old _ _ (fine.start_breaks session journal kept next keeps down) =
     keeps_value pair old.journal journal (Session session) kept keeps
 
 ticks_value : (old new : CoordinatorMachine) (call : Call) → CoordinatorTicks old new call →
@@ -246,10 +247,11 @@ module _ (before : Stores) (old : World) (s : StandsFor before old) where
   fails_stand machine calls status left _ (fails_device arms failed meets) =
       device_stands before old machine left arms failed s
 
-  starts_stand : (made : World) → Starts old made → StandsFor before made
-  starts_stand _ (world.starts machine call g) =
+  starts_stand : (preference : Option Which) (made : World) → Starts old preference made → StandsFor
+      before made
+  starts_stand preference _ (world.starts machine call g) =
       coordinator_stands before old machine call s
-      (starts_value old.pair old.coordinator machine call g)
+      (starts_value old.pair preference old.coordinator machine call g)
 
   delivers_stand : (o : Option Message) (new : World) → Delivers old o new → StandsFor before new
   delivers_stand _ _ no_message = s
@@ -284,9 +286,9 @@ module _ (before : Stores) (old : World) (s : StandsFor before old) where
   step_stands (Edits side user edit) new g =
       calls_stand (At side) (causes_of old.pair (side_of old side) (Edited user edit))
       (EditsSide old side (Edited user edit)) new (edits_stand side (Edited user edit)) g
-  step_stands Start new g =
+  step_stands (Start preference) new g =
       calls_stand Coordinator (start_causes old.pair old.coordinator)
-      (Starts old) new starts_stand g
+      (Starts old preference) new (starts_stand preference) g
   step_stands (Deliver message) new g = delivers_stand (slice_get old.sent message) new g
   step_stands Tick new g = ticks_stand new g
   step_stands (Checkpoint machine) new g =

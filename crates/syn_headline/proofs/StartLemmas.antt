@@ -111,11 +111,11 @@ next_can archive session smaller next =
     by true b e f = absurd (true≢false e)
     by false false e f = absurd (true≢false (sym f))
 
-module _ (plans : Plans) (old : fine_world.World) (k : IsKept plans (view old))
-    (up : old.coordinator.journal.status ≡ Up)
+module _ (preference : Option Which) (plans : Plans) (old : fine_world.World)
+    (k : IsKept plans (view old)) (up : old.coordinator.journal.status ≡ Up)
     (smaller : nat_le greatest old.coordinator.journal.value.last_session ≡ false) where
   new_remembers : (session : ℕ) → session ≡ old.coordinator.journal.value.last_session + 1 →
-      Remembers old.sent (new_session session)
+      Remembers old.sent (new_session preference session)
   new_remembers session next = record {
     taken = λ e c. absurd (omega (arith, c.1));
     waiting = λ side one c. none_waits side one c;
@@ -126,24 +126,27 @@ module _ (plans : Plans) (old : fine_world.World) (k : IsKept plans (view old))
     rising = none_rise;
   }
     where
-      none_rise : (side : Which) → AreRising (fine.outstanding (new_session session) side)
+      none_rise : (side : Which) → AreRising (fine.outstanding (new_session preference session)
+          side)
       none_rise Left i j d before less = absurd (omega (arith, less))
       none_rise Right i j d before less = absurd (omega (arith, less))
 
       none_waits : (side : Which) (one : Outstanding) →
-          Contains (fine.outstanding (new_session session) side) one →
+          Contains (fine.outstanding (new_session preference session) side) one →
           Contains old.sent (Asks side session one.number one.request)
       none_waits Left one c = absurd (omega (arith, c.1))
       none_waits Right one c = absurd (omega (arith, c.1))
 
-      none_asked : (side : Which) (n : ℕ) (q : Request) → WasAsked (new_session session) side n q →
-          n < asked_count (new_session session) side
+      none_asked : (side : Which) (n : ℕ) (q : Request) → WasAsked (new_session preference session)
+          side n q →
+          n < asked_count (new_session preference session) side
       none_asked side n q (inl taken) = absurd (let c = taken.1 in omega (arith, c.1))
       none_asked Left n q (inr waits) = absurd (let c = waits.1 in omega (arith, c.1))
       none_asked Right n q (inr waits) = absurd (let c = waits.1 in omega (arith, c.1))
 
   first_number : (session n : ℕ) (q : Request) (side : Which) →
-      WasAsked (asking (new_session session) (begins old.pair) (begins old.pair)) side n q → n ≡ 0
+      WasAsked (asking (new_session preference session) (begins old.pair) (begins old.pair)) side n
+      q → n ≡ 0
   first_number session n q side (inl taken) = absurd (let c = taken.1 in omega (arith, c.1))
   first_number session n q Left (inr (resent, (zero, h, e))) = sym (ap (λ o. o.number) e)
   first_number session n q Left (inr (resent, (suc i, h, e))) = absurd (omega (arith, h))
@@ -151,7 +154,7 @@ module _ (plans : Plans) (old : fine_world.World) (k : IsKept plans (view old))
   first_number session n q Right (inr (resent, (suc i, h, e))) = absurd (omega (arith, h))
 
   begins_once : (session : ℕ) →
-      AsksOnce (asking (new_session session) (begins old.pair) (begins old.pair))
+      AsksOnce (asking (new_session preference session) (begins old.pair) (begins old.pair))
   begins_once session side m n a b c d again =
       first_number session m a side c ∙ sym (first_number session n b side d)
 
@@ -220,32 +223,36 @@ module _ (plans : Plans) (old : fine_world.World) (k : IsKept plans (view old))
         (keeps : Keeps old.pair old.coordinator.journal (Session session) journal
         (Session session ∷ [])) (then_up : journal.status ≡ Up) where
       abbrev on : Running
-      on = asking (new_session session) (begins old.pair) (begins old.pair)
+      on = asking (new_session preference session) (begins old.pair) (begins old.pair)
 
       remembers_on : Remembers
-          (old.sent ++ sent_now (new_session session) (begins old.pair) (begins old.pair)) on
+          (old.sent ++ sent_now (new_session preference session) (begins old.pair)
+          (begins old.pair)) on
       remembers_on =
-          asking_remembers old.sent (new_session session) k.sound.numbers
+          asking_remembers old.sent (new_session preference session) k.sound.numbers
           (new_remembers session next) (begins old.pair) (begins old.pair)
 
       begins_so : Follows (view old) (view (coordinator_goes old (record
           { journal = journal; running = Some on }) (record fine.no_call {
             kept = Session session
                 ∷ [];
-            messages = sent_now (new_session session) (begins old.pair) (begins old.pair);
+            messages = sent_now (new_session preference session) (begins old.pair)
+                (begins old.pair);
           })))
       begins_so =
           let left = left_so journal (Session session ∷ []) keeps in
           begins_goes journal (Session session ∷ []) (Some on)
-          (sent_now (new_session session) (begins old.pair) (begins old.pair)) keeps
+          (sent_now (new_session preference session) (begins old.pair) (begins old.pair)) keeps
           (next, refl) (
             sym (ap (λ a. a.last_session) left.value),
             all_sent,
             (omega arith, inl (omega arith), inl (omega arith)),
           )
-          (asking_tells old.sent (new_session session) k.sound.numbers (new_remembers session next)
+          (asking_tells old.sent (new_session preference session) k.sound.numbers
+          (new_remembers session next)
           (begins old.pair) (begins old.pair))
-          (asking_once old.sent (new_session session) k.sound.numbers (new_remembers session next)
+          (asking_once old.sent (new_session preference session) k.sound.numbers
+          (new_remembers session next)
           (begins old.pair) (begins old.pair) k.sound.repeats (begins_once session))
           (All-cons (IsOfSession old.pair old.sent (view_running on)) (Asks Left session 0
           (Begin old.pair)) (Asks Right session 0 (Begin old.pair) ∷ []) (refl, lawful, tt)
@@ -254,7 +261,8 @@ module _ (plans : Plans) (old : fine_world.World) (k : IsKept plans (view old))
           [] (refl, lawful, tt) (All-nil (IsOfSession old.pair old.sent (view_running on)))))
           (λ some. absurd (true≢false (sym some ∙ ap is_some (left.up then_up))))
         where
-          all_sent : coarse.WasSent (old.sent ++ sent_now (new_session session) (begins old.pair)
+          all_sent : coarse.WasSent (old.sent ++ sent_now (new_session preference session)
+              (begins old.pair)
               (begins old.pair)) (view_running on)
           all_sent Left i d within =
               remembers_on.waiting Left _ (All-contains_itself on.left i d within)
@@ -270,13 +278,14 @@ module _ (plans : Plans) (old : fine_world.World) (k : IsKept plans (view old))
       heard_on : IsHeard (coordinator_goes old (record { journal = journal; running = Some on })
           (record fine.no_call {
             kept = Session session ∷ [];
-            messages = sent_now (new_session session) (begins old.pair) (begins old.pair);
+            messages = sent_now (new_session preference session) (begins old.pair)
+                (begins old.pair);
           })) on
       heard_on = record {
         remembers = remembers_on;
         in_order =
-            asking_in_order old.sent (new_session session)
-            (nothing_in_order old.sent (new_session session) refl refl refl)
+            asking_in_order old.sent (new_session preference session)
+            (nothing_in_order old.sent (new_session preference session) refl refl refl)
             (new_remembers session next) k.sound.known (begins old.pair)
             (begins old.pair) only_begins;
         unplanned =
@@ -298,7 +307,7 @@ module _ (plans : Plans) (old : fine_world.World) (k : IsKept plans (view old))
       }
 
   pub starts_follow : (new : CoordinatorMachine) (call : Call) →
-      CoordinatorStarts old.pair old.coordinator new call →
+      CoordinatorStarts old.pair preference old.coordinator new call →
       Follows (view old) (view (coordinator_goes old new call))
       × IfSome new.running (IsHeard (coordinator_goes old new call))
       × Tells old (coordinator_goes old new call)

@@ -1,9 +1,9 @@
 -- What a complete report tells of a session without edits.
 use Rattle.std.proofs.Common.{◌≡◌, ◌≤◌, ◌+◌, ℕ, true, List, [], ◌∷◌, ◌++◌, filter_map, length, take}
-use Rattle.std.proofs.Common.{fold, sym, ap, ap₂, ◌∙◌, subst, Some, arith, inl, inr, ◌≢◌}
+use Rattle.std.proofs.Common.{fold, sym, ap, ap₂, ◌∙◌, subst, Some, arith, inl, inr, ◌≢◌, Option}
 use Rattle.std.specs.Prelude.{Contains, All, ◌↔◌, Any}
 use Rattle.std.proofs.lemmas.List.{take-append-le, length-append}
-use Rattle.std.proofs.lemmas.List.Elements.{All-weaker, Contains-append_cases}
+use Rattle.std.proofs.lemmas.List.Elements.{All-weaker, Contains-append_cases, Contains-append_left}
 use Rattle.std.proofs.Math.Seq.{take-length}
 use Rattle.syn_model.specs.Path.{Path}
 use Rattle.syn_model.specs.Tree.{IsTree, subtree}
@@ -23,7 +23,7 @@ use Rattle.syn_headline.proofs.Coarse.{Counts, IsSettled, kept_in_session, since
 use Rattle.syn_headline.proofs.Coarse.{World, Running, IsExpected, IsDueAfter, HasPlan, GoesOnFrom}
 use Rattle.syn_headline.proofs.Coarse.{plan_of, AllCanKeep, CoordinatorGoes, Reports, Ends}
 use Rattle.syn_headline.proofs.Coarse.{EndsUnanswered}
-use Rattle.syn_headline.specs.Headline.{IsNoEdit, BeganAfter, trees_of, HasCounts}
+use Rattle.syn_headline.specs.Headline.{IsNoEdit, BeganAfter, trees_of, HasCounts, PlansWith}
 use Rattle.syn_headline.proofs.CoarseRuns.{StandsFor}
 use Rattle.syn_headline.proofs.Invariant.{Plans, histories_of, IsKept}
 use Rattle.syn_headline.proofs.SideRuns.{Advances}
@@ -37,26 +37,28 @@ use Rattle.syn_headline.proofs.SoundLemmas.{only_one}
 use Rattle.syn_headline.proofs.WatchLemmas.{all_kept, RunsWell, plan_then, due_then, goes_kept}
 
 -- what the report of a session is worth that kept this before it began
-abbrev pub IsWorth : Stores → List Ack → Report → List Kept → Type 0
-IsWorth before acks report earlier =
+abbrev pub IsWorth : Option Which → Stores → List Ack → Report → List Kept → Type 0
+IsWorth preference before acks report earlier =
     (found : Stores) → found.archive ≡ archive_of before.archive earlier →
     BeganAfter report.session found.left (stores_after before acks).left →
     BeganAfter report.session found.right (stores_after before acks).right →
     (AreApart (tree_of found.left) (tree_of found.right) →
-    IsSynchronized (trees_of found) (trees_of (stores_after before acks)))
-    × IsReconciled (trees_of found) (trees_of (stores_after before acks))
+    IsSynchronized preference (trees_of found) (trees_of (stores_after before acks)))
+    × IsReconciled preference (trees_of found) (trees_of (stores_after before acks))
     × ((path : Path) → Contains report.conflicts path
-    ↔ IsConflict (tree_of found.left) (tree_of found.right) found.archive.marks path)
+    ↔ IsConflict preference (tree_of found.left) (tree_of found.right) found.archive.marks path)
     × ((path : Path) → is_relevant (tree_of found.left) (tree_of found.right) path ≡ true →
     subtree (tree_of found.left) path ≡ subtree (tree_of found.right) path → subtree
     (stores_after before acks).archive.marks path ≡ mark (subtree (tree_of found.left) path))
-    × HasCounts found report
+    × HasCounts preference found report
 
-pub record IsTold (before : Stores) (acks : List Ack) (report : Report) : Type 0 where
+pub record IsTold (before : Stores) (log : Log) (acks : List Ack) (report : Report) : Type 0 where
+  pub preference : Option Which
+  pub logged : PlansWith log report.session preference
   pub earlier : List Kept
   pub records : List Kept
   pub kept_is : filter_map kept_in acks ≡ earlier ++ Session report.session ∷ records
-  pub worth : IsWorth before acks report earlier
+  pub worth : IsWorth preference before acks report earlier
 
 not_any : (log : Log) (session : ℕ) → All (λ made. made.session ≢ session) log →
     Any (λ made. made.session ≡ session) log → ⊥
@@ -94,10 +96,11 @@ module _ (before : Stores) (whole : IsTree before.archive.marks)
         due_then before plans old new k stands runs r e from session number reply plan logged heard
         expected made g.kept g.keeps.due
 
-    quiet_made : IsQuietPlan old.sent (histories_of old) r.session
+    quiet_made : IsQuietPlan (old.log ++ logged) old.sent (histories_of old) r.session
         (archive_of before.archive planned.earlier).marks plan
     quiet_made =
-        elim planned.planned as (λ _. IsQuietPlan old.sent (histories_of old) r.session
+        elim planned.planned as (λ _. IsQuietPlan (old.log ++ logged) old.sent (histories_of old)
+        r.session
         (archive_of before.archive planned.earlier).marks plan) [
           | inl none ↦ absurd
               (not_any new.log r.session (subst (All (λ made. made.session ≢ r.session))
@@ -182,16 +185,19 @@ module _ (before : Stores) (whole : IsTree before.archive.marks)
             (history_then Right)
 
         synchronizes : AreApart (tree_of found.left) (tree_of found.right) →
-            IsSynchronized found_trees (trees_of (stores_after before new.acknowledged))
-        synchronizes apart = subst (IsSynchronized found_trees) trees_then
+            IsSynchronized quiet_made.scans.preference found_trees
+            (trees_of (stores_after before new.acknowledged))
+        synchronizes apart = subst (IsSynchronized quiet_made.scans.preference found_trees)
+            trees_then
             (synchronized (old.log ++ logged) before.archive whole shallow plans
             (histories_of old) old.coordinator.archive old.sent k.sound
             (all_kept new) can r.session plan after quiet_made report settled_then
             (ends.complete complete).1 (ends.conflicts (ends.complete complete).0)
             (history_of found) later split quiet apart)
 
-        reconciles : IsReconciled found_trees (trees_of (stores_after before new.acknowledged))
-        reconciles = subst (IsReconciled found_trees) trees_then
+        reconciles : IsReconciled quiet_made.scans.preference found_trees
+            (trees_of (stores_after before new.acknowledged))
+        reconciles = subst (IsReconciled quiet_made.scans.preference found_trees) trees_then
             (reconciled (old.log ++ logged) before.archive whole shallow plans
             (histories_of old) old.coordinator.archive old.sent k.sound
             (all_kept new) can r.session plan after quiet_made report settled_then
@@ -199,7 +205,8 @@ module _ (before : Stores) (whole : IsTree before.archive.marks)
             (history_of found) later split quiet)
 
         has_conflicts : (path : Path) → Contains report.conflicts path
-            ↔ IsConflict (tree_of found.left) (tree_of found.right) found_archive.marks path
+            ↔ IsConflict quiet_made.scans.preference (tree_of found.left) (tree_of found.right)
+            found_archive.marks path
         has_conflicts =
             conflicts_reported (old.log ++ logged) before.archive whole shallow plans
             (histories_of old) old.coordinator.archive old.sent k.sound
@@ -207,7 +214,7 @@ module _ (before : Stores) (whole : IsTree before.archive.marks)
             (ends.complete complete).1 (ends.conflicts (ends.complete complete).0)
             (history_of found) later split quiet
 
-        has_counts : HasCounts
+        has_counts : HasCounts quiet_made.scans.preference
             (record { left = found.left; right = found.right; archive = found_archive }) report
         has_counts =
             counts_reported (old.log ++ logged) before.archive whole shallow plans
@@ -229,32 +236,40 @@ module _ (before : Stores) (whole : IsTree before.archive.marks)
             (ends.complete complete).1 (ends.conflicts (ends.complete complete).0)
             (history_of found) later split quiet
 
-    is_worth : IsWorth before new.acknowledged report planned.earlier
+    is_worth : IsWorth quiet_made.scans.preference before new.acknowledged report planned.earlier
     is_worth found archive_is left right =
         let l = subst (λ s. BeganAfter s found.left (stores_after before new.acknowledged).left)
         ends.session_is left in
         let h = subst (λ s. BeganAfter s found.right (stores_after before new.acknowledged).right)
         ends.session_is right in (
-          λ apart. subst (λ a. IsSynchronized
+          λ apart. subst (λ a. IsSynchronized quiet_made.scans.preference
               (record { left = tree_of found.left; right = tree_of found.right; archive = a.marks })
               (trees_of (stores_after before new.acknowledged))) (sym archive_is)
               (synchronizes found l h apart),
-          subst (λ a. IsReconciled (record {
+          subst (λ a. IsReconciled quiet_made.scans.preference (record {
             left = tree_of found.left;
             right = tree_of found.right;
             archive = a.marks;
           }) (trees_of (stores_after before new.acknowledged))) (sym archive_is)
               (reconciles found l h),
           subst (λ a. (path : Path) → Contains report.conflicts path
-              ↔ IsConflict (tree_of found.left) (tree_of found.right) a.marks path) (sym archive_is)
+              ↔ IsConflict quiet_made.scans.preference (tree_of found.left) (tree_of found.right)
+              a.marks path) (sym archive_is)
               (has_conflicts found l h),
           has_marked found l h,
-          subst (λ a. HasCounts (record { left = found.left; right = found.right; archive = a })
+          subst (λ a. HasCounts quiet_made.scans.preference (record
+              { left = found.left; right = found.right; archive = a })
               report) (sym archive_is) (has_counts found l h),
         )
 
-    tells : IsTold before new.acknowledged report
+    tells : IsTold before new.log new.acknowledged report
     tells = record {
+      preference = quiet_made.scans.preference;
+      logged =
+          subst (λ log. PlansWith log report.session quiet_made.scans.preference)
+          (sym (ap (λ w. w.log) g.result))
+          (subst (λ n. PlansWith (old.log ++ logged) n quiet_made.scans.preference)
+          (sym ends.session_is) quiet_made.logged);
       earlier = after.earlier;
       records = after.records;
       kept_is =
@@ -263,11 +278,31 @@ module _ (before : Stores) (whole : IsTree before.archive.marks)
       worth = is_worth;
     }
 
+-- and so as more is logged
+told_more : (before : Stores) (log more new : Log) → new ≡ log ++ more → (acks : List Ack)
+    (report : Report) → IsTold before log acks report → IsTold before new acks report
+told_more before log more new is acks report told = record {
+  preference = told.preference;
+  logged = record {
+    made = told.logged.made;
+    logged =
+        subst (λ log. Contains log told.logged.made) (sym is)
+        (Contains-append_left log more told.logged.made told.logged.logged);
+    of_session = told.logged.of_session;
+    prefers = told.logged.prefers;
+  };
+  earlier = told.earlier;
+  records = told.records;
+  kept_is = told.kept_is;
+  worth = told.worth;
+}
+
 -- each complete report tells this
 abbrev pub AllTold : Stores → World → Type 0
 AllTold before world =
     (report : Report) (acks : ℕ) → Contains world.reports (report, acks) → report.end ≡ Complete →
-    (acks ≤ length world.acknowledged) × IsTold before (take acks world.acknowledged) report
+    (acks ≤ length world.acknowledged) × IsTold before world.log (take acks world.acknowledged)
+    report
 
 not_complete : Complete ≡ Incomplete → ⊥
 not_complete e = cc
@@ -281,26 +316,27 @@ module _ (before : Stores) (whole : IsTree before.archive.marks)
   -- what was reported before
   told_before : (report : Report) (acks : ℕ) →
       Contains old.reports (report, acks) → report.end ≡ Complete →
-      (acks ≤ length new.acknowledged) × IsTold before (take acks new.acknowledged) report
+      (acks ≤ length new.acknowledged) × IsTold before new.log (take acks new.acknowledged) report
   told_before report acks c complete =
       let was = told report acks c complete in
       let within : acks ≤ length old.acknowledged = was.0 in
       let longer : length new.acknowledged ≡ length old.acknowledged + length a.acks =
       ap length a.acknowledges ∙ length-append old.acknowledged a.acks in (
         omega (arith, within, longer),
-        subst (λ w. IsTold before w report)
+        subst (λ w. IsTold before new.log w report)
             (sym (ap (take acks) a.acknowledges
             ∙ take-append-le acks old.acknowledged a.acks within))
-            was.1,
+            (told_more before old.log a.logged new.log a.logs (take acks old.acknowledged) report
+            was.1),
       )
 
   -- what is reported now
   told_now : (last : Report) → new.reports ≡ old.reports ++ (last, length new.acknowledged) ∷ [] →
-      (last.end ≡ Complete → IsTold before new.acknowledged last) → AllTold before new
+      (last.end ≡ Complete → IsTold before new.log new.acknowledged last) → AllTold before new
   told_now last e tell report acks c complete =
       elim (Contains-append_cases old.reports ((last, length new.acknowledged) ∷ []) (report, acks)
       (subst (λ w. Contains w (report, acks)) e c)) as (λ _. (acks ≤ length new.acknowledged)
-      × IsTold before (take acks new.acknowledged) report) [
+      × IsTold before new.log (take acks new.acknowledged) report) [
         | inl earlier ↦ told_before report acks earlier complete
         | inr here ↦
             let one = only_one {X = Report × ℕ} (last, length new.acknowledged)
@@ -308,9 +344,9 @@ module _ (before : Stores) (whole : IsTree before.archive.marks)
             let report_is : last ≡ report = ap (λ p. p.0) one in
             let acks_is : length new.acknowledged ≡ acks = ap (λ p. p.1) one in (
               omega (arith, acks_is),
-              subst (λ w. IsTold before w report) (sym
+              subst (λ w. IsTold before new.log w report) (sym
                   (ap (λ n. take n new.acknowledged) (sym acks_is) ∙ take-length new.acknowledged))
-                  (subst (IsTold before new.acknowledged) report_is
+                  (subst (IsTold before new.log new.acknowledged) report_is
                   (tell (ap (λ q. q.end) report_is ∙ complete))),
             )
       ]

@@ -14,7 +14,7 @@ use Rattle.syn_model.specs.Decision.{path_of}
 use Rattle.syn_headline.specs.Laws.{AddsAllowed}
 use Rattle.syn_headline.specs.Network.{Which, other, Sent}
 use Rattle.syn_headline.specs.Planning.{Planned, Log, seen_on}
-use Rattle.syn_headline.specs.Headline.{IsNoEdit}
+use Rattle.syn_headline.specs.Headline.{IsNoEdit, PlansWith}
 use Rattle.syn_headline.proofs.Invariant.{Plans, plan_in, Scans, IsPlanFrom, Histories, IsSound}
 use Rattle.syn_headline.proofs.Invariant.{IsSoundEvent}
 use Rattle.syn_headline.proofs.PlanLemmas.{plan_of-more, fenced}
@@ -29,10 +29,12 @@ use Rattle.syn_headline.proofs.QuietScans.{plan_shows}
 use Rattle.syn_headline.proofs.CompleteLemmas.{IsRecordDue, carried, alike, marked}
 
 -- a plan whose scans show what was found, where no user's event came since the session began
-pub record IsQuietPlan (sent : Sent) (histories : Histories) (session : ℕ) (found : Tree)
+pub record IsQuietPlan (log : Log) (sent : Sent) (histories : Histories) (session : ℕ)
+    (found : Tree)
     (plan : List Planned) : Type 0 where
   pub scans : Scans
   pub is : IsPlanFrom sent session found scans plan
+  pub logged : PlansWith log session scans.preference
   pub shows : (side : Which) →
       ShowsFound (histories side) session (scans.scan side) (scans.since side)
 
@@ -46,7 +48,7 @@ pub record IsUnderway (log : Log) (before : Archive) (histories : Histories) (se
       histories side ≡ first ++ Began session ∷ later →
       All (IsPlannedEvent plan histories side) later
   pub planned : All (λ made. made.session ≢ session) log
-      ⊎ IsQuietPlan sent histories session (archive_of before earlier).marks plan
+      ⊎ IsQuietPlan log sent histories session (archive_of before earlier).marks plan
 
 -- the last of a list is that which is looked for, or comes after it
 split_last : (xs : History) (e : Event) (first : History) (b : Event) (later : History) →
@@ -167,7 +169,7 @@ module _ (plans : Plans) (archive : Archive) (sent : Sent) (old new : Histories)
         (λ first later e. more_planned (other which) later
         (events (other which) first later (sym m.there ∙ e)))
 
-  module _ (found : Tree) (h : IsQuietPlan sent old session found plan) where
+  module _ (log : Log) (found : Tree) (h : IsQuietPlan log sent old session found plan) where
     shows_here : ShowsFound (new which) session (h.scans.scan which) (h.scans.since which)
     shows_here first later e quiet =
         elim m.here as (λ _. ShowsTree (h.scans.scan which) (h.scans.since which) first) [
@@ -185,10 +187,11 @@ module _ (plans : Plans) (archive : Archive) (sent : Sent) (old new : Histories)
               ]
         ]
 
-    quiet_then : (more : Sent) → IsQuietPlan (sent ++ more) new session found plan
+    quiet_then : (more : Sent) → IsQuietPlan log (sent ++ more) new session found plan
     quiet_then more = record {
       scans = h.scans;
       is = plan_of-more sent more _ h.is;
+      logged = h.logged;
       shows =
           on_both (λ side. ShowsFound (new side) session (h.scans.scan side) (h.scans.since side))
           which shows_here
@@ -208,9 +211,9 @@ module _ (plans : Plans) (archive : Archive) (sent : Sent) (old new : Histories)
     events = events_then h.events;
     planned =
         elim h.planned as (λ _. All (λ made. made.session ≢ session) log
-        ⊎ IsQuietPlan (sent ++ more) new session (archive_of before h.earlier).marks plan) [
+        ⊎ IsQuietPlan log (sent ++ more) new session (archive_of before h.earlier).marks plan) [
           | inl none ↦ inl none
-          | inr is ↦ inr (quiet_then (archive_of before h.earlier).marks is more)
+          | inr is ↦ inr (quiet_then log (archive_of before h.earlier).marks is more)
         ];
   }
 
@@ -227,10 +230,15 @@ underway_says log before histories sent more kept session plan h = record {
   events = h.events;
   planned =
       elim h.planned as (λ _. All (λ made. made.session ≢ session) log
-      ⊎ IsQuietPlan (sent ++ more) histories session (archive_of before h.earlier).marks plan) [
+      ⊎ IsQuietPlan log (sent ++ more) histories session (archive_of before h.earlier).marks plan) [
         | inl none ↦ inl none
         | inr is ↦ inr
-            (record { scans = is.scans; is = plan_of-more sent more _ is.is; shows = is.shows })
+            (record {
+              scans = is.scans;
+              is = plan_of-more sent more _ is.is;
+              logged = is.logged;
+              shows = is.shows;
+            })
       ];
 }
 
@@ -267,23 +275,25 @@ no_replacement plan histories side (Began session) h = h
 no_replacement plan histories side (Replaced token path since new) h = absurd (none-some _ h.at)
 
 -- a plan that is made where none was
-pub quiet_plan : (log : Log) (before : Archive) (plans : Plans) (histories : Histories)
+pub quiet_plan : (log later : Log) (before : Archive) (plans : Plans) (histories : Histories)
     (archive : Archive) (sent : Sent) → IsSound plans histories archive sent → (kept : List Kept) →
     archive ≡ archive_of before kept → (session : ℕ) (had plan : List Planned) →
     had ≡ [] → (scans : Scans) → IsPlanFrom sent session archive.marks scans plan →
+    PlansWith later session scans.preference →
     (h : IsUnderway log before histories sent kept session had) →
-    IsQuietPlan sent histories session (archive_of before h.earlier).marks plan
-quiet_plan log before plans histories archive sent sound kept archive_is session had plan empty
-    scans is h =
+    IsQuietPlan later sent histories session (archive_of before h.earlier).marks plan
+quiet_plan log later before plans histories archive sent sound kept archive_is session had plan
+    empty scans is logged h =
     let none : h.records ≡ [] = no_records histories h.records
     (subst (λ p. All (IsRecordDue p histories) h.records) empty h.due) in
     let found_is : archive.marks ≡ (archive_of before h.earlier).marks =
     ap (λ a. a.marks) (archive_is
     ∙ (ap (archive_of before) (h.kept_is ∙ ap (λ ks. h.earlier ++ Session session ∷ ks) none)
     ∙ archive-append before h.earlier (Session session ∷ []))) in
-    subst (λ marks. IsQuietPlan sent histories session marks plan) found_is (record {
+    subst (λ marks. IsQuietPlan later sent histories session marks plan) found_is (record {
       scans = scans;
       is = is;
+      logged = logged;
       shows =
           λ side. plan_shows plans histories archive sent sound side session (scans.scan side)
           (scans.since side) (is.scanned side) (is.ordered side)
@@ -295,10 +305,11 @@ pub underway_plans : (log later : Log) (before : Archive) (plans : Plans) (histo
     (archive : Archive) (sent : Sent) → IsSound plans histories archive sent → (kept : List Kept) →
     archive ≡ archive_of before kept → (session : ℕ) (had plan : List Planned) →
     had ≡ [] → (scans : Scans) → IsPlanFrom sent session archive.marks scans plan →
+    PlansWith later session scans.preference →
     IsUnderway log before histories sent kept session had →
     IsUnderway later before histories sent kept session plan
 underway_plans log later before plans histories archive sent sound kept archive_is session had plan
-    empty scans is h =
+    empty scans is logged h =
     record {
       earlier = h.earlier;
       records = h.records;
@@ -312,9 +323,9 @@ underway_plans log later before plans histories archive sent sound kept archive_
           (IsPlannedEvent plan histories side) (no_replacement plan histories side) later (subst
           (λ p. All (IsPlannedEvent p histories side) later) empty (h.events side first later e));
       planned =
-          inr (quiet_plan log before plans histories archive sent sound kept archive_is session had
-          plan
-          empty scans is h);
+          inr (quiet_plan log later before plans histories archive sent sound kept archive_is
+          session
+          had plan empty scans is logged h);
     }
 
 -- it starts

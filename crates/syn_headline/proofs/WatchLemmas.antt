@@ -28,6 +28,7 @@ use Rattle.syn_headline.proofs.CompleteLemmas.{IsRecordDue, carried, alike, mark
 use Rattle.syn_headline.proofs.UnderwayLemmas.{IsUnderway, underway_moves, underway_says}
 use Rattle.syn_headline.proofs.UnderwayLemmas.{underway_records, underway_plans, underway_starts}
 use Rattle.syn_headline.proofs.KeptLemmas.{can-append, not_again}
+use Rattle.std.proofs.lemmas.List.Elements.{Contains-append_right}
 
 -- what the coordinator kept since before the run
 abbrev pub all_kept : World → List Kept
@@ -113,7 +114,13 @@ module _ (before : Archive) (plans : Plans) (histories : Histories) (archive : A
       from)) in
       underway_plans plans (plans ++ logged) before plans histories archive sent sound kept
       archive_is r.session r.plan plan (sym has ∙ no_plan plans r.session makes.once)
-      (scans_of entry) is h
+      (scans_of entry) is (record {
+        made = entry;
+        logged = subst (λ more. Contains (plans ++ more) entry) (sym logs)
+            (Contains-append_right plans (entry ∷ []) entry (0, omega arith, refl));
+        of_session = makes.of_session;
+        prefers = refl;
+      }) h
 
   pub all_due : (made : HasPlan sent archive plans (Some r) plan logged) (from : Which) (number : ℕ)
       (reply : Reply) → Contains sent (Answers from r.session number reply) → ((request : Request) →

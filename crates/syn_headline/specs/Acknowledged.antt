@@ -6,6 +6,7 @@ use Rattle.syn_model.specs.Tree.{Tree, Content, subtree, is_directory}
 use Rattle.syn_model.specs.Event.{Token, Event}
 use Rattle.syn_model.specs.History.{History, tree_of, tree_at, is_quiet, IsAllowed}
 use Rattle.syn_model.specs.Mark.{mark}
+use Rattle.syn_model.specs.Plan.{IsContested}
 use Rattle.syn_model.specs.Archive.{Archive, Kept, archive_of, CanKeep, after_kept}
 use Rattle.syn_headline.specs.Side.{ListAt, Listed}
 use Rattle.syn_headline.specs.Network.{Which, Left, Right, other, Sent, WasAnswered}
@@ -69,10 +70,19 @@ pub record IsFrom (sent : Sent) (source : Which) (source_history : History) (ses
   pub directory : is_directory (tree_at source_history position) (parent path) ≡ true
   pub held : new ≡ subtree (tree_at source_history position) path
 
--- what a replacement may overwrite: what the archive recorded; no session prefers a side yet
+-- the session prefers the other side, and its scans show the path changed on both and unstable on
+-- neither
+pub record IsPreferred (made : SessionPlan) (side : Which) (path : Path) : Type 0 where
+  pub prefers : made.preference ≡ Some (other side)
+  pub contested : IsContested (made.scan Left) (made.scan Right) made.archive path
+
+-- what a replacement may overwrite: what the archive recorded; and what the side's scan showed,
+-- where the session prefers the other side
 abbrev pub MayOverwrite : SessionPlan → Stores → Which → Path → Type 0
-MayOverwrite made written side path = subtree (mark (tree_of (history_of written side))) path
-    ≡ subtree written.archive.marks path
+MayOverwrite made written side path =
+    (subtree (mark (tree_of (history_of written side))) path ≡ subtree written.archive.marks path)
+    ⊎ (IsPreferred made side path × (subtree (mark (tree_of (history_of written side))) path
+    ≡ subtree (made.scan side).marks path))
 
 -- a replacement that follows a listing, is an item of its session's plan, puts what the other side
 -- had where the plan saw it, and takes what it may overwrite

@@ -336,9 +336,10 @@ start_causes pair machine =
     (is_some machine.running, Busy) ∷ (nat_le greatest last, Full)
     ∷ (not (has_room (archive_layout pair) machine.journal (Session (last + 1))), JournalFull) ∷ []
 
-abbrev pub new_session : ℕ → Running
-new_session session = record {
+abbrev pub new_session : Option Which → ℕ → Running
+new_session preference session = record {
   session = session;
+  preference = preference;
   taken = [];
   left = [];
   right = [];
@@ -351,29 +352,29 @@ new_session session = record {
 abbrev pub begins : ℕ → List Request
 begins pair = Begin pair ∷ []
 
--- the next number is kept and both sides are to begin it; or the device fails as it is written, or
--- the machine stops
-pub data CoordinatorStarts (pair : ℕ) (machine : CoordinatorMachine) : CoordinatorMachine → Call →
-    Type 0 where
+-- the next number is kept and both sides are to begin it, with the preference; or the device fails
+-- as it is written, or the machine stops
+pub data CoordinatorStarts (pair : ℕ) (preference : Option Which)
+    (machine : CoordinatorMachine) : CoordinatorMachine → Call → Type 0 where
   starts : (session : ℕ) (journal : Journaled Archive Kept) →
       session ≡ machine.journal.value.last_session + 1 →
       IsLawfulRequest session (Begin pair) →
       Keeps pair machine.journal (Session session) journal (Session session ∷ []) →
       journal.status ≡ Up →
-      CoordinatorStarts pair machine
+      CoordinatorStarts pair preference machine
       (record {
         journal = journal;
-        running = Some (asking (new_session session) (begins pair) (begins pair));
+        running = Some (asking (new_session preference session) (begins pair) (begins pair));
       })
       (record no_call {
         kept = Session session ∷ [];
-        messages = sent_now (new_session session)
+        messages = sent_now (new_session preference session)
             (begins pair) (begins pair);
       })
   start_breaks : (session : ℕ) (journal : Journaled Archive Kept) (kept : List Kept) →
       session ≡ machine.journal.value.last_session + 1 →
       Keeps pair machine.journal (Session session) journal kept → journal.status ≢ Up →
-      CoordinatorStarts pair machine (record { journal = journal; running = None })
+      CoordinatorStarts pair preference machine (record { journal = journal; running = None })
       (record no_call { kept = kept })
 
 -- A tick

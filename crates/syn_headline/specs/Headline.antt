@@ -1,6 +1,6 @@
 -- What is proved of whole runs.
 use Rattle.std.specs.Prelude.{ℕ, ◌≡◌, ◌≢◌, ◌≤◌, ◌↔◌, ◌+◌, drop, true, false, List, [], ◌∷◌, ◌++◌}
-use Rattle.std.specs.Prelude.{length, take, None, All, AllPairs, Contains, IfSome}
+use Rattle.std.specs.Prelude.{length, take, Option, Some, None, All, AllPairs, Contains, IfSome}
 use Rattle.syn_model.specs.Path.{Bytes, Path, parent}
 use Rattle.syn_model.specs.Tree.{Tree, IsTree, is_directory, subtree}
 use Rattle.syn_model.specs.Event.{Token, is_same_token, Event, Edited, Began, Replaced, touches}
@@ -8,13 +8,14 @@ use Rattle.syn_model.specs.History.{History, IsHistory, tree_at, tree_of, last_s
 use Rattle.syn_model.specs.Mark.{mark, AreApart}
 use Rattle.syn_model.specs.Archive.{Archive, new_archive, Session, BothHeld}
 use Rattle.std.specs.List.{count_by}
-use Rattle.syn_model.specs.Plan.{plan, scan_of, Trees, IsSynchronized, IsReconciled, IsConflict}
+use Rattle.syn_model.specs.Plan.{plan, scan_of, Trees, IsSynchronized, IsReconciled, AreEqual}
+use Rattle.syn_model.specs.Plan.{IsConflict}
 use Rattle.syn_headline.specs.Side.{Fetch, Piece}
 use Rattle.syn_headline.specs.Network.{Which, Left, Right, other, Sent, WasAnswered, NumbersTell}
 use Rattle.syn_headline.specs.Network.{AsksNothingTwice}
 use Rattle.syn_headline.specs.Acknowledged.{Ack, Happened, Kept_by, Stores, history_of}
 use Rattle.syn_headline.specs.Acknowledged.{stores_after, Grown, ArchiveGrown, IsLegal}
-use Rattle.syn_headline.specs.Planning.{IsPlanOf}
+use Rattle.syn_headline.specs.Planning.{SessionPlan, Log, IsPlanOf}
 use Rattle.syn_headline.specs.Report.{Report, Complete, is_carrying, is_marking}
 use Rattle.syn_headline.specs.Machine.{Up, Journaled, unarmed}
 use Rattle.syn_headline.specs.Coordinator.{Waits}
@@ -111,40 +112,58 @@ trees_of stores = record {
   archive = stores.archive.marks;
 }
 
--- A complete session without edits leaves on both sides the synchronization of what it found,
--- if no two files that it found at one path differ with one digest
+-- the session made its plan with this preference
+pub record PlansWith (log : Log) (session : ℕ) (preference : Option Which) : Type 0 where
+  pub made : SessionPlan
+  pub logged : Contains log made
+  pub of_session : made.session ≡ session
+  pub prefers : made.preference ≡ preference
+
+-- A complete session without edits leaves on both sides the synchronization of what it found, with
+-- what it prefers, if no two files that it found at one path differ with one digest
 abbrev pub CompleteSessionsSynchronize : Stores → World → Type 0
 CompleteSessionsSynchronize before world = (report : Report) (found left : Stores) →
     IsQuietSession before world.acknowledged world.reports report found left →
     AreApart (tree_of found.left) (tree_of found.right) →
-    IsSynchronized (trees_of found) (trees_of left)
+    (preference : Option Which) × PlansWith world.log report.session preference
+    × IsSynchronized preference (trees_of found) (trees_of left)
 
 -- And it leaves the archive of that, without this premise
 abbrev pub CompleteSessionsReconcile : Stores → World → Type 0
 CompleteSessionsReconcile before world = (report : Report) (found left : Stores) →
     IsQuietSession before world.acknowledged world.reports report found left →
-    IsReconciled (trees_of found) (trees_of left)
+    (preference : Option Which) × PlansWith world.log report.session preference
+    × IsReconciled preference (trees_of found) (trees_of left)
 
 -- Its conflicts are the relevant paths that are dirty on both sides, no directory on both and
--- unequal
+-- unequal; with a preference there are none
 abbrev pub ReportsItsConflicts : Stores → World → Type 0
 ReportsItsConflicts before world = (report : Report) (found left : Stores) →
-    IsQuietSession before world.acknowledged world.reports report found left → (path : Path) →
-    Contains report.conflicts path
-    ↔ IsConflict (tree_of found.left) (tree_of found.right) found.archive.marks path
+    IsQuietSession before world.acknowledged world.reports report found left →
+    (preference : Option Which) × PlansWith world.log report.session preference
+    × ((path : Path) → Contains report.conflicts path
+    ↔ IsConflict preference (tree_of found.left) (tree_of found.right) found.archive.marks path)
 
 -- as many as the plan of what it found has to carry, and to mark
-abbrev pub HasCounts : Stores → Report → Type 0
-HasCounts found report =
-    let items = plan (scan_of (tree_of found.left))
+abbrev pub HasCounts : Option Which → Stores → Report → Type 0
+HasCounts preference found report =
+    let items = plan preference (scan_of (tree_of found.left))
     (scan_of (tree_of found.right)) found.archive.marks in
     (report.done ≡ count_by is_carrying items) × (report.marked ≡ count_by is_marking items)
+
+-- Where it prefers a side, both sides are equal after it, and the archive has their marks
+abbrev pub PreferenceLeavesOne : Stores → World → Type 0
+PreferenceLeavesOne before world = (report : Report) (found left : Stores) (side : Which) →
+    IsQuietSession before world.acknowledged world.reports report found left →
+    PlansWith world.log report.session (Some side) →
+    AreApart (tree_of found.left) (tree_of found.right) → AreEqual (trees_of left)
 
 -- Its counts are those
 abbrev pub CountsItsItems : Stores → World → Type 0
 CountsItsItems before world = (report : Report) (found left : Stores) →
     IsQuietSession before world.acknowledged world.reports report found left →
-    HasCounts found report
+    (preference : Option Which) × PlansWith world.log report.session preference
+    × HasCounts preference found report
 
 abbrev pub IsOtherToken : Token → Event → Type 0
 IsOtherToken token (Replaced used path since new) = is_same_token used token ≡ false

@@ -1,20 +1,8 @@
 -- Messages, each in the order in which it was sent. A delivery takes any of them, as often as the
 -- steps say.
-use Rattle.std.specs.Prelude.{ℕ, Bool, true, false, ◌≡◌, List, Contains}
+use Rattle.std.specs.Prelude.{ℕ, ◌≡◌, List, Contains}
+pub use Rattle.syn_model.specs.Which.{Which, Left, Right, other, is_side}
 use Rattle.syn_headline.specs.Side.{Request, Begin, ListAt, Fetch, Stage, Replace, Reply}
-
-pub data Which : Type 0 where
-  Left : Which
-  Right : Which
-
-abbrev pub other : Which → Which
-other Left = Right
-other Right = Left
-
-abbrev pub is_side : Which → Which → Bool
-is_side Left Left = true
-is_side Right Right = true
-is_side _ _ = false
 
 -- a request to a side, or the side's reply to it, with the session and number of the request
 pub data Message : Type 0 where

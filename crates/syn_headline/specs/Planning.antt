@@ -58,13 +58,13 @@ pub record SessionPlan : Type 0 where
 abbrev pub Log : Type 0
 Log = List SessionPlan
 
--- the plan is that of the scans and the archive, once both sides had begun the session, and no
--- directory was listed before the one above it
+-- the plan is that of the scans, the archive and the preference, once both sides had begun the
+-- session, and no directory was listed before the one above it
 pub record IsPlanOf (sent : Sent) (made : SessionPlan) : Type 0 where
   pub begun : (side : Which) → HasBegun sent side made.session
   pub scanned : (side : Which) → IsScanOf sent side made.session (made.scan side) (made.since side)
   pub ordered : (side : Which) → IsListedInOrder (made.scan side) (made.since side)
-  pub items : map (λ planned. planned.item) made.plan ≡ items_of (made.scan Left)
+  pub items : map (λ planned. planned.item) made.plan ≡ items_of made.preference (made.scan Left)
       (made.scan Right) made.archive
   pub seen : All (SeesBoth made.scan made.since) made.plan
 

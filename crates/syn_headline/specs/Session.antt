@@ -36,10 +36,12 @@ pub record Outstanding : Type 0 where
   pub request : Request
   pub resent : ℕ
 
--- A session that runs: its transcript, in order of time; what waits on each side; its plan, once it
--- is made, the item that it has come to, and what it recorded and refused so far
+-- A session that runs: the side that it prefers; its transcript, in order of time; what waits on
+-- each side; its plan, once it is made, the item that it has come to, and what it recorded and
+-- refused so far
 pub record Running : Type 0 where
   pub session : ℕ
+  pub preference : Option Which
   pub taken : List Exchange
   pub left : List Outstanding
   pub right : List Outstanding
@@ -233,18 +235,18 @@ fault_of taken from request reply = Some BadMessage
 abbrev pub plan_of : Running → List Planned
 plan_of running = option_map_or (λ plan. plan) running.plan []
 
--- the plan is that of the scans that the transcript gives and of the archive; no session prefers a
--- side yet
+-- the plan is that of the scans that the transcript gives, of the archive, and of the side that the
+-- session prefers
 pub record MakesPlan (running : Running) (archive : Archive) (made : SessionPlan) : Type 0 where
   pub of_session : made.session ≡ running.session
-  pub prefers_none : made.preference ≡ None
+  pub prefers : made.preference ≡ running.preference
   pub archive_is : made.archive ≡ archive.marks
   pub begun : BothBegun running.taken
   pub scanned : (side : Which) → IsScanBy
       (λ path position entries. WasTaken running.taken side (ListAt path) (Listed position entries))
       (λ path position. WasTaken running.taken side (ListAt path) (NotDir position))
       (made.scan side) (made.since side)
-  pub items : map (λ planned. planned.item) made.plan ≡ items_of (made.scan Left)
+  pub items : map (λ planned. planned.item) made.plan ≡ items_of made.preference (made.scan Left)
       (made.scan Right) made.archive
   pub seen : All (SeesBoth made.scan made.since) made.plan
 

@@ -26,7 +26,7 @@ pub data Machine : Type 0 where
 
 pub data Step : Type 0 where
   Edits : (side : Which) (user : ℕ) (edit : Edit) → Step
-  Start : Step
+  Start : (preference : Option Which) → Step
   Deliver : (message : ℕ) → Step
   Tick : Step
   Checkpoint : (machine : Machine) → Step
@@ -145,10 +145,10 @@ pub data EditsSide (old : World) (side : Which) (event : Event) : World → Type
       Writes (side_layout old.pair) (side_of old side).journal event journal events →
       EditsSide old side event (side_writes old side journal events)
 
-pub data Starts (old : World) : World → Type 0 where
+pub data Starts (old : World) (preference : Option Which) : World → Type 0 where
   starts : (machine : CoordinatorMachine) (call : Call) →
-      CoordinatorStarts old.pair old.coordinator machine call →
-      Starts old (coordinator_goes old machine call)
+      CoordinatorStarts old.pair preference old.coordinator machine call →
+      Starts old preference (coordinator_goes old machine call)
 
 pub data CompactsMachine (old : World) : Machine → World → Type 0 where
   compacts_side : (side : Which) (journal : Journaled (List Event) Event) →
@@ -242,7 +242,8 @@ abbrev pub Steps : World → Step → World → Type 0
 Steps old (Edits side user edit) new =
     Calls old (At side) (causes_of old.pair (side_of old side) (Edited user edit))
     (EditsSide old side (Edited user edit)) new
-Steps old Start new = Calls old Coordinator (start_causes old.pair old.coordinator) (Starts old) new
+Steps old (Start preference) new =
+    Calls old Coordinator (start_causes old.pair old.coordinator) (Starts old preference) new
 Steps old (Deliver message) new = Delivers old (slice_get old.sent message) new
 Steps old Tick new = Ticks old new
 Steps old (Checkpoint machine) new =

@@ -9,6 +9,7 @@ ghost use Rattle.syn_headline.specs.Headline.{RecoveredIsLegal};
 ghost use Rattle.syn_headline.specs.Headline.{EachEntryWasHeld, LeavesPair, LogsPlans, Owes};
 ghost use Rattle.syn_headline.specs.Headline.{CompleteSessionsSynchronize};
 ghost use Rattle.syn_headline.specs.Headline.{CompleteSessionsReconcile, ReportsItsConflicts};
+ghost use Rattle.syn_headline.specs.Headline.{PreferenceLeavesOne};
 ghost use Rattle.syn_headline.specs.Headline.{CountsItsItems, CarriedIsMarked, HeldIsMarked};
 ghost use Rattle.syn_headline.specs.Reported.{EachReportTells, TakesExpected};
 
@@ -41,11 +42,12 @@ pub fn run_laws()
 {}
 
 /// In every run a complete session without edits leaves the synchronization of what it found and
-/// the archive of it, reports its conflicts, counts its items, and marks what was carried before
-/// it.
+/// the archive of it, and equal sides where it prefers one; it reports its conflicts, counts its
+/// items, and marks what was carried before it.
 pub fn session_laws()
     ensures synchronized { OfEachRun CompleteSessionsSynchronize }
     ensures reconciled { OfEachRun CompleteSessionsReconcile }
+    ensures preferred { OfEachRun PreferenceLeavesOne }
     ensures conflicts { OfEachRun ReportsItsConflicts }
     ensures counts { OfEachRun CountsItsItems }
     ensures marked { OfEachRun CarriedIsMarked }

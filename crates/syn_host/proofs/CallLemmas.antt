@@ -40,6 +40,7 @@ use Rattle.syn_image.specs.declared.kept.Kept.{Kept as Record}
 use Rattle.syn_host.proofs.AnswerLemmas.{meets_down}
 use Rattle.syn_host.proofs.CoordinatorLemmas.{is_not_down}
 use Rattle.syn_host.proofs.SideLemmas.{up_not_down}
+use Rattle.syn_model.specs.Which.{Which}
 
 -- a machine that a call left down: nothing is armed, no session runs, and nothing was said
 pub record IsCut (next : CoordinatorMachine) (made : Call) : Type 0 where
@@ -143,10 +144,12 @@ module _ (pair : ℕ) (machine : CoordinatorMachine)
     reportless = refl;
   }
 
-  pub start_is_cut : IsCutSo (CoordinatorStarts pair machine)
-  start_is_cut _ _ (walk.CoordinatorStarts.starts session journal is lawful keeps up) down =
+  pub start_is_cut : (preference : Option Which) → IsCutSo (CoordinatorStarts pair preference
+      machine)
+  start_is_cut preference _ _ (walk.CoordinatorStarts.starts session journal is lawful keeps up)
+      down =
       absurd (up_not_down (sym up ∙ down))
-  start_is_cut _ _ (start_breaks session journal kept is keeps broke) down = record {
+  start_is_cut preference _ _ (start_breaks session journal kept is keeps broke) down = record {
     unarmed_is = keeps_down pair machine.journal journal _ kept other keeps down;
     idle = refl;
     silent = refl;
@@ -154,10 +157,11 @@ module _ (pair : ℕ) (machine : CoordinatorMachine)
   }
 
   -- a start reports nothing
-  pub start_reports : (next : CoordinatorMachine) (made : Call)
-      → CoordinatorStarts pair machine next made → made.reports ≡ []
-  start_reports _ _ (walk.CoordinatorStarts.starts session journal is lawful keeps up) = refl
-  start_reports _ _ (start_breaks session journal kept is keeps broke) = refl
+  pub start_reports : (preference : Option Which) (next : CoordinatorMachine) (made : Call)
+      → CoordinatorStarts pair preference machine next made → made.reports ≡ []
+  start_reports preference _ _ (walk.CoordinatorStarts.starts session journal is lawful keeps up) =
+      refl
+  start_reports preference _ _ (start_breaks session journal kept is keeps broke) = refl
 
   pub tick_is_cut : IsCutSo (CoordinatorTicks machine)
   tick_is_cut _ _ (no_session none) down = absurd (other down)
@@ -213,16 +217,17 @@ module _ {D : Type 0} {disk : Ghosts D} (old new : Session D disk) (pair : ℕ)
       lift _ _ (does_checkpoint journal compacts) =
           steps.Checkpoints.checkpoints journal other none compacts
 
-  pub start_call : (messages : List Message)
+  pub start_call : (preference : Option Which) (messages : List Message)
       → Settles new (record no_call { kept = written new; messages = messages }) refused_by call
       → first_cause (refusals_of pair machine) ≡ None
-      → Does old new pair (CoordinatorStarts pair machine) (written new) messages
-      → CallsSo pair (Starts pair machine) call
-  start_call messages settles none does =
-      does_call old new pair (CoordinatorStarts pair machine)
+      → Does old new pair (CoordinatorStarts pair preference machine) (written new) messages
+      → CallsSo pair (Starts pair preference machine) call
+  start_call preference messages settles none does =
+      does_call old new pair (CoordinatorStarts pair preference machine)
       (record no_call { kept = written new; messages = messages }) refused_by refl call settles
-      (start_is_cut pair machine other)
-      (λ next made step is. start_reports pair machine other next made step) (Starts pair machine)
+      (start_is_cut pair machine other preference)
+      (λ next made step is. start_reports pair machine other preference next made step)
+      (Starts pair preference machine)
       (λ next made step. steps.Starts.starts next made other none step) does
 
   pub tick_call : (messages : List Message)

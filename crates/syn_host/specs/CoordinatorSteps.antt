@@ -20,6 +20,8 @@ use Rattle.syn_session.specs.Reports.{report_model}
 use Rattle.syn_session.specs.Sendings.{messages_of}
 use Rattle.syn_coordinator.specs.declared.coordinator.Coordinator.{Coordinator}
 use Rattle.syn_image.specs.Archives.{kept_of}
+use Rattle.syn_model.specs.Which.{Which}
+use Rattle.std.specs.Prelude.{Option}
 
 -- what a call may leave of the machine, what it gives, and what a user was refused
 abbrev pub CallStep : Type 1
@@ -39,16 +41,16 @@ pub data Checkpoints (pair : ℕ) (machine : CoordinatorMachine) : CoordinatorMa
       (refused_by journal.status)
 
 -- a start: the same, and a session starts or its device fails
-pub data Starts (pair : ℕ) (machine : CoordinatorMachine) : CoordinatorMachine → Call →
-    List Refusal → Type 0 where
-  is_down : machine.journal.status ≡ Down → Starts pair machine machine no_call []
+pub data Starts (pair : ℕ) (preference : Option Which) (machine : CoordinatorMachine) :
+    CoordinatorMachine → Call → List Refusal → Type 0 where
+  is_down : machine.journal.status ≡ Down → Starts pair preference machine machine no_call []
   refuses : (reason : Refusal) → machine.journal.status ≢ Down →
       first_cause (all_causes pair machine) ≡ Some reason →
-      Starts pair machine machine no_call (reason ∷ [])
+      Starts pair preference machine machine no_call (reason ∷ [])
   starts : (next : CoordinatorMachine) (made : Call) → machine.journal.status ≢ Down →
       first_cause (refusals_of pair machine) ≡ None →
-      CoordinatorStarts pair machine next made →
-      Starts pair machine next made (refused_by next.journal.status)
+      CoordinatorStarts pair preference machine next made →
+      Starts pair preference machine next made (refused_by next.journal.status)
 
 -- a step that refuses a user nothing
 pub record Unrefused (Step : CoordinatorMachine → Call → Type 0) (next : CoordinatorMachine)

@@ -2,7 +2,6 @@ pub mod Bodies
 pub mod Listings
 pub mod Requests
 pub mod Replies
-pub mod Sides
 pub mod Users
 pub mod UserReplies
 pub mod Laws

@@ -1,7 +1,7 @@
 -- What is decided at a path by what is dirty there, what is clean, and what is not relevant.
 use Rattle.std.proofs.Common.{◌≡◌, ℕ, suc, ◌≤◌, Bool, true, false, not, if◌then◌else◌, ◌&&◌, ◌||◌}
 use Rattle.std.proofs.Common.{[], ◌∷◌, ◌++◌, length, refl, sym, ap, ap₂, ◌∙◌, None, true≢false}
-use Rattle.std.proofs.Common.{append_assoc}
+use Rattle.std.proofs.Common.{append_assoc, Option}
 use native.Mathlib.Omega.{arith}
 use Rattle.std.specs.FinMap.{get}
 use Rattle.std.proofs.lemmas.Bool.{false_from_ne_true, and_parts}
@@ -10,8 +10,9 @@ use Rattle.syn_model.specs.Tree.{Tree, HasParents, subtree, is_directory, is_dir
 use Rattle.syn_model.specs.Mark.{mark}
 use Rattle.syn_model.specs.Dirty.{Paths, dirty, is_same_tree}
 use Rattle.syn_model.specs.Reconcile.{is_directory_in_both, is_relevant, is_alike}
-use Rattle.syn_model.specs.Decision.{ToLeft, ToRight, MarkSame, MarkDir, Conflict, Decision, Clean}
-use Rattle.syn_model.specs.Decision.{Do, DoAndGoOn, GoOn, decision}
+use Rattle.syn_model.specs.Which.{Which}
+use Rattle.syn_model.specs.Decision.{ToLeft, ToRight, MarkSame, MarkDir, Decision, Clean, Do}
+use Rattle.syn_model.specs.Decision.{DoAndGoOn, GoOn, contested, decision}
 use Rattle.syn_model.specs.Plan.{scan_of}
 use Rattle.syn_model.proofs.PathLemmas.{parent-append}
 use Rattle.syn_model.proofs.TreeLemmas.{same_tree, get-subtree, by_rest}
@@ -26,14 +27,14 @@ not_root [] n q = refl
 not_root (x ∷ p) n q = refl
 
 -- a decision, from what it asks of a path that is stable on both sides
-abbrev pub decided_by : Path → Bool → Bool → Bool → Bool → Bool → Decision
-decided_by p x y z w v =
+abbrev pub decided_by : Option Which → Path → Bool → Bool → Bool → Bool → Bool → Decision
+decided_by preference p x y z w v =
     if not (x || y) then Clean
     else if z then (if w then GoOn else DoAndGoOn (MarkDir p))
     else if v then Do (MarkSame p)
     else if not y then Do (ToRight p)
     else if not x then Do (ToLeft p)
-    else Do (Conflict p)
+    else Do (contested preference false p)
 
 module _ (a b o : Tree) where
   abbrev pub left_dirty : Paths
@@ -42,7 +43,7 @@ module _ (a b o : Tree) where
   abbrev pub right_dirty : Paths
   right_dirty = dirty (scan_of b) o
 
-  pub by_decision : (P : Decision → Type 0) (p : Path) →
+  pub by_decision : (preference : Option Which) (P : Decision → Type 0) (p : Path) →
       (left_dirty p ≡ false → right_dirty p ≡ false → P Clean) →
       (is_directory_in_both a b p ≡ true → is_directory o p ≡ true → P GoOn) →
       (is_directory_in_both a b p ≡ true → is_directory o p ≡ false → P (DoAndGoOn (MarkDir p))) →
@@ -51,16 +52,19 @@ module _ (a b o : Tree) where
       right_dirty p ≡ false → P (Do (ToRight p))) → (is_directory_in_both a b p ≡ false →
       is_alike a b p ≡ false → left_dirty p ≡ false → right_dirty p ≡ true → P (Do (ToLeft p))) →
       (is_directory_in_both a b p ≡ false → is_alike a b p ≡ false → left_dirty p ≡ true →
-      right_dirty p ≡ true → P (Do (Conflict p))) → P (decision (scan_of a) (scan_of b) o p)
-  by_decision P p clean go_on mark_dir mark_same to_right to_left conflict =
-      elim (left_dirty p) as (λ x. left_dirty p ≡ x → P (decided_by p x (right_dirty p)
+      right_dirty p ≡ true → P (Do (contested preference false p))) →
+      P (decision preference (scan_of a) (scan_of b) o p)
+  by_decision preference P p clean go_on mark_dir mark_same to_right to_left conflict =
+      elim (left_dirty p) as (λ x. left_dirty p ≡ x → P (decided_by preference p x (right_dirty p)
       (is_directory_in_both (mark a) (mark b) p) (is_directory o p) (is_alike a b p))) [
-        | true ↦ λ ex. elim (right_dirty p) as (λ y. right_dirty p ≡ y → P (decided_by p true y
+        | true ↦ λ ex. elim (right_dirty p) as (λ y. right_dirty p ≡ y → P
+            (decided_by preference p true y
             (is_directory_in_both (mark a) (mark b) p) (is_directory o p) (is_alike a b p))) [
-              | true ↦ λ ey. busy (Do (Conflict p)) (λ z v. conflict z v ex ey)
+              | true ↦ λ ey. busy (Do (contested preference false p)) (λ z v. conflict z v ex ey)
               | false ↦ λ ey. busy (Do (ToRight p)) (λ z v. to_right z v ex ey)
             ] refl
-        | false ↦ λ ex. elim (right_dirty p) as (λ y. right_dirty p ≡ y → P (decided_by p false y
+        | false ↦ λ ex. elim (right_dirty p) as (λ y. right_dirty p ≡ y → P
+            (decided_by preference p false y
             (is_directory_in_both (mark a) (mark b) p) (is_directory o p) (is_alike a b p))) [
               | true ↦ λ ey. busy (Do (ToLeft p)) (λ z v. to_left z v ex ey)
               | false ↦ λ ey. clean ex ey

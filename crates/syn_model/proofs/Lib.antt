@@ -21,6 +21,7 @@ pub mod CarryLemmas
 pub mod DecisionLemmas
 pub mod PlaceLemmas
 pub mod ResultLemmas
+pub mod EqualLemmas
 pub mod ExitLemmas
 pub mod PlanSteps
 pub mod PlanCover

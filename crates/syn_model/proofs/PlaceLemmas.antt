@@ -9,13 +9,14 @@ use Rattle.syn_model.specs.Tree.{Tree, Content, Contents, contents_of, Directory
 use Rattle.syn_model.specs.Tree.{is_directory_content}
 use Rattle.syn_model.specs.Mark.{mark, mark_of, AreApart}
 use Rattle.syn_model.specs.Dirty.{dirty}
-use Rattle.syn_model.specs.Reconcile.{is_relevant, IsSyncedAt, IsReconciledAt}
+use Rattle.syn_model.specs.Reconcile.{is_relevant, IsSyncedAt, IsReconciledAt, ConflictLeaves}
 use Rattle.syn_model.specs.Plan.{Trees, scan_of}
 use Rattle.syn_model.proofs.TreeLemmas.{same_tree, get-subtree}
 use Rattle.syn_model.proofs.MarkLemmas.{get-mark, mark-subtree}
 use Rattle.syn_model.proofs.DirectoryLemmas.{moved-directory}
 use Rattle.syn_model.proofs.CarryLemmas.{SameAt, same-deeper}
 use Rattle.syn_model.proofs.PlanOrder.{below}
+use Rattle.syn_model.specs.Which.{Which, Left, Right}
 
 -- Marks of files that are apart
 
@@ -51,20 +52,30 @@ same_by_mark a b apart p e = same_tree (subtree a p) (subtree b p) (λ q.
 -- The result at one path
 
 -- the sides where files are apart, and the archive in any case
-pub record Result (a b o : Tree) (s : Trees) (path : Path) : Type 0 where
-  pub sides : AreApart a b →
-      IsSyncedAt a b (dirty (scan_of a) o) (dirty (scan_of b) o) s.left s.right path
-  pub marks : IsReconciledAt a b (dirty (scan_of a) o)
-      (dirty (scan_of b) o) s.left s.right o s.archive path
+pub record Result (preference : Option Which) (a b o : Tree) (s : Trees) (path : Path) : Type 0
+  where
+    pub sides : AreApart a b →
+        IsSyncedAt preference a b (dirty (scan_of a) o) (dirty (scan_of b) o) s.left s.right path
+    pub marks : IsReconciledAt preference a b (dirty (scan_of a) o)
+        (dirty (scan_of b) o) s.left s.right o s.archive path
 
 pub moved-mark : (t u : Tree) (p : Path) → subtree t p ≡ subtree u p →
     subtree (mark t) p ≡ subtree (mark u) p
 moved-mark t u p e = sym (mark-subtree t p) ∙ (ap mark e ∙ mark-subtree u p)
 
+moved_conflict : (preference : Option Which) (a b : Tree) (s' s : Trees) (p : Path) →
+    SameAt s' s p → ConflictLeaves preference a b s.left s.right p →
+    ConflictLeaves preference a b s'.left s'.right p
+moved_conflict None a b s' s p h c = (h.left ∙ c.0, h.right ∙ c.1)
+moved_conflict (Some Left) a b s' s p h c =
+    record { left_has = h.left ∙ c.left_has; right_has = h.right ∙ c.right_has }
+moved_conflict (Some Right) a b s' s p h c =
+    record { left_has = h.left ∙ c.left_has; right_has = h.right ∙ c.right_has }
+
 -- a result at a path stays where what is there stays
-moved-result : (a b o : Tree) (s' s : Trees) (p : Path) → SameAt s' s p → Result a b o s p →
-    Result a b o s' p
-moved-result a b o s' s p h r = record {
+moved-result : (preference : Option Which) (a b o : Tree) (s' s : Trees) (p : Path) →
+    SameAt s' s p → Result preference a b o s p → Result preference a b o s' p
+moved-result preference a b o s' s p h r = record {
   sides = λ apart.
       let was = r.sides apart in
       record {
@@ -83,7 +94,7 @@ moved-result a b o s' s p h r = record {
         directory =
             λ z. ap₂ (λ u v. u && v) (moved-directory s'.left s.left p h.left)
             (moved-directory s'.right s.right p h.right) ∙ was.directory z;
-        conflict = λ x y z. (h.left ∙ (was.conflict x y z).0, h.right ∙ (was.conflict x y z).1);
+        conflict = λ x y z. moved_conflict preference a b s' s p h (was.conflict x y z);
       };
   marks = record {
     settled = λ e. record {
@@ -100,14 +111,17 @@ moved-result a b o s' s p h r = record {
 abbrev pub start : Tree → Tree → Tree → Trees
 start a b o = record { left = a; right = b; archive = o }
 
-module _ (a b o : Tree) where
+module _ (preference : Option Which) (a b o : Tree) where
   -- each relevant path at or below this one has its result
   abbrev pub Good : Trees → Path → Type 0
-  Good s p = (q : Path) → is_relevant a b (p ++ q) ≡ true → Result a b o s (p ++ q)
+  Good s p = (q : Path) → is_relevant a b (p ++ q) ≡ true → Result preference a b o s (p ++ q)
 
   pub moved-good : (s' s : Trees) (p : Path) → SameAt s' s p → Good s p → Good s' p
-  moved-good s' s p h g q r = moved-result a b o s' s (p ++ q) (same-deeper s' s p q h) (g q r)
+  moved-good s' s p h g q r = moved-result preference a b o s' s (p ++ q) (same-deeper s' s p q h)
+      (g q r)
 
-  pub good-here : (s : Trees) (p : Path) → Good s p → is_relevant a b p ≡ true → Result a b o s p
+  pub good-here : (s : Trees) (p : Path) → Good s p → is_relevant a b p ≡ true → Result preference a
+      b o s p
   good-here s p g r =
-      subst (Result a b o s) (append-nil p) (g [] (ap (is_relevant a b) (append-nil p) ∙ r))
+      subst (Result preference a b o s) (append-nil p) (g [] (ap (is_relevant a b) (append-nil p) ∙
+      r))

@@ -1,7 +1,7 @@
 -- Which items a plan has.
 use Rattle.std.proofs.Common.{◌≡◌, ◌⊎◌, ℕ, zero, suc, Bool, true, false, ◌&&◌, ◌||◌, List, [], ◌∷◌}
 use Rattle.std.proofs.Common.{◌++◌, flat_map, Contains, refl, sym, ap, ap₂, ◌∙◌, subst, inl, inr}
-use Rattle.std.proofs.Common.{true≢false, append_assoc, append-nil}
+use Rattle.std.proofs.Common.{true≢false, append_assoc, append-nil, Option, Some, None}
 use native.Mathlib.Omega.{arith}
 use Rattle.std.specs.Ordering.{eq_by_cmp}
 use Rattle.std.specs.List.{list_any}
@@ -13,7 +13,7 @@ use Rattle.syn_model.specs.Mark.{mark}
 use Rattle.syn_model.specs.Reconcile.{is_directory_in_both, is_relevant, is_alike}
 use Rattle.syn_model.specs.Decision.{Item, ToLeft, ToRight, MarkSame, MarkDir, Conflict, Decision}
 use Rattle.syn_model.specs.Decision.{Clean, Do, DoAndGoOn, GoOn, decision, path_of, GoesOn}
-use Rattle.syn_model.specs.Decision.{IsReached}
+use Rattle.syn_model.specs.Decision.{IsReached, contested}
 use Rattle.syn_model.specs.Plan.{plan, most_names, items_from, names_below, with_items_below}
 use Rattle.syn_model.specs.Plan.{scan_of, IsDecided, IsConflict, PlanHasDecided}
 use Rattle.syn_model.specs.Plan.{ConflictsArePlanned}
@@ -26,6 +26,7 @@ use Rattle.syn_model.proofs.DirectoryLemmas.{not_there, absent_below, mark_none}
 use Rattle.syn_model.proofs.DecisionLemmas.{left_dirty, right_dirty, by_decision, decided_by}
 use Rattle.syn_model.proofs.DecisionLemmas.{clean_below, clean_nothing, nothing_relevant, IsShallow}
 use Rattle.syn_model.proofs.DecisionLemmas.{shallow_below}
+use Rattle.syn_model.specs.Which.{Which, Left, Right}
 
 is_clean : Decision → Bool
 is_clean Clean = true
@@ -90,10 +91,19 @@ is_conflict (Do item) = is_conflict_item item
 is_conflict (DoAndGoOn item) = is_conflict_item item
 is_conflict GoOn = false
 
-module _ (a b o : Tree) (left_parents : HasParents a) (right_parents : HasParents b)
+-- without a preference alone something contested is a conflict
+none_contested : (preference : Option Which) (p : Path) →
+    is_conflict (Do (contested preference false p)) ≡ true → preference ≡ None
+unfolding is_conflict is_conflict_item
+none_contested None p e = refl
+none_contested (Some Left) p e = absurd (true≢false (sym e))
+none_contested (Some Right) p e = absurd (true≢false (sym e))
+
+module _ (preference : Option Which) (a b o : Tree) (left_parents : HasParents a)
+    (right_parents : HasParents b)
     (archive_parents : HasParents o) where
   abbrev decided_at : Path → Decision
-  decided_at p = decision (scan_of a) (scan_of b) o p
+  decided_at p = decision preference (scan_of a) (scan_of b) o p
 
   abbrev names_at : Path → List Name
   names_at p = names_below (scan_of a) (scan_of b) o p
@@ -101,7 +111,8 @@ module _ (a b o : Tree) (left_parents : HasParents a) (right_parents : HasParent
   decision_is_clean : (p : Path) → left_dirty a b o p ≡ false → right_dirty a b o p ≡ false →
       decided_at p ≡ Clean
   decision_is_clean p x y =
-      ap₂ (λ x y. decided_by p x y (is_directory_in_both (mark a) (mark b) p) (is_directory o p)
+      ap₂ (λ x y. decided_by preference p x y (is_directory_in_both (mark a) (mark b) p)
+      (is_directory o p)
       (is_alike a b p)) x y
 
   items_have : (levels : ℕ) (p q : Path) (item : Item) → IsShallow levels p a →
@@ -154,13 +165,14 @@ module _ (a b o : Tree) (left_parents : HasParents a) (right_parents : HasParent
   -- ---- conflicts
 
   directory_of : (p : Path) → GoesOn (decided_at p) → is_directory_in_both a b p ≡ true
-  directory_of p = by_decision a b o (λ d. GoesOn d → is_directory_in_both a b p ≡ true) p
+  directory_of p = by_decision a b o preference (λ d. GoesOn d → is_directory_in_both a b p ≡ true)
+      p
       (λ _ _ on. absurd on) (λ z _ _. z) (λ z _ _. z) (λ _ _ on. absurd on)
       (λ _ _ _ _ on. absurd on) (λ _ _ _ _ on. absurd on) (λ _ _ _ _ on. absurd on)
 
   goes_on : (p : Path) → is_directory_in_both a b p ≡ true → left_dirty a b o p ≡ true →
       GoesOn (decided_at p)
-  goes_on p z x = by_decision a b o GoesOn p
+  goes_on p z x = by_decision a b o preference GoesOn p
       (λ e _. absurd (true≢false (sym x ∙ e))) (λ _ _. tt) (λ _ _. tt)
       (λ e _. absurd (true≢false (sym z ∙ e)))
       (λ e _ _ _. absurd (true≢false (sym z ∙ e))) (λ e _ _ _. absurd (true≢false (sym z ∙ e)))
@@ -174,13 +186,15 @@ module _ (a b o : Tree) (left_parents : HasParents a) (right_parents : HasParent
   ]
 
   conflict_of : (p : Path) → is_relevant a b p ≡ true → is_conflict (decided_at p) ≡ true →
-      IsConflict a b o p
+      IsConflict preference a b o p
   unfolding is_conflict is_conflict_item
-  conflict_of p relevant = by_decision a b o (λ d. is_conflict d ≡ true → IsConflict a b o p) p
+  conflict_of p relevant = by_decision a b o preference (λ d. is_conflict d ≡ true → IsConflict
+      preference a b o p) p
       (λ _ _ e. absurd (true≢false (sym e))) (λ _ _ e. absurd (true≢false (sym e)))
       (λ _ _ e. absurd (true≢false (sym e))) (λ _ _ e. absurd (true≢false (sym e)))
       (λ _ _ _ _ e. absurd (true≢false (sym e))) (λ _ _ _ _ e. absurd (true≢false (sym e)))
-      (λ z v x y _. record {
+      (λ z v x y e. record {
+        undecided = none_contested preference p e;
         relevant = relevant;
         left_dirty = x;
         right_dirty = y;
@@ -188,22 +202,24 @@ module _ (a b o : Tree) (left_parents : HasParents a) (right_parents : HasParent
         unlike = v;
       })
 
-  planned_conflict : (p : Path) → IsDecided decided_at (Conflict p) → IsConflict a b o p
+  planned_conflict : (p : Path) → IsDecided decided_at (Conflict p) → IsConflict preference a b o p
   unfolding is_conflict is_conflict_item
   planned_conflict p h =
       conflict_of p (reached_relevant p h.reached)
       (elim h.decided as (λ _. is_conflict (decided_at p) ≡ true)
       [ inl e ↦ ap is_conflict e | inr e ↦ ap is_conflict e ])
 
-  conflict_decision : (p : Path) → IsConflict a b o p → decided_at p ≡ Do (Conflict p)
+  conflict_decision : (p : Path) → IsConflict preference a b o p → decided_at p ≡ Do (Conflict p)
   conflict_decision p h =
       let unmarked : is_directory_in_both (mark a) (mark b) p ≡ false =
       ap₂ (λ u v. u && v) (directory_of_mark a p) (directory_of_mark b p) ∙ h.no_directory in
-      ap₂ (λ x y. decided_by p x y (is_directory_in_both (mark a) (mark b) p) (is_directory o p)
+      ap₂ (λ x y. decided_by preference p x y (is_directory_in_both (mark a) (mark b) p)
+      (is_directory o p)
       (is_alike a b p)) h.left_dirty h.right_dirty
-      ∙ ap₂ (λ z v. decided_by p true true z (is_directory o p) v) unmarked h.unlike
+      ∙ (ap₂ (λ z v. decided_by preference p true true z (is_directory o p) v) unmarked h.unlike
+      ∙ ap (λ r. Do (contested r false p)) h.undecided)
 
-  conflict_planned : (p : Path) → IsConflict a b o p → IsDecided decided_at (Conflict p)
+  conflict_planned : (p : Path) → IsConflict preference a b o p → IsDecided decided_at (Conflict p)
   conflict_planned p h = record {
     reached = λ above n rest e.
         goes_on above
@@ -219,18 +235,20 @@ module _ (a b o : Tree) (left_parents : HasParents a) (right_parents : HasParent
   }
 
 pub plan_has_decided : PlanHasDecided
-plan_has_decided left right archive on_left on_right in_archive item h =
-    items_have left right archive on_left.parents on_right.parents in_archive.parents
+plan_has_decided preference left right archive on_left on_right in_archive item h =
+    items_have preference left right archive on_left.parents on_right.parents in_archive.parents
     (suc most_names) root
     (path_of item) item on_left.depth on_right.depth in_archive.depth h.reached h.decided
 
 pub conflicts_are_planned : ConflictsArePlanned
-conflicts_are_planned left right archive on_left on_right in_archive path = (
-  λ at. planned_conflict left right archive on_left.parents on_right.parents in_archive.parents path
-      (All-contains (IsDecided (decision (scan_of left) (scan_of right) archive))
-      (plan (scan_of left) (scan_of right) archive) (Conflict path)
-      (plan_is_decided (scan_of left) (scan_of right) archive) at),
-  λ h. plan_has_decided left right archive on_left on_right in_archive (Conflict path)
-      (conflict_planned left right archive on_left.parents on_right.parents in_archive.parents path
+conflicts_are_planned preference left right archive on_left on_right in_archive path = (
+  λ at. planned_conflict preference left right archive on_left.parents on_right.parents
+      in_archive.parents path
+      (All-contains (IsDecided (decision preference (scan_of left) (scan_of right) archive))
+      (plan preference (scan_of left) (scan_of right) archive) (Conflict path)
+      (plan_is_decided preference (scan_of left) (scan_of right) archive) at),
+  λ h. plan_has_decided preference left right archive on_left on_right in_archive (Conflict path)
+      (conflict_planned preference left right archive on_left.parents on_right.parents
+      in_archive.parents path
       h),
 )

@@ -2,7 +2,7 @@
 use Rattle.std.proofs.Common.{◌≡◌, ◌⊎◌, ℕ, zero, suc, true, false, not, if◌then◌else◌, ◌||◌, List}
 use Rattle.std.proofs.Common.{[], ◌∷◌, ◌++◌, AllPairs, flat_map, refl, sym, ap, ap₂, ◌∙◌, subst}
 use Rattle.std.proofs.Common.{inl, inr, is_some, Some, None, true≢false, append_assoc, append-nil}
-use Rattle.std.proofs.Common.{◌≢◌}
+use Rattle.std.proofs.Common.{◌≢◌, Option, Bool}
 use native.Mathlib.Omega.{arith}
 use Rattle.std.specs.Ordering.{eq_by_cmp}
 use Rattle.std.specs.Cmp.{eq_by_cmp_equiv}
@@ -18,10 +18,12 @@ use Rattle.syn_model.specs.Tree.{subtree}
 use Rattle.syn_model.specs.Reconcile.{is_directory_in_both}
 use Rattle.syn_model.specs.Decision.{Item, ToLeft, ToRight, MarkSame, MarkDir, Conflict, Decision}
 use Rattle.syn_model.specs.Decision.{Clean, Do, DoAndGoOn, GoOn, decision, path_of, GoesOn}
-use Rattle.syn_model.specs.Decision.{IsReached}
+use Rattle.syn_model.specs.Decision.{IsReached, contested}
+use Rattle.syn_model.specs.Which.{Which, Left, Right}
 use Rattle.syn_model.specs.Plan.{names_below, with_items_below, items_from, plan, most_names}
-use Rattle.syn_model.specs.Plan.{StandsBefore, IsDecided, OverwritesClean, PlanIsInOrder}
-use Rattle.syn_model.specs.Plan.{PlanIsDecided, PlanOverwritesClean, is_mark_dir, PlanIsOrderly}
+use Rattle.syn_model.specs.Plan.{StandsBefore, IsDecided, IsContested, OverwritesLawfully}
+use Rattle.syn_model.specs.Plan.{PlanIsInOrder}
+use Rattle.syn_model.specs.Plan.{PlanIsDecided, PlanOverwritesLawfully, is_mark_dir, PlanIsOrderly}
 use Rattle.syn_model.proofs.PathLemmas.{first_or, rest_of, name_total, name_itself}
 use Rattle.syn_model.proofs.PathLemmas.{prefixes_comparable, is_prefix-is, strip_prefix-append}
 use Rattle.syn_model.proofs.DirtyLemmas.{prefix_chain}
@@ -110,16 +112,26 @@ FitsAt path (Do item) = path_of item ≡ path
 FitsAt path (DoAndGoOn item) = item ≡ MarkDir path
 FitsAt path GoOn = Unit {0}
 
-pub decision-fits : (left right : Scan) (archive : Tree) (path : Path) →
-    FitsAt path (decision left right archive path)
-decision-fits left right archive path =
+-- what is contested is decided at its path
+contested_at : (preference : Option Which) (unstable : Bool) (path : Path) →
+    path_of (contested preference unstable path) ≡ path
+contested_at None unstable path = refl
+contested_at (Some side) true path = refl
+contested_at (Some Left) false path = refl
+contested_at (Some Right) false path = refl
+
+pub decision-fits : (preference : Option Which) (left right : Scan) (archive : Tree) (path : Path) →
+    FitsAt path (decision preference left right archive path)
+decision-fits preference left right archive path =
     let d : Decision = if is_unstable left path || is_unstable right path then Do (Conflict path)
     else if is_directory archive path then GoOn else DoAndGoOn (MarkDir path) in
+    let unstable = is_unstable left path || is_unstable right path in
+    let last : Decision = Do (contested preference unstable path) in
     let e : Decision =
     if is_same_tree (subtree left.marks path) (subtree right.marks path) then Do (MarkSame path)
     else if not (dirty right archive path) then Do (ToRight path)
     else if not (dirty left archive path) then Do (ToLeft path)
-    else Do (Conflict path) in
+    else last in
     elim (not (dirty left archive path || dirty right archive path)) as (λ b. FitsAt path
     (if b then Clean else if is_directory_in_both left.marks right.marks path then d else e)) [
       | true ↦ tt
@@ -137,17 +149,17 @@ decision-fits left right archive path =
                 as (λ b. FitsAt path
                 (if b then Do (MarkSame path) else if not (dirty right archive path)
                 then Do (ToRight path) else if not (dirty left archive path) then Do (ToLeft path)
-                else Do (Conflict path))) [
+                else last)) [
                   | true ↦ refl
                   | false ↦ elim (not (dirty right archive path))
                       as (λ b. FitsAt path
                       (if b then Do (ToRight path) else if not (dirty left archive path)
-                      then Do (ToLeft path) else Do (Conflict path))) [
+                      then Do (ToLeft path) else last)) [
                         | true ↦ refl
                         | false ↦ elim (not (dirty left archive path))
                             as (λ b. FitsAt path
-                            (if b then Do (ToLeft path) else Do (Conflict path)))
-                            [ true ↦ refl | false ↦ refl ]
+                            (if b then Do (ToLeft path) else last))
+                            [ true ↦ refl | false ↦ contested_at preference unstable path ]
                       ]
                 ]
           ]
@@ -266,9 +278,11 @@ module _ (decide : Path → Decision) (fits : (path : Path) → FitsAt path (dec
       (ordered-names levels path (names_of path) (distinct path)
       (λ name. items-ordered distinct levels (child path name)))
 
-plan-ordered : (left right : Scan) (archive : Tree) → Ordered (plan left right archive)
-plan-ordered left right archive =
-    items-ordered (decision left right archive) (decision-fits left right archive)
+plan-ordered : (preference : Option Which) (left right : Scan) (archive : Tree) →
+    Ordered (plan preference left right archive)
+plan-ordered preference left right archive =
+    items-ordered (decision preference left right archive) (decision-fits preference left right
+    archive)
     (names_below left right archive) (names_apart left right archive) (suc most_names) root
 
 -- ---- what is decided
@@ -327,27 +341,48 @@ nothing_above_root : (above : Path) (n : Name) (rest : Path) → root ≡ above 
 nothing_above_root above n rest e = not_nil above n rest (sym e)
 
 pub plan_is_decided : PlanIsDecided
-plan_is_decided left right archive =
-    let decide = decision left right archive in
-    All-from_recursion (IsDecided decide) (plan left right archive)
-    (items-decided decide (decision-fits left right archive) (names_below left right archive)
+plan_is_decided preference left right archive =
+    let decide = decision preference left right archive in
+    All-from_recursion (IsDecided decide) (plan preference left right archive)
+    (items-decided decide (decision-fits preference left right archive)
+    (names_below left right archive)
     (suc most_names) root (λ above n rest e. absurd (nothing_above_root above n rest e)))
 
 -- ---- what is overwritten
 
-module _ (left right : Scan) (archive : Tree) where
+contested_by : (left right : Scan) (archive : Tree) (path : Path) →
+    dirty left archive path ≡ true → dirty right archive path ≡ true →
+    (is_unstable left path || is_unstable right path) ≡ false →
+    IsContested left right archive path
+contested_by left right archive path x y e =
+    let stable = or_parts (is_unstable left path) (is_unstable right path) e in
+    record { left_dirty = x; right_dirty = y; left_stable = stable.0; right_stable = stable.1 }
+
+contested_lawfully : (preference : Option Which) (left right : Scan) (archive : Tree)
+    (path : Path) → dirty left archive path ≡ true → dirty right archive path ≡ true →
+    (unstable : Bool) → (is_unstable left path || is_unstable right path) ≡ unstable →
+    OverwritesLawfully preference left right archive (contested preference unstable path)
+contested_lawfully None left right archive path x y unstable e = tt
+contested_lawfully (Some side) left right archive path x y true e = tt
+contested_lawfully (Some Left) left right archive path x y false e =
+    inr (refl, contested_by left right archive path x y e)
+contested_lawfully (Some Right) left right archive path x y false e =
+    inr (refl, contested_by left right archive path x y e)
+
+module _ (preference : Option Which) (left right : Scan) (archive : Tree) where
   abbrev ClearAt : Decision → Type 0
   ClearAt Clean = Unit {0}
-  ClearAt (Do item) = OverwritesClean left right archive item
-  ClearAt (DoAndGoOn item) = OverwritesClean left right archive item
+  ClearAt (Do item) = OverwritesLawfully preference left right archive item
+  ClearAt (DoAndGoOn item) = OverwritesLawfully preference left right archive item
   ClearAt GoOn = Unit {0}
 
-  decision-clear : (path : Path) → ClearAt (decision left right archive path)
+  decision-clear : (path : Path) → ClearAt (decision preference left right archive path)
   decision-clear path =
       let d : Decision = if is_unstable left path || is_unstable right path then Do (Conflict path)
       else if is_directory archive path then GoOn else DoAndGoOn (MarkDir path) in
-      let f : Decision = if not (dirty left archive path) then Do (ToLeft path)
-      else Do (Conflict path) in
+      let unstable = is_unstable left path || is_unstable right path in
+      let last : Decision = Do (contested preference unstable path) in
+      let f : Decision = if not (dirty left archive path) then Do (ToLeft path) else last in
       let e : Decision = if not (dirty right archive path) then Do (ToRight path) else f in
       let g : Decision = if is_same_tree (subtree left.marks path) (subtree right.marks path)
       then Do (MarkSame path) else e in
@@ -370,27 +405,33 @@ module _ (left right : Scan) (archive : Tree) where
                     | false ↦ elim (dirty right archive path)
                         as (λ y. dirty right archive path ≡ y →
                         ClearAt (if not y then Do (ToRight path) else f)) [
-                          | false ↦ λ h. h
-                          | true ↦ λ _. elim (dirty left archive path)
+                          | false ↦ λ h. inl h
+                          | true ↦ λ y. elim (dirty left archive path)
                               as (λ x. dirty left archive path ≡ x →
-                              ClearAt (if not x then Do (ToLeft path) else Do (Conflict path)))
-                              [ false ↦ λ h. h | true ↦ λ _. tt ] refl
+                              ClearAt (if not x then Do (ToLeft path) else last)) [
+                                | false ↦ λ h. inl h
+                                | true ↦ λ x. contested_lawfully preference left right archive path
+                                    x y unstable refl
+                              ] refl
                         ] refl
                   ]
             ]
       ]
 
-  clear_item : (item : Item) → IsDecided (decision left right archive) item →
-      OverwritesClean left right archive item
-  clear_item item h = elim h.decided as (λ _. OverwritesClean left right archive item) [
-    | inl e ↦ subst ClearAt e (decision-clear (path_of item))
-    | inr e ↦ subst ClearAt e (decision-clear (path_of item))
-  ]
+  clear_item : (item : Item) → IsDecided (decision preference left right archive) item →
+      OverwritesLawfully preference left right archive item
+  clear_item item h =
+      elim h.decided as (λ _. OverwritesLawfully preference left right archive item) [
+        | inl e ↦ subst ClearAt e (decision-clear (path_of item))
+        | inr e ↦ subst ClearAt e (decision-clear (path_of item))
+      ]
 
-pub plan_overwrites_clean : PlanOverwritesClean
-plan_overwrites_clean left right archive =
-    All-weaker (IsDecided (decision left right archive)) (OverwritesClean left right archive)
-    (clear_item left right archive) (plan left right archive) (plan_is_decided left right archive)
+pub plan_overwrites_lawfully : PlanOverwritesLawfully
+plan_overwrites_lawfully preference left right archive =
+    All-weaker (IsDecided (decision preference left right archive))
+    (OverwritesLawfully preference left right archive)
+    (clear_item preference left right archive) (plan preference left right archive)
+    (plan_is_decided preference left right archive)
 
 -- ---- the items before an item
 
@@ -410,16 +451,17 @@ ordered_before (x ∷ xs) item after h =
     let rest = ordered_before xs item after h.1 in
     ((first.0, rest.0), (first.1, rest.1))
 
-pub plan_before : (left right : Scan) (archive : Tree) (before after : List Item) (item : Item) →
-    plan left right archive ≡ before ++ item ∷ after →
+pub plan_before : (preference : Option Which) (left right : Scan) (archive : Tree)
+    (before after : List Item) (item : Item) →
+    plan preference left right archive ≡ before ++ item ∷ after →
     Ordered before × AllByRecursion (λ earlier. StandsBefore earlier item) before
-plan_before left right archive before after item e =
-    ordered_before before item after (subst Ordered e (plan-ordered left right archive))
+plan_before preference left right archive before after item e =
+    ordered_before before item after (subst Ordered e (plan-ordered preference left right archive))
 
 -- in a plan each item stands well before each later one
 pub plan_in_order : PlanIsInOrder
-plan_in_order left right archive =
-    ordered_pairs (plan left right archive) (plan-ordered left right archive)
+plan_in_order preference left right archive =
+    ordered_pairs (plan preference left right archive) (plan-ordered preference left right archive)
 
 path_itself_prefix : (p : Path) → is_prefix p p ≡ true
 path_itself_prefix p = ap (is_prefix p) (sym (append-nil p)) ∙ prefix-append p []
@@ -434,8 +476,8 @@ orderly earlier later order = (
 )
 
 pub plan_is_orderly : PlanIsOrderly
-plan_is_orderly left right archive =
-    let order = plan_in_order left right archive in
+plan_is_orderly preference left right archive =
+    let order = plan_in_order preference left right archive in
     record {
       named_once = λ i j d lt within. (orderly _ _ (order i j d lt within)).0;
       incomparable = λ i j d lt within. (orderly _ _ (order i j d lt within)).1;

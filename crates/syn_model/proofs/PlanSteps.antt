@@ -105,8 +105,8 @@ finds_itself archive (x ∷ xs) = (refl, finds_itself archive xs)
 
 -- whatever was recorded before, an item finds in the archive what was there when it was planned
 pub item_finds_archive : ItemFindsArchive
-item_finds_archive left right archive before after item now parents e recorded =
-    let order = plan_before left right archive before after item e in
+item_finds_archive preference left right archive before after item now parents e recorded =
+    let order = plan_before preference left right archive before after item e in
     finds_after_all archive parents before archive now item order.0 order.1
     (finds_itself archive before) refl recorded
 
@@ -180,5 +180,6 @@ stays_after_all s (x ∷ xs) item h =
     (stays_after s x item h.0) (stays_after_all (after_item s x) xs item h.1)
 
 pub item_finds_sides : ItemFindsSides
-item_finds_sides left right archive before after item trees e =
-    stays_after_all trees before item (plan_before left right archive before after item e).1
+item_finds_sides preference left right archive before after item trees e =
+    stays_after_all trees before item (plan_before preference left right archive before after item
+    e).1

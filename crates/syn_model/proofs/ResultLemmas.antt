@@ -1,7 +1,7 @@
 -- What carrying out a plan gives, path by path.
 use Rattle.std.proofs.Common.{◌≡◌, true, ◌&&◌, ◌++◌, refl, sym, ap, ap₂, ◌∙◌, subst, option_map}
-use Rattle.std.proofs.Common.{Some, true≢false, append-nil, ℕ, zero, suc, Bool, false, not}
-use Rattle.std.proofs.Common.{if◌then◌else◌, ◌||◌, List, ◌∷◌, append_assoc, []}
+use Rattle.std.proofs.Common.{Some, true≢false, append-nil, ℕ, zero, suc, Bool, false, not, Option}
+use Rattle.std.proofs.Common.{if◌then◌else◌, ◌||◌, List, ◌∷◌, append_assoc, [], None, is_some}
 use Rattle.std.specs.FinMap.{get}
 use Rattle.syn_model.specs.Path.{Path, Name, name_cmp, root, child, strip_prefix}
 use Rattle.syn_model.specs.Tree.{Tree, Directory, subtree, is_directory_content, HasParents}
@@ -9,7 +9,7 @@ use Rattle.syn_model.specs.Tree.{replace, is_directory, empty_directory}
 use Rattle.syn_model.specs.Mark.{mark, mark_of, AreApart}
 use Rattle.syn_model.specs.Dirty.{is_same_tree}
 use Rattle.syn_model.specs.Reconcile.{is_relevant, IsSyncedAt, IsReconciledAt, is_directory_in_both}
-use Rattle.syn_model.specs.Reconcile.{is_alike, is_settled}
+use Rattle.syn_model.specs.Reconcile.{is_alike, is_settled, ConflictLeaves}
 use Rattle.syn_model.specs.Plan.{Trees, scan_of, names_below, with_items_below, items_from}
 use Rattle.syn_model.specs.Plan.{most_names, with_directory, after_item, carried_out, CanBePlanned}
 use Rattle.syn_model.specs.Plan.{after_plan, PlanSynchronizes, PlanReconciles}
@@ -28,7 +28,7 @@ use Rattle.std.specs.List.{list_any}
 use Rattle.std.proofs.lemmas.Bool.{false_from_ne_true, and_parts, or_parts, or_right}
 use Rattle.std.proofs.lemmas.List.Sums.{fold-append}
 use Rattle.syn_model.specs.Decision.{Item, ToLeft, ToRight, MarkSame, MarkDir, Decision, decision}
-use Rattle.syn_model.specs.Decision.{path_of}
+use Rattle.syn_model.specs.Decision.{path_of, contested}
 use Rattle.syn_model.proofs.PathLemmas.{name_itself, same_name}
 use Rattle.syn_model.proofs.HistoryLemmas.{get-at_root}
 use Rattle.syn_model.proofs.DirtyLemmas.{same_tree_is, tree_itself, dirty-closed, dirty-safe}
@@ -40,13 +40,25 @@ use Rattle.syn_model.proofs.DecisionLemmas.{shallow_below}
 use Rattle.syn_model.proofs.PlanNames.{Apart, names_apart}
 use Rattle.syn_model.proofs.PlaceLemmas.{same_by_mark, Result, moved-mark, start, Good, moved-good}
 use Rattle.syn_model.proofs.PlaceLemmas.{good-here}
+use Rattle.syn_model.specs.Which.{Which, Left, Right}
+
+-- where both sides had one part at a path and still have it, this is what any preference leaves
+equal_parts : (preference : Option Which) (a b c d : Tree) (p : Path) →
+    subtree a p ≡ subtree b p → subtree c p ≡ subtree a p → subtree d p ≡ subtree b p →
+    ConflictLeaves preference a b c d p
+equal_parts None a b c d p same on_left on_right = (on_left, on_right)
+equal_parts (Some Left) a b c d p same on_left on_right =
+    record { left_has = on_left; right_has = on_right ∙ sym same }
+equal_parts (Some Right) a b c d p same on_left on_right =
+    record { left_has = on_left ∙ same; right_has = on_right }
 
 -- A plan from a path on, where both sides and the archive are still as they were
 
-module _ (a b o : Tree) (left_parents : HasParents a) (right_parents : HasParents b)
+module _ (preference : Option Which) (a b o : Tree) (left_parents : HasParents a)
+    (right_parents : HasParents b)
     (archive_parents : HasParents o) where
   clean_here : (s : Trees) (p : Path) → SameAt s (start a b o) p → left_dirty a b o p ≡ false →
-      right_dirty a b o p ≡ false → Result a b o s p
+      right_dirty a b o p ≡ false → Result preference a b o s p
   clean_here s p h x y =
       let left_mark : subtree (mark a) p ≡ subtree o p = dirty-safe (scan_of a) o p x in
       let right_mark : subtree (mark b) p ≡ subtree o p = dirty-safe (scan_of b) o p y in
@@ -75,14 +87,15 @@ module _ (a b o : Tree) (left_parents : HasParents a) (right_parents : HasParent
       }
 
   good_clean : (s : Trees) (p : Path) → SameAt s (start a b o) p → left_dirty a b o p ≡ false →
-      right_dirty a b o p ≡ false → Good a b o s p
+      right_dirty a b o p ≡ false → Good preference a b o s p
   good_clean s p h x y q _ =
       clean_here s (p ++ q) (same-deeper s (start a b o) p q h) (clean_below o a p q x)
       (clean_below o b p q y)
 
-  only_here : (s : Trees) (p : Path) → is_directory_in_both a b p ≡ false → Result a b o s p →
-      Good a b o s p
-  only_here s p z r [] _ = subst (Result a b o s) (sym (append-nil p)) r
+  only_here : (s : Trees) (p : Path) → is_directory_in_both a b p ≡ false → Result preference a b o
+      s p →
+      Good preference a b o s p
+  only_here s p z r [] _ = subst (Result preference a b o s) (sym (append-nil p)) r
   only_here s p z r (n ∷ q) relevant =
       absurd (nothing_relevant a b left_parents right_parents p n q z relevant)
 
@@ -91,21 +104,22 @@ module _ (a b o : Tree) (left_parents : HasParents a) (right_parents : HasParent
       subtree s.right p ≡ part → is_directory_in_both a b p ≡ false →
       (left_dirty a b o p ≡ false → part ≡ subtree b p) →
       (right_dirty a b o p ≡ false → part ≡ subtree a p) → (left_dirty a b o p ≡ true →
-      right_dirty a b o p ≡ true → (part ≡ subtree a p) × (part ≡ subtree b p)) →
-      IsSyncedAt a b (left_dirty a b o) (right_dirty a b o) s.left s.right p
+      right_dirty a b o p ≡ true → ConflictLeaves preference a b s.left s.right p) →
+      IsSyncedAt preference a b (left_dirty a b o) (right_dirty a b o) s.left s.right p
   one_part s p part left_has right_has z on_left on_right on_both = record {
     left_clean = λ x. record { left_has = left_has ∙ on_left x; right_has = right_has ∙ on_left x };
     right_clean =
         λ y. record { left_has = left_has ∙ on_right y; right_has = right_has ∙ on_right y };
     directory = λ e. absurd (true≢false (sym e ∙ z));
-    conflict = λ x y _. (left_has ∙ (on_both x y).0, right_has ∙ (on_both x y).1);
+    conflict = λ x y _. on_both x y;
   }
 
   -- and the archive has the mark of both
   one_mark : (s : Trees) (p : Path) → mark (subtree s.left p) ≡ subtree s.archive p →
       mark (subtree s.right p) ≡ subtree s.archive p → is_directory_in_both a b p ≡ false →
-      is_settled a b (left_dirty a b o) (right_dirty a b o) p ≡ true →
-      IsReconciledAt a b (left_dirty a b o) (right_dirty a b o) s.left s.right o s.archive p
+      is_settled preference a b (left_dirty a b o) (right_dirty a b o) p ≡ true →
+      IsReconciledAt preference a b (left_dirty a b o) (right_dirty a b o) s.left s.right o
+      s.archive p
   one_mark s p left_has right_has z settled = record {
     settled =
         λ _. record {
@@ -118,12 +132,14 @@ module _ (a b o : Tree) (left_parents : HasParents a) (right_parents : HasParent
 
   settled_where : (p : Path) (x y v : Bool) → left_dirty a b o p ≡ x → right_dirty a b o p ≡ y →
       is_alike a b p ≡ v → (not (x && y) || v) ≡ true →
-      is_settled a b (left_dirty a b o) (right_dirty a b o) p ≡ true
-  settled_where p x y v ex ey ev e = ap₂ (λ u w. u || w) (ap₂ (λ u w. not (u && w)) ex ey) ev ∙ e
+      is_settled preference a b (left_dirty a b o) (right_dirty a b o) p ≡ true
+  settled_where p x y v ex ey ev e =
+      or_right (is_some preference) _
+      (ap₂ (λ u w. u || w) (ap₂ (λ u w. not (u && w)) ex ey) ev ∙ e)
 
   to_right : (s : Trees) (p : Path) → SameAt s (start a b o) p →
       is_directory_in_both a b p ≡ false → left_dirty a b o p ≡ true → right_dirty a b o p ≡ false →
-      Result a b o (after_item s (ToRight p)) p
+      Result preference a b o (after_item s (ToRight p)) p
   to_right s p h z x y =
       let put = subtree-replace s.right p (subtree s.left p) in
       let recorded = sym (subtree-replace s.archive p (mark (subtree s.left p))) in
@@ -139,7 +155,7 @@ module _ (a b o : Tree) (left_parents : HasParents a) (right_parents : HasParent
 
   to_left : (s : Trees) (p : Path) → SameAt s (start a b o) p → is_directory_in_both a b p ≡ false →
       left_dirty a b o p ≡ false → right_dirty a b o p ≡ true →
-      Result a b o (after_item s (ToLeft p)) p
+      Result preference a b o (after_item s (ToLeft p)) p
   to_left s p h z x y =
       let put = subtree-replace s.left p (subtree s.right p) in
       let recorded = sym (subtree-replace s.archive p (mark (subtree s.right p))) in
@@ -155,7 +171,7 @@ module _ (a b o : Tree) (left_parents : HasParents a) (right_parents : HasParent
 
   mark_same : (s : Trees) (p : Path) → SameAt s (start a b o) p →
       is_directory_in_both a b p ≡ false → is_alike a b p ≡ true →
-      Result a b o (after_item s (MarkSame p)) p
+      Result preference a b o (after_item s (MarkSame p)) p
   mark_same s p h z v =
       let alike : subtree (mark a) p ≡ subtree (mark b) p =
       same_tree_is (subtree (mark a) p) (subtree (mark b) p) v in
@@ -165,31 +181,82 @@ module _ (a b o : Tree) (left_parents : HasParents a) (right_parents : HasParent
       record {
         sides =
             λ apart. one_part (after_item s (MarkSame p)) p (subtree a p) h.left (h.right
-            ∙ sym (same apart)) z (λ _. same apart) (λ _. refl) (λ _ _. (refl, same apart));
+            ∙ sym (same apart)) z (λ _. same apart) (λ _. refl)
+            (λ _ _. equal_parts preference a b s.left
+            s.right p (same apart) h.left h.right);
         marks =
             one_mark (after_item s (MarkSame p)) p recorded (ap mark h.right ∙ (mark-subtree b p
             ∙ (sym alike ∙ (sym (mark-subtree a p) ∙ (ap mark (sym h.left) ∙ recorded))))) z
+            (or_right (is_some preference) _
             (ap (λ w. not (left_dirty a b o p && right_dirty a b o p) || w) v
-            ∙ or_right (not (left_dirty a b o p && right_dirty a b o p)) true refl);
+            ∙ or_right (not (left_dirty a b o p && right_dirty a b o p)) true refl));
       }
 
-  conflict : (s : Trees) (p : Path) → SameAt s (start a b o) p →
+  conflict : preference ≡ None → (s : Trees) (p : Path) → SameAt s (start a b o) p →
       is_directory_in_both a b p ≡ false → is_alike a b p ≡ false → left_dirty a b o p ≡ true →
-      right_dirty a b o p ≡ true → Result a b o s p
-  conflict s p h z v x y = record {
+      right_dirty a b o p ≡ true → Result preference a b o s p
+  conflict none s p h z v x y = record {
     sides = λ _. record {
       left_clean = λ e. absurd (true≢false (sym x ∙ e));
       right_clean = λ e. absurd (true≢false (sym y ∙ e));
       directory = λ e. absurd (true≢false (sym e ∙ z));
-      conflict = λ _ _ _. (h.left, h.right);
+      conflict =
+          λ _ _ _. subst (λ r. ConflictLeaves r a b s.left s.right p) (sym none) (h.left, h.right);
     };
     marks = record {
       settled =
-          λ e. absurd (true≢false (sym e ∙ ap₂ (λ u w. u || w) (ap₂ (λ u w. not (u && w)) x y) v));
+          λ e. absurd (true≢false (sym e ∙ ap₂ (λ u w. u || w) (ap is_some none)
+          (ap₂ (λ u w. u || w) (ap₂ (λ u w. not (u && w)) x y) v)));
       directory = λ e. absurd (true≢false (sym e ∙ z));
       conflict = λ _ _. h.archive;
     };
   }
+
+  prefers_left : preference ≡ Some Left → (s : Trees) (p : Path) → SameAt s (start a b o) p →
+      is_directory_in_both a b p ≡ false → left_dirty a b o p ≡ true → right_dirty a b o p ≡ true →
+      Result preference a b o (after_item s (ToRight p)) p
+  prefers_left some s p h z x y =
+      let put = subtree-replace s.right p (subtree s.left p) in
+      let recorded = sym (subtree-replace s.archive p (mark (subtree s.left p))) in
+      let now = after_item s (ToRight p) in
+      record {
+        sides =
+            λ _. one_part now p (subtree a p) h.left (put ∙ h.left) z
+            (λ e. absurd (true≢false (sym x ∙ e))) (λ e. absurd (true≢false (sym y ∙ e)))
+            (λ _ _. subst (λ r. ConflictLeaves r a b now.left now.right p) (sym some)
+            (record { left_has = h.left; right_has = put ∙ h.left }));
+        marks =
+            one_mark now p recorded (ap mark put ∙ recorded) z
+            (ap (λ r. is_some r || (not (left_dirty a b o p && right_dirty a b o p)
+            || is_alike a b p)) some);
+      }
+
+  prefers_right : preference ≡ Some Right → (s : Trees) (p : Path) → SameAt s (start a b o) p →
+      is_directory_in_both a b p ≡ false → left_dirty a b o p ≡ true → right_dirty a b o p ≡ true →
+      Result preference a b o (after_item s (ToLeft p)) p
+  prefers_right some s p h z x y =
+      let put = subtree-replace s.left p (subtree s.right p) in
+      let recorded = sym (subtree-replace s.archive p (mark (subtree s.right p))) in
+      let now = after_item s (ToLeft p) in
+      record {
+        sides =
+            λ _. one_part now p (subtree b p) (put ∙ h.right) h.right z
+            (λ e. absurd (true≢false (sym x ∙ e))) (λ e. absurd (true≢false (sym y ∙ e)))
+            (λ _ _. subst (λ r. ConflictLeaves r a b now.left now.right p) (sym some)
+            (record { left_has = put ∙ h.right; right_has = h.right }));
+        marks =
+            one_mark now p (ap mark put ∙ recorded) recorded z
+            (ap (λ r. is_some r || (not (left_dirty a b o p && right_dirty a b o p)
+            || is_alike a b p)) some);
+      }
+
+  contested_result : (of : Option Which) → preference ≡ of → (s : Trees) (p : Path) →
+      SameAt s (start a b o) p → is_directory_in_both a b p ≡ false → is_alike a b p ≡ false →
+      left_dirty a b o p ≡ true → right_dirty a b o p ≡ true →
+      Result preference a b o (after_item s (contested of false p)) p
+  contested_result None is s p h z v x y = conflict is s p h z v x y
+  contested_result (Some Left) is s p h z v x y = prefers_left is s p h z x y
+  contested_result (Some Right) is s p h z v x y = prefers_right is s p h z x y
 
   -- a directory on both sides
 
@@ -201,9 +268,11 @@ module _ (a b o : Tree) (left_parents : HasParents a) (right_parents : HasParent
       ap (is_same_tree (subtree (mark a) (p ++ q))) (sym same)
       ∙ tree_itself (subtree (mark a) (p ++ q))
 
-  settled_below : (p q : Path) → is_settled a b (left_dirty a b o) (right_dirty a b o) p ≡ true →
-      is_settled a b (left_dirty a b o) (right_dirty a b o) (p ++ q) ≡ true
-  settled_below p q e =
+  alone_below : (p q : Path) →
+      (not (left_dirty a b o p && right_dirty a b o p) || is_alike a b p) ≡ true →
+      (not (left_dirty a b o (p ++ q) && right_dirty a b o (p ++ q)) || is_alike a b (p ++ q))
+      ≡ true
+  alone_below p q e =
       let w = p ++ q in
       elim (left_dirty a b o w)
       as (λ x. left_dirty a b o w ≡ x → (not (x && right_dirty a b o w) || is_alike a b w) ≡ true) [
@@ -219,11 +288,21 @@ module _ (a b o : Tree) (left_parents : HasParents a) (right_parents : HasParent
             ] refl
       ] refl
 
+  settled_below : (p q : Path) → is_settled preference a b (left_dirty a b o) (right_dirty a b o) p
+      ≡ true →
+      is_settled preference a b (left_dirty a b o) (right_dirty a b o) (p ++ q) ≡ true
+  settled_below p q e =
+      let w = p ++ q in
+      let here : Path → Bool =
+      λ p. not (left_dirty a b o p && right_dirty a b o p) || is_alike a b p in
+      elim (is_some preference) as (λ u. (u || here p) ≡ true → (u || here w) ≡ true)
+      [ true ↦ λ _. refl | false ↦ alone_below p q ] e
+
   -- both sides and the archive have a directory with each name as it should be
   directory_result : (s : Trees) (p : Path) → is_directory_in_both a b p ≡ true →
       get s.left p ≡ Some Directory → get s.right p ≡ Some Directory →
-      get s.archive p ≡ Some Directory → ((n : Name) → Result a b o s (child p n)) →
-      Result a b o s p
+      get s.archive p ≡ Some Directory → ((n : Name) → Result preference a b o s (child p n)) →
+      Result preference a b o s p
   directory_result s p z left_has right_has archive_has each =
       let directories = and_parts (is_directory a p) (is_directory b p) z in
       let a_has : get a p ≡ Some Directory = directory_is (get a p) directories.0 in
@@ -268,19 +347,20 @@ module _ (a b o : Tree) (left_parents : HasParents a) (right_parents : HasParent
 
   directory_good : (s : Trees) (p : Path) → is_directory_in_both a b p ≡ true →
       get s.left p ≡ Some Directory → get s.right p ≡ Some Directory →
-      get s.archive p ≡ Some Directory → ((n : Name) → Good a b o s (child p n)) → Good a b o s p
+      get s.archive p ≡ Some Directory → ((n : Name) → Good preference a b o s (child p n)) → Good
+      preference a b o s p
   directory_good s p z left_has right_has archive_has each [] _ =
-      subst (Result a b o s) (sym (append-nil p))
+      subst (Result preference a b o s) (sym (append-nil p))
       (directory_result s p z left_has right_has archive_has
-      (λ n. good-here a b o s (child p n) (each n) (child_relevant a b p n z)))
+      (λ n. good-here preference a b o s (child p n) (each n) (child_relevant a b p n z)))
   directory_good s p z left_has right_has archive_has each (n ∷ q) relevant =
       let path = append_assoc p (n ∷ []) q in
-      subst (Result a b o s) path (each n q (ap (is_relevant a b) path ∙ relevant))
+      subst (Result preference a b o s) path (each n q (ap (is_relevant a b) path ∙ relevant))
 
   -- the names below a directory, one after the other
 
   abbrev decided_at : Path → Decision
-  decided_at p = decision (scan_of a) (scan_of b) o p
+  decided_at p = decision preference (scan_of a) (scan_of b) o p
 
   abbrev names_at : Path → List Name
   names_at p = names_below (scan_of a) (scan_of b) o p
@@ -301,7 +381,8 @@ module _ (a b o : Tree) (left_parents : HasParents a) (right_parents : HasParent
       SameAt (carried_out s (items levels (child p m))) s (child p n)
   beside_one s levels p m n h =
       beside_items s (items levels (child p m)) (child p m) (child p n)
-      (items-at decided_at (decision-fits (scan_of a) (scan_of b) o) names_at levels (child p m))
+      (items-at decided_at (decision-fits preference (scan_of a) (scan_of b) o) names_at levels
+      (child p m))
       (siblings p m n h)
 
   -- the items below some names leave what is at another
@@ -319,24 +400,27 @@ module _ (a b o : Tree) (left_parents : HasParents a) (right_parents : HasParent
   -- of the names below a directory each is as it should be, if the items below it alone make it so
   each_name : (levels : ℕ) (p : Path) →
       ((n : Name) (s : Trees) → SameAt s (start a b o) (child p n) →
-      Good a b o (carried_out s (items levels (child p n))) (child p n)) → (names : List Name) →
+      Good preference a b o (carried_out s (items levels (child p n))) (child p n)) →
+      (names : List Name) →
       Apart names → (s : Trees) → ((n : Name) → list_any (eq_by_cmp name_cmp n) names ≡ true →
       SameAt s (start a b o) (child p n)) → (n : Name) →
       list_any (eq_by_cmp name_cmp n) names ≡ true →
-      Good a b o (carried_out s (items_below levels p names)) (child p n)
+      Good preference a b o (carried_out s (items_below levels p names)) (child p n)
   each_name levels p one [] distinct s same n h = absurd (true≢false (sym h))
   each_name levels p one (m ∷ names) distinct s same n h =
       let s' = carried_out s (items levels (child p m)) in
-      subst (λ t. Good a b o t (child p n)) (sym (one_then_more s levels p m names))
+      subst (λ t. Good preference a b o t (child p n)) (sym (one_then_more s levels p m names))
       (elim (eq_by_cmp name_cmp n m)
       as (λ e. eq_by_cmp name_cmp n m ≡ e → (e || list_any (eq_by_cmp name_cmp n) names) ≡ true →
-      Good a b o (carried_out s' (items_below levels p names)) (child p n)) [
+      Good preference a b o (carried_out s' (items_below levels p names)) (child p n)) [
         | true ↦ λ e _.
             let is : m ≡ n = sym (same_name n m e) in
-            let done : Good a b o s' (child p m) = one m s
+            let done : Good preference a b o s' (child p m) = one m s
             (same m (ap (λ u. u || list_any (eq_by_cmp name_cmp m) names) (name_itself m))) in
-            subst (λ k. Good a b o (carried_out s' (items_below levels p names)) (child p k)) is
-            (moved-good a b o (carried_out s' (items_below levels p names)) s' (child p m)
+            subst (λ k. Good preference a b o (carried_out s' (items_below levels p names))
+            (child p k)) is
+            (moved-good preference a b o (carried_out s' (items_below levels p names)) s'
+            (child p m)
             (beside_names s' levels p names m distinct.0) done)
         | false ↦ λ _ among. each_name levels p one names distinct.1 s' (λ k there.
             same-then s' s (start a b o) (child p k)
@@ -351,21 +435,21 @@ module _ (a b o : Tree) (left_parents : HasParents a) (right_parents : HasParent
 
   names_good : (levels : ℕ) (p : Path) (s : Trees) → is_directory_in_both a b p ≡ true →
       ((n : Name) (s : Trees) → SameAt s (start a b o) (child p n) →
-      Good a b o (carried_out s (items levels (child p n))) (child p n)) →
+      Good preference a b o (carried_out s (items levels (child p n))) (child p n)) →
       ((n : Name) → SameAt s (start a b o) (child p n)) → get s.left p ≡ Some Directory →
       get s.right p ≡ Some Directory → get s.archive p ≡ Some Directory →
-      Good a b o (carried_out s (items_below levels p (names_at p))) p
+      Good preference a b o (carried_out s (items_below levels p (names_at p))) p
   names_good levels p s z one same left_has right_has archive_has =
       let names = names_at p in
       let s' = carried_out s (items_below levels p names) in
       let here : SameContent s' s p = untouched s (items_below levels p names) p
       (every-weaker (λ item under. none_of (strip_prefix (path_of item) p) under.1)
       (items_below levels p names) (items-below decided_at
-      (decision-fits (scan_of a) (scan_of b) o) names_at levels p names)) in
+      (decision-fits preference (scan_of a) (scan_of b) o) names_at levels p names)) in
       directory_good s' p z (here.left ∙ left_has) (here.right ∙ right_has)
       (here.archive ∙ archive_has) (λ n.
       elim (list_any (eq_by_cmp name_cmp n) names)
-      as (λ e. list_any (eq_by_cmp name_cmp n) names ≡ e → Good a b o s' (child p n)) [
+      as (λ e. list_any (eq_by_cmp name_cmp n) names ≡ e → Good preference a b o s' (child p n)) [
         | true ↦ λ among. each_name levels p one names (names_apart (scan_of a) (scan_of b) o p) s
             (λ k _. same k) n among
         | false ↦ λ not_among.
@@ -404,7 +488,7 @@ module _ (a b o : Tree) (left_parents : HasParents a) (right_parents : HasParent
 
   items_good : (levels : ℕ) (p : Path) (s : Trees) → SameAt s (start a b o) p →
       IsShallow levels p a → IsShallow levels p b → IsShallow levels p o →
-      Good a b o (carried_out s (items levels p)) p
+      Good preference a b o (carried_out s (items levels p)) p
   items_good zero p s h shallow_left shallow_right shallow_archive = good_clean s p h
       (clean_nothing o a p (λ q. shallow_left q (omega arith))
       (λ q. shallow_archive q (omega arith)))
@@ -413,7 +497,7 @@ module _ (a b o : Tree) (left_parents : HasParents a) (right_parents : HasParent
   items_good (suc levels) p s h shallow_left shallow_right shallow_archive =
       let under = items_below levels p (names_at p) in
       let one : (n : Name) (s' : Trees) → SameAt s' (start a b o) (child p n) →
-      Good a b o (carried_out s' (items levels (child p n))) (child p n) =
+      Good preference a b o (carried_out s' (items levels (child p n))) (child p n) =
       λ n s' same. items_good levels (child p n) s' same (shallow_below levels p n a shallow_left)
       (shallow_below levels p n b shallow_right) (shallow_below levels p n o shallow_archive) in
       let left_has : is_directory_in_both a b p ≡ true →
@@ -422,7 +506,8 @@ module _ (a b o : Tree) (left_parents : HasParents a) (right_parents : HasParent
       let right_has : is_directory_in_both a b p ≡ true →
       get s.right p ≡ Some Directory = λ z. same_content_at s.right b p h.right
       ∙ directory_is (get b p) (and_parts (is_directory a p) (is_directory b p) z).1 in
-      by_decision a b o (λ d. Good a b o (carried_out s (with_items_below d under)) p) p
+      by_decision a b o preference (λ d. Good preference a b o
+      (carried_out s (with_items_below d under)) p) p
       (λ x y. good_clean s p h x y)
       (λ z w. names_good levels p s z one (λ n. same-deeper s (start a b o) p (n ∷ []) h) (left_has
       z) (right_has z) (same_content_at s.archive o p h.archive ∙ directory_is (get o p) w))
@@ -431,21 +516,23 @@ module _ (a b o : Tree) (left_parents : HasParents a) (right_parents : HasParent
       (λ z v. only_here (after_item s (MarkSame p)) p z (mark_same s p h z v))
       (λ z v x y. only_here (after_item s (ToRight p)) p z (to_right s p h z x y))
       (λ z v x y. only_here (after_item s (ToLeft p)) p z (to_left s p h z x y))
-      (λ z v x y. only_here s p z (conflict s p h z v x y))
+      (λ z v x y. only_here (after_item s (contested preference false p)) p z
+      (contested_result preference refl s p h z v x y))
 
-plan_good : (found : Trees) → CanBePlanned found.left → CanBePlanned found.right →
-    CanBePlanned found.archive → Good found.left found.right found.archive (after_plan found) root
-plan_good found on_left on_right in_archive =
-    items_good found.left found.right found.archive on_left.parents on_right.parents
+plan_good : (preference : Option Which) (found : Trees) → CanBePlanned found.left →
+    CanBePlanned found.right → CanBePlanned found.archive →
+    Good preference found.left found.right found.archive (after_plan preference found) root
+plan_good preference found on_left on_right in_archive =
+    items_good preference found.left found.right found.archive on_left.parents on_right.parents
     in_archive.parents (suc most_names) root found
     (same_itself found root) on_left.depth on_right.depth in_archive.depth
 
 -- a plan that is carried out leaves a synchronization, where files are apart
 pub plan_synchronizes : PlanSynchronizes
-plan_synchronizes found on_left on_right in_archive apart path relevant =
-    (plan_good found on_left on_right in_archive path relevant).sides apart
+plan_synchronizes preference found on_left on_right in_archive apart path relevant =
+    (plan_good preference found on_left on_right in_archive path relevant).sides apart
 
 -- and its archive
 pub plan_reconciles : PlanReconciles
-plan_reconciles found on_left on_right in_archive path relevant =
-    (plan_good found on_left on_right in_archive path relevant).marks
+plan_reconciles preference found on_left on_right in_archive path relevant =
+    (plan_good preference found on_left on_right in_archive path relevant).marks

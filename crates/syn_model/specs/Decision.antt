@@ -1,7 +1,9 @@
 -- What a session decides at a path, by what the two scans and the archive have there.
-use Rattle.std.specs.Prelude.{◌≡◌, not, ◌||◌, if◌then◌else◌, ◌∷◌, ◌++◌}
+use Rattle.std.specs.Prelude.{◌≡◌, Bool, true, false, not, ◌||◌, if◌then◌else◌, ◌∷◌, ◌++◌, Option}
+use Rattle.std.specs.Prelude.{Some, None}
 use Rattle.syn_model.specs.Path.{Path, Name}
 use Rattle.syn_model.specs.Tree.{Tree, subtree, is_directory}
+use Rattle.syn_model.specs.Which.{Which, Left, Right}
 use Rattle.syn_model.specs.Dirty.{Scan, is_unstable, dirty, is_same_tree}
 use Rattle.syn_model.specs.Reconcile.{is_directory_in_both}
 
@@ -20,8 +22,16 @@ pub data Decision : Type 0 where
   DoAndGoOn : (item : Item) → Decision
   GoOn : Decision
 
-abbrev pub decision : Scan → Scan → Tree → Path → Decision
-decision left right archive path =
+-- What is done where both sides changed: nothing without a preference, or where the path is
+-- unstable itself; else the preferred side is carried over to the other
+abbrev pub contested : Option Which → Bool → Path → Item
+contested None unstable path = Conflict path
+contested (Some side) true path = Conflict path
+contested (Some Left) false path = ToRight path
+contested (Some Right) false path = ToLeft path
+
+abbrev pub decision : Option Which → Scan → Scan → Tree → Path → Decision
+decision preference left right archive path =
     if not (dirty left archive path || dirty right archive path) then Clean
     else if is_directory_in_both left.marks right.marks path then
     (if is_unstable left path || is_unstable right path then Do (Conflict path)
@@ -30,7 +40,7 @@ decision left right archive path =
     then Do (MarkSame path)
     else if not (dirty right archive path) then Do (ToRight path)
     else if not (dirty left archive path) then Do (ToLeft path)
-    else Do (Conflict path)
+    else Do (contested preference (is_unstable left path || is_unstable right path) path)
 
 abbrev pub path_of : Item → Path
 path_of (ToLeft path) = path

@@ -1,6 +1,6 @@
 -- What follows from the definitions, for the other crates to use.
 use Rattle.std.specs.Prelude.{ℕ, ◌≤◌, List, ◌↔◌, ◌≡◌, true, false, not, ◌&&◌, nat_le, [], ◌∷◌, ◌++◌}
-use Rattle.std.specs.Prelude.{length, Some, All}
+use Rattle.std.specs.Prelude.{length, Some, All, Option}
 use Rattle.std.specs.List.{list_any}
 use Rattle.std.specs.Option.{option_map_or, option_map}
 use Rattle.syn_model.specs.Mark.{mark, mark_of}
@@ -17,6 +17,7 @@ use Rattle.syn_model.specs.Event.{Event, Put, after_edit}
 use Rattle.syn_model.specs.Spelling.{content_spelling, spelling, event_spelling}
 use Rattle.syn_model.specs.Image.{image_spelling, IsStanding, StandsFor}
 use Rattle.syn_model.specs.Dirty.{Scan, Paths, dirty, IsClosedUpward, IsSafeEstimate}
+use Rattle.syn_model.specs.Which.{Which}
 use Rattle.syn_model.specs.Reconcile.{IsSynchronization}
 
 -- trees with the same at each path are one
@@ -77,15 +78,17 @@ DirtyIsSafe = (scan : Scan) (archive : Tree) →
 
 -- two trees with what is dirty on each side have one synchronization at most
 abbrev pub OneSynchronization : Type 0
-OneSynchronization = (left right : Tree) (dirty_left dirty_right : Paths) (a b c d : Tree) →
-    IsSynchronization left right dirty_left dirty_right a b →
-    IsSynchronization left right dirty_left dirty_right c d → (a ≡ c) × (b ≡ d)
+OneSynchronization = (preference : Option Which) (left right : Tree)
+    (dirty_left dirty_right : Paths) (a b c d : Tree) →
+    IsSynchronization preference left right dirty_left dirty_right a b →
+    IsSynchronization preference left right dirty_left dirty_right c d → (a ≡ c) × (b ≡ d)
 
 -- where nothing is dirty, both sides were equal and stay
 abbrev pub NothingToDo : Type 0
-NothingToDo = (left right : Tree) (dirty_left dirty_right : Paths) (left' right' : Tree) →
-    IsSynchronization left right dirty_left dirty_right left' right' → dirty_left root ≡ false →
-    dirty_right root ≡ false →
+NothingToDo = (preference : Option Which) (left right : Tree) (dirty_left dirty_right : Paths)
+    (left' right' : Tree) →
+    IsSynchronization preference left right dirty_left dirty_right left' right' →
+    dirty_left root ≡ false → dirty_right root ≡ false →
     (left' ≡ left) × (left' ≡ right) × (right' ≡ left) × (right' ≡ right)
 
 -- what allowed events leave is a tree

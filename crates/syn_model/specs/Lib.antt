@@ -8,6 +8,7 @@ pub mod History
 pub mod Mark
 pub mod Archive
 pub mod Dirty
+pub mod Which
 pub mod Reconcile
 pub mod Decision
 pub mod Plan

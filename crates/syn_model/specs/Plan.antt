@@ -4,14 +4,15 @@ use Rattle.std.specs.List.{list_any}
 use Rattle.std.specs.List.Sorted.{IsStrictlySortedBy}
 use Rattle.std.specs.Prelude.{ℕ, ◌≢◌, ◌↔◌, Bool, map, ◌||◌, zero, suc, ◌≡◌, ◌⊎◌, ◌≤◌, true, false}
 use Rattle.std.specs.Prelude.{if◌then◌else◌, List, [], ◌∷◌, ◌++◌, length, fold, flat_map, All}
-use Rattle.std.specs.Prelude.{AllPairs, Contains, None}
+use Rattle.std.specs.Prelude.{AllPairs, Contains, Option, Some, None}
 use Rattle.std.specs.FinMap.{get, keys, from_entries}
 use Rattle.syn_model.specs.Path.{Path, Name, name_cmp, root, child, is_prefix, comparable}
 use Rattle.syn_model.specs.Tree.{Tree, Content, HasParents, subtree, replace, is_directory}
 use Rattle.syn_model.specs.Tree.{empty_directory}
 use Rattle.syn_model.specs.Limits.{children}
 use Rattle.syn_model.specs.Mark.{mark, AreApart}
-use Rattle.syn_model.specs.Dirty.{Scan, dirty}
+use Rattle.syn_model.specs.Dirty.{Scan, dirty, is_unstable}
+use Rattle.syn_model.specs.Which.{Which, Left, Right}
 use Rattle.syn_model.specs.Reconcile.{IsSynchronization, IsReconciledArchive, is_relevant}
 use Rattle.syn_model.specs.Reconcile.{is_directory_in_both, is_alike}
 use Rattle.syn_model.specs.Decision.{Item, ToLeft, ToRight, MarkSame, MarkDir, Conflict, Decision}
@@ -42,9 +43,10 @@ items_from decide names (suc levels) path =
 abbrev pub most_names : ℕ
 most_names = 16
 
-abbrev pub plan : Scan → Scan → Tree → List Item
-plan left right archive = items_from (decision left right archive) (names_below left right archive)
-    (suc most_names) root
+-- the plan for two scans and an archive, where a session prefers a side or none
+abbrev pub plan : Option Which → Scan → Scan → Tree → List Item
+plan preference left right archive = items_from (decision preference left right archive)
+    (names_below left right archive) (suc most_names) root
 
 -- an item that is carried out later is neither at nor above the path of an earlier one, and below
 -- it only where that marks a directory
@@ -104,13 +106,22 @@ IsRecordedForEach [] old new = new ≡ old
 IsRecordedForEach (item ∷ items) old new = (next : Tree) × IsRecordedFor item old next
     × IsRecordedForEach items next new
 
--- a side is written only where it was clean
-abbrev pub OverwritesClean : Scan → Scan → Tree → Item → Type 0
-OverwritesClean left right archive (ToLeft path) = dirty left archive path ≡ false
-OverwritesClean left right archive (ToRight path) = dirty right archive path ≡ false
-OverwritesClean left right archive (MarkSame path) = Unit {0}
-OverwritesClean left right archive (MarkDir path) = Unit {0}
-OverwritesClean left right archive (Conflict path) = Unit {0}
+-- both sides changed at the path, and it is unstable itself on neither
+pub record IsContested (left right : Scan) (archive : Tree) (path : Path) : Type 0 where
+  pub left_dirty : dirty left archive path ≡ true
+  pub right_dirty : dirty right archive path ≡ true
+  pub left_stable : is_unstable left path ≡ false
+  pub right_stable : is_unstable right path ≡ false
+
+-- a side is written where it was clean; and where both changed, if the other side is preferred
+abbrev pub OverwritesLawfully : Option Which → Scan → Scan → Tree → Item → Type 0
+OverwritesLawfully preference left right archive (ToLeft path) = (dirty left archive path ≡ false)
+    ⊎ ((preference ≡ Some Right) × IsContested left right archive path)
+OverwritesLawfully preference left right archive (ToRight path) = (dirty right archive path ≡ false)
+    ⊎ ((preference ≡ Some Left) × IsContested left right archive path)
+OverwritesLawfully preference left right archive (MarkSame path) = Unit {0}
+OverwritesLawfully preference left right archive (MarkDir path) = Unit {0}
+OverwritesLawfully preference left right archive (Conflict path) = Unit {0}
 
 -- what a scan finds of a tree that does not change
 abbrev pub scan_of : Tree → Scan
@@ -126,15 +137,15 @@ pub record CanBePlanned (tree : Tree) : Type 0 where
   pub depth : HasDepth most_names tree
 
 -- the sides are a synchronization of what was found, by what was dirty
-abbrev pub IsSynchronized : Trees → Trees → Type 0
-IsSynchronized found after =
-    IsSynchronization found.left found.right (dirty (scan_of found.left) found.archive)
+abbrev pub IsSynchronized : Option Which → Trees → Trees → Type 0
+IsSynchronized preference found after =
+    IsSynchronization preference found.left found.right (dirty (scan_of found.left) found.archive)
     (dirty (scan_of found.right) found.archive) after.left after.right
 
 -- and the archive is the archive of that
-abbrev pub IsReconciled : Trees → Trees → Type 0
-IsReconciled found after =
-    IsReconciledArchive found.left found.right (dirty (scan_of found.left) found.archive)
+abbrev pub IsReconciled : Option Which → Trees → Trees → Type 0
+IsReconciled preference found after =
+    IsReconciledArchive preference found.left found.right (dirty (scan_of found.left) found.archive)
     (dirty (scan_of found.right) found.archive) after.left after.right found.archive after.archive
 
 abbrev pub stands_among : Name → List (Name × Content) → Bool
@@ -151,8 +162,8 @@ NamesAreOnly = (left right : Scan) (archive : Tree) (path : Path) (names : List 
     names ≡ names_below left right archive path
 
 abbrev pub PlanIsInOrder : Type 0
-PlanIsInOrder = (left right : Scan) (archive : Tree) →
-    AllPairs StandsBefore (plan left right archive)
+PlanIsInOrder = (preference : Option Which) (left right : Scan) (archive : Tree) →
+    AllPairs StandsBefore (plan preference left right archive)
 
 abbrev pub is_mark_dir : Item → Bool
 is_mark_dir (ToLeft path) = false
@@ -171,22 +182,24 @@ pub record IsOrderly (items : List Item) : Type 0 where
       (λ earlier later. is_prefix (path_of later) (path_of earlier) ≡ false) items
 
 abbrev pub PlanIsOrderly : Type 0
-PlanIsOrderly = (left right : Scan) (archive : Tree) → IsOrderly (plan left right archive)
+PlanIsOrderly = (preference : Option Which) (left right : Scan) (archive : Tree) →
+    IsOrderly (plan preference left right archive)
 
 abbrev pub PlanIsDecided : Type 0
-PlanIsDecided = (left right : Scan) (archive : Tree) → All (IsDecided (decision left right archive))
-    (plan left right archive)
+PlanIsDecided = (preference : Option Which) (left right : Scan) (archive : Tree) →
+    All (IsDecided (decision preference left right archive)) (plan preference left right archive)
 
-abbrev pub PlanOverwritesClean : Type 0
-PlanOverwritesClean = (left right : Scan) (archive : Tree) →
-    All (OverwritesClean left right archive) (plan left right archive)
+abbrev pub PlanOverwritesLawfully : Type 0
+PlanOverwritesLawfully = (preference : Option Which) (left right : Scan) (archive : Tree) →
+    All (OverwritesLawfully preference left right archive) (plan preference left right archive)
 
 -- an item finds in the archive at its path what was there when it was planned, whatever was
 -- recorded for items before it
 abbrev pub ItemFindsArchive : Type 0
-ItemFindsArchive = (left right : Scan) (archive : Tree) (before after : List Item) (item : Item)
-    (now : Tree) → HasParents archive →
-    plan left right archive ≡ before ++ item ∷ after → IsRecordedForEach before archive now →
+ItemFindsArchive = (preference : Option Which) (left right : Scan) (archive : Tree)
+    (before after : List Item) (item : Item) (now : Tree) → HasParents archive →
+    plan preference left right archive ≡ before ++ item ∷ after → IsRecordedForEach before archive
+    now →
     subtree now (path_of item) ≡ subtree archive (path_of item)
 
 -- at a path and above it both sides have what they had
@@ -200,21 +213,24 @@ pub record SidesStay (old new : Trees) (path : Path) : Type 0 where
 
 -- and what the sides had at its path and above it, which no item before it changes
 abbrev pub ItemFindsSides : Type 0
-ItemFindsSides = (left right : Scan) (archive : Tree) (before after : List Item) (item : Item)
-    (trees : Trees) →
-    plan left right archive ≡ before ++ item ∷ after → SidesStay trees (carried_out trees before)
+ItemFindsSides = (preference : Option Which) (left right : Scan) (archive : Tree)
+    (before after : List Item) (item : Item) (trees : Trees) →
+    plan preference left right archive ≡ before ++ item ∷ after → SidesStay trees
+    (carried_out trees before)
     (path_of item)
 
 -- what is reached and decided is in the plan
 abbrev pub PlanHasDecided : Type 0
-PlanHasDecided = (left right archive : Tree) → CanBePlanned left → CanBePlanned right →
-    CanBePlanned archive →
-    (item : Item) → IsDecided (decision (scan_of left) (scan_of right) archive) item →
-    Contains (plan (scan_of left) (scan_of right) archive) item
+PlanHasDecided = (preference : Option Which) (left right archive : Tree) → CanBePlanned left →
+    CanBePlanned right → CanBePlanned archive →
+    (item : Item) → IsDecided (decision preference (scan_of left) (scan_of right) archive) item →
+    Contains (plan preference (scan_of left) (scan_of right) archive) item
 
 -- a relevant path is in conflict: dirty on both sides, not a directory in both, and not equal by
--- mark
-pub record IsConflict (left right archive : Tree) (path : Path) : Type 0 where
+-- mark, where no side is preferred
+pub record IsConflict (preference : Option Which) (left right archive : Tree)
+    (path : Path) : Type 0 where
+  pub undecided : preference ≡ None
   pub relevant : is_relevant left right path ≡ true
   pub left_dirty : dirty (scan_of left) archive path ≡ true
   pub right_dirty : dirty (scan_of right) archive path ≡ true
@@ -222,22 +238,33 @@ pub record IsConflict (left right archive : Tree) (path : Path) : Type 0 where
   pub unlike : is_alike left right path ≡ false
 
 abbrev pub ConflictsArePlanned : Type 0
-ConflictsArePlanned = (left right archive : Tree) → CanBePlanned left → CanBePlanned right →
-    CanBePlanned archive → (path : Path) →
-    Contains (plan (scan_of left) (scan_of right) archive) (Conflict path)
-    ↔ IsConflict left right archive path
+ConflictsArePlanned = (preference : Option Which) (left right archive : Tree) →
+    CanBePlanned left → CanBePlanned right → CanBePlanned archive → (path : Path) →
+    Contains (plan preference (scan_of left) (scan_of right) archive) (Conflict path)
+    ↔ IsConflict preference left right archive path
 
 -- what the plan of the three leaves
-abbrev pub after_plan : Trees → Trees
-after_plan found = carried_out found (plan (scan_of found.left) (scan_of found.right) found.archive)
+abbrev pub after_plan : Option Which → Trees → Trees
+after_plan preference found =
+    carried_out found (plan preference (scan_of found.left) (scan_of found.right) found.archive)
 
 -- the sides are synchronized, if no two files that they have at one path differ with one digest
 abbrev pub PlanSynchronizes : Type 0
-PlanSynchronizes = (found : Trees) → CanBePlanned found.left → CanBePlanned found.right →
-    CanBePlanned found.archive →
-    AreApart found.left found.right → IsSynchronized found (after_plan found)
+PlanSynchronizes = (preference : Option Which) (found : Trees) → CanBePlanned found.left →
+    CanBePlanned found.right → CanBePlanned found.archive →
+    AreApart found.left found.right → IsSynchronized preference found (after_plan preference found)
 
 -- and the archive is that of it, without this premise, since it speaks of marks alone
 abbrev pub PlanReconciles : Type 0
-PlanReconciles = (found : Trees) → CanBePlanned found.left → CanBePlanned found.right →
-    CanBePlanned found.archive → IsReconciled found (after_plan found)
+PlanReconciles = (preference : Option Which) (found : Trees) → CanBePlanned found.left →
+    CanBePlanned found.right → CanBePlanned found.archive →
+    IsReconciled preference found (after_plan preference found)
+
+-- with a preference both sides are equal after it, and the archive has their marks
+pub record AreEqual (after : Trees) : Type 0 where
+  pub sides : after.left ≡ after.right
+  pub archive : after.archive ≡ mark after.left
+
+abbrev pub PreferenceSettles : Type 0
+PreferenceSettles = (side : Which) (found after : Trees) → IsSynchronized (Some side) found after →
+    IsReconciled (Some side) found after → AreEqual after

@@ -19,7 +19,7 @@ found marks = record { marks = marks; unstable = [] }
 
 -- what is done where the two sides and the archive have these parts
 abbrev pub decided : Tree → Tree → Tree → Decision
-decided left right archive = decision (found left) (found right) archive root
+decided left right archive = decision None (found left) (found right) archive root
 
 abbrev pub a_name : Name
 a_name = 97 ∷ []

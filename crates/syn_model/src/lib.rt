@@ -11,8 +11,8 @@ ghost use Rattle.syn_model.specs.Laws.{PayloadGoesOn, ImageStands, ImagesFit, Hi
 ghost use Rattle.syn_model.specs.Laws.{PathsGoByKey, MarkHas, MarkOfSubtree, MarkIsDigests};
 ghost use Rattle.syn_model.specs.Plan.{NamesAreOnly, PlanIsInOrder, PlanIsOrderly, PlanIsDecided};
 ghost use Rattle.syn_model.specs.Plan.{PlanSynchronizes, PlanReconciles, PlanHasDecided};
-ghost use Rattle.syn_model.specs.Plan.{PlanOverwritesClean, ConflictsArePlanned, ItemFindsArchive};
-ghost use Rattle.syn_model.specs.Plan.{ItemFindsSides};
+ghost use Rattle.syn_model.specs.Plan.{PlanOverwritesLawfully, ConflictsArePlanned};
+ghost use Rattle.syn_model.specs.Plan.{ItemFindsArchive, ItemFindsSides, PreferenceSettles};
 ghost use Rattle.syn_model.specs.ArchiveImage.{KeepingStaysSound, StandsForSound};
 ghost use Rattle.syn_model.specs.ArchiveImage.{ArchiveImageStands, ArchiveImagesFit};
 ghost use Rattle.syn_model.specs.ArchiveImage.{NewArchiveStands, RecordGoesOn};
@@ -73,13 +73,14 @@ pub fn plan_laws()
     ensures order { PlanIsInOrder }
     ensures orderly { PlanIsOrderly }
     ensures decided { PlanIsDecided }
-    ensures clean { PlanOverwritesClean }
+    ensures overwrites { PlanOverwritesLawfully }
     ensures has { PlanHasDecided }
     ensures conflicts { ConflictsArePlanned }
     ensures archive { ItemFindsArchive }
     ensures sides { ItemFindsSides }
     ensures synchronizes { PlanSynchronizes }
     ensures reconciles { PlanReconciles }
+    ensures settles { PreferenceSettles }
 {}
 
 /// What a history of allowed events leaves is a tree within the limits, and an allowed event goes

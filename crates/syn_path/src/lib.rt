@@ -7,8 +7,10 @@ mod name;
 mod order;
 mod path;
 mod printed;
+mod side;
 
 pub use error::PathError;
 pub use key::Key;
 pub use name::Name;
 pub use path::Path;
+pub use side::Side;

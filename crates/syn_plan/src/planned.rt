@@ -1,5 +1,6 @@
 //! The plan of a session that does not run.
-ghost use Rattle.std.specs.Prelude.{◌≡◌, IfOk};
+ghost use Rattle.std.specs.Prelude.{◌≡◌, IfOk, option_map};
+ghost use Rattle.syn_path.specs.Sides.{which_of};
 ghost use Rattle.syn_model.specs.History.{History, tree_of};
 ghost use Rattle.syn_model.specs.Plan.{plan, scan_of as scan_of_tree};
 ghost use Rattle.syn_plan.specs.Listings.{IsScanned};
@@ -13,6 +14,7 @@ use crate::side::{ReplicaSide, Side};
 use std::alloc::Global;
 use syn_disk::Disk;
 use syn_mark::{MOST_NODES, MarkTree};
+use syn_path::Side as Preferred;
 use syn_recon::Item;
 use syn_refusal::Refusal;
 use syn_replica::Replica;
@@ -28,7 +30,8 @@ pub struct Planned {
     pub items: Vec<Item>,
 }
 
-/// The plan of a session of both sides with an archive of these marks.
+/// The plan of a session of both sides with an archive of these marks, which prefers a side or
+/// none.
 ///
 /// Refused as a session that scans the sides ends early: with what a side refuses a listing, 22
 /// where one has more than 4,096 nodes, 23 where its answers are none, and 11 where memory is
@@ -38,15 +41,17 @@ pub fn plan_between<L: Side, R: Side>(
     left: &mut L,
     right: &mut R,
     archive: &MarkTree,
+    preference: Option<Preferred>,
 ) -> Result<Planned, Refusal>
     ensures items { IfOk result (λ planned. items_of planned.items.items
-        ≡ plan (scan_of (found_of planned.left)) (scan_of (found_of planned.right)) archive.now) }
+        ≡ plan (option_map which_of preference) (scan_of (found_of planned.left))
+        (scan_of (found_of planned.right)) archive.now) }
     ensures left { IfOk result (λ planned. IsScanned L.lists left.old planned.left left.new) }
     ensures right { IfOk result (λ planned. IsScanned R.lists right.old planned.right right.new) }
 {
     let left = scan_side(alloc, left)?;
     let right = scan_side(alloc, right)?;
-    let items = items_between(alloc, left.found(), right.found(), archive)?;
+    let items = items_between(alloc, left.found(), right.found(), archive, preference)?;
     Ok(Planned { left, right, items })
 }
 
@@ -57,13 +62,15 @@ pub fn plan_of_replicas<L: Disk, R: Disk>(
     left: &Replica<L>,
     right: &Replica<R>,
     archive: &MarkTree,
+    preference: Option<Preferred>,
 ) -> Result<Planned, Refusal>
     ensures { (on_left on_right : History) → Stands left.now on_left
         → Stands right.now on_right → IfOk result (λ planned. items_of planned.items.items
-        ≡ plan (scan_of_tree (tree_of on_left)) (scan_of_tree (tree_of on_right)) archive.now) }
+        ≡ plan (option_map which_of preference) (scan_of_tree (tree_of on_left))
+        (scan_of_tree (tree_of on_right)) archive.now) }
 {
     let (mut left, mut right) = (ReplicaSide::new(left), ReplicaSide::new(right));
-    plan_between(alloc, &mut left, &mut right, archive)
+    plan_between(alloc, &mut left, &mut right, archive, preference)
 }
 
 /// The items of a session's course between two scans.
@@ -72,11 +79,13 @@ fn items_between(
     left: &Scan,
     right: &Scan,
     archive: &MarkTree,
+    preference: Option<Preferred>,
 ) -> Result<Vec<Item>, Refusal>
     ensures { IfOk result (λ items. items_of items.items
-        ≡ plan (scan_of left.now) (scan_of right.now) archive.now) }
+        ≡ plan (option_map which_of preference) (scan_of left.now) (scan_of right.now)
+        archive.now) }
 {
-    match Course::new(alloc, left, right, archive) {
+    match Course::new(alloc, left, right, archive, preference) {
         Ok(course) => Ok(course.items),
         Err(error) => Err(error.refusal()),
     }

@@ -62,7 +62,7 @@ lowest_same old middle new made lowest same =
 pub stays_noted : (old : State) (step : Step) (number : ℕ) → old.delivered number ≡ true
     → noted old step number ≡ true
 stays_noted old (Edits side user edit) number is = is
-stays_noted old Start number is = is
+stays_noted old (Start preference) number is = is
 stays_noted old (Deliver other) number is = by_sent (nat_lt other (length old.world.sent))
   where
     by_sent : (sent : Bool) → (cond sent (λ k. k == other || old.delivered k) old.delivered) number

@@ -1,8 +1,8 @@
 -- What lines say, as steps of a world.
 use Rattle.std.specs.List.{range_with_len}
-use Rattle.std.specs.Prelude.{◌≡◌, ◌++◌, ◌+◌, ◌-◌, ◌≤◌, ℕ, List, [], ◌∷◌, length, map}
+use Rattle.std.specs.Prelude.{◌≡◌, ◌++◌, ◌+◌, ◌-◌, ◌≤◌, ℕ, List, [], ◌∷◌, length, map, option_map}
 use Rattle.syn_headline.specs.World as model
-use Rattle.syn_message.specs.Sides.{which_of}
+use Rattle.syn_path.specs.Sides.{which_of}
 use Rattle.syn_play.specs.Drains.{DeliversLowest, Drains}
 use Rattle.syn_play.specs.States.{Moves, State}
 use Rattle.syn_play.specs.declared.player.TheConstants.{MOST_DRAINED}
@@ -28,7 +28,7 @@ pub data Said : Type 0 where
 
 abbrev pub said : Line → Said
 said (Edit side user edit) = Says (model.Edits (which_of side) user (edit_of edit) ∷ [])
-said Start = Says (model.Start ∷ [])
+said (Start preference) = Says (model.Start (option_map which_of preference) ∷ [])
 said Tick = Says (model.Tick ∷ [])
 said (Deliver first last) = Says (deliveries first last)
 said Drain = ToDrain

@@ -5,7 +5,7 @@ use Rattle.syn_host.specs.Sides.{replica_of}
 use Rattle.syn_host.specs.declared.coordinator.CoordinatorHost.{CoordinatorHost}
 use Rattle.syn_host.specs.declared.coordinator.CoordinatorHost.TheVariants as machine
 use Rattle.syn_host.specs.declared.side.SideHost.{SideHost}
-use Rattle.syn_message.specs.declared.side.Side.TheVariants.{Left, Right}
+use Rattle.syn_path.specs.declared.side.Side.TheVariants.{Left, Right}
 use Rattle.syn_play.specs.declared.player.Player.{Player}
 use Rattle.syn_play.specs.declared.turn.Moment.{Moment}
 use Rattle.syn_play.specs.declared.turn.Turn.{Turn}

@@ -189,7 +189,7 @@ impl<D: SimulatedDisk> Player<D> {
     {
         match line {
             Line::Edit(side, user, edit) => self.step(alloc, Step::Edit(side, user, edit)),
-            Line::Start => self.step(alloc, Step::Start),
+            Line::Start(preference) => self.step(alloc, Step::Start(preference)),
             Line::Tick => self.step(alloc, Step::Tick),
             Line::Deliver(first, last) => self.deliver_all(alloc, first as usize, last as usize),
             Line::Drain => self.drain(alloc),

@@ -3,7 +3,7 @@ use Rattle.std.specs.Prelude.{◌≡◌}
 use Rattle.syn_headline.specs.Network.{Which}
 use Rattle.syn_headline.specs.Side.{Request}
 use Rattle.syn_message.specs.Requests.{request_of}
-use Rattle.syn_message.specs.Sides.{which_of}
+use Rattle.syn_path.specs.Sides.{which_of}
 use Rattle.syn_propagate.specs.declared.next.Next.{Next}
 use Rattle.syn_propagate.specs.declared.next.Next.TheVariants.{Ask, Done, Refused}
 

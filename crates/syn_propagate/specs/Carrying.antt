@@ -7,7 +7,7 @@ use Rattle.syn_headline.specs.Session.{Exchange, WasTaken, first_total, is_wante
 use Rattle.syn_headline.specs.Side.{Request, Begin, ListAt, Fetch, Stage, Replace}
 use Rattle.syn_headline.specs.Side.{Piece, Staged, Done}
 use Rattle.syn_model.specs.Path.{Bytes}
-use Rattle.syn_message.specs.Sides.{which_of}
+use Rattle.syn_path.specs.Sides.{which_of}
 use Rattle.syn_propagate.specs.declared.carriage.Carriage.{Carriage}
 
 abbrev pub source_of : Carriage → Which

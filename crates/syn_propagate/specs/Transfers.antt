@@ -6,7 +6,7 @@ use Rattle.syn_headline.specs.Coordinator.{is_last}
 use Rattle.syn_headline.specs.Side.{Request, Fetch, Stage, Replace, IsLawfulBody}
 use Rattle.syn_headline.specs.Side as model
 use Rattle.syn_message.specs.Requests.{request_of}
-use Rattle.syn_message.specs.Sides.{which_of}
+use Rattle.syn_path.specs.Sides.{which_of}
 use Rattle.syn_message.specs.declared.reply.Reply.{Reply}
 use Rattle.syn_message.specs.declared.reply.Reply.TheVariants as has
 use Rattle.syn_propagate.specs.Carrying.{Exchanges, IsNew, MayAsk, WasCarried, source_of, target_of}

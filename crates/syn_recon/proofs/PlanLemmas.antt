@@ -36,6 +36,7 @@ use Rattle.syn_recon.proofs.MergeLemmas.{rising_of, RisingRows, AfterRow, rising
 use Rattle.syn_recon.proofs.MergeLemmas.{among_merged, Says, says_each}
 use Rattle.syn_recon.proofs.PartLemmas.{RisingNames, every_x}
 use Rattle.syn_recon.proofs.WalkLemmas.{walk_on, pairs_in, same_walk, Placed, items_walk}
+use Rattle.syn_model.specs.Which.{Which}
 
 -- ---- names in order
 
@@ -150,7 +151,8 @@ each_among (e ∷ es) = (
       (λ x h. or_right (eq_by_cmp path_cmp x.0 e.0) _ h) es (each_among es),
 )
 
-module _ (left right : Found) (archive : Tree) (lefts rights : List Path) (f : IsFound left)
+module _ (preference : Option Which) (left right : Found) (archive : Tree)
+    (lefts rights : List Path) (f : IsFound left)
     (g : IsFound right) (parents : HasParents archive) (fits : fits_archive archive ≡ true)
     (on_left : AreInOrder (dirty (scan_of left) archive) lefts)
     (on_right : AreInOrder (dirty (scan_of right) archive) rights) where
@@ -167,12 +169,14 @@ module _ (left right : Found) (archive : Tree) (lefts rights : List Path) (f : I
       is_some-find path_cmp p es ∙ (ap (λ ps. is_among ps p) (first_names rows)
       ∙ (among_merged p lefts rights ∙ ap₂ (λ a b. a || b) (on_left.exact p) (on_right.exact p)))
 
-  decided_so : AllByRecursion (λ (row : Row). decided (scan_of left) (scan_of right) archive row
-      ≡ decision (scan_of left) (scan_of right) archive row.0) rows
+  decided_so : AllByRecursion (λ (row : Row). decided preference (scan_of left) (scan_of right)
+      archive row
+      ≡ decision preference (scan_of left) (scan_of right) archive row.0) rows
   decided_so =
-      each-map (Says lefts rights) (λ (row : Row). decided (scan_of left)
-      (scan_of right) archive row ≡ decision (scan_of left) (scan_of right) archive row.0)
-      (λ row h. ap₂ (λ a b. decided (scan_of left) (scan_of right) archive (row.0, a, b))
+      each-map (Says lefts rights) (λ (row : Row). decided preference (scan_of left)
+      (scan_of right) archive row ≡ decision preference (scan_of left) (scan_of right) archive
+      row.0)
+      (λ row h. ap₂ (λ a b. decided preference (scan_of left) (scan_of right) archive (row.0, a, b))
       (h.0 ∙ on_left.exact row.0) (h.1 ∙ on_right.exact row.0))
       rows
       (says_each lefts rights (rising_of lefts on_left.rising) (rising_of rights on_right.rising))
@@ -237,17 +241,18 @@ module _ (left right : Found) (archive : Tree) (lefts rights : List Path) (f : I
       (each_among es)
 
   clean_so : (p : Path) → is_some (find path_cmp p es) ≡ false →
-      decision (scan_of left) (scan_of right) archive p ≡ Clean
+      decision preference (scan_of left) (scan_of right) archive p ≡ Clean
   clean_so p h =
       let both = or_parts (dirty (scan_of left) archive p) (dirty (scan_of right) archive p)
       (sym (there p) ∙ h) in
-      ap₂ (λ a b. decided (scan_of left) (scan_of right) archive (p, a, b)) both.0 both.1
+      ap₂ (λ a b. decided preference (scan_of left) (scan_of right) archive (p, a, b)) both.0 both.1
 
-  pub plan_is_walk : walk (decided (scan_of left) (scan_of right) archive) rows None
-      ≡ plan (scan_of left) (scan_of right) archive
+  pub plan_is_walk : walk (decided preference (scan_of left) (scan_of right) archive) rows None
+      ≡ plan preference (scan_of left) (scan_of right) archive
   plan_is_walk =
-      let decide = decision (scan_of left) (scan_of right) archive in
-      same_walk (decided (scan_of left) (scan_of right) archive) decide rows None decided_so
+      let decide = decision preference (scan_of left) (scan_of right) archive in
+      same_walk (decided preference (scan_of left) (scan_of right) archive) decide rows None
+      decided_so
       ∙ (ap (λ b. walk_on decide b None)
       (sym (filter-keeps (is_within root) es (every_x (λ e. refl) es)))
       ∙ items_walk decide (names_below (scan_of left) (scan_of right) archive) es

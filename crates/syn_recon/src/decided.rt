@@ -1,8 +1,10 @@
 //! What is decided at a path.
-ghost use Rattle.std.specs.Prelude.{◌≡◌, ◌||◌, ◌++◌, if◌then◌else◌, OnOk, IfErr};
+ghost use Rattle.std.specs.Prelude.{◌≡◌, ◌||◌, ◌++◌, if◌then◌else◌, OnOk, IfErr, option_map};
+ghost use Rattle.syn_model.specs.Path.{Path as Where};
 ghost use Rattle.syn_model.specs.Tree.{is_directory, subtree};
 ghost use Rattle.syn_model.specs.Dirty.{is_same_tree, is_unstable};
-ghost use Rattle.syn_model.specs.Decision.{Do, DoAndGoOn, GoOn, Conflict, MarkDir};
+ghost use Rattle.syn_model.specs.Decision.{Do, DoAndGoOn, GoOn, Conflict, MarkDir, contested};
+ghost use Rattle.syn_path.specs.Sides.{which_of};
 ghost use Rattle.syn_scan.specs.Found.{scan_of};
 ghost use Rattle.syn_recon.specs.Items.{items_of};
 ghost use Rattle.syn_recon.specs.inner.Walks.{decided, item_in, settled_by, target};
@@ -12,7 +14,7 @@ use crate::error::PlanError;
 use crate::item::Item;
 use std::alloc::Global;
 use syn_mark::{Mark, MarkTree};
-use syn_path::Path;
+use syn_path::{Path, Side};
 use syn_scan::Scan;
 
 /// What is decided at a path.
@@ -34,9 +36,10 @@ pub(crate) enum Decided {
     Conflict,
 }
 
-/// What is decided at a path, by whether it is dirty on the left and on the right. It takes no
-/// memory.
+/// What is decided at a path, by whether it is dirty on the left and on the right, and by the side
+/// that is preferred. It takes no memory.
 pub(crate) fn decide(
+    preference: Option<Side>,
     left: &Scan,
     right: &Scan,
     archive: &MarkTree,
@@ -44,8 +47,8 @@ pub(crate) fn decide(
     on_left: bool,
     on_right: bool,
 ) -> Decided
-    ensures { decision_at path.now result ≡ decided (scan_of left.now) (scan_of right.now)
-        archive.now (path.now, on_left, on_right) }
+    ensures { decision_at path.now result ≡ decided (option_map which_of preference)
+        (scan_of left.now) (scan_of right.now) archive.now (path.now, on_left, on_right) }
 {
     if !on_left && !on_right {
         return Decided::Clean;
@@ -60,7 +63,24 @@ pub(crate) fn decide(
     } else if !on_left {
         Decided::ToLeft
     } else {
-        Decided::Conflict
+        contested(
+            preference,
+            left.is_unstable(path) || right.is_unstable(path),
+        )
+    }
+}
+
+/// What is decided where both sides changed: the preferred side goes to the other, unless the path
+/// is unstable itself.
+fn contested(preference: Option<Side>, is_unstable: bool) -> Decided
+    ensures { (path : Where)
+        → decision_at path result
+        ≡ Do (contested (option_map which_of preference) is_unstable path) }
+{
+    match preference {
+        Some(Side::Left) if !is_unstable => Decided::ToRight,
+        Some(Side::Right) if !is_unstable => Decided::ToLeft,
+        _ => Decided::Conflict,
     }
 }
 

@@ -13,6 +13,7 @@ use Rattle.syn_headline.specs.World.{World, side_of}
 use Rattle.syn_headline.specs.Headline.{stores_of, OfEachRun, EachReplacementIsLegal}
 use Rattle.syn_headline.specs.Headline.{EachEntryWasHeld, LeavesPair, LogsPlans, Owes}
 use Rattle.syn_headline.specs.Headline.{CompleteSessionsSynchronize, CompleteSessionsReconcile}
+use Rattle.syn_headline.specs.Headline.{PreferenceLeavesOne}
 use Rattle.syn_headline.specs.Headline.{RecoveredIsLegal, EachTokenOnce, ReportsItsConflicts}
 use Rattle.syn_headline.specs.Headline.{CountsItsItems, CarriedIsMarked, HeldIsMarked}
 use Rattle.syn_headline.specs.Reported.{EachReportTells}
@@ -183,6 +184,7 @@ pub record Laws : Type 0 where
   pub owe : OfEachRun Owes
   pub synchronized : OfEachRun CompleteSessionsSynchronize
   pub reconciled : OfEachRun CompleteSessionsReconcile
+  pub preferred : OfEachRun PreferenceLeavesOne
   pub conflicts : OfEachRun ReportsItsConflicts
   pub counts : OfEachRun CountsItsItems
   pub marked : OfEachRun CarriedIsMarked
@@ -237,6 +239,7 @@ module _ (laws : Laws) where
         owes = laws.owe old new steps opened.start runs;
         synchronized = laws.synchronized old new steps opened.start runs;
         reconciled = laws.reconciled old new steps opened.start runs;
+        preferred = laws.preferred old new steps opened.start runs;
         conflicts = laws.conflicts old new steps opened.start runs;
         counts = laws.counts old new steps opened.start runs;
         carried = laws.marked old new steps opened.start runs;

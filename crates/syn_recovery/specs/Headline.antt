@@ -9,7 +9,7 @@ use Rattle.syn_headline.specs.Headline.{EachReplacementIsLegal, RecoveredIsLegal
 use Rattle.syn_headline.specs.Headline.{EachEntryWasHeld, LogsPlans, Owes}
 use Rattle.syn_headline.specs.Headline.{CompleteSessionsSynchronize, CompleteSessionsReconcile}
 use Rattle.syn_headline.specs.Headline.{ReportsItsConflicts, CountsItsItems, CarriedIsMarked}
-use Rattle.syn_headline.specs.Headline.{HeldIsMarked}
+use Rattle.syn_headline.specs.Headline.{HeldIsMarked, PreferenceLeavesOne}
 use Rattle.syn_headline.specs.Reported.{EachReportTells}
 use Rattle.syn_recovery.specs.Meaning.{IsDiskOf, IsOf, MayBeOf}
 use Rattle.syn_recovery.specs.Machines.{of_side, of_archive}
@@ -77,6 +77,7 @@ pub record IsCrashSafe (before : Stores) (world : World) (disks : Disks) : Type 
   pub owes : Owes before world
   pub synchronized : CompleteSessionsSynchronize before world
   pub reconciled : CompleteSessionsReconcile before world
+  pub preferred : PreferenceLeavesOne before world
   pub conflicts : ReportsItsConflicts before world
   pub counts : CountsItsItems before world
   pub carried : CarriedIsMarked before world

@@ -1,6 +1,6 @@
 -- What words say, by the first of them.
 use Rattle.std.proofs.Common.{◌≡◌, ◌≢◌, ◌∙◌, List, [], ◌∷◌, codes, refl, sym, ap, if◌then◌else◌}
-use Rattle.std.proofs.Common.{subst}
+use Rattle.std.proofs.Common.{subst, Some, None}
 use Rattle.std.specs.Prelude.{bytes_eq}
 use Rattle.syn_script.specs.Words.{Say, Text}
 use Rattle.syn_script.specs.inner.Rows.{NothingBehind, NothingSaid, SayBehind, verb_word}
@@ -11,7 +11,7 @@ use Rattle.syn_script.specs.declared.verb.Verb.TheVariants as verb
 
 abbrev pub verb_of : Line → Verb
 verb_of (has.Edit side user edit) = verb.Edit
-verb_of has.Start = verb.Start
+verb_of (has.Start preference) = verb.Start
 verb_of has.Tick = verb.Tick
 verb_of (has.Deliver first last) = verb.Deliver
 verb_of has.Drain = verb.Drain
@@ -55,7 +55,8 @@ pub said_behind : (v : Verb) (words : List Text) (line : Line) → SayBehind v w
     Say (verb_word v ∷ words) line
 said_behind verb.Edit words (has.Edit side user edit) s =
     (s.0, s.1, ap (λ rest. codes "edit" ∷ rest) s.2, s.3, s.4)
-said_behind verb.Start words has.Start s = ap (λ rest. codes "start" ∷ rest) s
+said_behind verb.Start words (has.Start None) s = ap (λ rest. codes "start" ∷ rest) s
+said_behind verb.Start words (has.Start (Some side)) s = ap (λ rest. codes "start" ∷ rest) s
 said_behind verb.Tick words has.Tick s = ap (λ rest. codes "tick" ∷ rest) s
 said_behind verb.Deliver words (has.Deliver first last) s = (words, refl, s)
 said_behind verb.Drain words has.Drain s = ap (λ rest. codes "drain" ∷ rest) s
@@ -76,7 +77,8 @@ record IsBehind (words : List Text) (line : Line) : Type 0 where
 behind_said : (words : List Text) (line : Line) → Say words line → IsBehind words line
 behind_said words (has.Edit side user edit) s =
     record { rest = _; parts = s.2; said = (s.0, s.1, refl, s.3, s.4) }
-behind_said words has.Start s = record { rest = []; parts = s; said = refl }
+behind_said words (has.Start None) s = record { rest = []; parts = s; said = refl }
+behind_said words (has.Start (Some side)) s = record { rest = _; parts = s; said = refl }
 behind_said words has.Tick s = record { rest = []; parts = s; said = refl }
 behind_said words (has.Deliver first last) s = record { rest = s.0; parts = s.1; said = s.2 }
 behind_said words has.Drain s = record { rest = []; parts = s; said = refl }

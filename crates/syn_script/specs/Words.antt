@@ -1,11 +1,12 @@
 -- What a line of a script says, by its words.
 use Rattle.std.specs.Prelude.{◌≡◌, ◌==◌, ◌<◌, ◌^◌, ◌⊎◌, ℕ, List, [], ◌∷◌, codes}
+use Rattle.std.specs.Prelude.{Some, None}
 use Rattle.std.specs.List.{slice_split, join_with_byte}
 use Rattle.std.specs.Str.Parse.{IsNumeral, digits_value}
 use Rattle.syn_disk.specs.declared.simulated.leaves.Leaves.{Leaves}
 use Rattle.syn_disk.specs.declared.simulated.leaves.Leaves.TheVariants.{Lose, Keep, Noise}
-use Rattle.syn_message.specs.declared.side.Side.{Side}
-use Rattle.syn_message.specs.declared.side.Side.TheVariants.{Left, Right}
+use Rattle.syn_path.specs.declared.side.Side.{Side}
+use Rattle.syn_path.specs.declared.side.Side.TheVariants.{Left, Right}
 use Rattle.syn_path.specs.Paths.{NamesPath}
 use Rattle.syn_script.specs.declared.line.Line.{Line}
 use Rattle.syn_script.specs.declared.line.Line.TheVariants.{Edit, Start, Tick, Deliver, Drain}
@@ -63,7 +64,8 @@ abbrev pub Say : List Text → Line → Type 0
 Say words (Edit side user edit) = (number : Text) × (rest : List Text)
     × (words ≡ codes "edit" ∷ side_word side ∷ number ∷ rest) × IsNumber 32 number user
     × SayEdit rest edit
-Say words Start = words ≡ codes "start" ∷ []
+Say words (Start None) = words ≡ codes "start" ∷ []
+Say words (Start (Some side)) = words ≡ codes "start" ∷ codes "prefer" ∷ side_word side ∷ []
 Say words Tick = words ≡ codes "tick" ∷ []
 Say words (Deliver first last) = (rest : List Text) × (words ≡ codes "deliver" ∷ rest)
     × SayRange rest first last

@@ -17,8 +17,8 @@ pub enum Machine {
 pub enum Line {
     /// A user makes the edit on a side.
     Edit(Side, u32, Edit),
-    /// A session begins.
-    Start,
+    /// A session begins, which prefers a side or none.
+    Start(Option<Side>),
     /// Time passes.
     Tick,
     /// The messages from the first number to the last are delivered, none if the last is lower.

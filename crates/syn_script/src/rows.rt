@@ -89,7 +89,8 @@ fn start(words: &[&str]) -> Option<Line>
     ensures none { IfNone result (NothingBehind verb.Start (map (λ word. word.now) words.now)) }
 {
     match words {
-        [] => Some(Line::Start),
+        [] => Some(Line::Start(None)),
+        ["prefer", name] => Some(Line::Start(Some(side(name)?))),
         _ => None,
     }
 }

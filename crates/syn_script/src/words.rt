@@ -5,7 +5,7 @@ ghost use Rattle.syn_script.specs.Words.{IsNumber, leaves_word, machine_word, si
 ghost use Rattle.syn_script.specs.Words.{words_of as words_in};
 ghost use Rattle.syn_script.specs.declared.line.Machine.{Machine as Where};
 ghost use Rattle.syn_disk.specs.declared.simulated.leaves.Leaves.{Leaves as Mode};
-ghost use Rattle.syn_message.specs.declared.side.Side.{Side as Which};
+ghost use Rattle.syn_path.specs.declared.side.Side.{Side as Which};
 
 use crate::line::Machine;
 use std::alloc::{AllocError, Global};

@@ -1,7 +1,7 @@
 -- A session whose answer has come.
 use Rattle.std.proofs.Common.{◌≡◌, ◌≤◌, ◌<◌, ◌^◌, ◌+◌, ◌==◌, ℕ, Bool, true, false, not, ◌||◌, cond}
-use Rattle.std.proofs.Common.{List, [], ◌∷◌, ◌++◌, length, Some, refl, sym, ap, ap₂, ◌∙◌}
-use Rattle.std.proofs.Common.{subst, inl, inr, arith}
+use Rattle.std.proofs.Common.{List, [], ◌∷◌, ◌++◌, length, Some, refl, sym, ap, ap₂, ◌∙◌, Option}
+use Rattle.std.proofs.Common.{subst, inl, inr, arith, option_map}
 use Rattle.std.specs.Prelude.{All}
 use Rattle.std.specs.List.{count_by}
 use Rattle.std.proofs.lemmas.List.Elements.{All-filter, Contains-push_cases}
@@ -22,6 +22,8 @@ use Rattle.syn_session.specs.Answering.{IsAnswering, IsHeard, exchange_of}
 use Rattle.syn_session.specs.Sessions.{IsLine, IsSession}
 use Rattle.syn_session.specs.Stages.{line_of, waiting_of}
 use Rattle.syn_session.proofs.WaitingLemmas.{in_filter, may_less}
+use Rattle.syn_path.specs.Sides.{which_of}
+use Rattle.syn_path.specs.declared.side.Side.{Side}
 
 count_then : (side : Which) (taken : List Exchange) (exchange : Exchange) →
     count_by (λ one. is_side side one.side) (taken ++ exchange ∷ [])
@@ -150,6 +152,9 @@ module _ (kept : archive.Archive) (old new : Session) (running : Running) (numbe
       IsHeard new (hearing running (exchange_of side number request reply))
   heard_so side answers = record {
     number = is.number ∙ sym answers.number_is;
+    preference =
+        is.preference
+        ∙ sym (ap (λ (p : Option Side). option_map which_of p) answers.preference_is);
     lawful = subst (λ n. n < 2 ^ 64) (sym answers.number_is) is.lawful;
     line = heard_on side answers;
     once =

@@ -10,9 +10,9 @@ use Rattle.syn_headline.specs.Planning.{Planned, WritesTo, seen_on}
 use Rattle.syn_headline.specs.Side.{Request, Begin, ListAt, Fetch, Stage, Replace}
 use Rattle.syn_headline.specs.Side as model
 use Rattle.syn_message.specs.Requests.{request_of}
-use Rattle.syn_message.specs.Sides.{which_of}
+use Rattle.syn_path.specs.Sides.{which_of}
 use Rattle.syn_message.specs.declared.request.Request.{Request as Asked}
-use Rattle.syn_message.specs.declared.side.Side.{Side}
+use Rattle.syn_path.specs.declared.side.Side.{Side}
 use Rattle.syn_model.specs.Archive as kept_in
 use Rattle.syn_model.specs.Archive.{Kept, Recorded}
 use Rattle.syn_model.specs.Refusal.{Memory, Refusal as Why}

@@ -69,10 +69,11 @@ module _ (old new : Course) (left right : Found) (reached : Reached)
       new.conflicts ≡ old.conflicts → new.refused ≡ old.refused →
       IsCourse new left right (kept_at reached what)
   course_recorded orderly what of none done marked conflicts refused =
-      let once = named_once left right is.made.0 (items_of old.items.items) is.made.1 orderly in
+      let once = named_once is.made.0 left right is.made.1 (items_of old.items.items) is.made.2
+      orderly in
       record {
         plan = plan_is;
-        made = (is.made.0, ap (λ v. items_of v.items) items ∙ is.made.1);
+        made = (is.made.0, is.made.1, ap (λ v. items_of v.items) items ∙ is.made.2);
         short = short_is;
         cursor = cursor_is;
         recorded =
@@ -102,7 +103,7 @@ module _ (old new : Course) (left right : Found) (reached : Reached)
         IsCourse new left right (refused_at reached (cause_of why) planned)
     course_refused why none conflicts refused = record {
       plan = plan_is;
-      made = (is.made.0, ap (λ v. items_of v.items) items ∙ is.made.1);
+      made = (is.made.0, is.made.1, ap (λ v. items_of v.items) items ∙ is.made.2);
       short = short_is;
       cursor = cursor_is;
       recorded =
@@ -125,7 +126,7 @@ module _ (old new : Course) (left right : Found) (reached : Reached)
         IsCourse new left right (past_at reached)
     course_conflict path conflict conflicts refused = record {
       plan = plan_is;
-      made = (is.made.0, ap (λ v. items_of v.items) items ∙ is.made.1);
+      made = (is.made.0, is.made.1, ap (λ v. items_of v.items) items ∙ is.made.2);
       short = short_is;
       cursor = cursor_is;
       recorded =
@@ -202,7 +203,8 @@ module _ (course : Course) (left right : Found) (reached : Reached)
       recorded_count is_of (plan_in course left right) reached.kept ≡ count →
       is_of planned.item ≡ true → count + 1 < 2 ^ 32
   count_fits orderly what of is_of count counted mine =
-      let once = named_once left right is.made.0 (items_of course.items.items) is.made.1 orderly in
+      let once = named_once is.made.0 left right is.made.1 (items_of course.items.items) is.made.2
+      orderly in
       let more = record_counts (plan_in course left right) once course.cursor reached.kept
       is.recorded planned at what of is_of in
       let one = ap (λ b. recorded_count is_of (plan_in course left right) reached.kept

@@ -6,7 +6,7 @@ use Rattle.syn_headline.specs.Coordinator.{IsDue, directory, same}
 use Rattle.syn_headline.specs.Planning.{Planned}
 use Rattle.syn_headline.specs.Report.{is_carrying}
 use Rattle.syn_headline.specs.Session.{record_for}
-use Rattle.syn_message.specs.declared.side.Side.TheVariants as side
+use Rattle.syn_path.specs.declared.side.Side.TheVariants as side
 use Rattle.syn_model.specs.Archive.{Recorded}
 use Rattle.syn_model.specs.Decision.{ToLeft, ToRight, MarkSame, MarkDir, Conflict, path_of}
 use Rattle.syn_model.specs.Decision as model
@@ -117,8 +117,8 @@ module _ (course : Course) (left right : Found) (reached : Reached)
       subst IsOfItem (sym recorded) tt,
       λ taken. subst (λ k. IsDue course.cursor planned taken k)
           (ap (λ p. Recorded path (subtree left.marks p)) (ap path_of e) ∙ sym recorded)
-          (same path e (same_marks left right is.made.0
-          (items_of course.items.items) is.made.1 decided course.cursor planned path at e)),
+          (same path e (same_marks is.made.0 left right is.made.1
+          (items_of course.items.items) is.made.2 decided course.cursor planned path at e)),
     )
     doing_so (has.Mark kept) (inr (path, e, recorded)) = (
       planned,

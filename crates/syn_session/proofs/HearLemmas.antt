@@ -2,7 +2,7 @@
 use Rattle.std.proofs.Common.{◌≡◌, ◌≤◌, ◌<◌, ◌^◌, ◌⊎◌, ◌+◌, ◌&&◌, ℕ, Bool, true, false, not, List}
 use Rattle.std.proofs.Common.{if◌then◌else◌, [], ◌∷◌, ◌++◌, map, Option, Some, None, refl, sym, ap}
 use Rattle.std.proofs.Common.{◌∙◌, subst, inl, inr, arith, append-nil, length, nat_eq, nat_lt, suc}
-use Rattle.std.proofs.Common.{zero, Vec, Global}
+use Rattle.std.proofs.Common.{zero, Vec, Global, option_map}
 use Rattle.std.specs.Prelude.{All, AllPairs, Contains, IfNone, IfSome}
 use Rattle.std.specs.List.{sum_by}
 use Rattle.std.proofs.lemmas.Bool.{and_parts, false≢true}
@@ -37,6 +37,8 @@ use Rattle.syn_session.proofs.WaitingLemmas.{contains_out, from_map, in_map, lis
 use Rattle.syn_session.proofs.WaitingLemmas.{may_listings, none_wait, numbered_requests}
 use Rattle.syn_session.proofs.WaitingLemmas.{out_contains}
 use Rattle.syn_session.proofs.WaitingLemmas.{pairs_map, same_directory}
+use Rattle.syn_path.specs.Sides.{which_of}
+use Rattle.syn_path.specs.declared.side.Side.{Side}
 
 none_at : {T : Type 0} (x : T) → Contains [] x → ⊥
 none_at x has = omega (arith, has.1)
@@ -120,6 +122,9 @@ module _ (session new : Session) (heard : Running) (h : HasHeard session heard)
     heard_is =
         record {
           number = h.heard_is.number ∙ sym keeps.number_is;
+          preference =
+              h.heard_is.preference
+              ∙ sym (ap (λ (p : Option Side). option_map which_of p) keeps.preference_is);
           lawful = subst (λ n. n < 2 ^ 64)
               (sym keeps.number_is) h.heard_is.lawful;
           line = line_new;

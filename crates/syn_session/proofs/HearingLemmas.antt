@@ -1,5 +1,5 @@
 -- A session that scans hears that a side has begun, or what it lists.
-use Rattle.std.proofs.Common.{◌≡◌, ◌≢◌, ◌≤◌, ◌<◌, ◌^◌, ◌⊎◌, ◌==◌, ℕ, Bool, true, false}
+use Rattle.std.proofs.Common.{◌≡◌, ◌≢◌, ◌≤◌, ◌<◌, ◌^◌, ◌⊎◌, ◌==◌, ℕ, Bool, true, false, option_map}
 use Rattle.std.proofs.Common.{true≢false, not, ◌||◌, if◌then◌else◌, [], ◌++◌, length, map}
 use Rattle.std.proofs.Common.{Option, Some, None, refl, sym, ap, ◌∙◌, subst, inl, inr, arith}
 use Rattle.std.proofs.Common.{append-nil}
@@ -43,6 +43,8 @@ use Rattle.syn_session.proofs.WaitingLemmas.{out_still, same_directory, still_in
 use Rattle.syn_session.proofs.TellingLemmas.{by_sides, list_not_begin, or_false}
 use Rattle.syn_session.proofs.TellingLemmas.{either_nothing, not_across, other_side, tells_nothing}
 use Rattle.syn_session.proofs.TellingLemmas.{scans_further}
+use Rattle.syn_path.specs.Sides.{which_of}
+use Rattle.syn_path.specs.declared.side.Side.{Side}
 
 none_waits : {T : Type 0} (x : T) → Contains [] x → ⊥
 none_waits x has = omega (arith, has.1)
@@ -333,7 +335,8 @@ module _ (kept : archive.Archive) (before now : Session) (running : Running) (si
         (unstable : taken.is_unstable ≡ now.is_unstable)
         (counted : after.is_unstable ≡ (taken.is_unstable || is_not_dir reply))
         (left : after.left ≡ taken.left) (right : after.right ≡ taken.right)
-        (numbered_so : after.number ≡ taken.number) (course : after.course ≡ taken.course)
+        (numbered_so : after.number ≡ taken.number)
+        (preferred_so : after.preference ≡ taken.preference) (course : after.course ≡ taken.course)
         (found : IsFoundIn (found_on taken side) side heard.taken)
         (out : out_of (line_of taken side).scan
         ≡ without_path (out_of (line_of now side).scan) path) where
@@ -361,6 +364,10 @@ module _ (kept : archive.Archive) (before now : Session) (running : Running) (si
           let h = heard_so kept before now running number request reply is side answers in record {
             heard_is = record {
               number = h.number ∙ sym (numbered_so ∙ keeps.number_is);
+              preference =
+                  h.preference
+                  ∙ sym (ap (λ (p : Option Side). option_map which_of p)
+                  (preferred_so ∙ keeps.preference_is));
               lawful = subst (λ n. n < 2 ^ 64) (sym (numbered_so ∙ keeps.number_is)) h.lawful;
               line =
                   λ on. record {

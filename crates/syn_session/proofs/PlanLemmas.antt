@@ -10,7 +10,7 @@ use Rattle.std.proofs.lemmas.Option.{none-some, same_Some, slice_get-map, slice_
 use Rattle.std.proofs.lemmas.Option.{get_or_from_slice_get}
 use Rattle.syn_headline.specs.Planning.{Planned}
 use Rattle.syn_model.specs.Decision.{Item, Decision, Clean, Do, DoAndGoOn, GoOn, ToLeft, ToRight}
-use Rattle.syn_model.specs.Decision.{MarkSame, MarkDir, Conflict, path_of, decision}
+use Rattle.syn_model.specs.Decision.{MarkSame, MarkDir, Conflict, path_of, decision, contested}
 use Rattle.syn_model.specs.Dirty.{Scan, dirty, is_same_tree, is_unstable}
 use Rattle.syn_model.specs.Path.{Path}
 use Rattle.syn_model.specs.Plan.{IsDecided, PlanIsOrderly, PlanIsDecided}
@@ -23,6 +23,7 @@ use Rattle.syn_session.specs.Plans.{planned_all, planned_by}
 use Rattle.syn_session.proofs.TallyLemmas.{NamedOnce}
 use Rattle.syn_recon.specs.Items.{item_of, items_of}
 use Rattle.syn_recon.specs.declared.item.Item.{Item as ReconItem}
+use Rattle.syn_model.specs.Which.{Which, Left, Right}
 
 -- an item of it stands at its place among the items
 pub item_at : (left right : Found) (items : List Item) (at : ℕ) (planned : Planned) →
@@ -52,15 +53,15 @@ stands_at left right items at planned there item less is =
     ∙ (get_or-map item_of items at item (item_of item) less ∙ ap item_of (sym is))
 
 -- what is decided is to mark both only where they are the same
-abbrev chosen : Path → Bool → Bool → Bool → Bool → Bool → Bool → Bool → Decision
-chosen path clean both unstable recorded same right_clean left_clean =
+abbrev chosen : Option Which → Path → Bool → Bool → Bool → Bool → Bool → Bool → Bool → Decision
+chosen preference path clean both unstable recorded same right_clean left_clean =
     if clean then Clean
     else if both then (if unstable then Do (Conflict path) else if recorded then GoOn
     else DoAndGoOn (MarkDir path))
     else if same then Do (MarkSame path)
     else if right_clean then Do (ToRight path)
     else if left_clean then Do (ToLeft path)
-    else Do (Conflict path)
+    else Do (contested preference unstable path)
 
 item_in : Decision → Option Item
 item_in Clean = None
@@ -76,24 +77,41 @@ marks_same (Some (MarkSame path)) = true
 marks_same (Some (MarkDir path)) = false
 marks_same (Some (Conflict path)) = false
 
-chosen_same : (path : Path) (clean both unstable recorded same right_clean left_clean : Bool) →
-    marks_same (item_in (chosen path clean both unstable recorded same right_clean left_clean))
+-- what is contested is not only marked
+no_mark : (preference : Option Which) (unstable : Bool) (path : Path) →
+    marks_same (Some (contested preference unstable path)) ≡ false
+unfolding marks_same
+no_mark None unstable path = refl
+no_mark (Some side) true path = refl
+no_mark (Some Left) false path = refl
+no_mark (Some Right) false path = refl
+
+chosen_same : (preference : Option Which) (path : Path)
+    (clean both unstable recorded same right_clean left_clean : Bool) →
+    marks_same (item_in (chosen preference path clean both unstable recorded same right_clean
+    left_clean))
     ≡ true → same ≡ true
 unfolding marks_same item_in
-chosen_same path true both unstable recorded same right_clean left_clean e = absurd (false≢true e)
-chosen_same path false true true recorded same right_clean left_clean e = absurd (false≢true e)
-chosen_same path false true false true same right_clean left_clean e = absurd (false≢true e)
-chosen_same path false true false false same right_clean left_clean e = absurd (false≢true e)
-chosen_same path false false unstable recorded true right_clean left_clean e = refl
-chosen_same path false false unstable recorded false true left_clean e = absurd (false≢true e)
-chosen_same path false false unstable recorded false false true e = absurd (false≢true e)
-chosen_same path false false unstable recorded false false false e = absurd (false≢true e)
+chosen_same preference path true both unstable recorded same right_clean left_clean e = absurd
+    (false≢true e)
+chosen_same preference path false true true recorded same right_clean left_clean e = absurd
+    (false≢true e)
+chosen_same preference path false true false true same right_clean left_clean e = absurd
+    (false≢true e)
+chosen_same preference path false true false false same right_clean left_clean e = absurd
+    (false≢true e)
+chosen_same preference path false false unstable recorded true right_clean left_clean e = refl
+chosen_same preference path false false unstable recorded false true left_clean e = absurd
+    (false≢true e)
+chosen_same preference path false false unstable recorded false false true e = absurd (false≢true e)
+chosen_same preference path false false unstable recorded false false false e =
+    absurd (false≢true (sym (no_mark preference unstable path) ∙ e))
 
-decided_same : (left right : Scan) (archive : Tree) (path : Path) →
-    marks_same (item_in (decision left right archive path)) ≡ true →
+decided_same : (preference : Option Which) (left right : Scan) (archive : Tree) (path : Path) →
+    marks_same (item_in (decision preference left right archive path)) ≡ true →
     is_same_tree (subtree left.marks path) (subtree right.marks path) ≡ true
-decided_same left right archive path e =
-    chosen_same path (not (dirty left archive path || dirty right archive path))
+decided_same preference left right archive path e =
+    chosen_same preference path (not (dirty left archive path || dirty right archive path))
     (is_directory_in_both left.marks right.marks path)
     (is_unstable left path || is_unstable right path) (is_directory archive path)
     (is_same_tree (subtree left.marks path) (subtree right.marks path))
@@ -107,15 +125,15 @@ is_same_item decide path is = elim is.decided as (λ _. marks_same (item_in (dec
   | inr e ↦ ap (λ d. marks_same (item_in d)) e
 ]
 
-module _ (left right : Found) (archive : Tree) (items : List Item)
-    (is_plan : items ≡ model.plan (scan_of left) (scan_of right) archive) where
+module _ (preference : Option Which) (left right : Found) (archive : Tree) (items : List Item)
+    (is_plan : items ≡ model.plan preference (scan_of left) (scan_of right) archive) where
   -- no two of its items have one path
   pub named_once : PlanIsOrderly → NamedOnce (planned_all left right items)
   named_once orderly i j d less within =
       let count : j < length items =
       subst (λ n. j < n) (length-map items (planned_by left right)) within in
       let once = subst (λ l. AllPairs (λ earlier later. path_of earlier ≢ path_of later) l)
-      (sym is_plan) (orderly (scan_of left) (scan_of right) archive).named_once in
+      (sym is_plan) (orderly preference (scan_of left) (scan_of right) archive).named_once in
       λ e. once i j d.item less count
       (sym (ap (λ p. path_of p.item)
       (get_or-map (planned_by left right) items i d.item d (omega (arith, less, count))))
@@ -127,12 +145,15 @@ module _ (left right : Found) (archive : Tree) (items : List Item)
       planned.left.marks ≡ planned.right.marks
   same_marks decided at planned path there is =
       let here = item_at left right items at planned there in
-      let each = subst (λ l. All (IsDecided (decision (scan_of left) (scan_of right) archive)) l)
-      (sym is_plan) (decided (scan_of left) (scan_of right) archive) in
-      let one = subst (λ item. IsDecided (decision (scan_of left) (scan_of right) archive) item)
+      let each = subst (λ l. All (IsDecided (decision preference (scan_of left) (scan_of right)
+      archive)) l)
+      (sym is_plan) (decided preference (scan_of left) (scan_of right) archive) in
+      let one = subst (λ item. IsDecided (decision preference (scan_of left) (scan_of right)
+      archive) item)
       (get_or_from_slice_get items at planned.item (MarkSame path) here.0 ∙ is)
       (each at (MarkSame path) (slice_get_within items at planned.item here.0)) in
-      let same = same_tree_is _ _ (decided_same (scan_of left) (scan_of right) archive path
-      (is_same_item (decision (scan_of left) (scan_of right) archive) path one)) in
+      let same = same_tree_is _ _ (decided_same preference (scan_of left) (scan_of right) archive
+      path
+      (is_same_item (decision preference (scan_of left) (scan_of right) archive) path one)) in
       let at_path = here.1 ∙ ap (planned_by left right) is in
       ap (λ p. p.left.marks) at_path ∙ (same ∙ sym (ap (λ p. p.right.marks) at_path))

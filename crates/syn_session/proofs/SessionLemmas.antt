@@ -23,10 +23,14 @@ use Rattle.syn_session.specs.Sessions.{once_later, resent_once}
 use Rattle.syn_session.specs.Stages.{IsBeginningOrListing, IsToBegin, IsToList, Reached, begins}
 use Rattle.syn_session.specs.Stages.{lists, line_of, reached_by, requests_on, waiting_of}
 use Rattle.syn_session.proofs.WaitingLemmas.{from_map}
+use Rattle.std.proofs.Common.{option_map}
+use Rattle.syn_path.specs.Sides.{which_of}
+use Rattle.syn_path.specs.declared.side.Side.{Side}
 
 -- ---- a session that begins
 
-module _ (line : Line) (number pair : ℕ) (waits : waiting_of line ≡ begin_of pair)
+module _ (preference : Option Which) (line : Line) (number pair : ℕ)
+    (waits : waiting_of line ≡ begin_of pair)
     (asked : line.asked ≡ 1) where
   rising : AreRising (waiting_of line)
   rising = subst AreRising (sym waits) (λ i j d before less. absurd (omega (arith, before, less)))
@@ -40,7 +44,7 @@ module _ (line : Line) (number pair : ℕ) (waits : waiting_of line ≡ begin_of
   may : MayWait (waiting_of line)
   may = subst MayWait (sym waits) (inl (omega arith))
 
-  begins_line : (side : Which) → IsLine line (begun number pair) side
+  begins_line : (side : Which) → IsLine line (begun preference number pair) side
   begins_line Left =
       record {
         waits = sym waits;
@@ -63,37 +67,41 @@ module _ (line : Line) (number pair : ℕ) (waits : waiting_of line ≡ begin_of
 none_taken : {T : Type 0} (x : T) → Contains [] x → ⊥
 none_taken x has = omega (arith, has.1)
 
-only_begin : (number pair : ℕ) (side : Which) (n : ℕ) (a : Request) →
-    WasAsked (begun number pair) side n a → n ≡ 0
-only_begin number pair side n a (inl (reply, has)) = absurd (none_taken _ has)
-only_begin number pair Left n a (inr (resent, has)) = by (Contains-push_cases [] _ _ has)
+only_begin : (preference : Option Which) (number pair : ℕ) (side : Which) (n : ℕ) (a : Request) →
+    WasAsked (begun preference number pair) side n a → n ≡ 0
+only_begin preference number pair side n a (inl (reply, has)) = absurd (none_taken _ has)
+only_begin preference number pair Left n a (inr (resent, has)) = by (Contains-push_cases [] _ _ has)
   where
     by : let one : Outstanding = record { number = n; request = a; resent = resent } in
         Contains [] one ⊎ (asks 0 (Begin pair) ≡ one) → n ≡ 0
     by (inl never) = absurd (none_taken _ never)
     by (inr is) = sym (ap (λ (o : Outstanding). o.number) is)
-only_begin number pair Right n a (inr (resent, has)) = by (Contains-push_cases [] _ _ has)
+only_begin preference number pair Right n a (inr (resent, has)) = by
+    (Contains-push_cases [] _ _ has)
   where
     by : let one : Outstanding = record { number = n; request = a; resent = resent } in
         Contains [] one ⊎ (asks 0 (Begin pair) ≡ one) → n ≡ 0
     by (inl never) = absurd (none_taken _ never)
     by (inr is) = sym (ap (λ (o : Outstanding). o.number) is)
 
-module _ (archive : model.Archive) (session : Session) (number pair : ℕ)
-    (numbered : session.number ≡ number) (lawful : number < 2 ^ 64)
+module _ (archive : model.Archive) (session : Session) (preference : Option Which) (number pair : ℕ)
+    (numbered : session.number ≡ number)
+    (preferred : option_map which_of session.preference ≡ preference) (lawful : number < 2 ^ 64)
     (stable : session.is_unstable ≡ false) (scans : session.course ≡ None)
     (waits : (side : Which) → waiting_of (line_of session side) ≡ begin_of pair)
     (asked : (side : Which) → (line_of session side).asked ≡ 1)
     (found : (side : Which) → IsFoundIn (found_of (line_of session side).scan) side [])
     (out : (side : Which) → out_of (line_of session side).scan ≡ []) where
-  pub session_begins : IsSession archive session (begun number pair)
+  pub session_begins : IsSession archive session (begun preference number pair)
   session_begins = record {
     number = sym numbered;
+    preference = sym preferred;
     lawful = subst (λ n. n < 2 ^ 64) (sym numbered) lawful;
-    line = λ side. begins_line (line_of session side) number pair (waits side) (asked side) side;
+    line = λ side. begins_line preference (line_of session side) number pair (waits side)
+        (asked side) side;
     once =
-        λ side m n a b was_m was_n _. only_begin number pair side m a was_m
-        ∙ sym (only_begin number pair side n b was_n);
+        λ side m n a b was_m was_n _. only_begin preference number pair side m a was_m
+        ∙ sym (only_begin preference number pair side n b was_n);
     unstable = sym stable;
     stage =
         subst (λ course. IsStage archive session course
@@ -190,6 +198,7 @@ was_once waiting n a k has =
 
 module _ (archive : model.Archive) (old new : Session) (running : Running)
     (is : IsSession archive old running) (number : new.number ≡ old.number)
+    (preferred : new.preference ≡ old.preference)
     (unstable : new.is_unstable ≡ old.is_unstable) (course : new.course ≡ old.course)
     (again : (side : Which) → SentAgain (line_of old side) (line_of new side)) where
   waits_again : (side : Which) →
@@ -225,6 +234,8 @@ module _ (archive : model.Archive) (old new : Session) (running : Running)
   pub resent_so : IsSession archive new (resent_once running)
   resent_so = record {
     number = is.number ∙ sym number;
+    preference =
+        is.preference ∙ sym (ap (λ (p : Option Side). option_map which_of p) preferred);
     lawful = subst (λ n. n < 2 ^ 64) (sym number) is.lawful;
     line =
         λ side. record {

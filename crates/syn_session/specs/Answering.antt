@@ -1,18 +1,19 @@
 -- A session whose answer has come, and what it asks next.
 use Rattle.std.specs.Prelude.{◌≡◌, ◌⊎◌, ◌≤◌, ◌<◌, ◌^◌, ◌+◌, ℕ, length, List, [], ◌∷◌, ◌++◌, map}
-use Rattle.std.specs.Prelude.{Some}
+use Rattle.std.specs.Prelude.{Some, option_map}
 use Rattle.syn_headline.specs.Coordinator.{AsksOnce, Exchange, Running, asked_in, messages_to}
 use Rattle.syn_headline.specs.Coordinator.{numbered}
 use Rattle.syn_headline.specs.Network.{Message, Which, Left, Right, other}
 use Rattle.syn_headline.specs.Side.{ListAt, Reply, Request}
 use Rattle.syn_message.specs.Requests.{request_of}
-use Rattle.syn_message.specs.declared.side.Side.TheVariants as to
+use Rattle.syn_path.specs.declared.side.Side.TheVariants as to
 use Rattle.syn_session.specs.Sessions.{IsLine}
 use Rattle.syn_session.specs.Stages.{HasTaken, line_of, waiting_of}
 use Rattle.syn_session.specs.declared.line.Line.{Line}
 use Rattle.syn_session.specs.declared.session.Asks.{Asks}
 use Rattle.syn_session.specs.declared.session.Asks.TheVariants.{Listings, One}
 use Rattle.syn_session.specs.declared.session.Session.{Session}
+use Rattle.syn_path.specs.Sides.{which_of}
 
 -- this request waited on the line of the side, and waits no more; all else stays
 pub record IsAnswering (old new : Session) (side : Which) (number : ℕ) (request : Request)
@@ -23,12 +24,14 @@ pub record IsAnswering (old new : Session) (side : Which) (number : ℕ) (reques
   pub scan : (line_of new side).scan ≡ (line_of old side).scan
   pub across : line_of new (other side) ≡ line_of old (other side)
   pub number_is : new.number ≡ old.number
+  pub preference_is : new.preference ≡ old.preference
   pub unstable : new.is_unstable ≡ old.is_unstable
   pub course : new.course ≡ old.course
 
 -- a session with these exchanges, whatever it is at
 pub record IsHeard (session : Session) (running : Running) : Type 0 where
   pub number : running.session ≡ session.number
+  pub preference : running.preference ≡ option_map which_of session.preference
   pub lawful : session.number < 2 ^ 64
   pub line : (side : Which) → IsLine (line_of session side) running side
   pub once : AsksOnce running

@@ -6,7 +6,7 @@ use Rattle.syn_headline.specs.Planning.{Planned}
 use Rattle.syn_headline.specs.Report.{conflict_at, is_carrying}
 use Rattle.syn_headline.specs.Side as model
 use Rattle.syn_message.specs.Requests.{request_of}
-use Rattle.syn_message.specs.Sides.{which_of}
+use Rattle.syn_path.specs.Sides.{which_of}
 use Rattle.syn_model.specs.Archive.{Archive}
 use Rattle.syn_model.specs.Refusal.{Memory}
 use Rattle.syn_propagate.specs.Transfers.{Asks as TransferAsks}

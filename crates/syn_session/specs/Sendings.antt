@@ -2,7 +2,7 @@
 use Rattle.std.specs.Prelude.{List, map}
 use Rattle.syn_headline.specs.Network.{Message, Asks}
 use Rattle.syn_message.specs.Requests.{request_of}
-use Rattle.syn_message.specs.Sides.{which_of}
+use Rattle.syn_path.specs.Sides.{which_of}
 use Rattle.syn_session.specs.declared.sending.Sending.{Sending}
 
 abbrev pub message_of : Sending → Message

@@ -17,6 +17,8 @@ use Rattle.syn_session.specs.Stages.{nothing_reached, reached_by, waiting_of}
 use Rattle.syn_session.specs.declared.course.Course.{Course}
 use Rattle.syn_session.specs.declared.line.Line.{Line}
 use Rattle.syn_session.specs.declared.session.Session.{Session}
+use Rattle.std.specs.Prelude.{option_map}
+use Rattle.syn_path.specs.Sides.{which_of}
 
 abbrev pub asks : ℕ → Request → Outstanding
 asks number request = record { number = number; request = request; resent = 0 }
@@ -49,6 +51,7 @@ IsStage archive session (Some course) taken reached =
 pub record IsSession (archive : model.Archive) (session : Session) (running : Running)
     : Type 0 where
   pub number : running.session ≡ session.number
+  pub preference : running.preference ≡ option_map which_of session.preference
   pub lawful : session.number < 2 ^ 64
   pub line : (side : Which) → IsLine (line_of session side) running side
   pub once : AsksOnce running
@@ -79,8 +82,9 @@ end_by ended refused unstable = if not (is_some ended) && not (nat_lt 0 refused)
     then Complete else Incomplete
 
 -- both sides are to begin it
-abbrev pub begun : ℕ → ℕ → Running
-begun number pair = asking (new_session number) (begins pair) (begins pair)
+abbrev pub begun : Option Which → ℕ → ℕ → Running
+begun preference number pair =
+    asking (new_session preference number) (begins pair) (begins pair)
 
 abbrev pub messages_now : Session → List Message
 messages_now session = messages_to session.number Left (waiting_of session.left)

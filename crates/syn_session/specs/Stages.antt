@@ -125,8 +125,9 @@ plan_in course left right = planned_all left right (items_of course.items.items)
 -- what it has come to, and what it tells of the items before
 pub record IsCourse (course : Course) (left right : Found) (reached : Reached) : Type 0 where
   pub plan : reached.plan ≡ Some (plan_in course left right)
-  pub made : (archive : Tree)
-      × (items_of course.items.items ≡ planned_items (scan_of left) (scan_of right) archive)
+  pub made : (preference : Option Which) × (archive : Tree)
+      × (items_of course.items.items
+      ≡ planned_items preference (scan_of left) (scan_of right) archive)
   pub short : length course.items.items < 2 ^ 32
   pub cursor : reached.cursor ≡ course.cursor
   pub recorded : AreRecordedBefore (plan_in course left right) course.cursor reached.kept

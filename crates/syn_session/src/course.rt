@@ -1,5 +1,6 @@
 //! How a session goes through its plan.
-ghost use Rattle.std.specs.Prelude.{◌≡◌, IfErr, IfOk};
+ghost use Rattle.std.specs.Prelude.{◌≡◌, IfErr, IfOk, option_map};
+ghost use Rattle.syn_path.specs.Sides.{which_of};
 ghost use Rattle.syn_model.specs.Plan.{plan};
 ghost use Rattle.syn_recon.specs.Items.{items_of};
 ghost use Rattle.syn_scan.specs.Found.{scan_of};
@@ -8,7 +9,7 @@ use crate::error::SessionError;
 use std::alloc::Global;
 use syn_image::Kept;
 use syn_mark::MarkTree;
-use syn_path::Path;
+use syn_path::{Path, Side};
 use syn_propagate::Transfer;
 use syn_recon::{Item, plan};
 use syn_refusal::Refusal;
@@ -43,22 +44,25 @@ impl Course {
     ghost use Rattle.syn_session.specs.Passing.{first_reached};
     ghost use Rattle.syn_session.specs.Stages.{IsCourse, plan_in};
 
-    /// The plan of two scans and the archive, of which nothing is carried out yet. Refused 11 where
-    /// memory is refused, or where the plan has 2^32 items or more.
+    /// The plan of two scans and the archive, where a side is preferred or none, of which nothing
+    /// is carried out yet. Refused 11 where memory is refused, or where the plan has 2^32 items or
+    /// more.
     pub fn new(
         alloc: Global,
         left: &Scan,
         right: &Scan,
         archive: &MarkTree,
+        preference: Option<Side>,
     ) -> Result<Course, SessionError>
         ensures begun { IfOk result (λ course. IsCourse course left.now right.now
             (first_reached (plan_in course left.now right.now))) }
         ensures items { IfOk result (λ course. items_of course.items.items
-            ≡ plan (scan_of left.now) (scan_of right.now) archive.now) }
+            ≡ plan (option_map which_of preference) (scan_of left.now) (scan_of right.now)
+            archive.now) }
         ensures cursor { IfOk result (λ course. course.cursor ≡ 0) }
         ensures memory { IfErr result (λ e. e ≡ SessionError.Memory) }
     {
-        let items = plan(alloc, left, right, archive)?;
+        let items = plan(alloc, left, right, archive, preference)?;
         if items.len() > MAX_ITEMS {
             return Err(SessionError::Memory);
         }

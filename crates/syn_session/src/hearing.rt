@@ -7,7 +7,7 @@ ghost use Rattle.syn_headline.specs.Session.{fault_of};
 ghost use Rattle.syn_headline.specs.Side.{Begin, Begun, ListAt};
 ghost use Rattle.syn_message.specs.Replies.{IsLawfulReply, reply_of};
 ghost use Rattle.syn_message.specs.Requests.{request_of};
-ghost use Rattle.syn_message.specs.Sides.{which_of};
+ghost use Rattle.syn_path.specs.Sides.{which_of};
 ghost use Rattle.syn_model.specs.Archive.{Archive as Keeping};
 ghost use Rattle.syn_refusal.specs.Refusals.{cause_of};
 ghost use Rattle.syn_session.specs.Scanning.{Exchanges};

@@ -5,7 +5,7 @@ ghost use Rattle.syn_headline.specs.Coordinator.{asked_in, messages_to, numbered
 ghost use Rattle.syn_headline.specs.Network.{Which};
 ghost use Rattle.syn_headline.specs.Side.{ListAt};
 ghost use Rattle.syn_message.specs.Requests.{request_of};
-ghost use Rattle.syn_message.specs.Sides.{which_of};
+ghost use Rattle.syn_path.specs.Sides.{which_of};
 ghost use Rattle.syn_session.specs.Scanning.{IsFoundIn, found_of, out_of};
 ghost use Rattle.syn_session.specs.Sendings.{messages_of};
 

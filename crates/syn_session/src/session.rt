@@ -9,7 +9,7 @@ ghost use Rattle.syn_headline.specs.Session.{fault_of};
 ghost use Rattle.syn_headline.specs.Side.{ListAt};
 ghost use Rattle.syn_message.specs.Replies.{IsLawfulReply, reply_of};
 ghost use Rattle.syn_message.specs.Requests.{request_of};
-ghost use Rattle.syn_message.specs.Sides.{which_of};
+ghost use Rattle.syn_path.specs.Sides.{which_of};
 ghost use Rattle.syn_model.specs.Archive.{Archive as Keeping};
 ghost use Rattle.syn_model.specs.Refusal.{Memory};
 ghost use Rattle.syn_refusal.specs.Refusals.{cause_of};
@@ -32,6 +32,8 @@ use syn_refusal::Refusal;
 #[derive(Debug, Drop)]
 pub struct Session {
     pub number: u64,
+    /// The side that goes to the other where both changed.
+    pub preference: Option<Side>,
     pub left: Line,
     pub right: Line,
     /// A path changed its kind under the scan: it was answered as no directory.
@@ -59,10 +61,17 @@ impl Session {
     ghost use Rattle.syn_session.specs.Stages.{found_on, line_of, waiting_of};
     ghost use Rattle.syn_session.specs.inner.Listing.{KeepsRequests};
 
-    /// Both sides of the pair are to begin the session. Refused 11 where memory is refused.
-    pub fn new(alloc: Global, number: u64, pair: u64) -> Result<Session, SessionError>
+    /// Both sides of the pair are to begin the session, which prefers a side or none. Refused 11
+    /// where memory is refused.
+    pub fn new(
+        alloc: Global,
+        number: u64,
+        pair: u64,
+        preference: Option<Side>,
+    ) -> Result<Session, SessionError>
         ensures begun { (archive : Keeping)
-            → IfOk result (λ session. IsSession archive session (begun number pair)) }
+            → IfOk result (λ session. IsSession archive session
+            (begun (option_map which_of preference) number pair)) }
         ensures sends { IfOk result (λ session. messages_now session ≡ begin_messages number pair) }
         ensures number { IfOk result (λ session. session.number ≡ number) }
         ensures fits { pair < 2 ^ 64 }
@@ -73,6 +82,7 @@ impl Session {
         let right = Line::new(alloc, pair)?;
         Ok(Session {
             number,
+            preference,
             left,
             right,
             is_unstable: false,
@@ -170,6 +180,7 @@ impl Session {
         ensures left { self.new.left ≡ self.old.left }
         ensures right { self.new.right ≡ self.old.right }
         ensures number { self.new.number ≡ self.old.number }
+        ensures preference { self.new.preference ≡ self.old.preference }
         ensures course { self.new.course ≡ self.old.course }
     {
         self.is_unstable = either(self.is_unstable, is_no_directory);
@@ -191,6 +202,7 @@ impl Session {
         ensures left { OnOk result (IsAskedOn self.old.left self.new.left (asks_of asks Left)) }
         ensures right { OnOk result (IsAskedOn self.old.right self.new.right (asks_of asks Right)) }
         ensures number { self.new.number ≡ self.old.number }
+        ensures preference { self.new.preference ≡ self.old.preference }
         ensures unstable { self.new.is_unstable ≡ self.old.is_unstable }
         ensures course { self.new.course ≡ self.old.course }
         ensures sends { IfOk result (λ sends. messages_of sends.items
@@ -214,6 +226,7 @@ impl Session {
         ensures right { OnOk result (IsAskedOn self.old.right self.new.right
             (map ListAt right.items)) }
         ensures number { self.new.number ≡ self.old.number }
+        ensures preference { self.new.preference ≡ self.old.preference }
         ensures unstable { self.new.is_unstable ≡ self.old.is_unstable }
         ensures course { self.new.course ≡ self.old.course }
         ensures sends { IfOk result (λ sends. messages_of sends.items
@@ -243,6 +256,7 @@ impl Session {
         ensures across { line_of self.new (other (which_of side))
             ≡ line_of self.old (other (which_of side)) }
         ensures number { self.new.number ≡ self.old.number }
+        ensures preference { self.new.preference ≡ self.old.preference }
         ensures unstable { self.new.is_unstable ≡ self.old.is_unstable }
         ensures course { self.new.course ≡ self.old.course }
         ensures sends { IfOk result (λ sends. messages_of sends.items

@@ -3,8 +3,8 @@ use Rattle.std.specs.Global.{Vec}
 use Rattle.std.specs.Prelude.{◌≡◌, List, [], ◌∷◌, flat_map, Option, Some, None, Bool, true, false}
 use Rattle.std.specs.Prelude.{if◌then◌else◌}
 use Rattle.syn_disk.specs.declared.simulated.leaves.Leaves.{Leaves}
-use Rattle.syn_message.specs.declared.side.Side.{Side}
-use Rattle.syn_message.specs.declared.side.Side.TheVariants.{Left, Right}
+use Rattle.syn_path.specs.declared.side.Side.{Side}
+use Rattle.syn_path.specs.declared.side.Side.TheVariants.{Left, Right}
 use Rattle.syn_script.specs.declared.line.Line.{Line}
 use Rattle.syn_script.specs.declared.line.Line.TheVariants.{Stop}
 use Rattle.syn_script.specs.declared.line.Machine.{Machine}

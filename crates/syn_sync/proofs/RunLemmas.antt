@@ -1,6 +1,6 @@
 -- Acts of a coordinator, one after another, with what is heard and what is written.
 use Rattle.std.proofs.Common.{◌≡◌, ℕ, Bool, true, false, List, [], ◌∷◌, ◌++◌, refl, sym, ap, subst}
-use Rattle.std.proofs.Common.{◌∙◌, ◌⊎◌, ◌≢◌, inl, inr, append-nil}
+use Rattle.std.proofs.Common.{◌∙◌, ◌⊎◌, ◌≢◌, inl, inr, append-nil, Option}
 use Rattle.std.proofs.lemmas.Grind.{flat_map-append}
 use Rattle.std.specs.Prelude.{◌&&◌, not}
 use Rattle.syn_disk.specs.Arms.{is_stopped}
@@ -51,7 +51,8 @@ false_is : (b : Bool) → b ≡ true → b ≡ false → ⊥
 false_is true is not_is = cc
 false_is false is not_is = cc
 
-begins_more : (first second : Acts) → Begins first → Begins (first ++ second)
+begins_more : {preference : Option Which} (first second : Acts) → Begins preference first →
+    Begins preference (first ++ second)
 begins_more first second (at_once call behind) = at_once call (behind ++ second)
 begins_more first second (with_room one two behind) = with_room one two (behind ++ second)
 
@@ -346,44 +347,50 @@ module _ {D : Type 0} {disk : Ghosts D} where
       )
 
   -- a start begins a session
-  pub starts_once : (old new : Coordinator D disk) (pair : ℕ) (machine : CoordinatorMachine)
+  pub starts_once : (preference : Option Which) (old new : Coordinator D disk) (pair : ℕ)
+      (machine : CoordinatorMachine)
       (kept : List Kept) (messages : List Message)
-      → Does old new pair (step_of pair machine Starts) kept messages
-      → Starting new pair machine messages
-  starts_once old new pair machine kept messages does =
-      let one = calls_one old new pair machine Starts kept messages does (λ side. refl)
+      → Does old new pair (step_of pair machine (Starts preference)) kept messages
+      → Starting preference new pair machine messages
+  starts_once preference old new pair machine kept messages does =
+      let one = calls_one old new pair machine (Starts preference) kept messages does (λ side. refl)
       (λ call side is. ap (λ m. frames_to side m) is) in
-      (one.0, subst Begins (sym one.2) (at_once one.1 []))
+      (one.0, subst (Begins preference) (sym one.2) (at_once one.1 []))
 
   -- so does one behind a checkpoint
-  pub starts_behind : (old middle new : Coordinator D disk) (pair : ℕ)
+  pub starts_behind : (preference : Option Which) (old middle new : Coordinator D disk) (pair : ℕ)
       (machine : CoordinatorMachine) (messages : List Message)
       (made : Calls middle pair machine []) (first : Call)
       → made.acts ≡ record { act = Compacts; call = first } ∷ [] → stops middle ≡ false
-      → (kept : List Kept) → Does middle new pair (step_of pair made.reached Starts) kept messages
-      → Starting new pair machine messages
+      → (kept : List Kept) → Does middle new pair (step_of pair made.reached (Starts preference))
+      kept messages
+      → Starting preference new pair machine messages
   unfolding calls_twice
-  starts_behind old middle new pair machine messages made first is_made calm kept does =
-      let one = calls_one middle new pair made.reached Starts kept messages does (λ side. refl)
+  starts_behind preference old middle new pair machine messages made first is_made calm kept does =
+      let one = calls_one middle new pair made.reached (Starts preference) kept messages does
+      (λ side. refl)
       (λ call side is. ap (λ m. frames_to side m) is) in (
         calls_twice middle new pair machine [] messages made calm one.0,
-        subst (λ a. Begins (a ++ one.0.acts)) (sym is_made)
-            (subst (λ b. Begins (record { act = Compacts; call = first } ∷ [] ++ b)) (sym one.2)
+        subst (λ a. Begins preference (a ++ one.0.acts)) (sym is_made)
+            (subst (λ b. Begins preference (record { act = Compacts; call = first } ∷ [] ++ b))
+            (sym one.2)
             (with_room first one.1 [])),
       )
 
-  ends_at : (stopped : Bool) (middle new : Coordinator D disk) (pair : ℕ)
+  ends_at : (preference : Option Which) (stopped : Bool) (middle new : Coordinator D disk)
+      (pair : ℕ)
       (machine : CoordinatorMachine) (lines heard : Lines) (from to : Outlets)
-      (drives : Drives middle pair machine lines heard from to) → Begins drives.acts
+      (drives : Drives middle pair machine lines heard from to) → Begins preference drives.acts
       → (stops middle ≡ true → new ≡ middle)
       → ((now : CoordinatorMachine) → Stands middle pair now → Calls new pair now [])
       → stops middle ≡ stopped
-      → (whole : Drives new pair machine lines heard from to) × Begins whole.acts
+      → (whole : Drives new pair machine lines heard from to) × Begins preference whole.acts
   unfolding drives_twice
-  ends_at true middle new pair machine lines heard from to drives begins same calls is =
-      subst (λ m. (whole : Drives m pair machine lines heard from to) × Begins whole.acts)
+  ends_at preference true middle new pair machine lines heard from to drives begins same calls is =
+      subst
+      (λ m. (whole : Drives m pair machine lines heard from to) × Begins preference whole.acts)
       (sym (same is)) (drives, begins)
-  ends_at false middle new pair machine lines heard from to drives begins same calls is =
+  ends_at preference false middle new pair machine lines heard from to drives begins same calls is =
       let behind = drives_silent new pair drives.reached heard to
       (calls drives.reached (stands_of middle pair drives.reached drives.ends is)) in (
         drives_twice middle new pair machine lines heard heard from to to drives is behind,
@@ -391,20 +398,20 @@ module _ {D : Type 0} {disk : Ghosts D} where
       )
 
   -- A whole session: it begins, goes on, and is given up where its machine goes on
-  pub drives_whole : (began middle new : Coordinator D disk) (pair : ℕ)
+  pub drives_whole : (preference : Option Which) (began middle new : Coordinator D disk) (pair : ℕ)
       (machine : CoordinatorMachine) (messages : List Message) (lines sent later : Lines)
-      (from via to : Outlets) (begun : Starting began pair machine messages)
+      (from via to : Outlets) (begun : Starting preference began pair machine messages)
       → stops began ≡ false → ((side : Which) → sent side ≡ lines side)
       → ((side : Which) → Writes (from side) (via side) (frames_to side messages)
       (via side).goes) → Drives middle pair (begun.0).reached sent later via to
       → (stops middle ≡ true → new ≡ middle)
       → ((now : CoordinatorMachine) → Stands middle pair now → Calls new pair now [])
-      → (whole : Drives new pair machine lines later from to) × Begins whole.acts
+      → (whole : Drives new pair machine lines later from to) × Begins preference whole.acts
   unfolding drives_twice drives_calls
-  drives_whole began middle new pair machine messages lines sent later from via to begun calm
-      same writes went left calls =
+  drives_whole preference began middle new pair machine messages lines sent later from via to begun
+      calm same writes went left calls =
       let first = drives_calls began pair machine messages lines sent from via begun.0 calm same
       writes in
-      ends_at (stops middle) middle new pair machine lines later from to
+      ends_at preference (stops middle) middle new pair machine lines later from to
       (drives_twice began middle pair machine lines sent later from via to first calm went)
       (begins_more (begun.0).acts went.acts begun.1) left calls refl

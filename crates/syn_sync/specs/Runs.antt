@@ -1,6 +1,7 @@
 -- What a driver does with a coordinator: its acts are a run of the coordinator's machine, what it
 -- takes was heard, and what it sends was written.
 use Rattle.std.specs.Prelude.{◌≡◌, ◌⊎◌, ◌&&◌, not, ℕ, true, List, [], ◌∷◌, flat_map, if◌then◌else◌}
+use Rattle.std.specs.Prelude.{Option}
 use Rattle.syn_disk.specs.Arms.{is_stopped}
 use Rattle.syn_disk.specs.declared.disk.Disk.{Ghosts}
 use Rattle.syn_headline.specs.Coordinator.{Call, CoordinatorMachine, CoordinatorStarts}
@@ -18,9 +19,10 @@ use Rattle.syn_sync.specs.Drivers.{Lines, Outlets}
 use Rattle.syn_sync.specs.Lines.{HearsAll}
 use Rattle.syn_sync.specs.Outlets.{Writes}
 
--- what a coordinator is called with: a start, a checkpoint, a side's reply, or that time went by
+-- what a coordinator is called with: a start, which prefers a side or none, a checkpoint, a side's
+-- reply, or that time went by
 pub data Act : Type 0 where
-  Starts : Act
+  Starts : (preference : Option Which) → Act
   Compacts : Act
   Takes : (from : Which) (answering : Answering) → Act
   Ticks : Act
@@ -35,7 +37,7 @@ Acts = List Done
 
 -- the step of the coordinator's machine
 abbrev pub step_of : ℕ → CoordinatorMachine → Act → CoordinatorMachine → Call → Type 0
-step_of pair machine Starts = CoordinatorStarts pair machine
+step_of pair machine (Starts preference) = CoordinatorStarts pair preference machine
 step_of pair machine Compacts = Checkpoints pair machine
 step_of pair machine (Takes from answering) =
     CoordinatorTakes pair machine from answering.session answering.number answering.reply
@@ -48,18 +50,18 @@ Leads pair old (done ∷ behind) new =
     (between : CoordinatorMachine) × step_of pair old done.act between done.call
     × Leads pair between behind new
 
--- they begin with a start, or with a checkpoint and a start behind it
-pub data Begins : Acts → Type 0 where
+-- they begin with a start that prefers this, or with a checkpoint and such a start after it
+pub data Begins (preference : Option Which) : Acts → Type 0 where
   at_once : (call : Call) (behind : Acts) →
-      Begins (record { act = Starts; call = call } ∷ behind)
+      Begins preference (record { act = Starts preference; call = call } ∷ behind)
   with_room : (first second : Call) (behind : Acts) →
-      Begins (record { act = Compacts; call = first }
-      ∷ record { act = Starts; call = second } ∷ behind)
+      Begins preference (record { act = Compacts; call = first }
+      ∷ record { act = Starts preference; call = second } ∷ behind)
 
 -- the replies of a side that the coordinator was given
 abbrev pub answer_in : Which → Act → List Answering
 answer_in side (Takes from answering) = if is_side side from then answering ∷ [] else []
-answer_in side Starts = []
+answer_in side (Starts preference) = []
 answer_in side Compacts = []
 answer_in side Ticks = []
 
@@ -84,7 +86,7 @@ frames_to side messages = flat_map (frame_to side) messages
 abbrev pub frames_of : Which → Done → Bytes
 frames_of side done = elim done.act [
   | Ticks ↦ []
-  | Starts ↦ frames_to side done.call.messages
+  | Starts preference ↦ frames_to side done.call.messages
   | Compacts ↦ frames_to side done.call.messages
   | Takes from answering ↦ frames_to side done.call.messages
 ]

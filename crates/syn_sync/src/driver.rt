@@ -1,11 +1,11 @@
 //! A session over two links.
 ghost use Rattle.std.specs.Prelude.{◌≡◌, [], ℕ, true, false, IfErr, IfSome, MatchResult, OnOk};
-ghost use Rattle.std.specs.Prelude.{Some};
+ghost use Rattle.std.specs.Prelude.{Some, option_map};
 ghost use Rattle.syn_disk.specs.Arms.{is_stopped};
 ghost use Rattle.syn_headline.specs.Coordinator.{CoordinatorMachine};
 ghost use Rattle.syn_headline.specs.Network.{Left, Right, Which};
 ghost use Rattle.syn_message.specs.Replies.{IsLawfulAnswering, answering_of};
-ghost use Rattle.syn_message.specs.Sides.{which_of};
+ghost use Rattle.syn_path.specs.Sides.{which_of};
 ghost use Rattle.syn_model.specs.Refusal.{JournalFull, first_cause};
 ghost use Rattle.syn_refusal.specs.Refusals.{cause_of};
 ghost use Rattle.syn_coordinator.specs.Coordinators.{Does, Stands, archive_of, device_of, runs};
@@ -57,10 +57,10 @@ impl<R: Read, W: Write> Driver<R, W> {
         (self.left, self.right)
     }
 
-    /// Runs a session to its end: the coordinator starts it, its requests go to their sides, and
-    /// the replies come back to it. Where both sides have to answer, the one that is ready is read,
-    /// and the left one where both are. Where the start is refused 8, a checkpoint makes room in
-    /// the archive, once. The watch is told it all.
+    /// Runs a session to its end, which prefers a side or none: the coordinator starts it, its
+    /// requests go to their sides, and the replies come back to it. Where both sides have to
+    /// answer, the one that is ready is read, and the left one where both are. Where the start is
+    /// refused 8, a checkpoint makes room in the archive, once. The watch is told it all.
     ///
     /// Where a link closes, no side is ready in time, or the coordinator waits for nothing, the
     /// session is given up: it ends 25, and what that would send again is dropped. The coordinator
@@ -72,6 +72,7 @@ impl<R: Read, W: Write> Driver<R, W> {
         &mut self,
         alloc: Global,
         coordinator: &mut Coordinator<D>,
+        preference: Option<Side>,
         readiness: &mut S,
         watch: &mut V,
     ) -> Result<(), Refusal>
@@ -80,7 +81,7 @@ impl<R: Read, W: Write> Driver<R, W> {
             → (heard : Lines) × (drives : Drives coordinator.new pair machine
             (lines_of R.remaining self.old) heard
             (outlets_of W.contents self.old) (outlets_of W.contents self.new))
-            × OnOk result (Begins drives.acts) }
+            × OnOk result (Begins (option_map which_of preference) drives.acts) }
         ensures refused { (pair : ℕ) (machine : CoordinatorMachine)
             → Stands coordinator.old pair machine
             → IfErr result (λ why. Refuses coordinator.old coordinator.new pair machine
@@ -89,7 +90,7 @@ impl<R: Read, W: Write> Driver<R, W> {
         ensures goes { OnOk result (is_stopped (D.Disk.arms (device_of coordinator.new))
             ≡ false) }
     {
-        let sends = match start(alloc, coordinator) {
+        let sends = match start(alloc, coordinator, preference) {
             Ok(sends) => sends,
             Err(why) => return Err(why),
         };
@@ -260,16 +261,21 @@ fn hear<D: Limit>(
 }
 
 /// Starts a session, and answers what is to be sent. Refused as `run` is.
-fn start<D: Limit>(alloc: Global, coordinator: &mut Coordinator<D>) -> Result<Vec<Sending>, Refusal>
+fn start<D: Limit>(
+    alloc: Global,
+    coordinator: &mut Coordinator<D>,
+    preference: Option<Side>,
+) -> Result<Vec<Sending>, Refusal>
     ensures { (pair : ℕ) (machine : CoordinatorMachine) → Stands coordinator.old pair machine
         → MatchResult result
-        (λ sends. Starting coordinator.new pair machine (messages_of sends.items))
+        (λ sends. Starting (option_map which_of preference) coordinator.new pair machine
+        (messages_of sends.items))
         (λ why. Calls coordinator.new pair machine []
         × Refuses coordinator.old coordinator.new pair machine (cause_of why)) }
 {
-    match coordinator.start(alloc) {
+    match coordinator.start(alloc, preference) {
         Ok(sends) => Ok(sends),
-        Err(SessionError::JournalFull) => start_behind(alloc, coordinator),
+        Err(SessionError::JournalFull) => start_behind(alloc, coordinator, preference),
         Err(error) => Err(error.refusal()),
     }
 }
@@ -278,11 +284,13 @@ fn start<D: Limit>(alloc: Global, coordinator: &mut Coordinator<D>) -> Result<Ve
 fn start_behind<D: Limit>(
     alloc: Global,
     coordinator: &mut Coordinator<D>,
+    preference: Option<Side>,
 ) -> Result<Vec<Sending>, Refusal>
     ensures { (pair : ℕ) (machine : CoordinatorMachine) → Stands coordinator.old pair machine
         → first_cause (all_causes pair machine) ≡ Some JournalFull
         → MatchResult result
-        (λ sends. Starting coordinator.new pair machine (messages_of sends.items))
+        (λ sends. Starting (option_map which_of preference) coordinator.new pair machine
+        (messages_of sends.items))
         (λ why. Calls coordinator.new pair machine []
         × Refuses coordinator.old coordinator.new pair machine (cause_of why)) }
 {
@@ -292,7 +300,7 @@ fn start_behind<D: Limit>(
     if coordinator.is_cut() {
         return Err(Refusal::Device);
     }
-    match coordinator.start(alloc) {
+    match coordinator.start(alloc, preference) {
         Ok(sends) => Ok(sends),
         Err(error) => Err(error.refusal()),
     }

@@ -1,6 +1,7 @@
 //! What a chart says of the lines of a script.
 
 use std::alloc::{AllocError, Global};
+use syn_path::Side;
 use syn_script::{Line, Machine as Named};
 use syn_tree::Edit;
 use syn_world::Machine;
@@ -32,7 +33,7 @@ fn row_of(alloc: Global, line: &Line) -> Result<Option<Row>, AllocError> {
             Machine::Side(*side),
             format!(in alloc; "user {user}: {}", edit_text(alloc, edit)?)?,
         ),
-        Line::Start => (Machine::Coordinator, format!(in alloc; "start")?),
+        Line::Start(preference) => (Machine::Coordinator, start_text(alloc, *preference)?),
         Line::Tick => (Machine::Coordinator, format!(in alloc; "tick")?),
         Line::Deliver(_, _) | Line::Drain => return Ok(None),
         Line::Checkpoint(at) => (machine_of(*at), format!(in alloc; "checkpoint")?),
@@ -52,6 +53,14 @@ fn row_of(alloc: Global, line: &Line) -> Result<Option<Row>, AllocError> {
         text,
         is_opening: matches!(line, Line::Open(_) | Line::Reopen(_)),
     }))
+}
+
+fn start_text(alloc: Global, preference: Option<Side>) -> Result<String, AllocError> {
+    match preference {
+        None => format!(in alloc; "start"),
+        Some(Side::Left) => format!(in alloc; "start prefer left"),
+        Some(Side::Right) => format!(in alloc; "start prefer right"),
+    }
 }
 
 fn edit_text(alloc: Global, edit: &Edit) -> Result<String, AllocError> {

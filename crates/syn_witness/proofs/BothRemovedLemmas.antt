@@ -108,7 +108,7 @@ root_differs =
     same_by _ _ alone mark_pairs (part-entries _ alone root left_marks-entries)
     (part-entries _ mark_pairs root archive-entries)
 
-goes_on_at_root : decision left_scan right_scan marks_before root ≡ GoOn
+goes_on_at_root : decision None left_scan right_scan marks_before root ≡ GoOn
 goes_on_at_root = rw (
   root_differs,
   directory_by left_scan.marks alone root left_marks-entries,
@@ -126,7 +126,7 @@ sides_agree =
     same_by _ _ [] [] (part-entries _ alone a_path left_marks-entries)
     (part-entries _ alone a_path right_marks-entries)
 
-marks_it : decision left_scan right_scan marks_before a_path ≡ Do (MarkSame a_path)
+marks_it : decision None left_scan right_scan marks_before a_path ≡ Do (MarkSame a_path)
 marks_it =
     rw (left_differs, sides_agree, directory_by left_scan.marks alone a_path left_marks-entries)
     refl
@@ -220,7 +220,7 @@ removed_is_marked = record {
   new = marked;
   runs =
       runs_on_from kept_world (world_listed found) marked (Edits Left 1 remove_a ∷ Edits Right 2
-      remove_a ∷ Start ∷ map Deliver (0 ∷ 1 ∷ 2 ∷ 3 ∷ 4 ∷ 5 ∷ 6 ∷ [])) (Deliver 7 ∷ [])
+      remove_a ∷ Start None ∷ map Deliver (0 ∷ 1 ∷ 2 ∷ 3 ∷ 4 ∷ 5 ∷ 6 ∷ [])) (Deliver 7 ∷ [])
       (left_edited, edits_left, (world_found found, edits_right, lists_both found can_list))
       (marked, ends_it, refl);
   sent = refl;

@@ -254,7 +254,7 @@ makes_plan : MakesPlan (hearing right_deepest
     (took Right 3 (ListAt below_path) (Listed 3 (right_names below_path)))) begun_archive made
 makes_plan = record {
   of_session = refl;
-  prefers_none = refl;
+  prefers = refl;
   archive_is = refl;
   begun = two_begun (drop 2 transcript);
   scanned = both_scanned;

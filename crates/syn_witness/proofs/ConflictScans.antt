@@ -251,7 +251,7 @@ left_root_differs =
     same_by _ _ left_pairs alone (part-entries _ left_pairs root left_marks-entries)
     (part-entries _ alone root alone-entries)
 
-goes_on_at_root : decision left_scan right_scan empty_directory root ≡ GoOn
+goes_on_at_root : decision None left_scan right_scan empty_directory root ≡ GoOn
 goes_on_at_root = rw (
   left_root_differs,
   directory_by left_scan.marks left_pairs root left_marks-entries,
@@ -266,7 +266,7 @@ left_d_differs =
     [] (part-entries _ left_pairs d_path left_marks-entries)
     (part-entries _ alone d_path alone-entries)
 
-marks_d : decision left_scan right_scan empty_directory d_path ≡ DoAndGoOn (MarkDir d_path)
+marks_d : decision None left_scan right_scan empty_directory d_path ≡ DoAndGoOn (MarkDir d_path)
 marks_d = rw (
   left_d_differs,
   directory_by left_scan.marks left_pairs d_path left_marks-entries,
@@ -296,7 +296,7 @@ sides_differ =
     (part-entries _ right_pairs below_path right_marks-entries)
 
 conflicts_below :
-    decision left_scan right_scan empty_directory below_path ≡ Do (Conflict below_path)
+    decision None left_scan right_scan empty_directory below_path ≡ Do (Conflict below_path)
 conflicts_below =
     rw (
       left_below_differs,
@@ -331,7 +331,7 @@ names_at_d = names_are d_path ∙ both_names 97 (digest one_bytes) Directory
 
 abbrev items_at : ℕ → Path → List Item
 items_at levels path =
-    items_from (decision left_scan right_scan empty_directory) names_at levels path
+    items_from (decision None left_scan right_scan empty_directory) names_at levels path
 
 from_below : (levels : ℕ) → items_at (suc levels) below_path ≡ Conflict below_path ∷ []
 from_below levels =
@@ -355,6 +355,6 @@ from_root levels =
     ∙ (ap (flat_map (λ name. items_at (suc (suc levels)) (child root name))) names_at_root
     ∙ ap (λ is. is ++ []) (from_d levels))
 
-pub plan_is : items_of left_scan right_scan empty_directory
+pub plan_is : items_of None left_scan right_scan empty_directory
     ≡ MarkDir d_path ∷ Conflict below_path ∷ []
 plan_is = from_root 14

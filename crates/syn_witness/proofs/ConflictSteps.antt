@@ -200,7 +200,7 @@ left_begun =
 abbrev pub session_world : Running → ℕ → World
 session_world running said = world left_side right_side begun_archive (Some running) said 7
 
-pub starts_it : Steps four_edits Start started
+pub starts_it : Steps four_edits (Start None) started
 starts_it = starts_so four_edits 1 refl refl refl refl (omega arith, omega arith) started refl
 
 pub begins_left : Steps started (Deliver 0) left_begun

@@ -144,7 +144,8 @@ edits_made old Right event up _ (edits journal events lawful w) =
           (up_counted old.right.journal.failures old.right.journal.status up) w;
     }
 
-starts_made : (old : World) → status_of old Coordinator ≡ Up → (made : World) → Starts old made →
+starts_made : {preference : Option Which} (old : World) → status_of old Coordinator ≡ Up →
+    (made : World) → Starts old preference made →
     IsMade old Coordinator made
 starts_made old up _ (world.starts machine call g) =
     record {
@@ -302,10 +303,10 @@ refused_after_failure old new (Edits side user edit) g said = (
       (Edited user edit)) (EditsSide old side (Edited user edit)) (edit_others old side user edit)
       (edits_made old side (Edited user edit)) g said,
 )
-refused_after_failure old new Start g said = (
+refused_after_failure old new (Start preference) g said = (
   Coordinator,
   calls_failed old new Coordinator (start_causes old.pair old.coordinator)
-      (Starts old) (start_others old) (starts_made old) g said,
+      (Starts old preference) (start_others old) (starts_made old) g said,
 )
 refused_after_failure old new (Deliver message) g said =
     unchanged old new said (delivers_refusals old (slice_get old.sent message) new g)

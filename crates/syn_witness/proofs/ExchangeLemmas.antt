@@ -104,7 +104,7 @@ makes_plan : MakesPlan (hearing right_lists
     (took Right 1 (ListAt root) (Listed 2 (children right_scan.marks root)))) begun_archive made
 makes_plan = record {
   of_session = refl;
-  prefers_none = refl;
+  prefers = refl;
   archive_is = refl;
   begun = have_begun;
   scanned = both_scanned;
@@ -116,7 +116,7 @@ makes_plan = record {
 }
 
 -- The steps of the coordinator
-begins_session : Steps both_edited Start started
+begins_session : Steps both_edited (Start None) started
 begins_session = starts_so both_edited 1 refl refl refl refl (omega arith, omega arith) started refl
 
 takes_left_begun : Steps both_begun (Deliver 2) right_awaited
@@ -395,7 +395,7 @@ quiet = record {
   taken = refl;
 }
 
-begins : Runs opened_world (Edits Left 1 put_one ∷ Edits Right 2 put_two ∷ Start
+begins : Runs opened_world (Edits Left 1 put_one ∷ Edits Right 2 put_two ∷ Start None
     ∷ map Deliver (0 ∷ 1 ∷ 2 ∷ 3 ∷ [])) listing
 begins = (
   first_edited,
@@ -473,7 +473,7 @@ files_are_exchanged = record {
   new = exchanged;
   runs =
       runs_on_from opened_world listing exchanged
-      (Edits Left 1 put_one ∷ Edits Right 2 put_two ∷ Start ∷ map Deliver (0 ∷ 1 ∷ 2 ∷ 3 ∷ []))
+      (Edits Left 1 put_one ∷ Edits Right 2 put_two ∷ Start None ∷ map Deliver (0 ∷ 1 ∷ 2 ∷ 3 ∷ []))
       (map Deliver (4 ∷ 5 ∷ 6 ∷ 7 ∷ 8 ∷ 9 ∷ 10 ∷ 11 ∷ 12 ∷ 13 ∷ 14 ∷ 15 ∷ 16 ∷ 17 ∷ 18 ∷ 19 ∷ []))
       begins
       (runs_on_from listing fetching exchanged (map Deliver (4 ∷ 5 ∷ 6 ∷ 7 ∷ []))

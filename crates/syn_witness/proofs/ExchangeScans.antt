@@ -1,7 +1,7 @@
 -- What the scans find where each side has a file that the other lacks, and the plan of their
 -- session.
 use Rattle.std.proofs.Common.{◌≡◌, ℕ, suc, List, [], ◌∷◌, ◌++◌, map, flat_map, refl, sym, ap, ap₂}
-use Rattle.std.proofs.Common.{◌∙◌}
+use Rattle.std.proofs.Common.{◌∙◌, None}
 use Rattle.std.specs.Prelude.{true, false}
 use Rattle.std.specs.FinMap.{entries, empty, put, entries-insert, same_entries_map, insert}
 use Rattle.syn_model.specs.Path.{Path, Name, root, child, name_cmp}
@@ -62,7 +62,7 @@ left_root_differs =
     (part-entries _ (with_file 97 one_digest) root left_marks-entries)
     (part-entries _ alone root alone-entries)
 
-goes_on_at_root : decision left_scan right_scan empty_directory root ≡ GoOn
+goes_on_at_root : decision None left_scan right_scan empty_directory root ≡ GoOn
 goes_on_at_root = rw (
   left_root_differs,
   directory_by left_scan.marks (with_file 97 one_digest) root left_marks-entries,
@@ -89,7 +89,7 @@ sides_first =
     [] (part-entries _ (with_file 97 one_digest) a_path left_marks-entries)
     (part-entries _ (with_file 98 two_digest) a_path right_marks-entries)
 
-carries_first : decision left_scan right_scan empty_directory a_path ≡ Do (ToRight a_path)
+carries_first : decision None left_scan right_scan empty_directory a_path ≡ Do (ToRight a_path)
 carries_first =
     rw (
       left_first,
@@ -118,7 +118,7 @@ sides_second =
     (part-entries _ (with_file 97 one_digest) b_path left_marks-entries)
     (part-entries _ (with_file 98 two_digest) b_path right_marks-entries)
 
-carries_second : decision left_scan right_scan empty_directory b_path ≡ Do (ToLeft b_path)
+carries_second : decision None left_scan right_scan empty_directory b_path ≡ Do (ToLeft b_path)
 carries_second =
     rw (
       left_second,
@@ -148,7 +148,7 @@ names_at path = names_below left_scan right_scan empty_directory path
 
 abbrev items_at : ℕ → Path → List Item
 items_at levels path =
-    items_from (decision left_scan right_scan empty_directory) names_at levels path
+    items_from (decision None left_scan right_scan empty_directory) names_at levels path
 
 from_root : (levels : ℕ) → items_at (suc (suc levels)) root ≡ ToRight a_path ∷ ToLeft b_path ∷ []
 from_root levels =
@@ -161,5 +161,6 @@ from_root levels =
     (flat_map (λ name. items_at levels (child b_path name)) (names_at b_path)) ++ []))
     carries_first carries_second)
 
-pub plan_is : items_of left_scan right_scan empty_directory ≡ ToRight a_path ∷ ToLeft b_path ∷ []
+pub plan_is : items_of None left_scan right_scan empty_directory ≡ ToRight a_path ∷ ToLeft b_path ∷
+    []
 plan_is = from_root 15

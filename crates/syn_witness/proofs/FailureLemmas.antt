@@ -154,8 +154,9 @@ answer_counted base pair old from session number reply _ _ h
     takes_counted base pair old r _ new call h t
 answer_counted base pair old from session number reply _ _ h (coordinator.ignores none) = h
 
-pub starts_counted : (base pair : ℕ) (old new : CoordinatorMachine) (call : Call) →
-    IsCountedJournal base old.journal → CoordinatorStarts pair old new call →
+pub starts_counted : {preference : Option Which} (base pair : ℕ) (old new : CoordinatorMachine)
+    (call : Call) →
+    IsCountedJournal base old.journal → CoordinatorStarts pair preference old new call →
     IsCountedJournal base new.journal
 starts_counted base pair old _ _ h (coordinator.starts session journal next lawful kept_so up) =
     keeps_counted base pair old.journal journal (Session session) (Session session ∷ []) h kept_so
@@ -292,7 +293,8 @@ module _ (base : Machine → ℕ) (old : World) (h : AllCounted base old) where
       coordinator_counted base old h machine call
       (ticks_counted (base Coordinator) old.coordinator machine call (h Coordinator) g)
 
-  start_counted : (new : World) → Starts old new → AllCounted base new
+  start_counted : {preference : Option Which} (new : World) → Starts old preference new → AllCounted
+      base new
   start_counted _ (world.starts machine call g) =
       coordinator_counted base old h machine call
       (starts_counted (base Coordinator) old.pair old.coordinator machine call (h Coordinator) g)
@@ -348,9 +350,9 @@ module _ (base : Machine → ℕ) (old : World) (h : AllCounted base old) where
   step_counted (Edits side user edit) new g =
       calls_counted (At side) (causes_of old.pair (side_of old side) (Edited user edit))
       (EditsSide old side (Edited user edit)) new (edits_counted side (Edited user edit)) g
-  step_counted Start new g =
+  step_counted (Start preference) new g =
       calls_counted Coordinator (start_causes old.pair old.coordinator)
-      (Starts old) new start_counted g
+      (Starts old preference) new start_counted g
   step_counted (Deliver message) new g = delivers_counted (slice_get old.sent message) new g
   step_counted Tick new g = tick_counted new g
   step_counted (Checkpoint machine) new g =

@@ -45,9 +45,10 @@ ticks_nothing machine _ _ none (coordinator.gives_up r why e because) =
     absurd (none-some _ (sym none ∙ e))
 
 pub starts_fresh : StartsFresh
-starts_fresh pair old _ new _ ticked (coordinator.starts session journal next lawful keeps up) t =
+starts_fresh pair preference old _ new _ ticked (coordinator.starts session journal next lawful
+    keeps up) t =
     ticks_fresh _ new ticked _ refl refl t
-starts_fresh pair old _ new _ ticked
+starts_fresh pair preference old _ new _ ticked
     (coordinator.start_breaks session journal kept next keeps broken) t =
     ticks_nothing _ new ticked refl t
 

@@ -185,7 +185,7 @@ opens_it =
           opened_again.coordinator.journal.room 1 unarmed (meets_unarmed 0) (inl (refl, refl)))),
     )
 
-begins_session : Steps opened_again Start started
+begins_session : Steps opened_again (Start None) started
 begins_session =
     starts_so opened_again 2 refl refl refl refl (omega arith, omega arith) started refl
 
@@ -264,7 +264,7 @@ makes_plan : MakesPlan (hearing right_lists
     (took Right 1 (ListAt root) (Listed 3 (children right_scan.marks root)))) next_archive made
 makes_plan = record {
   of_session = refl;
-  prefers_none = refl;
+  prefers = refl;
   archive_is = refl;
   begun = have_begun;
   scanned = both_scanned;
@@ -372,7 +372,7 @@ is_marked = record {
 }
 
 begins_again : Runs replaced
-    (Stop Coordinator 0 ∷ Open Coordinator ∷ Start ∷ map Deliver (14 ∷ 15 ∷ [])) both_begun
+    (Stop Coordinator 0 ∷ Open Coordinator ∷ Start None ∷ map Deliver (14 ∷ 15 ∷ [])) both_begun
 begins_again = (
   stopped_world,
   stops,
@@ -406,12 +406,12 @@ pub carried_is_marked_later : CarriedIsMarkedLater
 carried_is_marked_later = record {
   new = marked;
   runs =
-      runs_on_from opened_world replaced marked (Edits Left 1 put_one ∷ Start
+      runs_on_from opened_world replaced marked (Edits Left 1 put_one ∷ Start None
       ∷ map Deliver (0 ∷ 1 ∷ 2 ∷ 3 ∷ 4 ∷ 5 ∷ 6 ∷ 7 ∷ 8 ∷ 9 ∷ 10 ∷ 11 ∷ 12 ∷ []))
-      (Stop Coordinator 0 ∷ Open Coordinator ∷ Start
+      (Stop Coordinator 0 ∷ Open Coordinator ∷ Start None
       ∷ map Deliver (14 ∷ 15 ∷ 16 ∷ 17 ∷ 18 ∷ 19 ∷ 20 ∷ 21 ∷ [])) run_to_done
       (runs_on_from replaced both_begun marked
-      (Stop Coordinator 0 ∷ Open Coordinator ∷ Start ∷ map Deliver (14 ∷ 15 ∷ []))
+      (Stop Coordinator 0 ∷ Open Coordinator ∷ Start None ∷ map Deliver (14 ∷ 15 ∷ []))
       (map Deliver (16 ∷ 17 ∷ 18 ∷ 19 ∷ 20 ∷ 21 ∷ [])) begins_again marks);
   sent = refl;
   acknowledged_then = refl;

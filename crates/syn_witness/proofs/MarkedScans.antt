@@ -1,7 +1,7 @@
 -- What the scans find where both sides have the file and the archive lacks it, and the plan of that
 -- session.
 use Rattle.std.proofs.Common.{◌≡◌, ℕ, suc, true, false, List, [], ◌∷◌, ◌++◌, map, flat_map, refl}
-use Rattle.std.proofs.Common.{sym, ap, ap₂, ◌∙◌}
+use Rattle.std.proofs.Common.{sym, ap, ap₂, ◌∙◌, None}
 use Rattle.std.specs.FinMap.{entries, empty, put, insert, entries-insert, same_entries_map}
 use Rattle.syn_model.specs.Path.{Path, Name, root, child, name_cmp}
 use Rattle.syn_model.specs.Tree.{Tree, Content, empty_directory, subtree, is_directory}
@@ -79,7 +79,7 @@ left_root_differs =
     (part-entries _ (with_file 97 one_digest) root left_marks-entries)
     (part-entries _ alone root alone-entries)
 
-goes_on_at_root : decision left_scan right_scan empty_directory root ≡ GoOn
+goes_on_at_root : decision None left_scan right_scan empty_directory root ≡ GoOn
 goes_on_at_root = rw (
   left_root_differs,
   directory_by left_scan.marks (with_file 97 one_digest) root left_marks-entries,
@@ -97,7 +97,7 @@ left_differs =
 sides_agree : is_same_tree (subtree left_scan.marks a_path) (subtree right_scan.marks a_path) ≡ true
 sides_agree = ap₂ is_same_tree left_part right_part ∙ tree_itself (mark one)
 
-marks_same : decision left_scan right_scan empty_directory a_path ≡ Do (MarkSame a_path)
+marks_same : decision None left_scan right_scan empty_directory a_path ≡ Do (MarkSame a_path)
 marks_same =
     rw (
       left_differs,
@@ -126,7 +126,7 @@ names_at path = names_below left_scan right_scan empty_directory path
 
 abbrev items_at : ℕ → Path → List Item
 items_at levels path =
-    items_from (decision left_scan right_scan empty_directory) names_at levels path
+    items_from (decision None left_scan right_scan empty_directory) names_at levels path
 
 from_root : (levels : ℕ) → items_at (suc (suc levels)) root ≡ MarkSame a_path ∷ []
 from_root levels =
@@ -136,5 +136,5 @@ from_root levels =
     ∙ ap (λ o. with_items_below o
     (flat_map (λ name. items_at levels (child a_path name)) (names_at a_path)) ++ []) marks_same)
 
-pub plan_is : items_of left_scan right_scan empty_directory ≡ MarkSame a_path ∷ []
+pub plan_is : items_of None left_scan right_scan empty_directory ≡ MarkSame a_path ∷ []
 plan_is = from_root 15

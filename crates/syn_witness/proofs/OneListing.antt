@@ -170,7 +170,7 @@ world_listed found = both_begun found (right_lists found) 8
 
 -- The steps
 module _ (found : Found) (can : CanList found) where
-  starts_it : Steps (world_found found) Start (started found)
+  starts_it : Steps (world_found found) (Start None) (started found)
   starts_it =
       starts_so (world_found found) 1 refl refl
       (ap (λ b. first_cause ((not b, JournalFull) ∷ [])) can.room) refl (omega arith, omega arith)
@@ -240,7 +240,8 @@ module _ (found : Found) (can : CanList found) where
       [] tt tt tt (omega arith) (omega arith) ((refl, (refl, (refl, tt))), tt, (refl, tt))
       (omega arith, omega arith, omega arith))
 
-  pub lists_both : Runs (world_found found) (Start ∷ map Deliver (0 ∷ 1 ∷ 2 ∷ 3 ∷ 4 ∷ 5 ∷ 6 ∷ []))
+  pub lists_both : Runs (world_found found) (Start None ∷ map Deliver
+      (0 ∷ 1 ∷ 2 ∷ 3 ∷ 4 ∷ 5 ∷ 6 ∷ []))
       (world_listed found)
   lists_both = (
     started found,
@@ -331,13 +332,13 @@ module _ (found : Found) (planned : Planned) where
   have_begun Right = (7, position_of found.right, (0, (1, omega arith, refl)))
 
   pub makes_plan : IsFlat (scan_at found.left).marks → IsFlat (scan_at found.right).marks →
-      items_of (scan_at found.left) (scan_at found.right) found.marks ≡ planned.item ∷ [] →
+      items_of None (scan_at found.left) (scan_at found.right) found.marks ≡ planned.item ∷ [] →
       SeesBoth (scans found) (listed_at found) planned → MakesPlan (hearing (right_lists found)
       (took Right 1 (ListAt root) (Listed (position_of found.right) (names_at found.right))))
       (begun_archive found) (made found planned)
   makes_plan left right items sees = record {
     of_session = refl;
-    prefers_none = refl;
+    prefers = refl;
     archive_is = refl;
     begun = have_begun;
     scanned = scanned left right;
@@ -349,15 +350,16 @@ module _ (found : Found) (planned : Planned) where
 
 -- where the names of the root are one, and that is decided
 pub one_item : (left right : Scan) (archive : Tree) (item : Item) →
-    decision left right archive root ≡ GoOn → names_below left right archive root ≡ a_name ∷ [] →
-    decision left right archive a_path ≡ Do item → items_of left right archive ≡ item ∷ []
+    decision None left right archive root ≡ GoOn → names_below left right archive root ≡ a_name ∷ []
+    →
+    decision None left right archive a_path ≡ Do item → items_of None left right archive ≡ item ∷ []
 one_item left right archive item goes_on one decided = from_root 15
   where
-    from_root : (levels : ℕ) → items_from (decision left right archive)
+    from_root : (levels : ℕ) → items_from (decision None left right archive)
         (names_below left right archive) (suc (suc levels)) root ≡ item ∷ []
     from_root levels =
         let items_at : ℕ → Path → List Item = λ levels path. items_from
-        (decision left right archive) (names_below left right archive) levels path in
+        (decision None left right archive) (names_below left right archive) levels path in
         ap (λ o. with_items_below o (flat_map (λ name. items_at (suc levels) (child root name))
         (names_below left right archive root))) goes_on
         ∙ (ap (flat_map (λ name. items_at (suc levels) (child root name))) one

@@ -152,7 +152,7 @@ refused_start = record halted_start { refusals = Device ∷ [] }
 refused_twice : World
 refused_twice = record halted_start { refusals = Device ∷ Halted_before ∷ [] }
 
-fails_it : Steps armed_start Start refused_start
+fails_it : Steps armed_start (Start None) refused_start
 unfolding armed_start halted_start refused_start
 fails_it =
     inr (

@@ -61,7 +61,7 @@ removes_it =
     edits_so kept_world Left 1 remove_a removed.left.journal (Edited 1 remove_a ∷ []) removed
     refl refl remove_allowed (written unarmed refl (meets_unarmed 4)) refl
 
-starts_it : Steps removed Start started
+starts_it : Steps removed (Start None) started
 starts_it = starts_so removed 1 refl refl refl refl (omega arith, omega arith) started refl
 
 begins_left : Steps started (Deliver 0) left_begun
@@ -173,7 +173,7 @@ makes_plan : MakesPlan
     (hearing right_lists (took Right 1 (ListAt root) (Listed 2 right_names))) begun_archive made
 makes_plan = record {
   of_session = refl;
-  prefers_none = refl;
+  prefers = refl;
   archive_is = refl;
   begun = two_begun (drop 2 (take 4 transcript));
   scanned = both_scanned;

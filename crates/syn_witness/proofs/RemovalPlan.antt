@@ -1,6 +1,6 @@
 -- The session that carries a removal: what stands, its start and its plan.
 use Rattle.std.proofs.Common.{◌≡◌, ℕ, suc, ◌&&◌, true, false, List, ◌∷◌, ◌++◌, flat_map, refl, ap}
-use Rattle.std.proofs.Common.{ap₂, ◌∙◌, arith, []}
+use Rattle.std.proofs.Common.{ap₂, ◌∙◌, arith, [], None}
 use Rattle.std.specs.FinMap.{entries}
 use Rattle.sha2.specs.Sha256.{sha256}
 use Rattle.syn_model.specs.Path.{Bytes, Name, Path, root, child}
@@ -127,7 +127,7 @@ root_differs =
     same_by _ _ alone mark_pairs (part-entries _ alone root left_marks-entries)
     (part-entries _ mark_pairs root archive-entries)
 
-goes_on_at_root : decision left_scan right_scan marks_before root ≡ GoOn
+goes_on_at_root : decision None left_scan right_scan marks_before root ≡ GoOn
 goes_on_at_root = rw (
   root_differs,
   directory_by left_scan.marks alone root left_marks-entries,
@@ -153,7 +153,7 @@ sides_differ =
     same_by _ _ [] ((root, digest one_bytes) ∷ []) (part-entries _ alone a_path left_marks-entries)
     (part-entries _ mark_pairs a_path right_marks-entries)
 
-carries_a : decision left_scan right_scan marks_before a_path ≡ Do (ToRight a_path)
+carries_a : decision None left_scan right_scan marks_before a_path ≡ Do (ToRight a_path)
 carries_a =
     rw (
       left_differs,
@@ -173,7 +173,8 @@ names_at_root =
     ∙ both_names 97 (digest one_bytes) (digest one_bytes)
 
 abbrev items_at : ℕ → Path → List Item
-items_at levels path = items_from (decision left_scan right_scan marks_before) names_at levels path
+items_at levels path = items_from (decision None left_scan right_scan marks_before) names_at levels
+    path
 
 from_root : (levels : ℕ) → items_at (suc (suc levels)) root ≡ ToRight a_path ∷ []
 from_root levels =
@@ -183,5 +184,5 @@ from_root levels =
     ∙ ap (λ o. with_items_below o
     (flat_map (λ name. items_at levels (child a_path name)) (names_at a_path)) ++ []) carries_a)
 
-pub plan_is : items_of left_scan right_scan marks_before ≡ ToRight a_path ∷ []
+pub plan_is : items_of None left_scan right_scan marks_before ≡ ToRight a_path ∷ []
 plan_is = from_root 15

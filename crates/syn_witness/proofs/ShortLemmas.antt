@@ -225,7 +225,7 @@ refused_late : World
 refused_late =
     record begun_late { sent = begun_late.sent ++ Answers Right 1 3 (Refused OldSession) ∷ [] }
 
-starts_late : Steps opened_late Start started_late
+starts_late : Steps opened_late (Start None) started_late
 unfolding opened_late started_late
 starts_late =
     starts_so opened_late 2 refl refl refl refl (omega arith, omega arith) started_late refl
@@ -248,7 +248,7 @@ late_is_old = record {
   new = refused_late;
   runs =
       runs_on_from opened_world replacing refused_late up_to_replacement (Stop Coordinator 0
-      ∷ Open Coordinator ∷ Start ∷ map Deliver (14 ∷ 12 ∷ [])) run_to_replacement (
+      ∷ Open Coordinator ∷ Start None ∷ map Deliver (14 ∷ 12 ∷ [])) run_to_replacement (
         stopped_late,
         inr (up_not_down, refl),
         (

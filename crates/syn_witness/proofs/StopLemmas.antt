@@ -150,8 +150,9 @@ answer_safe pair old from session number reply _ _ h
     takes_safe pair old r _ new call h t
 answer_safe pair old from session number reply _ _ h (coordinator.ignores none) = h
 
-starts_safe : (pair : ℕ) (old new : CoordinatorMachine) (call : Call) → IsSafeJournal old.journal →
-    CoordinatorStarts pair old new call → IsSafeJournal new.journal
+starts_safe : {preference : Option Which} (pair : ℕ) (old new : CoordinatorMachine) (call : Call) →
+    IsSafeJournal old.journal →
+    CoordinatorStarts pair preference old new call → IsSafeJournal new.journal
 starts_safe pair old _ _ h (coordinator.starts session journal next lawful kept_so up) =
     keeps_safe pair old.journal journal (Session session) (Session session ∷ []) h kept_so
 starts_safe pair old _ _ h (coordinator.start_breaks session journal kept next kept_so broken) =
@@ -272,7 +273,7 @@ module _ (old : World) (h : AllSafe old) where
       coordinator_safe old h machine call
       (ticks_safe old.coordinator machine call (h Coordinator) g)
 
-  start_safe : (new : World) → Starts old new → AllSafe new
+  start_safe : {preference : Option Which} (new : World) → Starts old preference new → AllSafe new
   start_safe _ (world.starts machine call g) =
       coordinator_safe old h machine call
       (starts_safe old.pair old.coordinator machine call (h Coordinator) g)
@@ -298,8 +299,9 @@ module _ (old : World) (h : AllSafe old) where
   step_safe (Edits side user edit) none new g =
       calls_safe (At side) (causes_of old.pair (side_of old side) (Edited user edit))
       (EditsSide old side (Edited user edit)) new (edits_safe side (Edited user edit)) g
-  step_safe Start none new g =
-      calls_safe Coordinator (start_causes old.pair old.coordinator) (Starts old) new start_safe g
+  step_safe (Start preference) none new g =
+      calls_safe Coordinator (start_causes old.pair old.coordinator) (Starts old preference) new
+      start_safe g
   step_safe (Deliver message) none new g = delivers_safe (slice_get old.sent message) new g
   step_safe Tick none new g = tick_safe new g
   step_safe (Checkpoint machine) none new g =

@@ -207,7 +207,7 @@ left_begun =
 abbrev session_world : Running → ℕ → World
 session_world running said = world left_side right_side begun_archive (Some running) said 5
 
-starts_it : Steps two_edits Start started
+starts_it : Steps two_edits (Start None) started
 starts_it = starts_so two_edits 1 refl refl refl refl (omega arith, omega arith) started refl
 
 begins_left : Steps started (Deliver 0) left_begun

@@ -130,6 +130,7 @@ left_edited room =
 
 runs_to_listed : (byte room : ℕ) → byte < 256 → nat_le 14 room ≡ true →
     Runs (opened_at room) (Edits Left 1 put_one ∷ Edits Right 2 (Put a_path (byte ∷ [])) ∷ Start
+    None
     ∷ map Deliver (0 ∷ 1 ∷ 2 ∷ 3 ∷ 4 ∷ 5 ∷ 6 ∷ [])) (world_listed (files byte room))
 unfolding left_edited
 runs_to_listed byte room small enough = (
@@ -167,7 +168,7 @@ root_differs =
     (part-entries _ (with_file 97 (marked_with 49)) root (marks-entries 1 49))
     (part-entries _ alone root alone-entries)
 
-goes_on_at_root : (byte : ℕ) → decision left_scan (right_scan byte) empty_directory root ≡ GoOn
+goes_on_at_root : (byte : ℕ) → decision None left_scan (right_scan byte) empty_directory root ≡ GoOn
 goes_on_at_root byte = rw (
   root_differs,
   directory_by left_scan.marks (with_file 97 (marked_with 49)) root (marks-entries 1 49),
@@ -207,7 +208,7 @@ sides_differ =
     (part-entries _ (with_file 97 (marked_with 50)) a_path (marks-entries 2 50))
     ∙ ap (λ b. b && true) digests_differ
 
-conflicts_at : decision left_scan (right_scan 50) empty_directory a_path ≡ Do (Conflict a_path)
+conflicts_at : decision None left_scan (right_scan 50) empty_directory a_path ≡ Do (Conflict a_path)
 conflicts_at = rw (differs 1 49, differs 2 50, sides_differ, no_directory) refl
 
 abbrev others : Found
@@ -257,7 +258,7 @@ files_conflict = record {
   new = conflicted;
   runs =
       runs_on_from opened_world (world_listed others) conflicted (Edits Left 1 put_one ∷ Edits Right
-      2 put_other ∷ Start ∷ map Deliver (0 ∷ 1 ∷ 2 ∷ 3 ∷ 4 ∷ 5 ∷ 6 ∷ [])) (Deliver 7 ∷ [])
+      2 put_other ∷ Start None ∷ map Deliver (0 ∷ 1 ∷ 2 ∷ 3 ∷ 4 ∷ 5 ∷ 6 ∷ [])) (Deliver 7 ∷ [])
       (runs_to_listed 50 new_archive_room (omega arith) refl) (conflicted, ends_in_conflict, refl);
   sent = refl;
   acknowledged_then = refl;
@@ -275,7 +276,7 @@ is_one user =
     same_entries_map _ _ (part-entries (scan_at (put_byte user 49)).marks (with_file 97
     (marked_with 49)) a_path (marks-entries user 49) ∙ sym (file_mark-entries (49 ∷ [])))
 
-marks_it : decision left_scan (right_scan 49) empty_directory a_path ≡ Do (MarkSame a_path)
+marks_it : decision None left_scan (right_scan 49) empty_directory a_path ≡ Do (MarkSame a_path)
 marks_it =
     rw (differs 1 49, ap₂ is_same_tree (is_one 1) (is_one 2) ∙ tree_itself (mark one), no_directory)
     refl
@@ -368,7 +369,7 @@ room_is_made = (
     new = marked;
     runs =
         runs_on_from crowded_archive (world_listed alike) marked (Edits Left 1 put_one ∷ Edits Right
-        2 put_one ∷ Start ∷ map Deliver (0 ∷ 1 ∷ 2 ∷ 3 ∷ 4 ∷ 5 ∷ 6 ∷ [])) (Deliver 7 ∷ [])
+        2 put_one ∷ Start None ∷ map Deliver (0 ∷ 1 ∷ 2 ∷ 3 ∷ 4 ∷ 5 ∷ 6 ∷ [])) (Deliver 7 ∷ [])
         (runs_to_listed 49 50 (omega arith) refl) (marked, ends_marked, refl);
     sent = refl;
     acknowledged_then = refl;

@@ -173,7 +173,7 @@ makes_d =
     edits_so opened_world Left 1 make_d made_d.left.journal (Edited 1 make_d ∷ []) made_d refl refl
     (make_allowed 1 (omega arith)) (written unarmed refl (meets_unarmed 4)) refl
 
-starts_it : Steps made_d Start started
+starts_it : Steps made_d (Start None) started
 starts_it = starts_so made_d 1 refl refl refl refl (omega arith, omega arith) started refl
 
 begins_left : Steps started (Deliver 0) left_begun
@@ -336,7 +336,7 @@ makes_plan :
     MakesPlan (hearing left_awaited (took Left 2 (ListAt d_path) (NotDir 3))) begun_archive made
 makes_plan = record {
   of_session = refl;
-  prefers_none = refl;
+  prefers = refl;
   archive_is = refl;
   begun = two_begun (drop 2 (take 5 transcript));
   scanned = both_scanned;

@@ -98,7 +98,7 @@ root_differs =
     same_by _ _ one_dir alone (part-entries _ one_dir root left_marks-entries)
     (part-entries _ alone root alone-entries)
 
-goes_on_at_root : decision left_scan right_scan empty_directory root ≡ GoOn
+goes_on_at_root : decision None left_scan right_scan empty_directory root ≡ GoOn
 goes_on_at_root = rw (
   root_differs,
   directory_by left_scan.marks one_dir root left_marks-entries,
@@ -123,7 +123,7 @@ sides_differ =
     same_by _ _ ((root, Directory) ∷ []) [] (part-entries _ one_dir d_path left_marks-entries)
     (part-entries _ alone d_path right_marks-entries)
 
-carries_d : decision left_scan right_scan empty_directory d_path ≡ Do (ToRight d_path)
+carries_d : decision None left_scan right_scan empty_directory d_path ≡ Do (ToRight d_path)
 carries_d =
     rw (
       left_differs,
@@ -144,7 +144,7 @@ names_at_root =
 
 abbrev items_at : ℕ → Path → List Item
 items_at levels path =
-    items_from (decision left_scan right_scan empty_directory) names_at levels path
+    items_from (decision None left_scan right_scan empty_directory) names_at levels path
 
 from_root : (levels : ℕ) → items_at (suc (suc levels)) root ≡ ToRight d_path ∷ []
 from_root levels =
@@ -154,5 +154,5 @@ from_root levels =
     ∙ ap (λ o. with_items_below o
     (flat_map (λ name. items_at levels (child d_path name)) (names_at d_path)) ++ []) carries_d)
 
-pub plan_is : items_of left_scan right_scan empty_directory ≡ ToRight d_path ∷ []
+pub plan_is : items_of None left_scan right_scan empty_directory ≡ ToRight d_path ∷ []
 plan_is = from_root 15

@@ -130,7 +130,7 @@ waiting resent = record opened_world {
   acknowledged = Kept_by (Session 1) ∷ [];
 }
 
-pub start_waits : Steps opened_world Start (waiting 0)
+pub start_waits : Steps opened_world (Start None) (waiting 0)
 unfolding begins_sent
 start_waits =
     starts_so opened_world 1 refl refl refl refl (omega arith, omega arith) (waiting 0) refl

@@ -1,6 +1,6 @@
 -- What the scans of the witness session find, and its plan.
 use Rattle.std.proofs.Common.{◌≡◌, ℕ, suc, true, false, List, [], ◌∷◌, ◌++◌, map, flat_map, length}
-use Rattle.std.proofs.Common.{refl, sym, ap, ap₂, ◌∙◌, arith}
+use Rattle.std.proofs.Common.{refl, sym, ap, ap₂, ◌∙◌, arith, None}
 use Rattle.std.specs.FinMap.{entries, empty, from_entries, keys, put, entries-insert, len-entries}
 use Rattle.std.specs.FinMap.{len-empty, same_entries_map}
 use Rattle.syn_model.specs.Path.{Bytes, Path, Name, root, child, name_cmp}
@@ -75,7 +75,7 @@ left_root_differs =
     (part-entries _ (with_file 97 one_digest) root left_marks-entries)
     (part-entries _ alone root alone-entries)
 
-goes_on_at_root : decision left_scan right_scan empty_directory root ≡ GoOn
+goes_on_at_root : decision None left_scan right_scan empty_directory root ≡ GoOn
 goes_on_at_root = rw (
   left_root_differs,
   directory_by left_scan.marks (with_file 97 one_digest) root left_marks-entries,
@@ -102,7 +102,7 @@ sides_differ =
     [] (part-entries _ (with_file 97 one_digest) a_path left_marks-entries)
     (part-entries _ alone a_path right_marks-entries)
 
-carries_to_right : decision left_scan right_scan empty_directory a_path ≡ Do (ToRight a_path)
+carries_to_right : decision None left_scan right_scan empty_directory a_path ≡ Do (ToRight a_path)
 carries_to_right =
     rw (
       left_differs,
@@ -153,7 +153,7 @@ names_at path = names_below left_scan right_scan empty_directory path
 
 abbrev items_at : ℕ → Path → List Item
 items_at levels path =
-    items_from (decision left_scan right_scan empty_directory) names_at levels path
+    items_from (decision None left_scan right_scan empty_directory) names_at levels path
 
 from_root : (levels : ℕ) → items_at (suc (suc levels)) root ≡ ToRight a_path ∷ []
 from_root levels =
@@ -163,5 +163,5 @@ from_root levels =
     ∙ ap (λ o. with_items_below o (flat_map (λ name. items_at levels (child a_path name))
     (names_at a_path)) ++ []) carries_to_right)
 
-pub plan_is : items_of left_scan right_scan empty_directory ≡ ToRight a_path ∷ []
+pub plan_is : items_of None left_scan right_scan empty_directory ≡ ToRight a_path ∷ []
 plan_is = from_root 15

@@ -161,7 +161,7 @@ makes_plan : MakesPlan (hearing right_lists
     (took Right 1 (ListAt root) (Listed 1 (children right_scan.marks root)))) begun_archive made
 makes_plan = record {
   of_session = refl;
-  prefers_none = refl;
+  prefers = refl;
   archive_is = refl;
   begun = have_begun;
   scanned = both_scanned;
@@ -170,7 +170,7 @@ makes_plan = record {
 }
 
 -- The steps of the coordinator
-begins_session : Steps edited_world Start started
+begins_session : Steps edited_world (Start None) started
 begins_session =
     starts_so edited_world 1 refl refl refl refl (omega arith, omega arith) started refl
 
@@ -330,7 +330,7 @@ quiet = record {
 
 -- the run, up to what the coordinator has yet to take
 begins : Runs opened_world
-    (Edits Left 1 put_one ∷ Start ∷ map Deliver (0 ∷ 1 ∷ 2 ∷ [])) right_awaited
+    (Edits Left 1 put_one ∷ Start None ∷ map Deliver (0 ∷ 1 ∷ 2 ∷ [])) right_awaited
 begins = (
   edited_world,
   edits,
@@ -375,17 +375,17 @@ carries = (
 pub run_to_replacement : Runs opened_world up_to_replacement replacing
 run_to_replacement =
     runs_on_from opened_world right_awaited replacing
-    (Edits Left 1 put_one ∷ Start ∷ map Deliver (0 ∷ 1 ∷ 2 ∷ []))
+    (Edits Left 1 put_one ∷ Start None ∷ map Deliver (0 ∷ 1 ∷ 2 ∷ []))
     (map Deliver (3 ∷ 4 ∷ 5 ∷ 6 ∷ 7 ∷ 8 ∷ 9 ∷ 10 ∷ 11 ∷ [])) begins
     (runs_on_from right_awaited fetching replacing (map Deliver (3 ∷ 4 ∷ 5 ∷ 6 ∷ 7 ∷ []))
     (map Deliver (8 ∷ 9 ∷ 10 ∷ 11 ∷ [])) lists_both
     (fetched, fetches, (staging, takes_piece, (staged, stages, (replacing, takes_staged, refl)))))
 
-pub run_to_done : Runs opened_world (Edits Left 1 put_one ∷ Start
+pub run_to_done : Runs opened_world (Edits Left 1 put_one ∷ Start None
     ∷ map Deliver (0 ∷ 1 ∷ 2 ∷ 3 ∷ 4 ∷ 5 ∷ 6 ∷ 7 ∷ 8 ∷ 9 ∷ 10 ∷ 11 ∷ 12 ∷ [])) replaced
 run_to_done =
     runs_on_from opened_world right_awaited replaced
-    (Edits Left 1 put_one ∷ Start ∷ map Deliver (0 ∷ 1 ∷ 2 ∷ []))
+    (Edits Left 1 put_one ∷ Start None ∷ map Deliver (0 ∷ 1 ∷ 2 ∷ []))
     (map Deliver (3 ∷ 4 ∷ 5 ∷ 6 ∷ 7 ∷ 8 ∷ 9 ∷ 10 ∷ 11 ∷ 12 ∷ [])) begins
     (runs_on_from right_awaited fetching replaced (map Deliver (3 ∷ 4 ∷ 5 ∷ 6 ∷ 7 ∷ []))
     (map Deliver (8 ∷ 9 ∷ 10 ∷ 11 ∷ 12 ∷ [])) lists_both carries)
@@ -394,7 +394,7 @@ pub file_is_carried : FileIsCarried
 file_is_carried = record {
   new = carried;
   runs =
-      runs_on_from opened_world replaced carried (Edits Left 1 put_one ∷ Start ∷ map Deliver
+      runs_on_from opened_world replaced carried (Edits Left 1 put_one ∷ Start None ∷ map Deliver
       (0 ∷ 1 ∷ 2 ∷ 3 ∷ 4 ∷ 5 ∷ 6 ∷ 7 ∷ 8 ∷ 9 ∷ 10 ∷ 11 ∷ 12 ∷ [])) (Deliver 13 ∷ []) run_to_done
       (carried, takes_done, refl);
   sent = refl;

@@ -172,6 +172,7 @@ abbrev pub runs_with : ℕ → List Exchange → List Outstanding → List Outst
     Option (List Planned) → ℕ → List Kept → Running
 runs_with session taken left right plan cursor kept = record {
   session = session;
+  preference = None;
   taken = taken;
   left = left;
   right = right;
@@ -210,23 +211,23 @@ pub starts_so : (old : World) (session : ℕ) → old.coordinator.journal.status
     IsLawfulRequest session (Begin old.pair) → (new : World) → new ≡ coordinator_goes old (record {
       journal = with_record (archive_layout old.pair) old.coordinator.journal (Session session)
           unarmed;
-      running = Some (asking (new_session session) (begins old.pair) (begins old.pair));
+      running = Some (asking (new_session None session) (begins old.pair) (begins old.pair));
     })
     (record no_call {
       kept = Session session ∷ [];
       messages =
-          sent_now (new_session session) (begins old.pair) (begins old.pair);
-    }) → Steps old Start new
+          sent_now (new_session None session) (begins old.pair) (begins old.pair);
+    }) → Steps old (Start None) new
 starts_so old session up arms none next lawful new is =
     let journal = with_record (archive_layout old.pair) old.coordinator.journal
     (Session session) unarmed in
     let machine : CoordinatorMachine = record {
       journal = journal;
-      running = Some (asking (new_session session) (begins old.pair) (begins old.pair));
+      running = Some (asking (new_session None session) (begins old.pair) (begins old.pair));
     } in
     let call : Call = record no_call {
       kept = Session session ∷ [];
-      messages = sent_now (new_session session) (begins old.pair) (begins old.pair);
+      messages = sent_now (new_session None session) (begins old.pair) (begins old.pair);
     } in
     let keeps : Keeps old.pair old.coordinator.journal (Session session) journal
     (Session session ∷ []) =

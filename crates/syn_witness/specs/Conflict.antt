@@ -56,7 +56,7 @@ pub record HasConflict (world : World) : Type 0 where
 abbrev pub ConflictIsReported : Type 0
 ConflictIsReported =
     IsWitness (Edits Left 1 make_d ∷ Edits Left 1 put_below ∷ Edits Right 2 make_d
-    ∷ Edits Right 2 make_below ∷ Start
+    ∷ Edits Right 2 make_below ∷ Start None
     ∷ map Deliver (0 ∷ 1 ∷ 2 ∷ 3 ∷ 4 ∷ 5 ∷ 6 ∷ 7 ∷ 8 ∷ 9 ∷ 10 ∷ 11 ∷ 12 ∷ 13 ∷ [])) 14
     (Happened Left (Edited 1 make_d) ∷ Happened Left (Edited 1 put_below)
     ∷ Happened Right (Edited 2 make_d) ∷ Happened Right (Edited 2 make_below)

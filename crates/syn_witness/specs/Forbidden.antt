@@ -1,6 +1,6 @@
 -- What no run does.
 use Rattle.std.specs.Prelude.{ℕ, ◌+◌, ◌≤◌, ◌<◌, ◌≡◌, ◌≢◌, ◌⊎◌, true, List, [], ◌∷◌, ◌++◌, length}
-use Rattle.std.specs.Prelude.{slice_get, Some, None, IsSomeAnd, All, Contains}
+use Rattle.std.specs.Prelude.{slice_get, Option, Some, None, IsSomeAnd, All, Contains}
 use Rattle.syn_model.specs.Refusal.{Refusal, Device, JournalFull, NoAnswer, TooLarge, BadMessage}
 use Rattle.syn_model.specs.Event.{Edit}
 use Rattle.syn_model.specs.Path.{Path}
@@ -41,8 +41,9 @@ ArmedCallsCome = (old new : World) (side : Which) (user : ℕ) (edit : Edit) →
 
 -- a session that has just started is not given up at its first tick
 abbrev pub StartsFresh : Type 0
-StartsFresh = (pair : ℕ) (old started new : CoordinatorMachine) (call ticked : Call) →
-    CoordinatorStarts pair old started call → CoordinatorTicks started new ticked →
+StartsFresh = (pair : ℕ) (preference : Option Which) (old started new : CoordinatorMachine)
+    (call ticked : Call) →
+    CoordinatorStarts pair preference old started call → CoordinatorTicks started new ticked →
     All (λ report. report.ended ≢ Some NoAnswer) ticked.reports
 
 -- no side is asked twice to begin a session, but by a resend

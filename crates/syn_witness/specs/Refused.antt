@@ -16,7 +16,7 @@ use Rattle.syn_witness.specs.Witness.{new_journal, put_one}
 -- a start while a session runs is refused 12, and the session still runs
 abbrev pub SecondStartIsBusy : Type 0
 SecondStartIsBusy =
-    IsWitness (Start ∷ Start ∷ []) 2 (Kept_by (Session 1) ∷ []) []
+    IsWitness (Start None ∷ Start None ∷ []) 2 (Kept_by (Session 1) ∷ []) []
     (λ world. (world.refusals ≡ Busy ∷ []) × IsSome world.coordinator.running)
 
 -- three disks with nothing on them, where the journal of the left has room for five bytes
@@ -35,7 +35,7 @@ FullIsCompacted =
 -- the second device call of a start fails: it is refused 9 and the next 10, and no session runs
 abbrev pub StartFails : Type 0
 StartFails =
-    IsWitness (Fail Coordinator 2 ∷ Start ∷ Start ∷ []) 0 [] []
+    IsWitness (Fail Coordinator 2 ∷ Start None ∷ Start None ∷ []) 0 [] []
     (λ world. (world.refusals ≡ Device ∷ why.Halted ∷ [])
     × (world.coordinator.journal.status ≡ Halted) × (world.coordinator.running ≡ None))
 

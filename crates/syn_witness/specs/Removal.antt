@@ -53,7 +53,7 @@ pub record HasRemoved (world : World) : Type 0 where
 abbrev pub RemovalIsCarried : Type 0
 RemovalIsCarried =
     IsStart kept_world
-    × IsWitnessFrom kept_world (Edits Left 1 remove_a ∷ Start
+    × IsWitnessFrom kept_world (Edits Left 1 remove_a ∷ Start None
     ∷ map Deliver (0 ∷ 1 ∷ 2 ∷ 3 ∷ 4 ∷ 5 ∷ 6 ∷ 7 ∷ 8 ∷ 9 ∷ 10 ∷ 11 ∷ 12 ∷ 13 ∷ [])) 14
     (Happened Left (Edited 1 remove_a) ∷ Kept_by (Session 1) ∷ Happened Left (Began 1)
     ∷ Happened Right (Began 1)

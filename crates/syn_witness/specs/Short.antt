@@ -21,7 +21,8 @@ use Rattle.syn_witness.specs.Witness.{up_to_replacement, acknowledged_then}
 -- session's number
 abbrev pub StartIsRecovered : Type 0
 StartIsRecovered =
-    IsWitness (Stop Coordinator 2 ∷ Start ∷ Open Coordinator ∷ []) 0 (Kept_by (Session 1) ∷ []) []
+    IsWitness (Stop Coordinator 2 ∷ Start None ∷ Open Coordinator ∷ []) 0 (Kept_by (Session 1) ∷ [])
+    []
     (λ world. (world.coordinator.journal.status ≡ Up) × (world.coordinator.running ≡ None)
     × (world.coordinator.journal.value.last_session ≡ 1))
 
@@ -67,7 +68,7 @@ ArchiveIsReopened =
 -- answered too, and that answer changes nothing
 abbrev pub ResendIsAnswered : Type 0
 ResendIsAnswered =
-    IsWitness (Start ∷ Tick ∷ map Deliver (2 ∷ 4 ∷ 0 ∷ 5 ∷ [])) 6
+    IsWitness (Start None ∷ Tick ∷ map Deliver (2 ∷ 4 ∷ 0 ∷ 5 ∷ [])) 6
     (Kept_by (Session 1) ∷ Happened Left (Began 1) ∷ []) []
     (λ world. (slice_get world.sent 5 ≡ Some (Answers Left 1 0 (Begun 1)))
     × (slice_get world.sent 4 ≡ slice_get world.sent 5))
@@ -76,6 +77,6 @@ ResendIsAnswered =
 abbrev pub LateIsOld : Type 0
 LateIsOld =
     IsWitness (up_to_replacement
-    ++ (Stop Coordinator 0 ∷ Open Coordinator ∷ Start ∷ map Deliver (14 ∷ 12 ∷ []))) 17
+    ++ (Stop Coordinator 0 ∷ Open Coordinator ∷ Start None ∷ map Deliver (14 ∷ 12 ∷ []))) 17
     (acknowledged_then ++ Kept_by (Session 2) ∷ Happened Right (Began 2) ∷ []) []
     (λ world. slice_get world.sent 16 ≡ Some (Answers Right 1 3 (Refused OldSession)))

@@ -16,7 +16,7 @@ use Rattle.syn_witness.specs.Removal.{kept_world, remove_a}
 
 -- a session begins on both sides, lists the root of each, and is over
 abbrev pub lists_both_roots : List Step
-lists_both_roots = Start ∷ map Deliver (0 ∷ 1 ∷ 2 ∷ 3 ∷ 4 ∷ 5 ∷ 6 ∷ 7 ∷ [])
+lists_both_roots = Start None ∷ map Deliver (0 ∷ 1 ∷ 2 ∷ 3 ∷ 4 ∷ 5 ∷ 6 ∷ 7 ∷ [])
 
 -- what it reports, of so many items that it marked and of these conflicts
 abbrev pub still_report : ℕ → List Path → Report

@@ -1,5 +1,5 @@
 -- A run in which two listings wait on a side at once, and are answered the other way round.
-use Rattle.std.specs.Prelude.{◌≡◌, List, [], ◌∷◌, ◌++◌, map, Some}
+use Rattle.std.specs.Prelude.{◌≡◌, List, [], ◌∷◌, ◌++◌, map, Some, None}
 use Rattle.syn_model.specs.Event.{Edit, Edited, MakeDir, Began}
 use Rattle.syn_model.specs.Archive.{Session}
 use Rattle.syn_headline.specs.Side.{Reply, ListAt}
@@ -30,7 +30,7 @@ pub record IsTurned (world : World) : Type 0 where
 -- 10 are their listings
 abbrev pub ListingsAreTurned : Type 0
 ListingsAreTurned =
-    IsWitness (Edits Left 1 make_a ∷ Edits Left 1 make_d ∷ Start
+    IsWitness (Edits Left 1 make_a ∷ Edits Left 1 make_d ∷ Start None
     ∷ map Deliver (0 ∷ 1 ∷ 2 ∷ 3 ∷ 4 ∷ 6 ∷ 7 ∷ 8 ∷ 10 ∷ 9 ∷ [])) 11
     (Happened Left (Edited 1 make_a) ∷ Happened Left (Edited 1 make_d)
     ∷ Kept_by (Session 1) ∷ Happened Left (Began 1) ∷ Happened Right (Began 1) ∷ [])

@@ -30,7 +30,7 @@ unstable_report = record {
 -- is refused 13, and ends Incomplete
 abbrev pub VanishedIsUnstable : Type 0
 VanishedIsUnstable =
-    IsWitness (Edits Left 1 make_d ∷ Start ∷ map Deliver (0 ∷ 1 ∷ 2 ∷ 3 ∷ 4 ∷ 5 ∷ 6 ∷ [])
+    IsWitness (Edits Left 1 make_d ∷ Start None ∷ map Deliver (0 ∷ 1 ∷ 2 ∷ 3 ∷ 4 ∷ 5 ∷ 6 ∷ [])
     ++ (Edits Left 1 remove_d ∷ map Deliver (8 ∷ 7 ∷ 9 ∷ 10 ∷ 11 ∷ []))) 12
     (Happened Left (Edited 1 make_d) ∷ Kept_by (Session 1) ∷ Happened Left (Began 1)
     ∷ Happened Right (Began 1)

@@ -140,7 +140,7 @@ unanswered = record {
 
 abbrev pub SilenceEnds : Type 0
 SilenceEnds =
-    IsWitness (Start ∷ replicate 9 Tick) 18 (Kept_by (Session 1) ∷ []) ((unanswered, 1) ∷ [])
+    IsWitness (Start None ∷ replicate 9 Tick) 18 (Kept_by (Session 1) ∷ []) ((unanswered, 1) ∷ [])
     (λ world. world.coordinator.running ≡ None)
 
 -- a session that went on to its end
@@ -170,7 +170,7 @@ pub record HasCarried (world : World) : Type 0 where
 -- a session without loss carries a file that the left alone has
 abbrev pub FileIsCarried : Type 0
 FileIsCarried =
-    IsWitness (Edits Left 1 put_one ∷ Start
+    IsWitness (Edits Left 1 put_one ∷ Start None
     ∷ map Deliver (0 ∷ 1 ∷ 2 ∷ 3 ∷ 4 ∷ 5 ∷ 6 ∷ 7 ∷ 8 ∷ 9 ∷ 10 ∷ 11 ∷ 12 ∷ 13 ∷ [])) 14
     (Happened Left (Edited 1 put_one) ∷ Kept_by (Session 1) ∷ Happened Left (Began 1)
     ∷ Happened Right (Began 1)
@@ -207,7 +207,7 @@ pub record HasExchanged (world : World) : Type 0 where
 -- each side has a file that the other lacks, and a session carries both
 abbrev pub FilesAreExchanged : Type 0
 FilesAreExchanged =
-    IsWitness (Edits Left 1 put_one ∷ Edits Right 2 put_two ∷ Start
+    IsWitness (Edits Left 1 put_one ∷ Edits Right 2 put_two ∷ Start None
     ∷ map Deliver (0 ∷ 1 ∷ 2 ∷ 3 ∷ 4 ∷ 5 ∷ 6 ∷ 7 ∷ 8 ∷ 9 ∷ 10 ∷ 11 ∷ 12 ∷ 13 ∷ 14 ∷ 15 ∷ 16 ∷ 17
     ∷ 18 ∷ 19 ∷ [])) 20
     (Happened Left (Edited 1 put_one) ∷ Happened Right (Edited 2 put_two) ∷ Kept_by (Session 1)
@@ -249,9 +249,9 @@ pub record IsMarkedLater (world : World) : Type 0 where
 -- a coordinator stops before it takes what was done, and the next session marks what was carried
 abbrev pub CarriedIsMarkedLater : Type 0
 CarriedIsMarkedLater =
-    IsWitness (Edits Left 1 put_one ∷ Start
+    IsWitness (Edits Left 1 put_one ∷ Start None
     ∷ map Deliver (0 ∷ 1 ∷ 2 ∷ 3 ∷ 4 ∷ 5 ∷ 6 ∷ 7 ∷ 8 ∷ 9 ∷ 10 ∷ 11 ∷ 12 ∷ [])
-    ++ (Stop Coordinator 0 ∷ Open Coordinator ∷ Start
+    ++ (Stop Coordinator 0 ∷ Open Coordinator ∷ Start None
     ∷ map Deliver (14 ∷ 15 ∷ 16 ∷ 17 ∷ 18 ∷ 19 ∷ 20 ∷ 21 ∷ []))) 22
     (Happened Left (Edited 1 put_one) ∷ Kept_by (Session 1) ∷ Happened Left (Began 1)
     ∷ Happened Right (Began 1)
@@ -263,7 +263,7 @@ CarriedIsMarkedLater =
 -- the steps up to the answer of the replacement, which is not delivered yet
 abbrev pub up_to_replacement : List Step
 up_to_replacement =
-    Edits Left 1 put_one ∷ Start
+    Edits Left 1 put_one ∷ Start None
     ∷ map Deliver (0 ∷ 1 ∷ 2 ∷ 3 ∷ 4 ∷ 5 ∷ 6 ∷ 7 ∷ 8 ∷ 9 ∷ 10 ∷ 11 ∷ [])
 
 abbrev pub acknowledged_then : List Ack

@@ -4,10 +4,12 @@ use Rattle.std.proofs.Common.{Some, None, inl, inr, refl, sym, ap, subst, true�
 use Rattle.std.specs.Str.{bytes_eq}
 use Rattle.std.proofs.lemmas.Option.{none-some, same_Some}
 use Rattle.clap.specs.Words.{Row, Text, first_of}
+use Rattle.syn_path.specs.declared.side.Side.{Side}
 use Rattle.syn_words.specs.Reads.{AreGiven, HasPlace, HasUser, HasValues, IsEdit, HasNumber}
-use Rattle.syn_words.specs.Reads.{IsGiven}
+use Rattle.syn_words.specs.Reads.{IsGiven, TakesPreference, IsOtherSide}
 use Rattle.syn_words.specs.Reads.{IsNoNumber, IsNumber, IsOtherKind, IsWrong, IsWrongIn}
-use Rattle.syn_words.specs.Reads.{MayHaveNumber, NothingReads, kind_word, verb_of}
+use Rattle.syn_words.specs.Reads.{MayHaveNumber, MayHaveSide, NothingReads, kind_word, side_word}
+use Rattle.syn_words.specs.Reads.{verb_of}
 use Rattle.syn_words.specs.Verbs.{edit_verb, name_of, values_of, word_of}
 use Rattle.syn_words.specs.declared.line.Change.{Change}
 use Rattle.syn_words.specs.declared.line.Change.TheVariants as change
@@ -89,11 +91,11 @@ values_given rows (line.Import imported) has =
     (file_given rows imported.place has.0, ((has.1.0, has.1.1), ((imported.folder.now, has.2), tt)))
 values_given rows (line.Serve file address connections) has =
     ((file.now, has.0), ((address.now, has.1), tt))
-values_given rows (line.Sync archive left right) has =
+values_given rows (line.Sync archive left right preference) has =
     ((archive.now, has.0), ((left.now, has.1), ((right.now, has.2), tt)))
-values_given rows (line.Run left right archive) has =
+values_given rows (line.Run left right archive preference) has =
     ((left.now, has.0), ((right.now, has.1), ((archive.now, has.2), tt)))
-values_given rows (line.Plan left right archive is_served) has =
+values_given rows (line.Plan left right archive is_served preference) has =
     ((left.now, has.0), ((right.now, has.1), ((archive.now, has.2), tt)))
 values_given rows (line.Simulate script is_traced) has = ((script.now, has.0), tt)
 
@@ -191,12 +193,35 @@ module _ (rows : List Row) where
   lines_right (line.Edit edit) is wrong has = no_edit edit.change verb.Log is refl
   lines_right _ is wrong has = cc
 
+  -- a side that is given is one
+  no_side : (preference : Option Side) → IsOtherSide rows → MayHaveSide rows preference → ⊥
+  no_side None wrong has = no_text _ wrong.0 has wrong.1
+  no_side (Some preferred) wrong has =
+      wrong.2 preferred (same_Some wrong.0 (side_word preferred) (sym wrong.1 ∙ has))
+
+  no_edit_prefers : (change : Change) → TakesPreference (edit_verb change) → ⊥
+  no_edit_prefers change.Put takes = takes
+  no_edit_prefers change.MakeDir takes = takes
+  no_edit_prefers change.Remove takes = takes
+
+  preference_right : (l : Line) → TakesPreference (verb_of l) → IsOtherSide rows →
+      HasValues rows l → ⊥
+  preference_right (line.Sync archive left right preference) takes wrong has =
+      no_side preference wrong has.3
+  preference_right (line.Run left right archive preference) takes wrong has =
+      no_side preference wrong has.3
+  preference_right (line.Plan left right archive is_served preference) takes wrong has =
+      no_side preference wrong has.4
+  preference_right (line.Edit edit) takes wrong has = no_edit_prefers edit.change takes
+  preference_right _ takes wrong has = takes
+
   none_wrong : (l : Line) (told : ValueName) → IsWrong (verb_of l) rows told → HasValues rows l → ⊥
   none_wrong l value.Kind wrong has = kind_right l wrong.0 wrong.1 has
   none_wrong l value.Pair wrong has = pair_right l wrong.0 wrong.1 has
   none_wrong l value.User wrong has = user_right l wrong.0 wrong.1 has
   none_wrong l value.Connections wrong has = connections_right l wrong.0 wrong.1 has
   none_wrong l value.Lines wrong has = lines_right l wrong.0 wrong.1 has
+  none_wrong l value.Preference wrong has = preference_right l wrong.0 wrong.1 has
   none_wrong l _ wrong has = wrong
 
   none_lacking : (l : Line) (told : ValueName) → IsLacking (verb_of l) rows told →

@@ -5,6 +5,7 @@ use Rattle.clap.specs.Words.{App, Rule, Text, new_app, new_rule, with_rule, with
 use Rattle.syn_words.specs.Verbs.{name_of, values_of, verbs, word_of}
 use Rattle.syn_words.specs.declared.value.ValueName.{ValueName}
 use Rattle.syn_words.specs.declared.value.ValueName.TheVariants.{Path, Connections, Lines}
+use Rattle.syn_words.specs.declared.value.ValueName.TheVariants.{Preference}
 use Rattle.syn_words.specs.declared.verb.Verb.{Verb}
 use Rattle.syn_words.specs.declared.verb.Verb.TheVariants.{Format, Put, MakeDir, Remove, Show}
 use Rattle.syn_words.specs.declared.verb.Verb.TheVariants.{Check, Log, Export, Import, Serve, Sync}
@@ -36,6 +37,10 @@ word_app verb = named_app (word_of verb) (values_of verb)
 abbrev pub with_served : App → App
 with_served app = with_rule app (flag_rule (codes "served"))
 
+-- the option by which a session prefers a side
+abbrev pub with_preference : App → App
+with_preference app = with_rule app (option_rule (name_of Preference) (codes "prefer"))
+
 -- the command with what may be left out of it
 abbrev pub with_options : Verb → App → App
 with_options Format app = app
@@ -51,9 +56,9 @@ with_options Export app = with_served (with_rule
 with_options Import app = with_served
     (with_rule (with_rule app (new_rule (name_of Path))) (flag_rule (codes "skip")))
 with_options Serve app = with_rule app (option_rule (name_of Connections) (codes "connections"))
-with_options Sync app = app
-with_options Run app = app
-with_options Plan app = with_served app
+with_options Sync app = with_preference app
+with_options Run app = with_preference app
+with_options Plan app = with_served (with_preference app)
 with_options Simulate app = with_rule app (flag_rule (codes "trace"))
 
 abbrev pub verb_app : Verb → App

@@ -7,6 +7,8 @@ use Rattle.clap.specs.Words.{IsAmong, Row, Text, fault_of, first_of, kind_of, ma
 use Rattle.clap.specs.Words.{subcommand_of}
 use Rattle.clap.specs.declared.error.Error.{Error}
 use Rattle.clap.specs.declared.error.kind.ErrorKind.TheVariants.{DisplayHelp, DisplayVersion}
+use Rattle.syn_path.specs.declared.side.Side.{Side}
+use Rattle.syn_path.specs.declared.side.Side.TheVariants as side
 use Rattle.syn_words.specs.App.{syn_app}
 use Rattle.syn_words.specs.Verbs.{edit_verb, name_of, values_of, word_of}
 use Rattle.syn_words.specs.declared.error.LineError.{LineError}
@@ -71,6 +73,24 @@ abbrev pub kind_word : ImageKind → Text
 kind_word Replica = codes "replica"
 kind_word Archive = codes "archive"
 
+-- the word of a side
+abbrev pub side_word : Side → Text
+side_word side.Left = codes "left"
+side_word side.Right = codes "right"
+
+-- the side given as the preferred one, or none where nothing is given
+abbrev pub MayHaveSide : List Row → Option Side → Type 0
+MayHaveSide rows None = first_of (name_of value.Preference) rows ≡ None
+MayHaveSide rows (Some preferred) =
+    HasText rows (name_of value.Preference) (side_word preferred)
+
+-- the command runs or plans a session, which may prefer a side
+abbrev pub TakesPreference : Verb → Type 0
+TakesPreference verb.Sync = Unit {0}
+TakesPreference verb.Run = Unit {0}
+TakesPreference verb.Plan = Unit {0}
+TakesPreference _ = ⊥
+
 -- the command of a line
 abbrev pub verb_of : Line → Verb
 verb_of (line.Format kind pair file) = verb.Format
@@ -82,9 +102,9 @@ verb_of (line.Log file lines) = verb.Log
 verb_of (line.Export exported) = verb.Export
 verb_of (line.Import imported) = verb.Import
 verb_of (line.Serve file address connections) = verb.Serve
-verb_of (line.Sync archive left right) = verb.Sync
-verb_of (line.Run left right archive) = verb.Run
-verb_of (line.Plan left right archive is_served) = verb.Plan
+verb_of (line.Sync archive left right preference) = verb.Sync
+verb_of (line.Run left right archive preference) = verb.Run
+verb_of (line.Plan left right archive is_served preference) = verb.Plan
 verb_of (line.Simulate script is_traced) = verb.Simulate
 
 -- the values of a line are those that are given
@@ -111,15 +131,16 @@ HasValues rows (line.Import imported) = HasPlace rows imported.place
 HasValues rows (line.Serve file address connections) = HasText rows (name_of value.File) file.now
     × HasText rows (name_of value.Address) address.now
     × MayHaveNumber 64 rows (name_of value.Connections) connections
-HasValues rows (line.Sync archive left right) = HasText rows (name_of value.Archive) archive.now
-    × HasText rows (name_of value.Left) left.now × HasText rows (name_of value.Right) right.now
-HasValues rows (line.Run left right archive) = HasText rows (name_of value.Left) left.now
+HasValues rows (line.Sync archive left right preference) =
+    HasText rows (name_of value.Archive) archive.now × HasText rows (name_of value.Left) left.now
+    × HasText rows (name_of value.Right) right.now × MayHaveSide rows preference
+HasValues rows (line.Run left right archive preference) = HasText rows (name_of value.Left) left.now
     × HasText rows (name_of value.Right) right.now
-    × HasText rows (name_of value.Archive) archive.now
-HasValues rows (line.Plan left right archive is_served) =
+    × HasText rows (name_of value.Archive) archive.now × MayHaveSide rows preference
+HasValues rows (line.Plan left right archive is_served preference) =
     HasText rows (name_of value.Left) left.now × HasText rows (name_of value.Right) right.now
     × HasText rows (name_of value.Archive) archive.now
-    × (IsTrue is_served ↔ IsSet rows (codes "served"))
+    × (IsTrue is_served ↔ IsSet rows (codes "served")) × MayHaveSide rows preference
 HasValues rows (line.Simulate script is_traced) = HasText rows (name_of value.Script) script.now
     × (IsTrue is_traced ↔ IsSet rows (codes "trace"))
 
@@ -149,6 +170,11 @@ abbrev pub IsOtherKind : List Row → Type 0
 IsOtherKind rows = (text : Text) × HasText rows (name_of value.Kind) text
     × ((kind : ImageKind) → text ≢ kind_word kind)
 
+-- the text given as the preferred side is the word of none
+abbrev pub IsOtherSide : List Row → Type 0
+IsOtherSide rows = (text : Text) × HasText rows (name_of value.Preference) text
+    × ((preferred : Side) → text ≢ side_word preferred)
+
 -- the text given for the id is no number of so many bits
 abbrev pub IsNoNumber : ℕ → List Row → Text → Type 0
 IsNoNumber bits rows id = (text : Text) × HasText rows id text × ((n : ℕ) → ¬ IsNumber bits text n)
@@ -161,7 +187,8 @@ abbrev pub HasUser : Verb → Type 0
 HasUser v = IsEdit v ⊎ (v ≡ verb.Import)
 
 -- this value of the command is wrong: the KIND or the PAIR of a format, the USER of an edit or an
--- import, the number of connections of a server, or that of the lines of a log
+-- import, the number of connections of a server, that of the lines of a log, or the side that a
+-- session is to prefer
 abbrev pub IsWrong : Verb → List Row → ValueName → Type 0
 IsWrong v rows value.Kind = (v ≡ verb.Format) × IsOtherKind rows
 IsWrong v rows value.Pair = (v ≡ verb.Format) × IsNoNumber 64 rows (name_of value.Pair)
@@ -169,6 +196,7 @@ IsWrong v rows value.User = HasUser v × IsNoNumber 32 rows (name_of value.User)
 IsWrong v rows value.Connections =
     (v ≡ verb.Serve) × IsNoNumber 64 rows (name_of value.Connections)
 IsWrong v rows value.Lines = (v ≡ verb.Log) × IsNoNumber 64 rows (name_of value.Lines)
+IsWrong v rows value.Preference = TakesPreference v × IsOtherSide rows
 IsWrong v rows _ = ⊥
 
 -- the name is that of a command, each value that the command requires is given, and this one is

@@ -7,7 +7,7 @@ use Rattle.syn_words.specs.declared.value.ValueName.{ValueName}
 use Rattle.syn_words.specs.declared.value.ValueName.TheVariants.{Command, Kind, Pair, User, File}
 use Rattle.syn_words.specs.declared.value.ValueName.TheVariants.{Path, Folder, Address, Connections}
 use Rattle.syn_words.specs.declared.value.ValueName.TheVariants.{Lines, Archive, Left, Right}
-use Rattle.syn_words.specs.declared.value.ValueName.TheVariants.{Script}
+use Rattle.syn_words.specs.declared.value.ValueName.TheVariants.{Script, Preference}
 use Rattle.syn_words.specs.declared.verb.Verb.{Verb}
 use Rattle.syn_words.specs.declared.verb.Verb.TheVariants.{Format, Put, MakeDir, Remove, Show}
 use Rattle.syn_words.specs.declared.verb.Verb.TheVariants.{Check, Log, Export, Import, Serve, Sync}
@@ -51,6 +51,7 @@ name_of Archive = codes "ARCHIVE"
 name_of Left = codes "LEFT"
 name_of Right = codes "RIGHT"
 name_of Script = codes "SCRIPT"
+name_of Preference = codes "SIDE"
 
 -- the values that a command requires, in their order
 abbrev pub values_of : Verb → List ValueName

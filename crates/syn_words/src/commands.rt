@@ -3,7 +3,7 @@ ghost use Rattle.std.specs.Prelude.{◌≡◌, IfOk, false};
 ghost use Rattle.clap.specs.Words.{app_of, rule_of, with_rule};
 ghost use Rattle.clap.specs.declared.Command.TheViews.{out-Command};
 ghost use Rattle.syn_words.specs.App.{flag_rule, option_rule, syn_app, top_app, verb_app};
-ghost use Rattle.syn_words.specs.App.{verbose_rule, with_options, word_app};
+ghost use Rattle.syn_words.specs.App.{verbose_rule, with_options, with_preference, word_app};
 ghost use Rattle.syn_words.specs.declared.verb.Verb.TheVariants.{Export};
 
 use crate::value::ValueName;
@@ -140,10 +140,28 @@ fn with_optional<'a>(
             let help: &'a str = ValueName::Lines.help(verb);
             command.arg(Arg::new(alloc, "N").help(help))
         }
-        Verb::Plan => with_flag(alloc, command, "served", BOTH_SERVED),
+        Verb::Sync | Verb::Run => with_preference(alloc, verb, command),
+        Verb::Plan => {
+            let preferring = with_preference(alloc, verb, command)?;
+            with_flag(alloc, preferring, "served", BOTH_SERVED)
+        }
         Verb::Simulate => with_flag(alloc, command, "trace", TRACE),
-        Verb::Format | Verb::Check | Verb::Sync | Verb::Run => Ok(command),
+        Verb::Format | Verb::Check => Ok(command),
     }
+}
+
+/// The command with the option by which a session prefers a side.
+fn with_preference<'a>(
+    alloc: Global,
+    verb: Verb,
+    command: Command<'a>,
+) -> Result<Command<'a>, AllocError>
+    requires { (out-Command command).has_globals ≡ false }
+    ensures app { IfOk result (λ c. app_of c ≡ with_preference (app_of command.entry)) }
+    ensures globals { IfOk result (λ c. (out-Command c).has_globals ≡ false) }
+{
+    let help: &'a str = ValueName::Preference.help(verb);
+    with_option(alloc, command, "SIDE", "prefer", help)
 }
 
 /// The command with what may be left out of an export.

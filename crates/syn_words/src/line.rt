@@ -2,6 +2,8 @@
 ghost use Rattle.std.specs.Prelude.{◌≡◌};
 ghost use Rattle.syn_words.specs.Places.{text_of};
 
+use syn_path::Side;
+
 /// What an image holds.
 #[derive(Clone, Copy, Debug, PartialEq, Eq)]
 pub enum ImageKind {
@@ -126,12 +128,14 @@ pub enum Line<'a> {
         archive: &'a str,
         left: &'a str,
         right: &'a str,
+        preference: Option<Side>,
     },
     /// Runs a session of the replicas and the archive in three files.
     Run {
         left: &'a str,
         right: &'a str,
         archive: &'a str,
+        preference: Option<Side>,
     },
     /// Prints what a session would do of the replicas in two files, or that are served at two
     /// addresses, and of the archive in a file.
@@ -140,6 +144,7 @@ pub enum Line<'a> {
         right: &'a str,
         archive: &'a str,
         is_served: bool,
+        preference: Option<Side>,
     },
     /// Runs the steps of a script on a world of three machines in memory, and tells each of them
     /// where it is traced.

@@ -2,7 +2,7 @@
 ghost use Rattle.std.specs.Prelude.{◌≡◌, IfOk, IfErr};
 ghost use Rattle.clap.specs.Words.{found_of, rows_of};
 ghost use Rattle.syn_words.specs.Reads.{HasExisting, HasNumber, HasPlace, HasText, IsNoNumber};
-ghost use Rattle.syn_words.specs.Reads.{MayHaveNumber, kind_word};
+ghost use Rattle.syn_words.specs.Reads.{MayHaveNumber, MayHaveSide, TakesPreference, kind_word};
 ghost use Rattle.syn_words.specs.Verbs.{edit_verb, name_of};
 ghost use Rattle.syn_words.specs.inner.Lacking.{IsLack, IsLineOf};
 ghost use Rattle.syn_words.specs.declared.line.Change.{Change as Edits};
@@ -10,9 +10,10 @@ ghost use Rattle.syn_words.specs.declared.line.Change.{Change as Edits};
 use crate::error::LineError;
 use crate::line::{Change, EditLine, Existing, ExportLine, ImageKind, ImportLine, Line};
 use crate::value::ValueName;
-use crate::values::{image_kind, is_set, number, optional_text, place, text, user};
+use crate::values::{image_kind, is_set, number, optional_text, place, side, text, user};
 use crate::verb::Verb;
 use clap::ArgMatches;
+use syn_path::Side;
 
 /// The line of the command, or the first value of it that is missing or wrong.
 pub(crate) fn line_of<'a>(verb: Verb, found: &ArgMatches<'a>) -> Result<Line<'a>, LineError>
@@ -217,10 +218,12 @@ fn sync_line<'a>(found: &ArgMatches<'a>) -> Result<Line<'a>, LineError>
     let archive = text(found, ValueName::Archive)?;
     let left = text(found, ValueName::Left)?;
     let right = text(found, ValueName::Right)?;
+    let preference = preference_given(found, Verb::Sync)?;
     Ok(Line::Sync {
         archive,
         left,
         right,
+        preference,
     })
 }
 
@@ -231,11 +234,25 @@ fn run_line<'a>(found: &ArgMatches<'a>) -> Result<Line<'a>, LineError>
     let left = text(found, ValueName::Left)?;
     let right = text(found, ValueName::Right)?;
     let archive = text(found, ValueName::Archive)?;
+    let preference = preference_given(found, Verb::Run)?;
     Ok(Line::Run {
         left,
         right,
         archive,
+        preference,
     })
+}
+
+/// The side that a session prefers, where one is given.
+fn preference_given(found: &ArgMatches<'_>, verb: Verb) -> Result<Option<Side>, LineError>
+    requires { TakesPreference verb }
+    ensures ok { IfOk result (MayHaveSide (rows_of (found_of found.now))) }
+    ensures lacks { IfErr result (IsLack verb (rows_of (found_of found.now))) }
+{
+    match optional_text(found, ValueName::Preference) {
+        Some(text) => Ok(Some(side(text)?)),
+        None => Ok(None),
+    }
 }
 
 fn plan_line<'a>(found: &ArgMatches<'a>) -> Result<Line<'a>, LineError>
@@ -246,11 +263,13 @@ fn plan_line<'a>(found: &ArgMatches<'a>) -> Result<Line<'a>, LineError>
     let right = text(found, ValueName::Right)?;
     let archive = text(found, ValueName::Archive)?;
     let is_served = is_set(found, "served");
+    let preference = preference_given(found, Verb::Plan)?;
     Ok(Line::Plan {
         left,
         right,
         archive,
         is_served,
+        preference,
     })
 }
 

@@ -21,6 +21,7 @@ pub enum ValueName {
     Left,
     Right,
     Script,
+    Preference,
 }
 
 impl ValueName {
@@ -42,6 +43,7 @@ impl ValueName {
             ValueName::Left => "LEFT",
             ValueName::Right => "RIGHT",
             ValueName::Script => "SCRIPT",
+            ValueName::Preference => "SIDE",
         }
     }
 
@@ -53,6 +55,7 @@ impl ValueName {
                 "a decimal number below 2^64"
             }
             ValueName::User => "a decimal number below 2^32",
+            ValueName::Preference => "'left' or 'right'",
             _ => "there",
         }
     }
@@ -97,6 +100,9 @@ impl ValueName {
             ValueName::Left => "The file that has the left replica",
             ValueName::Right => "The file that has the right replica",
             ValueName::Script => "The file that has the steps, one a line",
+            ValueName::Preference => {
+                "Where both sides changed, SIDE overwrites the other: 'left' or 'right'"
+            }
         }
     }
 }

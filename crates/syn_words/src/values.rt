@@ -2,15 +2,17 @@
 ghost use Rattle.std.specs.Prelude.{◌≡◌, ◌≢◌, ◌↔◌, ℕ, IfOk, IfErr, OnErr, Some, None, IsTrue};
 ghost use Rattle.std.specs.Prelude.{IfSome, IfNone};
 ghost use Rattle.clap.specs.Words.{first_of, found_of, rows_of};
-ghost use Rattle.syn_words.specs.Reads.{HasPlace, IsNumber, IsSet, kind_word};
+ghost use Rattle.syn_words.specs.Reads.{HasPlace, IsNumber, IsSet, kind_word, side_word};
 ghost use Rattle.syn_words.specs.Verbs.{name_of};
 ghost use Rattle.syn_words.specs.declared.error.LineError.TheVariants.{Value};
 ghost use Rattle.syn_words.specs.declared.line.ImageKind.{ImageKind};
+ghost use Rattle.syn_path.specs.declared.side.Side.{Side as Named};
 
 use crate::error::LineError;
 use crate::line::{ImageKind, Place};
 use crate::value::ValueName;
 use clap::ArgMatches;
+use syn_path::Side;
 
 /// The text that is given for the value.
 #[tactic(auto, using(crate::proofs::LineLemmas::first_value_rows))]
@@ -96,5 +98,18 @@ pub(crate) fn image_kind(text: &str) -> Result<ImageKind, LineError>
         "replica" => Ok(ImageKind::Replica),
         "archive" => Ok(ImageKind::Archive),
         _ => Err(LineError::Value(ValueName::Kind)),
+    }
+}
+
+/// The side that the text names.
+pub(crate) fn side(text: &str) -> Result<Side, LineError>
+    ensures ok { IfOk result (λ side. text.now ≡ side_word side) }
+    ensures value { IfErr result (λ error. error ≡ Value ValueName.Preference) }
+    ensures nothing { OnErr result ((side : Named) → text.now ≢ side_word side) }
+{
+    match text {
+        "left" => Ok(Side::Left),
+        "right" => Ok(Side::Right),
+        _ => Err(LineError::Value(ValueName::Preference)),
     }
 }

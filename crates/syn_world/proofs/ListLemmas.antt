@@ -14,9 +14,9 @@ use Rattle.syn_host.specs.Outcomes.{Acknowledges, Tells, refused_in}
 use Rattle.syn_host.specs.declared.outcome.CoordinatorOutcome.{CoordinatorOutcome}
 use Rattle.syn_host.specs.declared.outcome.Outcome.{Outcome}
 use Rattle.syn_message.specs.Replies.{IsLawfulReply, reply_of}
-use Rattle.syn_message.specs.Sides.{which_of}
+use Rattle.syn_path.specs.Sides.{which_of}
 use Rattle.syn_message.specs.declared.reply.Reply.{Reply}
-use Rattle.syn_message.specs.declared.side.Side.{Side}
+use Rattle.syn_path.specs.declared.side.Side.{Side}
 use Rattle.syn_model.specs.Event.{Event}
 use Rattle.syn_model.specs.Refusal.{Refusal}
 use Rattle.syn_refusal.specs.Refusals.{cause_of}

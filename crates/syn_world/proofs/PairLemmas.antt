@@ -41,8 +41,9 @@ module _ (old : World) where
       → SamePair old made
   edits side event _ (world.edits journal events lawful writes) = side_set side _
 
-  starts : (made : World) → Starts old made → SamePair old made
-  starts _ (world.starts machine call begins) = refl
+  starts : (preference : Option Which) (made : World) → Starts old preference made → SamePair old
+      made
+  starts preference _ (world.starts machine call begins) = refl
 
   compacts : (machine : Machine) (made : World) → CompactsMachine old machine made
       → SamePair old made
@@ -100,8 +101,9 @@ module _ (old : World) where
   keeps_pair (Edits side user edit) new so =
       calls_so (At side) (causes_of old.pair (side_of old side) (Edited user edit))
       (EditsSide old side (Edited user edit)) new (edits side (Edited user edit)) so
-  keeps_pair Start new so =
-      calls_so Coordinator (start_causes old.pair old.coordinator) (Starts old) new starts so
+  keeps_pair (Start preference) new so =
+      calls_so Coordinator (start_causes old.pair old.coordinator) (Starts old preference) new
+      (starts preference) so
   keeps_pair (Deliver message) new so = delivers (slice_get old.sent message) new so
   keeps_pair Tick new so = ticks new so
   keeps_pair (Checkpoint machine) new so =

@@ -1,6 +1,6 @@
 -- A call of the coordinator is a step of the world, and its lists grow so.
 use Rattle.std.proofs.Common.{◌≡◌, ◌∙◌, ◌++◌, ◌∷◌, [], ℕ, List, Some, ap, ap₂, if◌then◌else◌}
-use Rattle.std.proofs.Common.{inl, inr, refl, subst, sym}
+use Rattle.std.proofs.Common.{inl, inr, refl, subst, sym, Option}
 use Rattle.std.proofs.lemmas.List.{append-nil}
 use Rattle.std.specs.Prelude.{IfSome, Result, slice_get}
 use Rattle.syn_disk.specs.declared.disk.Disk.{Ghosts}
@@ -101,13 +101,14 @@ module _ (old : ModelWorld) (next : CoordinatorMachine) (made : Call)
       (sym (unrefused taken.none))
       (to_coordinator from session number reply next made taken.step))
 
-pub lift_start : (old : ModelWorld) (next : CoordinatorMachine) (made : Call)
-    (refusals : List Refusal) → Starts old.pair old.coordinator next made refusals
-    → Steps old Start (coordinator_next old next made refusals)
-lift_start old _ _ _ (steps.Starts.is_down down) = inl (down, eq_same old)
-lift_start old _ _ _ (steps.Starts.refuses reason other some) =
+pub lift_start : (preference : Option Which) (old : ModelWorld) (next : CoordinatorMachine)
+    (made : Call)
+    (refusals : List Refusal) → Starts old.pair preference old.coordinator next made refusals
+    → Steps old (Start preference) (coordinator_next old next made refusals)
+lift_start preference old _ _ _ (steps.Starts.is_down down) = inl (down, eq_same old)
+lift_start preference old _ _ _ (steps.Starts.refuses reason other some) =
     inr (other, inl (reason, some, eq_refused old reason))
-lift_start old _ _ _ (steps.Starts.starts next made other none started) =
+lift_start preference old _ _ _ (steps.Starts.starts next made other none started) =
     inr (
       other,
       inr (

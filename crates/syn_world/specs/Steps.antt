@@ -1,6 +1,7 @@
 -- Which of the model's steps a step is.
+use Rattle.std.specs.Prelude.{option_map}
 use Rattle.syn_headline.specs.World as model
-use Rattle.syn_message.specs.Sides.{which_of}
+use Rattle.syn_path.specs.Sides.{which_of}
 use Rattle.syn_tree.specs.Edits.{edit_of}
 use Rattle.syn_world.specs.declared.step.Machine.{Machine}
 use Rattle.syn_world.specs.declared.step.Machine.TheVariants as machine
@@ -14,7 +15,7 @@ machine_of machine.Coordinator = model.Coordinator
 
 abbrev pub step_of : Step → model.Step
 step_of (Edit side user edit) = model.Edits (which_of side) user (edit_of edit)
-step_of Start = model.Start
+step_of (Start preference) = model.Start (option_map which_of preference)
 step_of (Deliver message) = model.Deliver message
 step_of Tick = model.Tick
 step_of (Checkpoint machine) = model.Checkpoint (machine_of machine)

@@ -15,8 +15,8 @@ pub enum Machine {
 pub enum Step {
     /// A user, who has this number, makes an edit at a side.
     Edit(Side, u32, Edit),
-    /// The coordinator starts a session.
-    Start,
+    /// The coordinator starts a session, which prefers a side or none.
+    Start(Option<Side>),
     /// The message that was sent with this number is delivered, again if it was before. The first
     /// has the number 0. One that was never sent does nothing.
     Deliver(usize),

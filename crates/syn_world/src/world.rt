@@ -3,7 +3,7 @@ ghost use Rattle.std.specs.Prelude.{◌≡◌, [], IfSome, List, option_map};
 ghost use Rattle.syn_headline.specs.Coordinator.{Call};
 ghost use Rattle.syn_headline.specs.World.{World as ModelWorld, says};
 ghost use Rattle.syn_message.specs.Replies.{IsLawfulReply, reply_of};
-ghost use Rattle.syn_message.specs.Sides.{which_of};
+ghost use Rattle.syn_path.specs.Sides.{which_of};
 ghost use Rattle.syn_model.specs.Event.{Event};
 ghost use Rattle.syn_model.specs.Refusal.{Refusal as Cause};
 

@@ -9,7 +9,7 @@ use Rattle.syn_disk.specs.declared.disk.Disk.{Ghosts}
 use Rattle.syn_headline.specs.Coordinator.{Exchange, fault_of, is_last}
 use Rattle.syn_keep.specs.Machines.{IsMachine, Journal}
 use Rattle.syn_message.specs.declared.request.Request.{Request as Asked}
-use Rattle.syn_message.specs.declared.side.Side.{Side}
+use Rattle.syn_path.specs.declared.side.Side.{Side}
 use Rattle.syn_model.specs.Refusal.{Memory}
 use Rattle.syn_refusal.specs.Refusals.{cause_of}
 use Rattle.syn_refusal.specs.declared.refusal.Refusal.{Refusal}

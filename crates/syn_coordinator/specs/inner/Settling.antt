@@ -8,7 +8,7 @@ use Rattle.syn_disk.specs.declared.disk.Disk.{Ghosts}
 use Rattle.syn_headline.specs.Coordinator.{Exchange}
 use Rattle.syn_keep.specs.Machines.{Journal}
 use Rattle.syn_message.specs.declared.request.Request.{Request as Asked}
-use Rattle.syn_message.specs.declared.side.Side.{Side}
+use Rattle.syn_path.specs.declared.side.Side.{Side}
 use Rattle.syn_model.specs.Archive.{Kept}
 use Rattle.syn_scan.specs.Found.{Found}
 use Rattle.syn_session.specs.Stages.{AreAskedBefore, Reached, plan_in}

@@ -13,9 +13,9 @@ use Rattle.syn_keep.specs.Machines.{IsMachine, Journal, LeavesMachine}
 use Rattle.syn_keep.specs.Tries.{Tries}
 use Rattle.syn_keep.specs.declared.tried.Tried.{Tried}
 use Rattle.syn_message.specs.Requests.{request_of}
-use Rattle.syn_message.specs.Sides.{which_of}
+use Rattle.syn_path.specs.Sides.{which_of}
 use Rattle.syn_message.specs.declared.request.Request.{Request as Asked}
-use Rattle.syn_message.specs.declared.side.Side.{Side}
+use Rattle.syn_path.specs.declared.side.Side.{Side}
 use Rattle.syn_model.specs.Archive.{Kept}
 use Rattle.syn_model.specs.Refusal.{Refusal}
 use Rattle.syn_propagate.specs.Transfers.{Asks}

@@ -11,7 +11,7 @@ ghost use Rattle.syn_headline.specs.Session.{fault_of};
 ghost use Rattle.syn_keep.specs.Machines.{IsMachine, Journal};
 ghost use Rattle.syn_message.specs.Replies.{IsLawfulReply, reply_of};
 ghost use Rattle.syn_message.specs.Requests.{request_of};
-ghost use Rattle.syn_message.specs.Sides.{which_of};
+ghost use Rattle.syn_path.specs.Sides.{which_of};
 ghost use Rattle.syn_refusal.specs.Refusals.{cause_of};
 ghost use Rattle.syn_session.specs.Answering.{IsAnswering, exchange_of};
 ghost use Rattle.syn_session.specs.Hearing.{HasHeard, IsScanned};
@@ -154,7 +154,9 @@ impl<D: Limit> Coordinator<D> {
     {
         let left = session.left.scan.found();
         let right = session.right.scan.found();
-        let Ok(mut course) = Course::new(alloc, left, right, self.archive.tree()) else {
+        let archive = self.archive.tree();
+        let preference = session.preference;
+        let Ok(mut course) = Course::new(alloc, left, right, archive, preference) else {
             return Err(Ended::Early(Refusal::Memory));
         };
         let asks = self.walk(alloc, &mut course, left, right);

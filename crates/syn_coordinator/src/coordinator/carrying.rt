@@ -12,7 +12,7 @@ ghost use Rattle.syn_keep.specs.Due.{Settles, TriesBy};
 ghost use Rattle.syn_model.specs.Archive.{IsOfItem, Archive as Keeping};
 ghost use Rattle.syn_keep.specs.Machines.{IsMachine, Journal};
 ghost use Rattle.syn_message.specs.Requests.{request_of};
-ghost use Rattle.syn_message.specs.Sides.{which_of};
+ghost use Rattle.syn_path.specs.Sides.{which_of};
 ghost use Rattle.syn_model.specs.Decision.{Conflict};
 ghost use Rattle.syn_propagate.specs.Transfers.{Asks, IsReady, carriage_of};
 ghost use Rattle.syn_refusal.specs.Refusals.{cause_of};

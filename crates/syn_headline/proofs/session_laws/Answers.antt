@@ -1,5 +1,5 @@
 use Rattle.syn_headline.proofs.FineRuns.{synchronize, reconcile, report_conflicts, count_items}
-use Rattle.syn_headline.proofs.FineRuns.{mark_carried, mark_held}
+use Rattle.syn_headline.proofs.FineRuns.{leave_one, mark_carried, mark_held}
 use Rattle.syn_headline.proofs.session_laws.Goals as goal
 
 pub returns-clause-synchronized : goal.returns-clause-synchronized
@@ -7,6 +7,9 @@ returns-clause-synchronized c = synchronize
 
 pub returns-clause-reconciled : goal.returns-clause-reconciled
 returns-clause-reconciled c = reconcile
+
+pub returns-clause-preferred : goal.returns-clause-preferred
+returns-clause-preferred c = leave_one
 
 pub returns-clause-conflicts : goal.returns-clause-conflicts
 returns-clause-conflicts c = report_conflicts

@@ -1,11 +1,11 @@
 //! The coordinator's sessions: it starts one, takes the answers of the sides, and waits for them.
-ghost use Rattle.std.specs.Prelude.{◌≡◌, ◌≢◌, ℕ, false, true};
+ghost use Rattle.std.specs.Prelude.{◌≡◌, ◌≢◌, ℕ, false, true, option_map};
 ghost use Rattle.syn_headline.specs.Coordinator.{CoordinatorMachine, CoordinatorTakes};
 ghost use Rattle.syn_headline.specs.Coordinator.{CoordinatorTicks, no_call};
 ghost use Rattle.syn_host.specs.CoordinatorSteps.{CallsSo, Settles, Starts, Unrefused};
 ghost use Rattle.syn_host.specs.SideSteps.{refused_by};
 ghost use Rattle.syn_message.specs.Replies.{IsLawfulReply, reply_of};
-ghost use Rattle.syn_message.specs.Sides.{which_of};
+ghost use Rattle.syn_path.specs.Sides.{which_of};
 ghost use Rattle.syn_coordinator.specs.Coordinators.{Stands, written};
 ghost use Rattle.syn_session.specs.Sendings.{messages_of};
 
@@ -21,18 +21,18 @@ use syn_session::{Sending, SessionError};
 impl<D: SimulatedDisk> CoordinatorHost<D> {
     ghost use Rattle.syn_host.specs.Coordinators.{IsCoordinator};
 
-    /// A session starts, unless the machine is down. Its number is acknowledged, and both sides are
-    /// asked to begin it.
+    /// A session starts, which prefers a side or none, unless the machine is down. Its number is
+    /// acknowledged, and both sides are asked to begin it.
     ///
     /// Refused 10 while the archive is halted, 12 while a session runs, 7 where the last session
     /// has the greatest number, 8 where its record does not fit in the archive's journal, 11 where
     /// memory is refused, and 9 where a device call fails.
-    pub fn start(self, alloc: Global) -> CoordinatorCall<D>
+    pub fn start(self, alloc: Global, preference: Option<Side>) -> CoordinatorCall<D>
         ensures { (pair : ℕ) (machine : CoordinatorMachine) → IsCoordinator pair self machine
-            → CallsSo pair (Starts pair machine) result }
+            → CallsSo pair (Starts pair (option_map which_of preference) machine) result }
     {
         match self {
-            CoordinatorHost::Up(coordinator) => begin(alloc, coordinator),
+            CoordinatorHost::Up(coordinator) => begin(alloc, coordinator, preference),
             CoordinatorHost::Down(rest) => CoordinatorHost::Down(rest).refused(alloc, None),
         }
     }
@@ -76,12 +76,16 @@ impl<D: SimulatedDisk> CoordinatorHost<D> {
 }
 
 /// The start of a coordinator that is up.
-fn begin<D: SimulatedDisk>(alloc: Global, coordinator: Coordinator<D>) -> CoordinatorCall<D>
+fn begin<D: SimulatedDisk>(
+    alloc: Global,
+    coordinator: Coordinator<D>,
+    preference: Option<Side>,
+) -> CoordinatorCall<D>
     ensures { (pair : ℕ) (machine : CoordinatorMachine) → Stands coordinator pair machine
-        → CallsSo pair (Starts pair machine) result }
+        → CallsSo pair (Starts pair (option_map which_of preference) machine) result }
 {
     let mut coordinator = coordinator;
-    match coordinator.start(alloc) {
+    match coordinator.start(alloc, preference) {
         Ok(sent) => settle_started(alloc, coordinator, sent),
         Err(error) => {
             if is_device(error) {

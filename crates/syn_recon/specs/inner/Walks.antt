@@ -8,7 +8,8 @@ use Rattle.syn_model.specs.Tree.{Tree, subtree, is_directory}
 use Rattle.syn_model.specs.Dirty.{Scan, is_unstable, is_same_tree}
 use Rattle.syn_model.specs.Reconcile.{is_directory_in_both}
 use Rattle.syn_model.specs.Decision.{Item, ToLeft, ToRight, MarkSame, MarkDir, Conflict, Decision}
-use Rattle.syn_model.specs.Decision.{Clean, Do, DoAndGoOn, GoOn}
+use Rattle.syn_model.specs.Decision.{Clean, Do, DoAndGoOn, GoOn, contested}
+use Rattle.syn_model.specs.Which.{Which}
 
 -- a path, whether it is dirty on the left, and whether on the right
 abbrev pub Row : Type 0
@@ -40,8 +41,8 @@ merged [] rights = map on_right rights
 merged (left ∷ lefts) rights = among left (merged lefts) rights
 
 -- what is decided at a path, by where it is dirty
-abbrev pub decided : Scan → Scan → Tree → Row → Decision
-decided left right archive row =
+abbrev pub decided : Option Which → Scan → Scan → Tree → Row → Decision
+decided preference left right archive row =
     let path = row.0 in
     if not (row.1 || row.2) then Clean
     else if is_directory_in_both left.marks right.marks path then
@@ -51,7 +52,7 @@ decided left right archive row =
     then Do (MarkSame path)
     else if not row.2 then Do (ToRight path)
     else if not row.1 then Do (ToLeft path)
-    else Do (Conflict path)
+    else Do (contested preference (is_unstable left path || is_unstable right path) path)
 
 -- at or below the path nothing more is decided
 abbrev pub is_settled : Option Path → Path → Bool

@@ -16,6 +16,7 @@ returns-clause-crash_safe c = headline (record {
   owe = c.run_laws.ensures.owe;
   synchronized = c.session_laws.ensures.synchronized;
   reconciled = c.session_laws.ensures.reconciled;
+  preferred = c.session_laws.ensures.preferred;
   conflicts = c.session_laws.ensures.conflicts;
   counts = c.session_laws.ensures.counts;
   marked = c.session_laws.ensures.marked;

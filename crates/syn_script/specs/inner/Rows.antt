@@ -34,7 +34,9 @@ verb_word verb.Reopen = codes "reopen"
 abbrev pub SayBehind : Verb → List Text → Line → Type 0
 SayBehind verb.Edit words (has.Edit side user edit) = (number : Text) × (rest : List Text)
     × (words ≡ side_word side ∷ number ∷ rest) × IsNumber 32 number user × SayEdit rest edit
-SayBehind verb.Start words has.Start = words ≡ []
+SayBehind verb.Start words (has.Start None) = words ≡ []
+SayBehind verb.Start words (has.Start (Some side)) = words
+    ≡ codes "prefer" ∷ side_word side ∷ []
 SayBehind verb.Tick words has.Tick = words ≡ []
 SayBehind verb.Deliver words (has.Deliver first last) = SayRange words first last
 SayBehind verb.Drain words has.Drain = words ≡ []

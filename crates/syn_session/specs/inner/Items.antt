@@ -1,7 +1,7 @@
 -- What is to be done for an item, by the item alone.
 use Rattle.std.specs.Prelude.{◌≡◌, ◌⊎◌, ℕ}
-use Rattle.syn_message.specs.declared.side.Side.{Side}
-use Rattle.syn_message.specs.declared.side.Side.TheVariants as side
+use Rattle.syn_path.specs.declared.side.Side.{Side}
+use Rattle.syn_path.specs.declared.side.Side.TheVariants as side
 use Rattle.syn_model.specs.Archive.{Recorded, RecordedDir}
 use Rattle.syn_model.specs.Decision.{ToLeft, ToRight, MarkSame, MarkDir, Conflict}
 use Rattle.syn_model.specs.Decision as model

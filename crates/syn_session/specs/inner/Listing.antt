@@ -58,6 +58,7 @@ pub record KeepsRequests (old new : Session) (side : Which) : Type 0 where
   pub count : (line_of new side).asked ≡ (line_of old side).asked
   pub across : line_of new (other side) ≡ line_of old (other side)
   pub number_is : new.number ≡ old.number
+  pub preference_is : new.preference ≡ old.preference
   pub course : new.course ≡ old.course
 
 -- what waits, and what was found
@@ -66,5 +67,6 @@ pub record KeepsFound (old new : Session) : Type 0 where
   pub count : (side : Which) → (line_of new side).asked ≡ (line_of old side).asked
   pub found : (side : Which) → found_on new side ≡ found_on old side
   pub number_is : new.number ≡ old.number
+  pub preference_is : new.preference ≡ old.preference
   pub unstable : new.is_unstable ≡ old.is_unstable
   pub course : new.course ≡ old.course

@@ -1,5 +1,5 @@
 -- Calls of a coordinator that hear nothing.
-use Rattle.std.specs.Prelude.{◌≡◌, ◌⊎◌, ℕ, false, true, List, []}
+use Rattle.std.specs.Prelude.{◌≡◌, ◌⊎◌, ℕ, false, true, List, [], Option}
 use Rattle.syn_disk.specs.Arms.{is_stopped}
 use Rattle.syn_disk.specs.declared.disk.Disk.{Ghosts}
 use Rattle.syn_headline.specs.Coordinator.{CoordinatorMachine}
@@ -23,11 +23,11 @@ pub record Calls {D : Type 0} {disk : Ghosts D} (new : Coordinator D disk) (pair
   pub sends : is_stopped (disk.arms (device_of new)) ≡ false → (side : Which)
       → frames_in side acts ≡ frames_to side messages
 
--- and they begin a session
-abbrev pub Starting : {D : Type 0} → {disk : Ghosts D} → Coordinator D disk → ℕ
+-- and they begin a session that prefers a side or none
+abbrev pub Starting : {D : Type 0} → {disk : Ghosts D} → Option Which → Coordinator D disk → ℕ
     → CoordinatorMachine → List Message → Type 0
-Starting new pair machine messages =
-    (calls : Calls new pair machine messages) × Begins calls.acts
+Starting preference new pair machine messages =
+    (calls : Calls new pair machine messages) × Begins preference calls.acts
 
 -- the session does not end: the machine was stopped, or nothing ends it
 abbrev pub IsUnended : {D : Type 0} → {disk : Ghosts D} → Coordinator D disk → Refusal → Type 0

@@ -20,7 +20,7 @@ impl<D: SimulatedDisk> World<D> {
     {
         match step {
             Step::Edit(side, user, edit) => self.edit(alloc, side, user, edit),
-            Step::Start => self.start(alloc),
+            Step::Start(preference) => self.start(alloc, preference),
             Step::Deliver(message) => self.deliver(alloc, message),
             Step::Tick => self.tick(alloc),
             Step::Checkpoint(machine) => self.checkpoint(alloc, machine),

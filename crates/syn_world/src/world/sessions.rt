@@ -1,9 +1,9 @@
 //! The sessions of the world's coordinator.
-ghost use Rattle.std.specs.Prelude.{◌≡◌, ℕ, Some, slice_get};
+ghost use Rattle.std.specs.Prelude.{◌≡◌, ℕ, Some, option_map, slice_get};
 ghost use Rattle.syn_headline.specs.Network.{Answers};
 ghost use Rattle.syn_headline.specs.World.{World as ModelWorld, Deliver, Start, Tick};
 ghost use Rattle.syn_message.specs.Replies.{reply_of};
-ghost use Rattle.syn_message.specs.Sides.{which_of};
+ghost use Rattle.syn_path.specs.Sides.{which_of};
 
 use super::{Disks, World};
 use crate::replies::can_be_sent;
@@ -14,12 +14,13 @@ use syn_message::{Reply, Side};
 impl<D: SimulatedDisk> World<D> {
     ghost use Rattle.syn_world.specs.Worlds.{GoesSo, IsWorld};
 
-    /// The coordinator starts a session, unless its machine is down.
-    pub fn start(self, alloc: Global) -> Result<World<D>, Disks<D>>
-        ensures { (model : ModelWorld) → IsWorld self model → GoesSo model Start result }
+    /// The coordinator starts a session, which prefers a side or none, unless its machine is down.
+    pub fn start(self, alloc: Global, preference: Option<Side>) -> Result<World<D>, Disks<D>>
+        ensures { (model : ModelWorld) → IsWorld self model
+            → GoesSo model (Start (option_map which_of preference)) result }
     {
         let mut world = self;
-        let call = world.coordinator.start(alloc);
+        let call = world.coordinator.start(alloc, preference);
         world.coordinator = call.coordinator;
         world.told(call.outcome)
     }

@@ -4,7 +4,7 @@ ghost use Rattle.syn_headline.specs.Network.{Asks};
 ghost use Rattle.syn_message.specs.Requests.{request_of};
 ghost use Rattle.syn_headline.specs.World.{World as ModelWorld, At, Edits, Checkpoint, Deliver};
 ghost use Rattle.syn_headline.specs.World.{Open, Fail, Reopen, Stop};
-ghost use Rattle.syn_message.specs.Sides.{which_of};
+ghost use Rattle.syn_path.specs.Sides.{which_of};
 ghost use Rattle.syn_tree.specs.Edits.{edit_of};
 
 use super::{Disks, World};

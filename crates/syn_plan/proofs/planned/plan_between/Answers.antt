@@ -1,4 +1,5 @@
-use Rattle.std.proofs.Common.{◌∙◌, ap₂}
+use Rattle.std.proofs.Common.{◌∙◌, ap₂, option_map}
+use Rattle.syn_path.specs.Sides.{which_of}
 use Rattle.syn_model.specs.Plan.{plan}
 use Rattle.syn_plan.proofs.AskedLemmas.{scanned}
 use Rattle.syn_scan.specs.Found.{Found, scan_of}
@@ -7,8 +8,8 @@ use Rattle.syn_plan.proofs.planned.plan_between.Goals as goal
 pub returns-clause-items : goal.returns-clause-items
 returns-clause-items g c =
     c.in_ok-items.ensures
-    ∙ ap₂ (λ (l r : Found). plan (scan_of l) (scan_of r) c.args.archive.now) c.found.ensures.found
-    c.found-2.ensures.found
+    ∙ ap₂ (λ (l r : Found). plan (option_map which_of c.args.preference) (scan_of l)
+    (scan_of r) c.args.archive.now) c.found.ensures.found c.found-2.ensures.found
 
 pub returns-clause-left : goal.returns-clause-left
 returns-clause-left g c =

@@ -1,4 +1,5 @@
-use Rattle.std.proofs.Common.{◌≡◌, ◌∙◌, ap₂, subst, sym}
+use Rattle.std.proofs.Common.{◌≡◌, ◌∙◌, ap₂, option_map, subst, sym}
+use Rattle.syn_path.specs.Sides.{which_of}
 use Rattle.syn_model.specs.Dirty.{Scan}
 use Rattle.syn_model.specs.History.{tree_of}
 use Rattle.syn_model.specs.Plan.{plan, scan_of as scan_of_tree}
@@ -14,6 +15,7 @@ use Rattle.syn_plan.proofs.planned.plan_of_replicas.Goals as goal
 pub returns : goal.returns
 returns g c on_left on_right left_stands right_stands =
     let archive = c.args.archive.now in
+    let preference = option_map which_of c.args.preference in
     let left = c.new-left.result in
     let right = c.new-right.result in
     let good_left : Stands left.replica.now on_left =
@@ -22,13 +24,13 @@ returns g c on_left on_right left_stands right_stands =
     subst (λ r. Stands r on_right) (sym c.new-right.ensures) right_stands in
     planned_so
     (λ (planned : Planned). items_of planned.items.items
-    ≡ plan (scan_of (found_of planned.left)) (scan_of (found_of planned.right)) archive)
+    ≡ plan preference (scan_of (found_of planned.left)) (scan_of (found_of planned.right)) archive)
     (λ (planned : Planned). IsScanned ListsByHistory left planned.left c.plan_between.new.left)
     (λ (planned : Planned). IsScanned ListsByHistory right planned.right c.plan_between.new.right)
     (λ (planned : Planned). items_of planned.items.items
-    ≡ plan (scan_of_tree (tree_of on_left)) (scan_of_tree (tree_of on_right)) archive)
+    ≡ plan preference (scan_of_tree (tree_of on_left)) (scan_of_tree (tree_of on_right)) archive)
     (λ planned items on_l on_r.
-    items ∙ ap₂ (λ (l r : Scan). plan l r archive)
+    items ∙ ap₂ (λ (l r : Scan). plan preference l r archive)
     (shows_replica on_left left c.plan_between.new.left planned.left good_left on_l)
     (shows_replica on_right right c.plan_between.new.right planned.right good_right on_r))
     c.plan_between.result c.plan_between.ensures.items c.plan_between.ensures.left

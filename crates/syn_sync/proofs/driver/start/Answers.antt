@@ -1,4 +1,4 @@
-use Rattle.std.proofs.Common.{[], ap, refl, subst, sym}
+use Rattle.std.proofs.Common.{[], ap, refl, subst, sym, option_map}
 use Rattle.syn_session.specs.Sendings.{messages_of}
 use Rattle.syn_session.specs.declared.error.SessionError.TheVariants as session
 use Rattle.syn_sync.proofs.RunLemmas.{calls_refused, starts_once}
@@ -7,15 +7,18 @@ use Rattle.syn_sync.proofs.driver.start.Goals as goal
 use Rattle.syn_sync.specs.Refusals.{Refuses}
 use Rattle.syn_sync.specs.Runs.{Starts, frames_to}
 use Rattle.syn_sync.specs.inner.Calling.{Calls, Starting}
+use Rattle.syn_path.specs.Sides.{which_of}
 
 pub returns-in-Ok : goal.returns-in-Ok
 returns-in-Ok g c = λ pair machine stands.
-    starts_once c.args.coordinator.now c.start.new.self pair machine _
+    starts_once (option_map which_of c.args.preference) c.args.coordinator.now c.start.new.self pair
+    machine _
     (messages_of c.in-Ok.sends.items) (c.in-Ok.ensures.step pair machine stands)
 
 pub returns-in-Err : goal.returns-in-Err
 returns-in-Err g c = λ pair machine stands. (
-  calls_refused c.args.coordinator.now c.start.new.self pair machine Starts session.Device
+  calls_refused c.args.coordinator.now c.start.new.self pair machine
+      (Starts (option_map which_of c.args.preference)) session.Device
       c.in-Err.error (is_start_device c.in-Err.error)
       (c.in-Err.ensures.step pair machine stands)
       (λ other. (c.in-Err.ensures.refused pair machine stands other).1) (λ side. refl)
@@ -34,7 +37,8 @@ returns-in-Err-JournalFull g c = λ pair machine stands.
     let same = rw is at c.in-Err-JournalFull.ensures.failures in
     let full = told pair machine stands (λ device. cc) in
     restarted c.start_behind.result
-    (λ sends. Starting c.start_behind.new.coordinator pair machine (messages_of sends.items))
+    (λ sends. Starting (option_map which_of c.args.preference)
+    c.start_behind.new.coordinator pair machine (messages_of sends.items))
     (Calls c.start_behind.new.coordinator pair machine []) c.args.coordinator.now
     c.start.new.self c.start_behind.new.coordinator pair machine same
     (c.start_behind.ensures pair machine full.1 full.0)

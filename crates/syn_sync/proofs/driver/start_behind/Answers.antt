@@ -1,4 +1,4 @@
-use Rattle.std.proofs.Common.{◌∙◌, [], ap, refl, subst, sym}
+use Rattle.std.proofs.Common.{◌∙◌, [], ap, refl, subst, sym, option_map}
 use Rattle.syn_archive.specs.declared.error.ArchiveError.TheVariants as archive
 use Rattle.syn_session.specs.Sendings.{messages_of}
 use Rattle.syn_session.specs.declared.error.SessionError.TheVariants as session
@@ -9,6 +9,7 @@ use Rattle.syn_sync.proofs.StartLemmas.{is_start_device}
 use Rattle.syn_sync.proofs.driver.start_behind.Goals as goal
 use Rattle.syn_sync.specs.Refusals.{Refuses, stopped}
 use Rattle.syn_sync.specs.Runs.{Compacts, Starts, frames_to}
+use Rattle.syn_path.specs.Sides.{which_of}
 
 pub returns-in-Err : goal.returns-in-Err
 returns-in-Err g c = λ pair machine stands full. (
@@ -39,7 +40,8 @@ returns-in-Ok g c = λ pair machine stands full.
     (λ call side is. ap (frames_to side) is) in
     let now = (made.0).reached in
     let here = stands_of c.checkpoint.new.self pair now (made.0).ends calm in
-    starts_behind c.args.coordinator.now c.checkpoint.new.self c.start.new.self pair machine
+    starts_behind (option_map which_of c.args.preference) c.args.coordinator.now
+    c.checkpoint.new.self c.start.new.self pair machine
     (messages_of c.in-Ok.sends.items) made.0 made.1 made.2 calm _
     (c.in-Ok.ensures.step pair now here)
 
@@ -52,7 +54,8 @@ returns-in-Err-start g c = λ pair machine stands full.
     let now = (made.0).reached in
     let here = stands_of c.checkpoint.new.self pair now (made.0).ends calm in (
       calls_twice c.checkpoint.new.self c.start.new.self pair machine [] [] made.0 calm
-          (calls_refused c.checkpoint.new.self c.start.new.self pair now Starts session.Device
+          (calls_refused c.checkpoint.new.self c.start.new.self pair now
+          (Starts (option_map which_of c.args.preference)) session.Device
           c.in-Err-start.error (is_start_device c.in-Err-start.error)
           (c.in-Err-start.ensures.step pair now here)
           (λ other. (c.in-Err-start.ensures.refused pair now here other).1) (λ side. refl)

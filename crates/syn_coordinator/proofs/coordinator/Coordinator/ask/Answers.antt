@@ -11,7 +11,8 @@ pub returns-in-Ok-clause-step : goal.returns-in-Ok-clause-step
 returns-in-Ok-clause-step g c =
     λ pair machine running taken quiet untried on.
     asked_so pair machine running taken _ c.args.session c.ask.new.self _ c.args.asks on quiet
-    asked c.in-Ok.ensures.number c.in-Ok.ensures.unstable c.in-Ok.ensures.course untried
+    asked c.in-Ok.ensures.number c.in-Ok.ensures.preference c.in-Ok.ensures.unstable
+    c.in-Ok.ensures.course untried
     c.replace.ensures.after _ c.in-Ok.ensures.sends
   where
     asked : (side : Which) → IsAskedOn (line_of c.args.session side) (line_of c.ask.new.self side)

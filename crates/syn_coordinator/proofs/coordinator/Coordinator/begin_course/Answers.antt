@@ -1,4 +1,4 @@
-use Rattle.std.proofs.Common.{[], ◌∷◌, ◌++◌, sym, ap, ◌∙◌, subst, inl}
+use Rattle.std.proofs.Common.{[], ◌∷◌, ◌++◌, sym, ap, ◌∙◌, subst, inl, ap₂}
 use Rattle.syn_headline.specs.Network.{Left, Right}
 use Rattle.syn_model.specs.Archive.{Archive}
 use Rattle.syn_model.specs.Plan.{plan}
@@ -27,7 +27,7 @@ returns-in-Ok-asks-clause-step g c =
     let made = c.in-Ok.course in
     let same_left = c.found-left.ensures.found in
     let same_right = c.found-right.ensures.found in
-    let marks = c.tree.ensures ∙ ap (λ (a : Archive). a.marks) is.remembers in
+    let marks = c.tree-archive.ensures ∙ ap (λ (a : Archive). a.marks) is.remembers in
     let walked = c.in-Ok-asks.ensures.step pair journal taken (running.taken ++ taken ∷ [])
     (first_reached (plan_in made left right)) is quiet
     (at_first self pair journal running taken session is fault heard scanned nothing made left
@@ -38,7 +38,8 @@ returns-in-Ok-asks-clause-step g c =
           (sym c.replace.ensures.after)
           (begins_asking self pair journal running taken session is fault heard scanned nothing
           made left right same_left same_right c.in-Ok.ensures.begun
-          (c.in-Ok.ensures.items ∙ ap (plan (scan_of left) (scan_of right)) marks)
+          (c.in-Ok.ensures.items ∙ ap₂ (λ r m. plan r (scan_of left) (scan_of right) m)
+          (sym heard.heard_is.preference) marks)
           (c.found-left.ensures.scan Left (running.taken ++ taken ∷ []) (scanned.whole Left)
           (scanned.found Left))
           (c.found-right.ensures.scan Right (running.taken ++ taken ∷ []) (scanned.whole Right)
@@ -58,7 +59,7 @@ returns-in-Err-clause-step g c =
     let made = c.in-Ok.course in
     let same_left = c.found-left.ensures.found in
     let same_right = c.found-right.ensures.found in
-    let marks = c.tree.ensures ∙ ap (λ (a : Archive). a.marks) is.remembers in
+    let marks = c.tree-archive.ensures ∙ ap (λ (a : Archive). a.marks) is.remembers in
     let walked = c.in-Err.ensures.step pair journal taken (running.taken ++ taken ∷ [])
     (first_reached (plan_in made left right)) is quiet
     (at_first self pair journal running taken session is fault heard scanned nothing made left
@@ -68,7 +69,8 @@ returns-in-Err-clause-step g c =
     (written c.walk-asks.new.self) c.in-Err.ended) (sym c.replace.ensures.after)
     (begins_ending self pair journal running taken session is fault heard scanned nothing made
     left right same_left same_right c.in-Ok.ensures.begun
-    (c.in-Ok.ensures.items ∙ ap (plan (scan_of left) (scan_of right)) marks)
+    (c.in-Ok.ensures.items ∙ ap₂ (λ r m. plan r (scan_of left) (scan_of right) m)
+    (sym heard.heard_is.preference) marks)
     (c.found-left.ensures.scan Left (running.taken ++ taken ∷ []) (scanned.whole Left)
     (scanned.found Left))
     (c.found-right.ensures.scan Right (running.taken ++ taken ∷ []) (scanned.whole Right)

@@ -1,6 +1,6 @@
 use Rattle.std.proofs.Common.{◌≡◌, Some, None, refl, sym, subst, ap, ◌∙◌}
 use Rattle.std.proofs.lemmas.Option.{none-some}
-use Rattle.syn_message.specs.Sides.{which_of}
+use Rattle.syn_path.specs.Sides.{which_of}
 use Rattle.syn_headline.specs.Coordinator.{asked_in}
 use Rattle.syn_session.specs.Stages.{line_of, waiting_of}
 use Rattle.syn_session.specs.declared.session.Session.{Session}

@@ -4,7 +4,7 @@ use Rattle.syn_session.specs.Reports.{report_model}
 use Rattle.std.specs.Prelude.{is_some}
 use Rattle.syn_message.specs.Replies.{reply_of}
 use Rattle.syn_message.specs.Requests.{request_of}
-use Rattle.syn_message.specs.Sides.{which_of}
+use Rattle.syn_path.specs.Sides.{which_of}
 use Rattle.syn_session.specs.Sendings.{messages_of}
 use Rattle.syn_session.specs.Answering.{exchange_of}
 use Rattle.syn_keep.specs.Machines.{IsMachine}

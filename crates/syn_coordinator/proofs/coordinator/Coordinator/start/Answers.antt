@@ -1,5 +1,5 @@
 use Rattle.std.proofs.Common.{◌≡◌, ◌≢◌, ◌<◌, ◌^◌, ◌+◌, [], ◌∷◌, ◌++◌, Some, None, Err, inl, inr}
-use Rattle.std.proofs.Common.{sym, ap, ap₂, ◌∙◌, subst, map, true}
+use Rattle.std.proofs.Common.{sym, ap, ap₂, ◌∙◌, subst, map, true, option_map}
 use Rattle.syn_headline.specs.Coordinator.{CoordinatorStarts}
 use Rattle.syn_image.specs.Archives.{kept_of}
 use Rattle.syn_image.specs.declared.kept.Kept.TheVariants as has
@@ -22,11 +22,13 @@ use Rattle.syn_coordinator.proofs.StartLemmas.{room_for, started, start_failed, 
 use Rattle.syn_coordinator.proofs.StartLemmas.{then_memory}
 use Rattle.syn_coordinator.proofs.TriedLemmas.{untried_up}
 use Rattle.syn_coordinator.proofs.coordinator.Coordinator.start.Goals as goal
+use Rattle.syn_path.specs.Sides.{which_of}
 
 pub returns-in_err-check_start-clause-step : goal.returns-in_err-check_start-clause-step
 returns-in_err-check_start-clause-step g c pair machine stands =
     passed (λ e. e ≡ Device → Does c.args.self.now c.args.self.now pair
-    (CoordinatorStarts pair machine) [] []) _ c.from_residual.result _ c.from_residual.ensures.1
+    (CoordinatorStarts pair (option_map which_of c.args.preference) machine) [] []) _
+    c.from_residual.result _ c.from_residual.ensures.1
     (λ e. absurd (c.in_err-check_start.ensures.no_call e))
 
 pub returns-in_err-check_start-clause-refused : goal.returns-in_err-check_start-clause-refused
@@ -42,9 +44,11 @@ returns-in_err-check_start-clause-refused g c pair machine stands =
 pub returns-in_err-keep_session-clause-step : goal.returns-in_err-keep_session-clause-step
 returns-in_err-keep_session-clause-step g c pair machine stands =
     passed (λ e. e ≡ Device →
-    Does c.args.self.now c.keep_session.new.self pair (CoordinatorStarts pair machine) [] []) _
+    Does c.args.self.now c.keep_session.new.self pair (CoordinatorStarts pair
+    (option_map which_of c.args.preference) machine) [] []) _
     c.from_residual-in_err-keep_session.result _ c.from_residual-in_err-keep_session.ensures.1
-    (λ e. start_failed c.args.self.now c.keep_session.new.self pair machine
+    (λ e. start_failed (option_map which_of c.args.preference) c.args.self.now
+    c.keep_session.new.self pair machine
     c.in_ok-check_start.ensures.idle (when_runs c.args.self.now.archive pair machine.journal
     stands.journal c.in_ok-check_start.ensures.up).idle
     (subst (λ n. HoldsTried c.keep_session.new.self.archive (Session (n + 1))
@@ -79,7 +83,8 @@ returns-clause-step g c pair machine stands =
     let numbered = ap (λ n. n + 1) (c.last_session-number.ensures ∙ last) in
     let of_pair = c.pair.ensures ∙ stands.journal.pair_is in
     let begins = λ (archive : model.Archive). subst
-    (λ r. IsSession archive c.in_ok-session.session r) (ap₂ begun numbered of_pair)
+    (λ r. IsSession archive c.in_ok-session.session r) (ap₂ (begun
+    (option_map which_of c.args.preference)) numbered of_pair)
     (c.in_ok-session.ensures.begun archive) in
     let kept = subst (λ n. KeepsSo (archive_of c.keep_session.new.self) pair machine.journal
     (Session (n + 1)) (Session (n + 1) ∷ []) Up) last
@@ -89,11 +94,14 @@ returns-clause-step g c pair machine stands =
     ∙ (ap (λ l. map kept_of (l ++ has.Session (c.last_session-number.result + 1) ∷ []))
     c.new-written.ensures.items ∙ ap (λ n. Session n ∷ []) numbered)) in
     let sent = c.in_ok-session.ensures.sends ∙ ap₂ begin_messages numbered of_pair in
-    subst (λ w. Does c.args.self.now c.keep_session.new.self pair (CoordinatorStarts pair machine) w
+    subst (λ w. Does c.args.self.now c.keep_session.new.self pair
+    (CoordinatorStarts pair (option_map which_of c.args.preference) machine) w
     (messages_of c.in_ok-session.sends.items)) (sym written_is)
-    (subst (λ m. Does c.args.self.now c.keep_session.new.self pair (CoordinatorStarts pair machine)
+    (subst (λ m. Does c.args.self.now c.keep_session.new.self pair
+    (CoordinatorStarts pair (option_map which_of c.args.preference) machine)
     (Session (machine.journal.value.last_session + 1) ∷ []) m) (sym sent)
-    (started c.args.self.now c.keep_session.new.self pair machine c.in_ok-check_start.ensures.idle
+    (started (option_map which_of c.args.preference) c.args.self.now c.keep_session.new.self pair
+    machine c.in_ok-check_start.ensures.idle
     (subst (λ n. n + 1 < 2 ^ 64) last c.in_ok-check_start.ensures.fits) (subst (λ p. p < 2 ^ 64)
     of_pair c.in_ok-session.ensures.fits) was.idle (c.in_ok-keep_session.ensures.untried
     ∙ untried_up pair c.args.self.now.tried machine.journal stands.tries was.up)

@@ -1,7 +1,7 @@
 use Rattle.std.proofs.Common.{inl}
 use Rattle.syn_message.specs.Replies.{reply_of}
 use Rattle.syn_message.specs.Requests.{request_of}
-use Rattle.syn_message.specs.Sides.{which_of}
+use Rattle.syn_path.specs.Sides.{which_of}
 use Rattle.syn_session.specs.Stages.{reached_by}
 use Rattle.syn_coordinator.proofs.BeginLemmas.{carries_asking, carries_ending, carries_now}
 use Rattle.syn_coordinator.proofs.BreakLemmas.{none_breaks}

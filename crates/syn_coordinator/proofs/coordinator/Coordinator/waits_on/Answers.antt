@@ -2,7 +2,7 @@ use Rattle.std.proofs.Common.{◌≡◌, ◌∙◌, Option, Some, None, ap, fals
 use Rattle.std.proofs.Common.{subst}
 use Rattle.syn_headline.specs.Coordinator.{Running}
 use Rattle.syn_headline.specs.Network.{Which}
-use Rattle.syn_message.specs.Sides.{which_of}
+use Rattle.syn_path.specs.Sides.{which_of}
 use Rattle.syn_session.specs.Sessions.{IsRunning}
 use Rattle.syn_session.specs.Stages.{line_of, waiting_of}
 use Rattle.syn_session.specs.declared.session.Session.{Session}

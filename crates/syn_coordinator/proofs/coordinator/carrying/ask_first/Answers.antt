@@ -1,7 +1,7 @@
 use Rattle.std.proofs.Common.{refl, subst, sym}
 use Rattle.syn_headline.specs.Side.{Staged}
 use Rattle.syn_message.specs.Requests.{request_of}
-use Rattle.syn_message.specs.Sides.{which_of}
+use Rattle.syn_path.specs.Sides.{which_of}
 use Rattle.syn_propagate.specs.Transfers.{Asks, Follows}
 use Rattle.syn_session.specs.Stages.{Carries, plan_in}
 use Rattle.syn_coordinator.proofs.FreshLemmas.{asked_past}

@@ -3,7 +3,7 @@ use Rattle.syn_headline.specs.Coordinator.{CoordinatorTakes}
 use Rattle.syn_host.specs.Coordinators.{IsCoordinator}
 use Rattle.syn_host.specs.CoordinatorSteps.{Unrefused}
 use Rattle.syn_message.specs.Replies.{reply_of}
-use Rattle.syn_message.specs.Sides.{which_of}
+use Rattle.syn_path.specs.Sides.{which_of}
 use Rattle.syn_host.proofs.CallLemmas.{refused_call}
 use Rattle.syn_host.proofs.ReplyLemmas.{takes_none}
 use Rattle.syn_host.proofs.coordinator.CoordinatorHost.hear.Goals as goal

@@ -1,9 +1,10 @@
-use Rattle.std.proofs.Common.{refl, subst}
+use Rattle.std.proofs.Common.{refl, subst, option_map}
 use Rattle.syn_host.specs.Coordinators.{IsCoordinator}
 use Rattle.syn_host.specs.CoordinatorSteps.{Starts}
 use Rattle.syn_host.specs.CoordinatorSteps as steps
 use Rattle.syn_host.proofs.CallLemmas.{refused_call}
 use Rattle.syn_host.proofs.coordinator.CoordinatorHost.start.Goals as goal
+use Rattle.syn_path.specs.Sides.{which_of}
 
 pub returns-in-Up : goal.returns-in-Up
 returns-in-Up g c pair machine is =
@@ -12,6 +13,7 @@ returns-in-Up g c pair machine is =
 pub returns-in-Down : goal.returns-in-Down
 returns-in-Down g c pair machine is =
     let rests = subst (λ s. IsCoordinator pair s machine) c.in-Down.is is in
-    refused_call pair machine _ c.refused.result _ _ (Starts pair machine) rests
+    refused_call pair machine _ c.refused.result _ _ (Starts pair
+    (option_map which_of c.args.preference) machine) rests
     c.refused.ensures.coordinator c.refused.ensures.outcome refl
     (steps.Starts.is_down rests.down)

@@ -3,7 +3,7 @@ use Rattle.std.specs.Prelude.{◌&&◌, if◌then◌else◌, not}
 use Rattle.syn_headline.specs.Coordinator.{no_call}
 use Rattle.syn_host.specs.CoordinatorSteps.{refuses_nothing}
 use Rattle.syn_message.specs.Replies.{reply_of}
-use Rattle.syn_message.specs.Sides.{which_of}
+use Rattle.syn_path.specs.Sides.{which_of}
 use Rattle.syn_coordinator.specs.Coordinators.{ended_in, in_report, report_shown, runs, written}
 use Rattle.syn_session.specs.Sendings.{messages_of}
 use Rattle.syn_host.proofs.CallLemmas.{gathered_tells}

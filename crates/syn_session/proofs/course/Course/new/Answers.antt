@@ -1,16 +1,21 @@
-use Rattle.std.proofs.Common.{ap, refl, sym, arith}
+use Rattle.std.proofs.Common.{ap, refl, sym, arith, option_map}
 use Rattle.syn_headline.specs.Report.{is_carrying, is_marking}
 use Rattle.syn_session.specs.Plans.{planned_all}
 use Rattle.syn_recon.specs.Items.{items_of}
 use Rattle.syn_session.proofs.TallyLemmas.{none_recorded, nothing_counted}
 use Rattle.syn_session.proofs.course.Course.new.Goals as goal
+use Rattle.syn_path.specs.Sides.{which_of}
 
 pub returns-clause-begun : goal.returns-clause-begun
 returns-clause-begun c =
     let plan = planned_all c.args.left.now c.args.right.now (items_of c.in_ok-items.items.items) in
     record {
       plan = refl;
-      made = (c.args.archive.now, c.in_ok-items.ensures.ok);
+      made = (
+        option_map which_of c.args.preference,
+        c.args.archive.now,
+        c.in_ok-items.ensures.ok,
+      );
       short = omega (arith, c.len.ensures, c.if-len-gt-MAX_ITEMS.false);
       cursor = refl;
       recorded = none_recorded plan 0;

@@ -5,7 +5,7 @@ use Rattle.std.proofs.lemmas.Grind.{common_steps}
 use Rattle.std.proofs.lemmas.List.{map-append}
 use Rattle.syn_headline.specs.Coordinator.{messages_to, numbered}
 use Rattle.syn_headline.specs.Side.{ListAt}
-use Rattle.syn_message.specs.Sides.{which_of}
+use Rattle.syn_path.specs.Sides.{which_of}
 use Rattle.syn_session.specs.Answering.{IsAskedOn}
 use Rattle.syn_session.specs.Sendings.{messages_of}
 use Rattle.syn_session.proofs.WaitingLemmas.{asked_more, sent_more}

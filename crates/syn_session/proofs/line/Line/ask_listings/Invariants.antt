@@ -1,7 +1,7 @@
 use Rattle.std.proofs.Common.{◌≡◌, ◌++◌, map}
 use Rattle.syn_headline.specs.Coordinator.{messages_to, numbered}
 use Rattle.syn_headline.specs.Side.{ListAt}
-use Rattle.syn_message.specs.Sides.{which_of}
+use Rattle.syn_path.specs.Sides.{which_of}
 use Rattle.syn_session.specs.Answering.{IsAskedOn}
 use Rattle.syn_session.specs.Sendings.{messages_of}
 use Rattle.syn_session.proofs.line.Line.ask_listings.Given as goal

@@ -1,6 +1,6 @@
 use Rattle.std.proofs.Common.{◌≡◌, ◌++◌, map, take}
 use Rattle.syn_headline.specs.Coordinator.{messages_to}
-use Rattle.syn_message.specs.Sides.{which_of}
+use Rattle.syn_path.specs.Sides.{which_of}
 use Rattle.syn_session.specs.Sendings.{messages_of}
 use Rattle.syn_session.specs.Stages.{outstanding_of}
 use Rattle.syn_session.proofs.line.Line.send.Given as goal

@@ -5,11 +5,13 @@ use Rattle.syn_session.proofs.SessionLemmas.{SentAgain, resent_so}
 use Rattle.syn_session.proofs.session.Session.count_resend.Goals as goal
 
 pub returns : goal.returns
-returns c archive running is = resent_so archive c.args.self.now _ running is refl refl refl again
+returns c archive running is = resent_so archive c.args.self.now _ running is refl refl refl refl
+    again
   where
     again : (side : Which) → SentAgain (line_of c.args.self.now side) (line_of (record {
       number =
           c.args.self.now.number;
+      preference = c.args.self.now.preference;
       left = c.count_resend.new.self;
       right = c.count_resend-2.new.self;
       is_unstable = c.args.self.now.is_unstable;

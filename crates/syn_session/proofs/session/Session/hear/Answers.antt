@@ -3,7 +3,7 @@ use Rattle.syn_message.specs.Requests.{request_of}
 use Rattle.syn_session.specs.Answering.{IsAnswering}
 use Rattle.syn_session.specs.Hearing.{Hears}
 use Rattle.syn_message.specs.Replies.{reply_of}
-use Rattle.syn_message.specs.Sides.{which_of}
+use Rattle.syn_path.specs.Sides.{which_of}
 use Rattle.syn_session.proofs.HearingLemmas.{none_other}
 use Rattle.syn_session.proofs.session.Session.hear.Goals as goal
 

@@ -3,7 +3,7 @@ use Rattle.syn_headline.specs.Coordinator.{hearing}
 use Rattle.syn_headline.specs.Network.{Left, Right, Which}
 use Rattle.syn_headline.specs.Side.{Begin, ListAt}
 use Rattle.syn_message.specs.Replies.{reply_of}
-use Rattle.syn_message.specs.Sides.{which_of}
+use Rattle.syn_path.specs.Sides.{which_of}
 use Rattle.syn_session.specs.Answering.{asks_of, exchange_of}
 use Rattle.syn_session.specs.Hearing.{at_once, behind}
 use Rattle.syn_session.specs.declared.session.Asks.TheVariants.{Listings}

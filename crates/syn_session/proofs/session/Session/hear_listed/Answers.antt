@@ -2,7 +2,7 @@ use Rattle.std.proofs.Common.{refl, ap, ◌∙◌}
 use Rattle.syn_headline.specs.Coordinator.{hearing}
 use Rattle.syn_headline.specs.Side.{ListAt}
 use Rattle.syn_message.specs.Replies.{reply_of}
-use Rattle.syn_message.specs.Sides.{which_of}
+use Rattle.syn_path.specs.Sides.{which_of}
 use Rattle.syn_session.specs.Answering.{exchange_of}
 use Rattle.syn_session.specs.Hearing.{at_once, behind}
 use Rattle.std.specs.Prelude.{◌||◌}
@@ -55,23 +55,28 @@ returns-in-Ok c = record {
       let has = listed_heard archive before now running side number (ListAt path) reply is answers
       scans path refl taken after keeps c.in_ok-take_listing.ensures.unstable counted
       c.count_unstable.ensures.left c.count_unstable.ensures.right c.count_unstable.ensures.number
+      c.count_unstable.ensures.preference
       c.count_unstable.ensures.course step.1 taken_out in
       let both = listed_begun archive before now running side number (ListAt path) reply is answers
       scans path refl taken after keeps c.in_ok-take_listing.ensures.unstable counted
       c.count_unstable.ensures.left c.count_unstable.ensures.right c.count_unstable.ensures.number
+      c.count_unstable.ensures.preference
       c.count_unstable.ensures.course step.1 taken_out in
       let found = listed_found archive before now running side number (ListAt path) reply is answers
       scans path refl taken after keeps c.in_ok-take_listing.ensures.unstable counted
       c.count_unstable.ensures.left c.count_unstable.ensures.right c.count_unstable.ensures.number
+      c.count_unstable.ensures.preference
       c.count_unstable.ensures.course step.1 taken_out in
       let lines = listed_lines archive before now running side number (ListAt path) reply is answers
       scans path refl taken after keeps c.in_ok-take_listing.ensures.unstable counted
       c.count_unstable.ensures.left c.count_unstable.ensures.right
-      c.count_unstable.ensures.number c.count_unstable.ensures.course step.1 taken_out in
+      c.count_unstable.ensures.number c.count_unstable.ensures.preference
+      c.count_unstable.ensures.course step.1 taken_out in
       let out = listed_out archive before now running side number (ListAt path) reply is answers
       scans path refl taken after keeps c.in_ok-take_listing.ensures.unstable counted
       c.count_unstable.ensures.left c.count_unstable.ensures.right
-      c.count_unstable.ensures.number c.count_unstable.ensures.course step.1 taken_out in (
+      c.count_unstable.ensures.number c.count_unstable.ensures.preference
+      c.count_unstable.ensures.course step.1 taken_out in (
         step.0,
         heard_new after c.scan_on.new.self heard has both found lines out c.in-Ok.ensures.same,
         scans_either after c.scan_on.new.self heard has both found lines out c.in-Ok.ensures.same
@@ -101,22 +106,27 @@ returns-in-Err c = record {
       let has = listed_heard archive before now running side number (ListAt path) reply is answers
       scans path refl taken after keeps c.in_ok-take_listing.ensures.unstable counted
       c.count_unstable.ensures.left c.count_unstable.ensures.right c.count_unstable.ensures.number
+      c.count_unstable.ensures.preference
       c.count_unstable.ensures.course step.1 taken_out in
       let both = listed_begun archive before now running side number (ListAt path) reply is answers
       scans path refl taken after keeps c.in_ok-take_listing.ensures.unstable counted
       c.count_unstable.ensures.left c.count_unstable.ensures.right c.count_unstable.ensures.number
+      c.count_unstable.ensures.preference
       c.count_unstable.ensures.course step.1 taken_out in
       let found = listed_found archive before now running side number (ListAt path) reply is answers
       scans path refl taken after keeps c.in_ok-take_listing.ensures.unstable counted
       c.count_unstable.ensures.left c.count_unstable.ensures.right c.count_unstable.ensures.number
+      c.count_unstable.ensures.preference
       c.count_unstable.ensures.course step.1 taken_out in
       let lines = listed_lines archive before now running side number (ListAt path) reply is answers
       scans path refl taken after keeps c.in_ok-take_listing.ensures.unstable counted
       c.count_unstable.ensures.left c.count_unstable.ensures.right c.count_unstable.ensures.number
+      c.count_unstable.ensures.preference
       c.count_unstable.ensures.course step.1 taken_out in
       let out = listed_out archive before now running side number (ListAt path) reply is answers
       scans path refl taken after keeps c.in_ok-take_listing.ensures.unstable counted
       c.count_unstable.ensures.left c.count_unstable.ensures.right c.count_unstable.ensures.number
+      c.count_unstable.ensures.preference
       c.count_unstable.ensures.course step.1 taken_out in
       behind step.0 refl (tells_heard c.scan_on.new.self heard
       (heard_new after c.scan_on.new.self heard has both found lines out c.in-Err.ensures.same));

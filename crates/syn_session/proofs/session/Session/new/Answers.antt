@@ -1,4 +1,4 @@
-use Rattle.std.proofs.Common.{◌≡◌, [], refl}
+use Rattle.std.proofs.Common.{◌≡◌, [], refl, option_map}
 use Rattle.syn_headline.specs.Network.{Which, Left, Right}
 use Rattle.syn_session.specs.Scanning.{IsFoundIn, found_of, out_of}
 use Rattle.syn_session.specs.declared.line.Line.{Line}
@@ -6,10 +6,12 @@ use Rattle.syn_session.specs.Sessions.{begin_of}
 use Rattle.syn_session.specs.Stages.{waiting_of}
 use Rattle.syn_session.proofs.SessionLemmas.{session_begins}
 use Rattle.syn_session.proofs.session.Session.new.Goals as goal
+use Rattle.syn_path.specs.Sides.{which_of}
 
 pub returns-clause-begun : goal.returns-clause-begun
 returns-clause-begun c archive =
-    session_begins archive _ c.args.number c.args.pair refl c.ranges.number.fits refl refl waits
+    session_begins archive _ (option_map which_of c.args.preference) c.args.number c.args.pair refl
+    refl c.ranges.number.fits refl refl waits
     asked found out
   where
     line : Which → Line

@@ -8,6 +8,7 @@ use Rattle.syn_session.proofs.session.Session.scan_on.Goals.{After-are_silent}
 abbrev then_ : After-are_silent → Session
 then_ c = record {
   number = c.args.self.now.number;
+  preference = c.args.self.now.preference;
   left = c.next_listings.new.self;
   right = c.next_listings-2.new.self;
   is_unstable = c.args.self.now.is_unstable;

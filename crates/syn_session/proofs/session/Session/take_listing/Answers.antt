@@ -2,11 +2,11 @@ use Rattle.std.proofs.Common.{◌≡◌, ◌⊎◌, None, Some, MatchResult, sub
 use Rattle.syn_headline.specs.Session.{fault_of}
 use Rattle.syn_headline.specs.Side.{ListAt}
 use Rattle.syn_message.specs.Replies.{reply_of}
-use Rattle.syn_message.specs.Sides.{which_of}
+use Rattle.syn_path.specs.Sides.{which_of}
 use Rattle.syn_model.specs.Refusal.{Memory}
 use Rattle.syn_refusal.specs.Refusals.{cause_of}
 use Rattle.syn_session.specs.Scanning.{IsFoundIn, WaitsFor, with_listing_answered}
-use Rattle.syn_message.specs.declared.side.Side.TheVariants.{Left, Right}
+use Rattle.syn_path.specs.declared.side.Side.TheVariants.{Left, Right}
 use Rattle.syn_session.specs.Stages.{found_on, line_of}
 use Rattle.syn_session.specs.declared.session.Session.{Session}
 use Rattle.syn_session.proofs.session.Session.take_listing.Goals as goal
@@ -16,6 +16,7 @@ returns-in-Left-clause-step c taken number =
     let self = c.args.self.now in let path = c.args.path.now in let reply = reply_of c.args.reply in
     let now : Session = record {
       number = self.number;
+      preference = self.preference;
       left =
           record { waiting = self.left.waiting; asked = self.left.asked; scan = c.take.new.self };
       right = self.right;
@@ -35,6 +36,7 @@ returns-in-Right-clause-step c taken number =
     let self = c.args.self.now in let path = c.args.path.now in let reply = reply_of c.args.reply in
     let now : Session = record {
       number = self.number;
+      preference = self.preference;
       left = self.left;
       right = record {
         waiting = self.right.waiting;

@@ -1,6 +1,6 @@
 use Rattle.std.proofs.Common.{◌∙◌, subst, sym}
 use Rattle.syn_message.specs.Replies.{answering_of}
-use Rattle.syn_message.specs.Sides.{which_of}
+use Rattle.syn_path.specs.Sides.{which_of}
 use Rattle.syn_coordinator.specs.Coordinators.{written}
 use Rattle.syn_session.specs.Sendings.{messages_of}
 use Rattle.syn_sync.proofs.RunLemmas.{drives_none, drives_take, drives_taken, drives_twice}

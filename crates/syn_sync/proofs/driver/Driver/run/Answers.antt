@@ -1,4 +1,4 @@
-use Rattle.std.proofs.Common.{◌∙◌, subst, sym}
+use Rattle.std.proofs.Common.{◌∙◌, subst, sym, option_map}
 use Rattle.syn_session.specs.Sendings.{messages_of}
 use Rattle.syn_sync.proofs.RunLemmas.{drives_down, drives_silent, drives_whole, stands_of}
 use Rattle.syn_sync.proofs.StartLemmas.{on_ok, unended}
@@ -7,6 +7,7 @@ use Rattle.syn_sync.specs.Drivers.{lines_of, outlets_of}
 use Rattle.syn_sync.specs.Outlets.{Writes}
 use Rattle.syn_sync.specs.Refusals.{stopped}
 use Rattle.syn_sync.specs.Runs.{Begins, frames_to}
+use Rattle.syn_path.specs.Sides.{which_of}
 
 pub returns-in-Err-clause-drives : goal.returns-in-Err-clause-drives
 returns-in-Err-clause-drives g c = λ pair machine stands.
@@ -48,7 +49,8 @@ returns-clause-drives g c = λ pair machine stands.
     let begun = c.in-Ok.ensures pair machine stands in
     let now = (begun.0).reached in
     let went = c.go_on.ensures pair now (stands_of began pair now (begun.0).ends calm) in
-    let whole = drives_whole began c.go_on.new.coordinator c.give_up.new.coordinator pair machine
+    let whole = drives_whole (option_map which_of c.args.preference) began
+    c.go_on.new.coordinator c.give_up.new.coordinator pair machine
     (messages_of c.in-Ok.sends.items) (lines c.args.self.now) (lines sent) went.0
     (outlets c.args.self.now) (outlets sent) (outlets c.go_on.new.self) begun calm told.lines
     (λ side. subst (λ sends. Writes (outlets c.args.self.now side) (outlets sent side)
@@ -57,7 +59,8 @@ returns-clause-drives g c = λ pair machine stands.
     (λ now here. c.give_up.ensures.calls pair now here) in (
       went.0,
       whole.0,
-      on_ok (Begins (whole.0).acts) c.give_up.result whole.1,
+      on_ok (Begins (option_map which_of c.args.preference) (whole.0).acts) c.give_up.result
+          whole.1,
     )
 
 pub returns-clause-refused : goal.returns-clause-refused

@@ -1,7 +1,7 @@
 use Rattle.std.proofs.Common.{refl, subst, sym}
 use Rattle.syn_headline.specs.Network.{Asks, Which}
 use Rattle.syn_message.specs.Requests.{request_of}
-use Rattle.syn_message.specs.Sides.{which_of}
+use Rattle.syn_path.specs.Sides.{which_of}
 use Rattle.syn_sync.proofs.WriteLemmas.{sent_left, sent_right}
 use Rattle.syn_sync.proofs.driver.Driver.send.Goals as goal
 use Rattle.syn_sync.specs.Drivers.{outlets_of}

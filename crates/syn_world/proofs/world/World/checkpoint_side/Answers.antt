@@ -2,7 +2,7 @@ use Rattle.std.proofs.Common.{[], subst, sym}
 use Rattle.syn_headline.specs.Network.{Left, Right}
 use Rattle.syn_headline.specs.World.{At, Checkpoint}
 use Rattle.syn_host.specs.Outcomes.{refused_in}
-use Rattle.syn_message.specs.Sides.{which_of}
+use Rattle.syn_path.specs.Sides.{which_of}
 use Rattle.syn_world.specs.Worlds.{GoesSo}
 use Rattle.syn_world.proofs.StepLemmas.{lift_checkpoint, side_next}
 use Rattle.syn_world.proofs.WorldLemmas.{goes_left, goes_right}

@@ -3,7 +3,7 @@ use Rattle.std.specs.Prelude.{slice_get}
 use Rattle.std.proofs.lemmas.Option.{slice_get_past, slice_get_read}
 use Rattle.syn_headline.specs.Network.{Asks, Answers}
 use Rattle.syn_headline.specs.World.{Delivers, no_message}
-use Rattle.syn_message.specs.Sides.{which_of}
+use Rattle.syn_path.specs.Sides.{which_of}
 use Rattle.syn_world.specs.Runs.{no_memory, steps}
 use Rattle.syn_world.specs.declared.lists.Message.TheVariants as messages
 use Rattle.syn_world.proofs.RunLemmas.{sent_is}

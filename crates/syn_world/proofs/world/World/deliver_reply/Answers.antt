@@ -5,7 +5,7 @@ use Rattle.syn_headline.specs.Network.{Answers}
 use Rattle.syn_headline.specs.World.{Deliver}
 use Rattle.syn_host.specs.CoordinatorSteps.{Unrefused}
 use Rattle.syn_message.specs.Replies.{reply_of}
-use Rattle.syn_message.specs.Sides.{which_of}
+use Rattle.syn_path.specs.Sides.{which_of}
 use Rattle.syn_world.proofs.ListLemmas.{sent_can}
 use Rattle.syn_world.proofs.SessionLemmas.{goes_coordinator, lift_reply}
 use Rattle.syn_world.proofs.world.World.deliver_reply.Goals as goal

@@ -4,7 +4,7 @@ use Rattle.syn_headline.specs.Network.{Asks, Left, Right}
 use Rattle.syn_headline.specs.World.{says}
 use Rattle.syn_message.specs.Replies.{reply_of}
 use Rattle.syn_message.specs.Requests.{request_of}
-use Rattle.syn_message.specs.Sides.{which_of}
+use Rattle.syn_path.specs.Sides.{which_of}
 use Rattle.syn_world.proofs.StepLemmas.{lift_deliver, side_next}
 use Rattle.syn_world.proofs.WorldLemmas.{hears_left, hears_right}
 use Rattle.syn_world.proofs.world.World.deliver_request.Goals as goal

@@ -3,7 +3,7 @@ use Rattle.syn_headline.specs.Network.{Left, Right}
 use Rattle.syn_headline.specs.World.{At, Open}
 use Rattle.syn_host.specs.Outcomes.{refused_in}
 use Rattle.syn_host.specs.Sides.{IsHost, OpensSo, side_disk}
-use Rattle.syn_message.specs.Sides.{which_of}
+use Rattle.syn_path.specs.Sides.{which_of}
 use Rattle.syn_world.specs.Worlds.{GoesSo}
 use Rattle.syn_world.proofs.StepLemmas.{lift_open, side_next}
 use Rattle.syn_world.proofs.WorldLemmas.{goes_left, goes_right}

@@ -2,10 +2,14 @@ use Rattle.syn_headline.specs.World.{Start}
 use Rattle.syn_host.specs.CoordinatorSteps.{Starts}
 use Rattle.syn_world.proofs.SessionLemmas.{goes_coordinator, lift_start}
 use Rattle.syn_world.proofs.world.World.start.Goals as goal
+use Rattle.std.proofs.Common.{option_map}
+use Rattle.syn_path.specs.Sides.{which_of}
 
 pub returns : goal.returns
 returns g c model is =
-    goes_coordinator c.args.self model is (Starts model.pair model.coordinator)
+    goes_coordinator c.args.self model is (Starts model.pair (option_map which_of c.args.preference)
+    model.coordinator)
     c.start-call.result
     (c.start-call.ensures model.pair model.coordinator is.machines.coordinator)
-    c.told.result Start (lift_start model _ _ _) c.told.ensures
+    c.told.result (Start (option_map which_of c.args.preference))
+    (lift_start (option_map which_of c.args.preference) model _ _ _) c.told.ensures

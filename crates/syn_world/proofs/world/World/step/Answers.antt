@@ -1,5 +1,5 @@
 use Rattle.std.proofs.Common.{Ok, subst, sym}
-use Rattle.syn_world.specs.Runs.{StepsSo}
+use Rattle.syn_world.specs.Runs.{StepsSo, steps}
 use Rattle.syn_world.specs.Steps.{step_of}
 use Rattle.syn_world.proofs.RunLemmas.{stays_so}
 use Rattle.syn_world.proofs.world.World.step.Goals as goal
@@ -18,3 +18,8 @@ pub returns-in-Stop : goal.returns-in-Stop
 returns-in-Stop g c model is =
     subst (λ s. StepsSo model (step_of s) (Ok c.stop.result)) (sym c.in-Stop.is)
     (stays_so model _ _ (c.stop.ensures model is))
+
+pub returns-in-Start : goal.returns-in-Start
+returns-in-Start g c model is =
+    subst (λ s. StepsSo model (step_of s) c.start.result) (sym c.in-Start.is)
+    (steps (c.start.ensures model is))

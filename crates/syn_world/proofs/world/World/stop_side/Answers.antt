@@ -1,7 +1,7 @@
 use Rattle.std.proofs.Common.{subst, sym}
 use Rattle.syn_headline.specs.Network.{Left, Right}
 use Rattle.syn_headline.specs.World.{At, Stop, Steps, set_side}
-use Rattle.syn_message.specs.Sides.{which_of}
+use Rattle.syn_path.specs.Sides.{which_of}
 use Rattle.syn_world.proofs.StepLemmas.{lift_stop}
 use Rattle.syn_world.proofs.WorldLemmas.{stays_left, stays_right}
 use Rattle.syn_world.proofs.world.World.stop_side.Goals as goal

@@ -1,7 +1,7 @@
 //! The two sides of a pair.
 ghost use Rattle.std.specs.Prelude.{◌≡◌};
-ghost use Rattle.syn_headline.specs.Network.{other};
-ghost use Rattle.syn_message.specs.Sides.{which_of};
+ghost use Rattle.syn_model.specs.Which.{other};
+ghost use Rattle.syn_path.specs.Sides.{which_of};
 
 /// A side of a pair of replicas.
 #[derive(Clone, Copy, Debug, PartialEq, Eq)]

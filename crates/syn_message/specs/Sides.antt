@@ -1,8 +1,0 @@
--- A side as the model has it.
-use Rattle.syn_headline.specs.Network as model
-use Rattle.syn_message.specs.declared.side.Side.{Side}
-use Rattle.syn_message.specs.declared.side.Side.TheVariants as has
-
-abbrev pub which_of : Side → model.Which
-which_of has.Left = model.Left
-which_of has.Right = model.Right
