@@ -1,5 +1,5 @@
 //! What a tree finds and measures in its entries.
-ghost use Rattle.std.specs.Prelude.{◌≡◌, ◌≤◌, ◌<◌, ◌+◌, ◌^◌, ◌++◌, ◌∷◌, length};
+ghost use Rattle.std.specs.Prelude.{◌≡◌, ◌≤◌, ◌<◌, ◌+◌, ◌^◌, ◌++◌, length};
 ghost use Rattle.std.specs.Prelude.{option_map, IfSome, IfNone, vec_len, vec_capacity};
 ghost use Rattle.std.specs.FinMap.{find};
 ghost use Rattle.syn_model.specs.Path.{path_cmp, IsPath};
@@ -39,7 +39,7 @@ pub(crate) fn find<'a>(list: &'a [Entry], at: &Key) -> Option<Found<'a>>
 }
 
 /// How many bytes spell the last name with its length; none for the root.
-pub(crate) fn name_spelled(key: &Key) -> usize
+pub fn name_spelled(key: &Key) -> usize
     ensures length { result ≡ last_name_spelling_length key.now }
     ensures short { result ≤ 65 }
     ensures lawful { IsPath key.now }
@@ -60,7 +60,7 @@ pub(crate) fn entry_spelled(entry: &Entry) -> usize
 }
 
 /// How many bytes spell what was found, without what is below it.
-pub(crate) fn found_spelled(found: &Found<'_>) -> usize
+pub fn found_spelled(found: &Found<'_>) -> usize
     ensures length { result ≡ content_spelling_length (found_content found.now) }
     ensures fits { result < 2 ^ 63 + 8 }
 {
@@ -83,7 +83,7 @@ pub(crate) fn spelled(list: &[Entry]) -> usize
 }
 
 /// How many bytes spell the entries; none where that is more than the longest spelling of a tree.
-pub(crate) fn measured(list: &[Entry]) -> Option<usize>
+pub fn measured(list: &[Entry]) -> Option<usize>
     ensures some { IfSome result (λ size. (size ≡ spelling_length list.now) × (size ≤ 524288)) }
     ensures none { IfNone result (524288 < spelling_length list.now) }
 {

@@ -10,7 +10,7 @@ use Rattle.syn_path.specs.declared.error.PathError.TheVariants as path
 use Rattle.syn_tree.specs.declared.error.TreeError.TheVariants.{Memory}
 use Rattle.syn_tree.specs.Refusals.{of_path}
 use Rattle.syn_tree.proofs.StripLemmas.{strip_itself, strip_below, prefix_whole, rest_lawful}
-use Rattle.syn_tree.proofs.copies.push_below.Goals as goal
+use Rattle.syn_mark.proofs.copies.push_below.Goals as goal
 
 pub returns-then-is_empty-clause-ok : goal.returns-then-is_empty-clause-ok
 returns-then-is_empty-clause-ok g c =

@@ -2,7 +2,7 @@ use Rattle.std.proofs.Common.{◌≡◌, ◌++◌, ◌∷◌, [], take, length, 
 use Rattle.std.proofs.Common.{append_assoc, arith}
 use Rattle.std.proofs.Math.Seq.{take-length}
 use Rattle.std.proofs.lemmas.List.{take_more}
-use Rattle.syn_tree.proofs.copies.push_names.Goals as goal
+use Rattle.syn_mark.proofs.copies.push_names.Goals as goal
 
 pub loop-name-init : goal.loop-name-init
 loop-name-init c = sym (append-nil c.args.names.now.items)

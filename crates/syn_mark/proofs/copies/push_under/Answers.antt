@@ -13,7 +13,7 @@ use Rattle.syn_path.specs.declared.error.PathError.TheVariants as path
 use Rattle.syn_tree.specs.declared.error.TreeError.TheVariants.{Full, Memory}
 use Rattle.syn_tree.specs.Refusals.{of_path}
 use Rattle.syn_tree.proofs.CheckLemmas.{path_fits}
-use Rattle.syn_tree.proofs.copies.push_under.Goals as goal
+use Rattle.syn_mark.proofs.copies.push_under.Goals as goal
 
 empty_of : {X : Type 0} (xs : List X) → length xs ≡ 0 → xs ≡ []
 empty_of [] l = refl

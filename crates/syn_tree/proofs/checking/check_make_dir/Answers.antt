@@ -6,11 +6,11 @@ use Rattle.syn_model.specs.Limits.{last_name_spelling_length}
 use Rattle.syn_tree.specs.Contents.{found_content}
 use Rattle.syn_tree.specs.Refusals.{refusal_in}
 use Rattle.syn_tree.proofs.CheckLemmas.{make_answer, measured_one, found_present}
-use Rattle.syn_tree.proofs.tree.Tree.check_make_dir.Goals as goal
+use Rattle.syn_tree.proofs.checking.check_make_dir.Goals as goal
 
 pub returns-then-fits : goal.returns-then-fits
-returns-then-fits c =
-    let t = c.args.self.now in
+returns-then-fits g c =
+    let t = g.T.Limited.tree c.args.tree.now in
     let p = c.args.path.now in
     let place = sym c.check_place.ensures ∙ ap refusal_in c.in_ok-check_place.was in
     let none = sym (found_present (λ found. found_content found) t p c.get.result c.get.ensures)
@@ -23,8 +23,8 @@ returns-then-fits c =
     ∙ ap (λ b. if b then None else Some Full) (sym fits ∙ c.if-fits.true))
 
 pub returns-else-fits : goal.returns-else-fits
-returns-else-fits c =
-    let t = c.args.self.now in
+returns-else-fits g c =
+    let t = g.T.Limited.tree c.args.tree.now in
     let p = c.args.path.now in
     let place = sym c.check_place.ensures ∙ ap refusal_in c.in_ok-check_place.was in
     let none = sym (found_present (λ found. found_content found) t p c.get.result c.get.ensures)

@@ -2,7 +2,7 @@ use Rattle.std.proofs.Common.{◌≡◌, ◌++◌, true}
 use Rattle.std.specs.List.{list_all}
 use Rattle.syn_model.specs.Limits.{fits_path}
 use Rattle.syn_placed.specs.Pairs.{under}
-use Rattle.syn_tree.proofs.copies.push_under.Given as goal
+use Rattle.syn_mark.proofs.copies.push_under.Given as goal
 
 abbrev pub invariant-loop-entry : goal.invariant-loop-entry
 invariant-loop-entry g l = record {

@@ -2,7 +2,7 @@ use Rattle.std.proofs.Common.{◌++◌, ◌∷◌, [], sym, ap, ap₂, ◌∙◌
 use Rattle.syn_model.specs.Path.{Name}
 use Rattle.syn_tree.specs.declared.content.Found.{Found}
 use Rattle.syn_tree.proofs.ListingLemmas.{kinds-more}
-use Rattle.syn_tree.proofs.tree.kinds.Goals as goal
+use Rattle.syn_tree.proofs.parts.kinds.Goals as goal
 
 pub loop-name-preserved : goal.loop-name-preserved
 loop-name-preserved c =

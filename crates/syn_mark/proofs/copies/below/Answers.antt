@@ -2,7 +2,7 @@ use Rattle.std.proofs.Common.{◌≡◌, ◌++◌, ◌∷◌, [], take, length, 
 use Rattle.std.proofs.Math.Seq.{take-length}
 use Rattle.syn_tree.specs.Lists.{stripped}
 use Rattle.syn_tree.proofs.StripLemmas.{strip_more}
-use Rattle.syn_tree.proofs.copies.below.Goals as goal
+use Rattle.syn_mark.proofs.copies.below.Goals as goal
 
 pub loop-entry-init : goal.loop-entry-init
 loop-entry-init g c = c.new-copies.ensures.items

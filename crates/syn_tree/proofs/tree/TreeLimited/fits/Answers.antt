@@ -9,7 +9,7 @@ use Rattle.syn_placed.specs.Pairs.{within, spelling_length}
 use Rattle.syn_placed.proofs.ParentLemmas.{place_free}
 use Rattle.syn_placed.proofs.CountLemmas.{kids}
 use Rattle.syn_tree.proofs.MeasureLemmas.{kept_size, part_count, part_size, measured}
-use Rattle.syn_tree.proofs.tree.Tree.fits.Goals as goal
+use Rattle.syn_tree.proofs.tree.TreeLimited.fits.Goals as goal
 
 pub overflow_sub-count : goal.overflow_sub-count
 overflow_sub-count c =

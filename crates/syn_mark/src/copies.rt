@@ -1,4 +1,4 @@
-//! Entries with another beginning of their paths, of trees and of marks alike.
+//! Entries with another beginning of their paths.
 ghost use Rattle.std.specs.Prelude.{◌≡◌, ◌≢◌, ◌++◌, ◌∷◌, [], true, false, IfOk, IfErr, OnOk};
 ghost use Rattle.std.specs.List.{list_all};
 ghost use Rattle.syn_model.specs.Path.{IsPath};
@@ -6,10 +6,10 @@ ghost use Rattle.syn_model.specs.Limits.{fits_path};
 ghost use Rattle.syn_placed.specs.Pairs.{under};
 ghost use Rattle.syn_tree.specs.Lists.{stripped};
 
-use crate::error::TreeError;
 use std::alloc::Global;
 use syn_path::{Name, Path, PathError};
 use syn_placed::{Placed, Standing};
+use syn_tree::TreeError;
 
 /// Equal names, put behind those that are there. Refused 11 where memory is refused, and for no
 /// other cause.
@@ -39,7 +39,7 @@ fn joined(alloc: Global, above: &[Name], below: &[Name]) -> Result<Path, PathErr
 /// Puts the entries behind those that are there, each with the path before its own.
 ///
 /// Refused 7 where a path would pass its limits, and 11 where memory is refused.
-pub fn push_under<C: Standing>(
+pub(crate) fn push_under<C: Standing>(
     alloc: Global,
     list: &mut Vec<Placed<C>>,
     at: &Path,
@@ -61,7 +61,7 @@ pub fn push_under<C: Standing>(
 
 /// The entries below the path, each without the path before its own. Refused 11 where memory is
 /// refused, and for no other cause.
-pub fn below<C: Standing>(
+pub(crate) fn below<C: Standing>(
     alloc: Global,
     list: &[Placed<C>],
     at: &Path,

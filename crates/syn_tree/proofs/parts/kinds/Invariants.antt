@@ -1,6 +1,6 @@
 use Rattle.std.proofs.Common.{◌≡◌, ◌++◌}
 use Rattle.syn_tree.specs.Lists.{kinds_of, contents_at}
-use Rattle.syn_tree.proofs.tree.kinds.Given as goal
+use Rattle.syn_tree.proofs.parts.kinds.Given as goal
 
 abbrev pub invariant-loop-name : goal.invariant-loop-name
 invariant-loop-name l = record {

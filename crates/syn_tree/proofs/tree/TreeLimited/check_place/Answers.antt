@@ -6,8 +6,8 @@ use Rattle.syn_model.specs.Refusal.{NoParent}
 use Rattle.syn_placed.specs.Pairs.{rooted}
 use Rattle.syn_placed.proofs.TreeLemmas.{get-with}
 use Rattle.syn_placed.proofs.ParentLemmas.{place_answer}
-use Rattle.syn_tree.proofs.tree.Tree.check_place.Goals as goal
-use Rattle.syn_tree.proofs.tree.Tree.check_place.Goals.{After-is_directory}
+use Rattle.syn_tree.proofs.tree.TreeLimited.check_place.Goals as goal
+use Rattle.syn_tree.proofs.tree.TreeLimited.check_place.Goals.{After-is_directory}
 
 shown : (c : After-is_directory) →
     c.is_directory.result ≡ is_directory c.args.self.now (parent c.args.path.now)
