@@ -1,18 +1,16 @@
 //! What a tree finds and measures in its entries.
-ghost use Rattle.std.specs.Prelude.{◌≡◌, ◌≤◌, ◌<◌, ◌+◌, ◌^◌, ◌++◌, length};
-ghost use Rattle.std.specs.Prelude.{option_map, IfSome, IfNone, vec_len, vec_capacity};
+ghost use Rattle.std.specs.Prelude.{◌≡◌, ◌≤◌, ◌<◌, ◌+◌, ◌^◌, option_map, IfSome, IfNone};
 ghost use Rattle.std.specs.FinMap.{find};
 ghost use Rattle.syn_model.specs.Path.{path_cmp, IsPath};
 ghost use Rattle.syn_model.specs.Limits.{content_spelling_length, last_name_spelling_length};
 ghost use Rattle.syn_tree.specs.Contents.{found_content};
-ghost use Rattle.syn_placed.specs.Pairs.{rooted, AreRising, before, within, behind};
-ghost use Rattle.syn_placed.specs.Pairs.{pair_spelling_length, spelling_length};
+ghost use Rattle.syn_placed.specs.Pairs.{rooted, AreRising, pair_spelling_length, spelling_length};
 
 use crate::content::Found;
 use crate::entry::{Entry, found_at};
 use crate::lawful::is_path;
 use syn_path::Key;
-use syn_placed::ranges::{entry_at, part_at, replace_part};
+use syn_placed::ranges::entry_at;
 
 /// The most bytes of the spelling of a replica's tree.
 pub const LONGEST_SPELLING: usize = 524_288;
@@ -95,21 +93,4 @@ pub fn measured(list: &[Entry]) -> Option<usize>
         }
     }
     Some(size)
-}
-
-/// Puts these entries in the place of what is at and below the path, and answers how many bytes
-/// spelled that.
-pub(crate) fn splice(list: &mut Vec<Entry>, at: &Key, added: Vec<Entry>) -> usize
-    requires rising { AreRising list.old.items }
-    requires brief { spelling_length (within at.now list.old.items) ≤ 524288 }
-    requires room { length (before at.now list.old.items) + length
-        (behind at.now list.old.items) + vec_len added ≤ vec_capacity list.old }
-    ensures items { list.new.items ≡ before at.now list.old.items
-        ++ (added.items ++ behind at.now list.old.items) }
-    ensures room { vec_capacity list.old ≤ vec_capacity list.new }
-    ensures removed { result ≡ spelling_length (within at.now list.old.items) }
-{
-    let removed = spelled(part_at(list, at));
-    replace_part(list, at, added);
-    removed
 }

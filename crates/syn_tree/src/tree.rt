@@ -23,16 +23,14 @@ use crate::entries::Entries;
 use crate::entry::Entry;
 use crate::error::TreeError;
 use crate::lawful::are_bytes;
-use crate::measures::{
-    LONGEST_SPELLING, MOST_CHILDREN, measured, spelled, splice,
-};
+use crate::measures::{LONGEST_SPELLING, MOST_CHILDREN, measured, spelled};
 use crate::node::Node;
 use crate::parts::{below, children, kinds};
 use crate::placing::placed;
 use std::alloc::Global;
 use std::marker::Model;
 use syn_path::{Key, Name, Path};
-use syn_placed::ranges::{count_children, is_directory, part_at};
+use syn_placed::ranges::{count_children, is_directory, part_at, replace_part};
 
 mod reading;
 
@@ -178,7 +176,8 @@ impl Tree {
         ensures { self.new ≡ after_change self.old change }
     {
         let (at, added, size) = change.into_parts();
-        let removed = splice(&mut self.list, &at, added);
+        let removed = spelled(part_at(&self.list, &at));
+        replace_part(&mut self.list, &at, added);
         self.spelled = self.spelled - removed + size;
     }
 
