@@ -48,11 +48,7 @@ pub trait Limited {
         ensures { fits_replica (tree self.now) ≡ true };
 }
 
-/// Why the edit is refused, with no change and no memory taken.
-///
-/// Refused 6 at the root, 2 where the parent is no directory, 3 where a file would take the place of
-/// a directory, 4 where a directory would be made where something is, 5 where nothing is there to
-/// remove, and 7 where the tree would pass a limit.
+/// Why the edit is refused, as `Tree::check` has it.
 pub fn check<T: Limited>(tree: &T, edit: &Edit) -> Result<(), TreeError>
     ensures { refusal_in result ≡ edit_refusal (T.tree tree.now) (edit_of edit.now) }
 {

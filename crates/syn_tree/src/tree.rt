@@ -6,12 +6,12 @@ ghost use Rattle.std.specs.Prelude.{IfOk, IfErr, OnOk, OnErr};
 ghost use Rattle.syn_model.specs.Tree.{empty_directory, is_directory, subtree, replace};
 ghost use Rattle.syn_model.specs.Event.{after_edit};
 ghost use Rattle.syn_model.specs.Limits.{children, fits_part, fits_paths, fits_replica};
-ghost use Rattle.syn_model.specs.Path.{Path as Where, parent};
+ghost use Rattle.syn_model.specs.Path.{parent};
 ghost use Rattle.syn_model.specs.Standing.{edit_refusal};
 ghost use Rattle.syn_placed.specs.Pairs.{AreRising, is_child};
 ghost use Rattle.syn_tree.specs.Change.{IsPreparedFor, after_change};
 ghost use Rattle.syn_tree.specs.Edits.{edit_of};
-ghost use Rattle.syn_tree.specs.Lists.{FitsNowhere, listing, contents_at, replace_refusal};
+ghost use Rattle.syn_tree.specs.Lists.{listing, contents_at, replace_refusal};
 ghost use Rattle.syn_tree.specs.Nodes.{part_of};
 ghost use Rattle.syn_tree.specs.Refusals.{refusal_of, refusal_in};
 
@@ -163,10 +163,10 @@ impl Tree {
             (part_of (option_map (λ there. there.now) new.entry)) ≡ Some (refusal_of e)) }
     {
         self.check_place(path)?;
-        if is_brief(new) {
-            Ok(())
-        } else {
-            Err(TreeError::Full)
+        match new {
+            None => Ok(()),
+            Some(node) if !node.is_brief() => Err(TreeError::Full),
+            Some(_) => Ok(()),
         }
     }
 
@@ -322,20 +322,6 @@ impl Limited for Tree {
 
     fn limits(&self) {
         let _ = self.list.len();
-    }
-}
-
-/// A part keeps the limit of a file's bytes.
-fn is_brief(part: Option<&Node>) -> bool
-    ensures brief { result ≡ true
-        → fits_part (part_of (option_map (λ there. there.now) part.entry)) ≡ true }
-    ensures long { result ≡ false
-        → (at : Where) → FitsNowhere at (part_of (option_map (λ there. there.now) part.entry)) }
-    ensures paths { fits_paths (part_of (option_map (λ there. there.now) part.entry)) ≡ true }
-{
-    match part {
-        None => true,
-        Some(node) => node.is_brief(),
     }
 }
 

@@ -3,10 +3,10 @@ use Rattle.std.specs.List.{list_all}
 use Rattle.syn_model.specs.Limits.{fits_part, fits_paths, fits_path}
 use Rattle.syn_tree.specs.Nodes.{part_of}
 use Rattle.syn_placed.proofs.TreeLemmas.{entries-absent}
-use Rattle.syn_tree.proofs.tree.is_brief.Goals as goal
+use Rattle.syn_tree.proofs.tree.Tree.check_part.Goals as goal
 
 pub returns-in-None-clause-brief : goal.returns-in-None-clause-brief
-returns-in-None-clause-brief c h =
+returns-in-None-clause-brief c =
     ap (λ o. fits_part (part_of (option_map (λ there. there.now) o))) c.in-None.is
     ∙ ap (list_all _) entries-absent
 
