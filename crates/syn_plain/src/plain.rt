@@ -1,5 +1,5 @@
 //! A tree as a list of paths, each with what stands there.
-ghost use Rattle.std.specs.Prelude.{◌≡◌, ◌≢◌, ◌↔◌, ◌⊎◌, Err, ◌&&◌, ◌||◌, not, nat_le, nat_lt};
+ghost use Rattle.std.specs.Prelude.{◌≡◌, ◌≢◌, ◌↔◌, ◌⊎◌, Err, ◌||◌, not, nat_lt};
 ghost use Rattle.std.specs.Prelude.{count_by, true, false, None, Some, option_map};
 ghost use Rattle.std.specs.Prelude.{IfOk, IfErr, OnOk, OnErr};
 ghost use Rattle.std.specs.FinMap.{get};
@@ -22,13 +22,10 @@ use std::marker::Model;
 use syn_path::{Name, Path};
 use syn_placed::list::{count_children, is_directory, parent_names, part_at, replace_part};
 use syn_tree::checking::{Limited, check};
-use syn_tree::measures::measured;
+use syn_tree::measures::{MOST_BELOW, MOST_CHILDREN, is_within_limits, measured};
 use syn_tree::parts::{below, children, kinds};
 use syn_tree::placing::placed;
-use syn_tree::{Edit, Entries, Found, LONGEST_SPELLING, MOST_CHILDREN, Node, TreeError};
-
-/// The most nodes of a tree below its root.
-const MOST_BELOW: usize = 1023;
+use syn_tree::{Edit, Entries, Found, Node, TreeError};
 
 /// A tree as a list of paths in path order, each with what stands there. It keeps the limits that
 /// the tree of a replica keeps, and answers each call as that one does. Contracts see it as the set
@@ -224,13 +221,6 @@ impl Limited for PlainTree {
     fn limits(&self) {
         self.limits()
     }
-}
-
-/// So many nodes below the root, so many bytes and so many names in each directory are allowed.
-fn is_within_limits(count: usize, length: usize, room: bool) -> bool
-    ensures { result ≡ (nat_le count 1023 && nat_le length 524288 && room) }
-{
-    count <= MOST_BELOW && length <= LONGEST_SPELLING && room
 }
 
 /// The directory of the path has a place for what is put there, where something stands there or it

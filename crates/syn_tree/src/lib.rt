@@ -1,6 +1,5 @@
-//! File trees: what stands at each path, and the edits that change it.
-//!
-//! `checking`, `measures`, `parts` and `placing` have what serves any form of a tree.
+//! File trees: what stands at each path, and the edits that change it. What serves any form of a
+//! tree is in `checking`, `measures`, `parts` and `placing`.
 #![tactic(auto)]
 
 mod change;

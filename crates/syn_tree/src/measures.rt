@@ -1,5 +1,6 @@
 //! What a tree finds and measures in its entries.
-ghost use Rattle.std.specs.Prelude.{◌≡◌, ◌≤◌, ◌<◌, ◌+◌, ◌^◌, option_map, IfSome, IfNone};
+ghost use Rattle.std.specs.Prelude.{◌≡◌, ◌≤◌, ◌<◌, ◌+◌, ◌^◌, ◌&&◌, nat_le, option_map, IfSome};
+ghost use Rattle.std.specs.Prelude.{IfNone};
 ghost use Rattle.std.specs.FinMap.{find};
 ghost use Rattle.syn_model.specs.Path.{path_cmp, IsPath};
 ghost use Rattle.syn_model.specs.Limits.{content_spelling_length, last_name_spelling_length};
@@ -14,6 +15,9 @@ use syn_placed::ranges::entry_at;
 
 /// The most bytes of the spelling of a replica's tree.
 pub const LONGEST_SPELLING: usize = 524_288;
+
+/// The most nodes of a tree below its root.
+pub const MOST_BELOW: usize = 1023;
 
 /// The most entries of a directory.
 pub const MOST_CHILDREN: usize = 256;
@@ -93,4 +97,11 @@ pub fn measured(list: &[Entry]) -> Option<usize>
         }
     }
     Some(size)
+}
+
+/// So many nodes below the root, so many bytes and so many names in each directory are allowed.
+pub fn is_within_limits(count: usize, length: usize, room: bool) -> bool
+    ensures { result ≡ (nat_le count 1023 && nat_le length 524288 && room) }
+{
+    count <= MOST_BELOW && length <= LONGEST_SPELLING && room
 }

@@ -109,7 +109,10 @@ fn child_name<'a>(above: &Key, key: &'a Key) -> Option<&'a [u8]>
 }
 
 /// The names, each with whether it is a directory. Refused 11 where memory is refused.
-pub fn kinds(alloc: Global, children: Vec<(Name, Found<'_>)>) -> Result<Vec<(Name, bool)>, TreeError>
+pub fn kinds(
+    alloc: Global,
+    children: Vec<(Name, Found<'_>)>,
+) -> Result<Vec<(Name, bool)>, TreeError>
     ensures ok { IfOk result (λ names. names.items ≡ kinds_of (contents_at children.entry.items)) }
     ensures memory { IfErr result (λ e. e ≡ TreeError.Memory) }
 {

@@ -1,6 +1,6 @@
 //! A whole tree, within the limits of a replica by its type, with the edits and replacements that
 //! change it.
-ghost use Rattle.std.specs.Prelude.{◌≡◌, ◌≢◌, ◌↔◌, ◌⊎◌, Err, ◌&&◌, ◌||◌, not, nat_le, nat_lt};
+ghost use Rattle.std.specs.Prelude.{◌≡◌, ◌≢◌, ◌↔◌, ◌⊎◌, Err, ◌||◌, not, nat_lt};
 ghost use Rattle.std.specs.Prelude.{count_by, true, false, None, Some, option_map};
 ghost use Rattle.std.specs.Prelude.{IfOk, IfErr, OnOk, OnErr};
 ghost use Rattle.syn_model.specs.Tree.{empty_directory, is_directory, subtree, replace};
@@ -23,7 +23,9 @@ use crate::entries::Entries;
 use crate::entry::Entry;
 use crate::error::TreeError;
 use crate::lawful::are_bytes;
-use crate::measures::{LONGEST_SPELLING, MOST_CHILDREN, measured, spelled};
+use crate::measures::{
+    LONGEST_SPELLING, MOST_BELOW, MOST_CHILDREN, is_within_limits, measured, spelled,
+};
 use crate::node::Node;
 use crate::parts::{below, children, kinds};
 use crate::placing::placed;
@@ -33,9 +35,6 @@ use syn_path::{Key, Name, Path};
 use syn_placed::ranges::{count_children, is_directory, part_at, replace_part};
 
 mod reading;
-
-/// The most nodes of a tree below its root.
-const MOST_BELOW: usize = 1023;
 
 /// A file tree whose root is a directory, within the limits of a replica: 16,384 bytes a file, 256
 /// entries a directory, 1,024 nodes with the root, 524,288 bytes of spelling, and the limits of a
@@ -323,13 +322,6 @@ impl Limited for Tree {
     fn limits(&self) {
         let _ = self.list.len();
     }
-}
-
-/// So many nodes below the root, so many bytes and so many names in each directory are allowed.
-fn is_within_limits(count: usize, length: usize, room: bool) -> bool
-    ensures { result ≡ (nat_le count 1023 && nat_le length 524288 && room) }
-{
-    count <= MOST_BELOW && length <= LONGEST_SPELLING && room
 }
 
 /// The directory of the path has a place for what is put there, where something stands there or it

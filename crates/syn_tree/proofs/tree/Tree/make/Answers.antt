@@ -71,8 +71,12 @@ overflow_add-self c =
     let kept = made_kept ds c.self.inside.spelled (vec_capacity c.self.inside.list) change added
     c.into_parts-at.result.2 c.self.invariant prepared c.into_parts-at.ensures.placed refl _ _
     (vec_capacity c.self.inside.list) refl refl (omega arith) in
-    omega (arith, kept_size _ _ _ kept, c.spelled-removed.ensures,
-    ap spelling_length (c.part_at.ensures ∙ ap (within at) c.deref.ensures.value))
+    omega (
+      arith,
+      kept_size _ _ _ kept,
+      c.spelled-removed.ensures,
+      ap spelling_length (c.part_at.ensures ∙ ap (within at) c.deref.ensures.value),
+    )
 
 pub returns : goal.returns
 returns c =
