@@ -5,7 +5,6 @@ use Rattle.syn_model.specs.Tree.{replace}
 use Rattle.syn_model.specs.Limits.{fits_replica}
 use Rattle.syn_model.specs.Refusal.{Full}
 use Rattle.syn_placed.specs.Pairs.{spelling_length}
-use Rattle.syn_placed.proofs.ParentLemmas.{place_free}
 use Rattle.syn_tree.specs.Change.{ArePlaced, taken_from}
 use Rattle.syn_tree.specs.Lists.{IsPlaceable}
 use Rattle.syn_tree.specs.Nodes.{part_of}
