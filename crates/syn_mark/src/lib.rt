@@ -3,6 +3,7 @@
 #![tactic(auto)]
 
 mod change;
+mod copies;
 mod lawful;
 mod laws;
 mod listing;

@@ -11,6 +11,7 @@ ghost use Rattle.syn_tree.specs.Lists.{stripped};
 ghost use Rattle.syn_mark.specs.Marks.{content_of, or_absent, AreMarkPairs};
 ghost use Rattle.syn_mark.specs.inner.Placings.{stands_in};
 
+use crate::copies::{below, push_under};
 use crate::lawful::is_entry;
 use crate::mark::Mark;
 use crate::tree::{MarkEntry, MarkTree};
@@ -19,7 +20,6 @@ use syn_path::{Name, Path};
 use syn_placed::Standing;
 use syn_placed::list::{entry_at, is_directory, parent_names};
 use syn_tree::TreeError;
-use syn_tree::copies::{below, push_under};
 
 /// It stands at the root.
 pub(crate) fn is_root(entry: &MarkEntry) -> bool

@@ -2,12 +2,8 @@
 //! and a run of edits and replacements is proved once for each form. No program uses this crate.
 #![tactic(auto)]
 
-mod change;
+mod entries;
 mod form;
-mod lawful;
-mod measures;
-mod parts;
-mod placing;
 mod plain;
 mod turn;
 

@@ -1,40 +1,31 @@
 //! A tree as a list of paths, each with what stands there.
-ghost use Rattle.std.specs.Prelude.{◌≡◌, ◌≢◌, ◌↔◌, ◌⊎◌, Err, ◌<◌, ◌^◌, ◌&&◌, ◌||◌, not, nat_le};
-ghost use Rattle.std.specs.Prelude.{nat_lt, count_by, ℕ, List, true, false, Some, None, length};
-ghost use Rattle.std.specs.Prelude.{option_map, IfOk, IfErr, OnOk, OnErr};
-ghost use Rattle.std.specs.FinMap.{entries, get, len};
-ghost use Rattle.syn_model.specs.Tree.{Tree as Pairs, empty_directory, is_directory, subtree};
-ghost use Rattle.syn_model.specs.Tree.{replace, IsTree};
-ghost use Rattle.syn_model.specs.Event.{Put, MakeDir, Remove, after_edit};
-ghost use Rattle.syn_model.specs.Limits.{children, fits_replica};
-ghost use Rattle.syn_model.specs.Path.{parent};
-ghost use Rattle.syn_tree.specs.Contents.{found_content};
-ghost use Rattle.syn_tree.specs.Lists.{listing, kinds_of, contents_at};
-ghost use Rattle.syn_tree.specs.Lists.{replace_refusal, IsMeasured};
-ghost use Rattle.syn_model.specs.Refusal.{first_cause};
-ghost use Rattle.syn_model.specs.Standing.{edit_refusal, place_causes};
-ghost use Rattle.syn_tree.specs.Nodes.{part_of};
-ghost use Rattle.syn_tree.specs.Edits.{edit_of};
+ghost use Rattle.std.specs.Prelude.{◌≡◌, ◌≢◌, ◌↔◌, ◌⊎◌, Err, ◌||◌, not, nat_lt};
+ghost use Rattle.std.specs.Prelude.{count_by, true, false, None, Some, option_map};
+ghost use Rattle.std.specs.Prelude.{IfOk, IfErr, OnOk, OnErr};
+ghost use Rattle.std.specs.FinMap.{get};
+ghost use Rattle.syn_model.specs.Tree.{empty_directory, is_directory, subtree, replace, IsTree};
+ghost use Rattle.syn_model.specs.Event.{after_edit};
+ghost use Rattle.syn_model.specs.Limits.{fits_replica};
+ghost use Rattle.syn_model.specs.Path.{is_root, parent};
+ghost use Rattle.syn_model.specs.Standing.{edit_refusal};
 ghost use Rattle.syn_placed.specs.Pairs.{AreRising, is_child};
-ghost use Rattle.syn_tree.specs.Change.{IsPreparedFor, after_change};
+ghost use Rattle.syn_tree.specs.Change.{ArePlaced, taken_from};
+ghost use Rattle.syn_tree.specs.Contents.{found_content};
+ghost use Rattle.syn_tree.specs.Edits.{edit_of};
+ghost use Rattle.syn_tree.specs.Lists.{listing, replace_refusal};
+ghost use Rattle.syn_tree.specs.Nodes.{part_of};
 ghost use Rattle.syn_tree.specs.Refusals.{refusal_of, refusal_in};
 
-use crate::change::Change;
-use crate::lawful::are_bytes;
-use crate::measures::{Entry, find, measured, name_spelled, spelled, splice};
-use crate::parts::{children, with_keys};
-use crate::placing::placed;
+use crate::entries::{Entry, find, spelled, with_keys, with_paths};
 use std::alloc::Global;
 use std::marker::Model;
 use syn_path::{Name, Path};
-use syn_placed::list::{count_children, is_directory, parent_names, part_at};
-use syn_tree::copies::below;
-use syn_tree::{
-    Content, Edit, Entries, Found, LONGEST_FILE, LONGEST_SPELLING, MOST_CHILDREN, Node, TreeError,
-};
-
-/// The most nodes of a tree below its root.
-const MOST_BELOW: usize = 1023;
+use syn_placed::list::{count_children, is_directory, parent_names, part_at, replace_part};
+use syn_tree::checking::{Limited, check};
+use syn_tree::measures::{MOST_BELOW, MOST_CHILDREN, is_within_limits, measured};
+use syn_tree::parts::{below, children, kinds};
+use syn_tree::placing::placed;
+use syn_tree::{Edit, Entries, Found, Node, TreeError};
 
 /// A tree as a list of paths in path order, each with what stands there. It keeps the limits that
 /// the tree of a replica keeps, and answers each call as that one does. Contracts see it as the set
@@ -89,37 +80,6 @@ impl PlainTree {
         let _ = self.list.len();
     }
 
-    /// Why nothing may be put at the path or taken from it: it is the root (6), or its parent is no
-    /// directory (2).
-    fn check_place(&self, path: &Path) -> Result<(), TreeError>
-        ensures { refusal_in result ≡ first_cause (place_causes self.now path.now) }
-    {
-        let [above @ .., _] = path.names() else {
-            return Err(TreeError::Root);
-        };
-        if is_directory(&self.list, above) {
-            Ok(())
-        } else {
-            Err(TreeError::NoParent)
-        }
-    }
-
-    /// Whether the limits are kept where so many nodes, spelled with so many bytes, take the place
-    /// of what is at the path.
-    fn fits(&self, path: &Path, nodes: usize, size: usize) -> bool
-        requires place { first_cause (place_causes self.now path.now) ≡ None }
-        requires nodes { nodes < 2 ^ 62 }
-        requires size { size < 2 ^ 62 }
-        ensures { (new : Pairs) → IsMeasured path.now new nodes size → result
-            ≡ fits_replica (replace self.now path.now new) }
-    {
-        let part = part_at(&self.list, path.names());
-        let count = self.list.len() - part.len() + nodes;
-        let length = self.spelled - spelled(part) + size;
-        let room = has_room(&self.list, path, !part.is_empty(), nodes);
-        is_within_limits(count, length, room)
-    }
-
     /// Why the edit is refused, with no change and no memory taken.
     ///
     /// Refused 6 at the root, 2 where the parent is no directory, 3 where a file would take the
@@ -128,141 +88,7 @@ impl PlainTree {
     pub fn check(&self, edit: &Edit) -> Result<(), TreeError>
         ensures { refusal_in result ≡ edit_refusal self.now (edit_of edit.now) }
     {
-        match edit {
-            Edit::Put(path, bytes) => self.check_put(path, bytes.len()),
-            Edit::MakeDir(path) => self.check_make_dir(path),
-            Edit::Remove(path) => self.check_remove(path),
-        }
-    }
-
-    /// A directory is at the path.
-    fn is_directory_at(&self, path: &Path) -> bool
-        ensures { result ≡ is_directory self.now path.now }
-    {
-        is_directory(&self.list, path.names())
-    }
-
-    /// Why a file of so many bytes is not put.
-    fn check_put(&self, path: &Path, size: usize) -> Result<(), TreeError>
-        ensures { (bytes : List ℕ) → length bytes ≡ size → refusal_in result
-            ≡ edit_refusal self.now (Put path.now bytes) }
-    {
-        self.check_place(path)?;
-        if self.is_directory_at(path) {
-            return Err(TreeError::IsDirectory);
-        }
-        if size > LONGEST_FILE {
-            return Err(TreeError::Full);
-        }
-        if self.fits(path, 1, name_spelled(path) + 5 + size) {
-            Ok(())
-        } else {
-            Err(TreeError::Full)
-        }
-    }
-
-    /// Why a directory is not made.
-    fn check_make_dir(&self, path: &Path) -> Result<(), TreeError>
-        ensures { refusal_in result ≡ edit_refusal self.now (MakeDir path.now) }
-    {
-        self.check_place(path)?;
-        if self.get(path).is_some() {
-            return Err(TreeError::Exists);
-        }
-        if self.fits(path, 1, name_spelled(path) + 3) {
-            Ok(())
-        } else {
-            Err(TreeError::Full)
-        }
-    }
-
-    /// Why nothing is removed.
-    fn check_remove(&self, path: &Path) -> Result<(), TreeError>
-        ensures { refusal_in result ≡ edit_refusal self.now (Remove path.now) }
-    {
-        self.check_place(path)?;
-        if self.get(path).is_none() {
-            return Err(TreeError::Absent);
-        }
-        // what is left keeps the limits that the whole kept
-        self.limits();
-        Ok(())
-    }
-
-    /// The edit, ready to be made, with all memory for it. The tree stays as it is.
-    ///
-    /// Refused as `check` refuses it, and 11 where memory is refused.
-    fn prepare(&self, alloc: Global, edit: Edit) -> Result<Change, TreeError>
-        ensures ready { IfOk result (λ change. IsPreparedFor self.now change) }
-        ensures gives { IfOk result (λ change. after_change self.now change
-            ≡ after_edit self.now (edit_of edit)) }
-        ensures allowed { IfOk result (λ _. edit_refusal self.now (edit_of edit) ≡ None) }
-        ensures refused { IfErr result (λ e. e ≢ TreeError.Memory
-            → edit_refusal self.now (edit_of edit) ≡ Some (refusal_of e)) }
-    {
-        self.check(&edit)?;
-        self.prepare_allowed(alloc, edit)
-    }
-
-    /// The edit, ready to be made, with all memory for it, where `check` does not refuse it. The
-    /// tree stays as it is. Refused 11 where memory is refused.
-    fn prepare_allowed(&self, alloc: Global, edit: Edit) -> Result<Change, TreeError>
-        requires { edit_refusal self.now (edit_of edit) ≡ None }
-        ensures ready { IfOk result (λ change. IsPreparedFor self.now change) }
-        ensures gives { IfOk result (λ change. after_change self.now change
-            ≡ after_edit self.now (edit_of edit)) }
-        ensures memory { IfErr result (λ e. e ≡ TreeError.Memory) }
-    {
-        match edit {
-            Edit::Put(path, bytes) => {
-                are_bytes(&bytes);
-                Change::one(alloc, path, Content::File(bytes))
-            }
-            Edit::MakeDir(path) => Change::one(alloc, path, Content::Dir),
-            Edit::Remove(path) => Ok(Change::none(alloc, path)),
-        }
-    }
-
-    /// The replacement of all that is at and below the path, ready to be made, with all memory for
-    /// it. The tree stays as it is.
-    ///
-    /// Refused 6 at the root, 2 where the parent is no directory, 7 where the tree would pass a
-    /// limit, and 11 where memory is refused.
-    fn prepare_replace(
-        &self,
-        alloc: Global,
-        path: &Path,
-        new: Option<Node>,
-    ) -> Result<Change, TreeError>
-        ensures ready { IfOk result (λ change. IsPreparedFor self.now change) }
-        ensures at { IfOk result (λ change. change.at ≡ path.now) }
-        ensures new { IfOk result (λ change. change.new ≡ part_of new) }
-        ensures allowed { IfOk result (λ _.
-            replace_refusal self.now path.now (part_of new) ≡ None) }
-        ensures refused { IfErr result (λ e. e ≢ TreeError.Memory
-            → replace_refusal self.now path.now (part_of new) ≡ Some (refusal_of e)) }
-    {
-        self.check_place(path)?;
-        let at = path.copy(alloc)?;
-        let added = placed(alloc, path, new)?;
-        let Some(size) = measured(&added) else {
-            return Err(TreeError::Full);
-        };
-        if self.fits(path, added.len(), size) {
-            Ok(Change::placed(at, added, size))
-        } else {
-            Err(TreeError::Full)
-        }
-    }
-
-    /// Makes a change that was prepared for the tree as it is. It takes no memory.
-    fn make(&mut self, change: Change)
-        requires { IsPreparedFor self.old change }
-        ensures { self.new ≡ after_change self.old change }
-    {
-        let (at, added, size) = change.into_parts();
-        let removed = splice(&mut self.list, &at, added);
-        self.spelled = self.spelled - removed + size;
+        check(self, edit)
     }
 
     /// Makes the edit.
@@ -275,9 +101,12 @@ impl PlainTree {
         ensures refused { IfErr result (λ e. e ≢ TreeError.Memory
             → edit_refusal self.old (edit_of edit) ≡ Some (refusal_of e)) }
     {
-        let change = self.prepare(alloc, edit)?;
-        self.make(change);
-        Ok(())
+        self.check(&edit)?;
+        match edit {
+            Edit::Put(path, bytes) => self.replace(alloc, &path, Some(Node::File(bytes))),
+            Edit::MakeDir(path) => self.replace(alloc, &path, Some(Node::Dir(Entries::new(alloc)))),
+            Edit::Remove(path) => self.replace(alloc, &path, None),
+        }
     }
 
     /// Puts what is given in the place of all that is at and below the path, or takes it out.
@@ -296,29 +125,32 @@ impl PlainTree {
         ensures refused { IfErr result (λ e. e ≢ TreeError.Memory
             → replace_refusal self.old path.now (part_of new) ≡ Some (refusal_of e)) }
     {
-        let change = self.prepare_replace(alloc, path, new)?;
-        self.make(change);
+        self.check_place(path)?;
+        let added = placed(alloc, &path.key(), new)?;
+        let Some(size) = measured(&added) else {
+            return Err(TreeError::Full);
+        };
+        if !self.fits(path, added.len(), size) {
+            return Err(TreeError::Full);
+        }
+        let entries = with_paths(alloc, added)?;
+        self.put(path, entries, size);
         Ok(())
     }
 
-    /// What stands in the directory, with its name, in byte order of the names.
-    ///
-    /// Refused 5 where no directory is there, and 11 where memory is refused.
-    fn children(&self, alloc: Global, path: &Path) -> Result<Vec<(Name, Found<'_>)>, TreeError>
-        ensures children { IfOk result
-            (λ found. contents_at found.items ≡ children self.now path.now) }
-        ensures directory { OnOk result (is_directory self.now path.now ≡ true) }
-        ensures absent { (result ≡ Err TreeError.Absent)
-            ↔ (is_directory self.now path.now ≡ false) }
-        ensures refusals { IfErr result (λ e. (e ≡ TreeError.Absent) ⊎ (e ≡ TreeError.Memory)) }
+    /// Puts these entries, spelled with so many bytes, in the place of what is at and below the
+    /// path.
+    fn put(&mut self, path: &Path, added: Vec<Entry>, size: usize)
+        requires placed { ArePlaced path.now added.items size }
+        requires below { is_root path.now ≡ false }
+        requires parent { is_directory self.old (parent path.now) ≡ true }
+        requires fits { fits_replica (replace self.old path.now (taken_from path.now added.items))
+            ≡ true }
+        ensures { self.new ≡ replace self.old path.now (taken_from path.now added.items) }
     {
-        match self.get(path) {
-            Some(Found::Dir) => {
-                let names = path.names();
-                children(alloc, part_at(&self.list, names), names)
-            }
-            _ => Err(TreeError::Absent),
-        }
+        let removed = spelled(part_at(&self.list, path.names()));
+        replace_part(&mut self.list, path, added);
+        self.spelled = self.spelled - removed + size;
     }
 
     /// The names in the directory, in byte order, each with whether it is a directory.
@@ -331,7 +163,13 @@ impl PlainTree {
             ↔ (is_directory self.now path.now ≡ false) }
         ensures refusals { IfErr result (λ e. (e ≡ TreeError.Absent) ⊎ (e ≡ TreeError.Memory)) }
     {
-        kinds(alloc, self.children(alloc, path)?)
+        match self.get(path) {
+            Some(Found::Dir) => {
+                let part = with_keys(alloc, part_at(&self.list, path.names()))?;
+                kinds(alloc, children(alloc, &part, &path.key())?)
+            }
+            _ => Err(TreeError::Absent),
+        }
     }
 
     /// What is at and below the path; none where nothing is. Refused 11 where memory is refused.
@@ -346,20 +184,43 @@ impl PlainTree {
                 Ok(Some(Node::File(bytes)))
             }
             Some(Found::Dir) => {
-                let part = part_at(&self.list, path.names());
-                let list = below(alloc, part, path)?;
-                let entries = with_keys(alloc, list)?;
-                Ok(Some(Node::Dir(Entries::lawful(entries))))
+                let part = with_keys(alloc, part_at(&self.list, path.names()))?;
+                let list = below(alloc, &part, &path.key())?;
+                Ok(Some(Node::Dir(Entries::lawful(list))))
             }
         }
     }
 }
 
-/// So many nodes below the root, so many bytes and so many names in each directory are allowed.
-fn is_within_limits(count: usize, length: usize, room: bool) -> bool
-    ensures { result ≡ (nat_le count 1023 && nat_le length 524288 && room) }
-{
-    count <= MOST_BELOW && length <= LONGEST_SPELLING && room
+impl Limited for PlainTree {
+    ghost tree = { λ t. t };
+
+    fn get(&self, path: &Path) -> Option<Found<'_>> {
+        self.get(path)
+    }
+
+    fn check_place(&self, path: &Path) -> Result<(), TreeError> {
+        let [above @ .., _] = path.names() else {
+            return Err(TreeError::Root);
+        };
+        if is_directory(&self.list, above) {
+            Ok(())
+        } else {
+            Err(TreeError::NoParent)
+        }
+    }
+
+    fn fits(&self, path: &Path, nodes: usize, size: usize) -> bool {
+        let part = part_at(&self.list, path.names());
+        let count = self.list.len() - part.len() + nodes;
+        let length = self.spelled - spelled(part) + size;
+        let room = has_room(&self.list, path, !part.is_empty(), nodes);
+        is_within_limits(count, length, room)
+    }
+
+    fn limits(&self) {
+        self.limits()
+    }
 }
 
 /// The directory of the path has a place for what is put there, where something stands there or it
@@ -371,27 +232,5 @@ fn has_room(list: &[Entry], path: &Path, stands: bool, nodes: usize) -> bool
         (stands || (not (nat_lt 0 nodes) || nat_lt
         (count_by (λ pair. is_child (parent path.now) pair.0) list.now) 256)) }
 {
-    stands || nodes == 0 || has_place(list, parent_names(path))
-}
-
-/// The directory of these names has not the most entries.
-fn has_place(list: &[Entry], above: &[Name]) -> bool
-    requires { AreRising list.now }
-    ensures { result ≡ nat_lt (count_by (λ pair. is_child above.now pair.0) list.now) 256 }
-{
-    let part = part_at(list, above);
-    // where so few stand below it, no more stand in it
-    part.len() < MOST_CHILDREN || count_children(part, above) < MOST_CHILDREN
-}
-
-/// The names, each with whether it is a directory. Refused 11 where memory is refused.
-fn kinds(alloc: Global, children: Vec<(Name, Found<'_>)>) -> Result<Vec<(Name, bool)>, TreeError>
-    ensures ok { IfOk result (λ names. names.items ≡ kinds_of (contents_at children.entry.items)) }
-    ensures memory { IfErr result (λ e. e ≡ TreeError.Memory) }
-{
-    let mut names = Vec::with_capacity(alloc, children.len())?;
-    for (name, found) in children {
-        names.push((name, found.is_directory()))?;
-    }
-    Ok(names)
+    stands || nodes == 0 || count_children(list, parent_names(path)) < MOST_CHILDREN
 }

@@ -1,22 +1,12 @@
 -- What is printed of a plan, part by part.
-use Rattle.std.proofs.Common.{◌≡◌, ◌∙◌, ◌+◌, ◌<◌, ◌++◌, ◌∷◌, [], ℕ, List, Option, Some, None, ap}
-use Rattle.std.proofs.Common.{append_assoc, append-nil, get_or, length, take}
+use Rattle.std.proofs.Common.{◌≡◌, ◌∙◌, ◌+◌, ◌<◌, ◌++◌, ◌∷◌, [], ℕ, List, ap, append-nil, get_or}
+use Rattle.std.proofs.Common.{length, take}
 use Rattle.std.proofs.lemmas.Grind.{flat_map-append}
 use Rattle.std.proofs.lemmas.List.{take_more}
-use Rattle.std.specs.Io.KnownBytes.{Appends}
 use Rattle.syn_model.specs.Tree.{Tree}
 use Rattle.syn_plan.specs.Printed.{item_lines, items_lines}
 use Rattle.syn_recon.specs.Items.{item_of}
 use Rattle.syn_recon.specs.declared.item.Item.{Item as Planned}
-
--- what was appended twice was appended in a row
-pub appends_more : (a b c : Option (List ℕ)) (xs ys : List ℕ) → Appends a b xs → Appends b c ys →
-    Appends a c (xs ++ ys)
-appends_more None b c xs ys h g = tt
-appends_more (Some held) None c xs ys h g = absurd h
-appends_more (Some held) (Some bs) None xs ys h g = absurd g
-appends_more (Some held) (Some bs) (Some cs) xs ys h g =
-    g ∙ (ap (λ z. z ++ ys) h ∙ append_assoc held xs ys)
 
 -- one item more has its own lines
 pub one_more : (left right archive : Tree) (items : List Planned) (at : ℕ) (other : Planned)

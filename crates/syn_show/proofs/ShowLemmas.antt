@@ -1,19 +1,8 @@
 -- The lines of entries, one after the other.
-use Rattle.std.proofs.Common.{◌≡◌, ◌++◌, ◌∷◌, ◌∙◌, ℕ, [], List, Option, Some, None, append_assoc}
-use Rattle.std.proofs.Common.{append-nil, ap}
+use Rattle.std.proofs.Common.{◌≡◌, ◌++◌, ◌∷◌, ◌∙◌, [], List, append-nil, ap}
 use Rattle.std.proofs.lemmas.Grind.{flat_map-append}
-use Rattle.std.specs.Io.KnownBytes.{Appends}
 use Rattle.syn_model.specs.Tree.{Pair}
 use Rattle.syn_show.specs.Printed.{content_line, lines_of, lines_of_marks, mark_line}
-
--- what was appended twice was appended in a row
-pub appends_more : (a b c : Option (List ℕ)) (xs ys : List ℕ) → Appends a b xs → Appends b c ys →
-    Appends a c (xs ++ ys)
-appends_more None b c xs ys h g = tt
-appends_more (Some held) None c xs ys h g = absurd h
-appends_more (Some held) (Some bs) None xs ys h g = absurd g
-appends_more (Some held) (Some bs) (Some cs) xs ys h g =
-    g ∙ (ap (λ z. z ++ ys) h ∙ append_assoc held xs ys)
 
 -- one pair more has its own line
 pub more_lines : (pairs : List Pair) (pair : Pair) →

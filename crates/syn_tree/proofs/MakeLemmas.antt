@@ -3,7 +3,7 @@ use Rattle.std.proofs.Common.{◌≡◌, ◌≤◌, ◌+◌, ◌-◌, ℕ, suc, 
 use Rattle.std.proofs.Common.{refl, sym, ap, ap₂, ◌∙◌, subst, inr, arith}
 use Rattle.std.specs.FinMap.{entries, len, len-entries, get, same_entries_map}
 use Rattle.std.proofs.lemmas.Bool.{and_parts}
-use Rattle.syn_model.specs.Path.{Path, parent}
+use Rattle.syn_model.specs.Path.{parent}
 use Rattle.syn_model.specs.Tree.{IsPart, IsTree, replace}
 use Rattle.syn_model.specs.Limits.{fits_replica, fits_part, fits_paths, tree_spelling_length}
 use Rattle.syn_model.specs.Limits.{greatest_spelling}
@@ -100,7 +100,3 @@ module _ (ds : Pairs) (s cap : ℕ) (change : Replacement) (added : Pairs) (size
             );
         room = omega (arith, kept.room, more);
       }
-
-pub added_same : (at at' : Path) (added : Pairs) (size : ℕ) → at ≡ at' → ArePlaced at added size →
-    ArePlaced at' added size
-added_same at at' added size is placed = subst (λ p. ArePlaced p added size) is placed

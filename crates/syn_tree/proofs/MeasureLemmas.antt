@@ -46,18 +46,6 @@ kept_size ds s cap kept =
     (sym (kept.counted ∙ sym (ap spelling_length (entries-with ds kept.rising))))
     (at_most (tree_spelling_length t) size)
 
-pub kept_count : (ds : Pairs) (s cap : ℕ) → IsKept ds s cap → suc (length ds) ≤ 1024
-kept_count ds s cap kept =
-    let t = tree_with ds in
-    let whole = and_parts (nat_le (len t) 1024 && nat_le (tree_spelling_length t) greatest_spelling
-    && fits_part t) (fits_paths t) kept.fits in
-    let first = (and_parts (nat_le (len t) 1024
-    && nat_le (tree_spelling_length t) greatest_spelling) (fits_part t) whole.0).0 in
-    let few = (and_parts (nat_le (len t) 1024)
-    (nat_le (tree_spelling_length t) greatest_spelling) first).0 in
-    subst (λ n. n ≤ 1024) (len-entries t ∙ ap length (entries-with ds kept.rising))
-    (at_most_nodes (len t) few)
-
 -- the part at a path is counted and spelled within the whole
 pub part_count : (ds : Pairs) (s cap : ℕ) (at : Path) → IsKept ds s cap →
     length (within at ds) ≤ length ds

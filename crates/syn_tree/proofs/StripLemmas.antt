@@ -48,19 +48,6 @@ prefix_whole at x h =
     let r = is_prefix-is at x h in
     r.1 ∙ ap (λ q. at ++ q) (sym (ap (drop (length at)) r.1 ∙ drop-append_seam at r.0))
 
-pub prefix_shorter : (at x : Path) → is_prefix at x ≡ true → length at ≤ length x
-prefix_shorter at x h =
-    let r = is_prefix-is at x h in
-    omega (arith, ap length r.1, length-append at r.0)
-
-pub strip_beside : (at : Path) (x : Pair) → is_prefix at x.0 ≡ false → stripped at (x ∷ []) ≡ []
-strip_beside at x h = by_rest (strip_prefix at x.0) h
-  where
-    by_rest : (o : Option Path) → is_some o ≡ false → cons_option {X = Pair} (option_and_then
-        {U = Pair} (λ rest. if is_root rest then None else Some (rest, x.1)) o) [] ≡ []
-    by_rest None k = refl
-    by_rest (Some r) k = absurd (true≢false k)
-
 suc_not : (n : ℕ) → (suc n == 0) ≡ false
 suc_not n = grind (arith, nat_tests)
 

@@ -1,5 +1,5 @@
 //! The pairs of a tree one after the other, whatever form the tree has.
-ghost use Rattle.std.specs.Prelude.{◌≡◌, length};
+ghost use Rattle.std.specs.Prelude.{◌≡◌};
 ghost use Rattle.std.specs.Iterator.{YieldsFirst, YieldsLast, item_count};
 
 use crate::entry::Entry;

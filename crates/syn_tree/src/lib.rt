@@ -1,20 +1,21 @@
-//! File trees: what stands at each path, and the edits that change it.
+//! File trees: what stands at each path, and the edits that change it. What serves any form of a
+//! tree is in `checking`, `measures`, `parts` and `placing`.
 #![tactic(auto)]
 
 mod change;
+pub mod checking;
 mod content;
-pub mod copies;
 mod cursor;
 mod edit;
 mod entries;
 mod entry;
 mod error;
 mod lawful;
-mod measures;
+pub mod measures;
 mod node;
 mod pair;
-mod parts;
-mod placing;
+pub mod parts;
+pub mod placing;
 mod tree;
 
 pub use change::Change;

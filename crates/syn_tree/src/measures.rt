@@ -1,21 +1,23 @@
 //! What a tree finds and measures in its entries.
-ghost use Rattle.std.specs.Prelude.{◌≡◌, ◌≤◌, ◌<◌, ◌+◌, ◌^◌, ◌++◌, ◌∷◌, length};
-ghost use Rattle.std.specs.Prelude.{option_map, IfSome, IfNone, vec_len, vec_capacity};
+ghost use Rattle.std.specs.Prelude.{◌≡◌, ◌≤◌, ◌<◌, ◌+◌, ◌^◌, ◌&&◌, nat_le, option_map, IfSome};
+ghost use Rattle.std.specs.Prelude.{IfNone};
 ghost use Rattle.std.specs.FinMap.{find};
 ghost use Rattle.syn_model.specs.Path.{path_cmp, IsPath};
 ghost use Rattle.syn_model.specs.Limits.{content_spelling_length, last_name_spelling_length};
 ghost use Rattle.syn_tree.specs.Contents.{found_content};
-ghost use Rattle.syn_placed.specs.Pairs.{rooted, AreRising, before, within, behind};
-ghost use Rattle.syn_placed.specs.Pairs.{pair_spelling_length, spelling_length};
+ghost use Rattle.syn_placed.specs.Pairs.{rooted, AreRising, pair_spelling_length, spelling_length};
 
 use crate::content::Found;
 use crate::entry::{Entry, found_at};
 use crate::lawful::is_path;
 use syn_path::Key;
-use syn_placed::ranges::{entry_at, part_at, replace_part};
+use syn_placed::ranges::entry_at;
 
 /// The most bytes of the spelling of a replica's tree.
 pub const LONGEST_SPELLING: usize = 524_288;
+
+/// The most nodes of a tree below its root.
+pub const MOST_BELOW: usize = 1023;
 
 /// The most entries of a directory.
 pub const MOST_CHILDREN: usize = 256;
@@ -39,7 +41,7 @@ pub(crate) fn find<'a>(list: &'a [Entry], at: &Key) -> Option<Found<'a>>
 }
 
 /// How many bytes spell the last name with its length; none for the root.
-pub(crate) fn name_spelled(key: &Key) -> usize
+pub fn name_spelled(key: &Key) -> usize
     ensures length { result ≡ last_name_spelling_length key.now }
     ensures short { result ≤ 65 }
     ensures lawful { IsPath key.now }
@@ -60,7 +62,7 @@ pub(crate) fn entry_spelled(entry: &Entry) -> usize
 }
 
 /// How many bytes spell what was found, without what is below it.
-pub(crate) fn found_spelled(found: &Found<'_>) -> usize
+pub fn found_spelled(found: &Found<'_>) -> usize
     ensures length { result ≡ content_spelling_length (found_content found.now) }
     ensures fits { result < 2 ^ 63 + 8 }
 {
@@ -83,7 +85,7 @@ pub(crate) fn spelled(list: &[Entry]) -> usize
 }
 
 /// How many bytes spell the entries; none where that is more than the longest spelling of a tree.
-pub(crate) fn measured(list: &[Entry]) -> Option<usize>
+pub fn measured(list: &[Entry]) -> Option<usize>
     ensures some { IfSome result (λ size. (size ≡ spelling_length list.now) × (size ≤ 524288)) }
     ensures none { IfNone result (524288 < spelling_length list.now) }
 {
@@ -97,19 +99,9 @@ pub(crate) fn measured(list: &[Entry]) -> Option<usize>
     Some(size)
 }
 
-/// Puts these entries in the place of what is at and below the path, and answers how many bytes
-/// spelled that.
-pub(crate) fn splice(list: &mut Vec<Entry>, at: &Key, added: Vec<Entry>) -> usize
-    requires rising { AreRising list.old.items }
-    requires brief { spelling_length (within at.now list.old.items) ≤ 524288 }
-    requires room { length (before at.now list.old.items) + length
-        (behind at.now list.old.items) + vec_len added ≤ vec_capacity list.old }
-    ensures items { list.new.items ≡ before at.now list.old.items
-        ++ (added.items ++ behind at.now list.old.items) }
-    ensures room { vec_capacity list.old ≤ vec_capacity list.new }
-    ensures removed { result ≡ spelling_length (within at.now list.old.items) }
+/// So many nodes below the root, so many bytes and so many names in each directory are allowed.
+pub fn is_within_limits(count: usize, length: usize, room: bool) -> bool
+    ensures { result ≡ (nat_le count 1023 && nat_le length 524288 && room) }
 {
-    let removed = spelled(part_at(list, at));
-    replace_part(list, at, added);
-    removed
+    count <= MOST_BELOW && length <= LONGEST_SPELLING && room
 }

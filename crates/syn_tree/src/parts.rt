@@ -5,7 +5,7 @@ ghost use Rattle.std.specs.List.{list_all};
 ghost use Rattle.syn_model.specs.Path.{IsName, strip_prefix};
 ghost use Rattle.syn_model.specs.Limits.{fits_path, only_name};
 ghost use Rattle.syn_placed.specs.Pairs.{under};
-ghost use Rattle.syn_tree.specs.Lists.{stripped, child_contents, contents_at};
+ghost use Rattle.syn_tree.specs.Lists.{stripped, child_contents, contents_at, kinds_of};
 
 use crate::content::Found;
 use crate::entry::{Entry, found_at};
@@ -42,7 +42,7 @@ pub(crate) fn push_under(
 
 /// The entries below the path, each without the path before its own. Refused 11 where memory is
 /// refused, and for no other cause.
-pub(crate) fn below(alloc: Global, list: &[Entry], at: &Key) -> Result<Vec<Entry>, TreeError>
+pub fn below(alloc: Global, list: &[Entry], at: &Key) -> Result<Vec<Entry>, TreeError>
     ensures ok { IfOk result (λ copies. copies.items ≡ stripped at.now list.now) }
     ensures memory { IfErr result (λ e. e ≡ TreeError.Memory) }
 {
@@ -77,7 +77,7 @@ fn push_below(
 
 /// The names in the directory at the path, each with what stands there. Refused 11 where memory is
 /// refused.
-pub(crate) fn children<'a>(
+pub fn children<'a>(
     alloc: Global,
     list: &'a [Entry],
     above: &Key,
@@ -106,4 +106,19 @@ fn child_name<'a>(above: &Key, key: &'a Key) -> Option<&'a [u8]>
     } else {
         None
     }
+}
+
+/// The names, each with whether it is a directory. Refused 11 where memory is refused.
+pub fn kinds(
+    alloc: Global,
+    children: Vec<(Name, Found<'_>)>,
+) -> Result<Vec<(Name, bool)>, TreeError>
+    ensures ok { IfOk result (λ names. names.items ≡ kinds_of (contents_at children.entry.items)) }
+    ensures memory { IfErr result (λ e. e ≡ TreeError.Memory) }
+{
+    let mut names = Vec::with_capacity(alloc, children.len())?;
+    for (name, found) in children {
+        names.push((name, found.is_directory()))?;
+    }
+    Ok(names)
 }

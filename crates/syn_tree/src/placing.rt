@@ -18,7 +18,7 @@ use syn_path::Key;
 /// The entries of the part with the path put before theirs.
 ///
 /// Refused 7 where they fit nowhere at that path, and 11 where memory is refused.
-pub(crate) fn placed(alloc: Global, at: &Key, new: Option<Node>) -> Result<Vec<Entry>, TreeError>
+pub fn placed(alloc: Global, at: &Key, new: Option<Node>) -> Result<Vec<Entry>, TreeError>
     ensures ok { IfOk result (λ list. IsPlaceable at.now (part_of new) list.items) }
     ensures full { IfErr result (λ e. e ≢ TreeError.Memory → (e ≡ TreeError.Full)
         × FitsNowhere at.now (part_of new)) }

@@ -1,25 +1,22 @@
 //! A whole tree, within the limits of a replica by its type, with the edits and replacements that
 //! change it.
-ghost use Rattle.std.specs.Prelude.{◌≡◌, ◌≢◌, ◌↔◌, ◌⊎◌, Err, ◌<◌, ◌^◌, ◌&&◌, ◌||◌, not, nat_le};
-ghost use Rattle.std.specs.Prelude.{nat_lt, count_by, ℕ, List, true, false, Some, None, length};
-ghost use Rattle.std.specs.Prelude.{option_map, IfOk, IfErr, OnOk, OnErr};
-ghost use Rattle.std.specs.FinMap.{entries, get, len};
-ghost use Rattle.syn_model.specs.Tree.{Tree as Pairs, empty_directory, is_directory, subtree};
-ghost use Rattle.syn_model.specs.Tree.{replace};
-ghost use Rattle.syn_model.specs.Event.{Put, MakeDir, Remove, after_edit};
+ghost use Rattle.std.specs.Prelude.{◌≡◌, ◌≢◌, ◌↔◌, ◌⊎◌, Err, ◌||◌, not, nat_lt};
+ghost use Rattle.std.specs.Prelude.{count_by, true, false, None, Some, option_map};
+ghost use Rattle.std.specs.Prelude.{IfOk, IfErr, OnOk, OnErr};
+ghost use Rattle.syn_model.specs.Tree.{empty_directory, is_directory, subtree, replace};
+ghost use Rattle.syn_model.specs.Event.{after_edit};
 ghost use Rattle.syn_model.specs.Limits.{children, fits_part, fits_paths, fits_replica};
-ghost use Rattle.syn_model.specs.Path.{Path as Where, parent};
-ghost use Rattle.syn_tree.specs.Lists.{FitsNowhere, listing, kinds_of, contents_at};
-ghost use Rattle.syn_tree.specs.Lists.{replace_refusal, IsMeasured};
-ghost use Rattle.syn_model.specs.Refusal.{first_cause};
-ghost use Rattle.syn_model.specs.Standing.{edit_refusal, place_causes};
-ghost use Rattle.syn_tree.specs.Nodes.{part_of};
-ghost use Rattle.syn_tree.specs.Edits.{edit_of};
+ghost use Rattle.syn_model.specs.Path.{parent};
+ghost use Rattle.syn_model.specs.Standing.{edit_refusal};
 ghost use Rattle.syn_placed.specs.Pairs.{AreRising, is_child};
 ghost use Rattle.syn_tree.specs.Change.{IsPreparedFor, after_change};
+ghost use Rattle.syn_tree.specs.Edits.{edit_of};
+ghost use Rattle.syn_tree.specs.Lists.{listing, contents_at, replace_refusal};
+ghost use Rattle.syn_tree.specs.Nodes.{part_of};
 ghost use Rattle.syn_tree.specs.Refusals.{refusal_of, refusal_in};
 
 use crate::change::Change;
+use crate::checking::{Limited, check};
 use crate::content::{Content, Found};
 use crate::edit::Edit;
 use crate::entries::Entries;
@@ -27,20 +24,17 @@ use crate::entry::Entry;
 use crate::error::TreeError;
 use crate::lawful::are_bytes;
 use crate::measures::{
-    LONGEST_FILE, LONGEST_SPELLING, MOST_CHILDREN, measured, name_spelled, spelled, splice,
+    LONGEST_SPELLING, MOST_BELOW, MOST_CHILDREN, is_within_limits, measured, spelled,
 };
 use crate::node::Node;
-use crate::parts::{below, children};
+use crate::parts::{below, children, kinds};
 use crate::placing::placed;
 use std::alloc::Global;
 use std::marker::Model;
 use syn_path::{Key, Name, Path};
-use syn_placed::ranges::{count_children, is_directory, part_at};
+use syn_placed::ranges::{count_children, is_directory, part_at, replace_part};
 
 mod reading;
-
-/// The most nodes of a tree below its root.
-const MOST_BELOW: usize = 1023;
 
 /// A file tree whose root is a directory, within the limits of a replica: 16,384 bytes a file, 256
 /// entries a directory, 1,024 nodes with the root, 524,288 bytes of spelling, and the limits of a
@@ -80,37 +74,6 @@ impl Tree {
         Ok(Tree { list, spelled: 3 })
     }
 
-    /// Why nothing may be put at the path or taken from it: it is the root (6), or its parent is no
-    /// directory (2).
-    pub fn check_place(&self, path: &Path) -> Result<(), TreeError>
-        ensures { refusal_in result ≡ first_cause (place_causes self.now path.now) }
-    {
-        if path.key().is_root() {
-            return Err(TreeError::Root);
-        }
-        if is_directory(&self.list, &path.parent_key()) {
-            Ok(())
-        } else {
-            Err(TreeError::NoParent)
-        }
-    }
-
-    /// Whether the limits are kept where so many nodes, spelled with so many bytes, take the place
-    /// of what is at the path.
-    fn fits(&self, path: &Path, nodes: usize, size: usize) -> bool
-        requires place { first_cause (place_causes self.now path.now) ≡ None }
-        requires nodes { nodes < 2 ^ 62 }
-        requires size { size < 2 ^ 62 }
-        ensures { (new : Pairs) → IsMeasured path.now new nodes size → result
-            ≡ fits_replica (replace self.now path.now new) }
-    {
-        let part = part_at(&self.list, &path.key());
-        let count = self.list.len() - part.len() + nodes;
-        let length = self.spelled - spelled(part) + size;
-        let room = has_room(&self.list, path, !part.is_empty(), nodes);
-        is_within_limits(count, length, room)
-    }
-
     /// Why the edit is refused, with no change and no memory taken.
     ///
     /// Refused 6 at the root, 2 where the parent is no directory, 3 where a file would take the
@@ -119,65 +82,7 @@ impl Tree {
     pub fn check(&self, edit: &Edit) -> Result<(), TreeError>
         ensures { refusal_in result ≡ edit_refusal self.now (edit_of edit.now) }
     {
-        match edit {
-            Edit::Put(path, bytes) => self.check_put(path, bytes.len()),
-            Edit::MakeDir(path) => self.check_make_dir(path),
-            Edit::Remove(path) => self.check_remove(path),
-        }
-    }
-
-    /// A directory is at the path.
-    fn is_directory_at(&self, path: &Path) -> bool
-        ensures { result ≡ is_directory self.now path.now }
-    {
-        is_directory(&self.list, &path.key())
-    }
-
-    /// Why a file of so many bytes is not put.
-    fn check_put(&self, path: &Path, size: usize) -> Result<(), TreeError>
-        ensures { (bytes : List ℕ) → length bytes ≡ size → refusal_in result
-            ≡ edit_refusal self.now (Put path.now bytes) }
-    {
-        self.check_place(path)?;
-        if self.is_directory_at(path) {
-            return Err(TreeError::IsDirectory);
-        }
-        if size > LONGEST_FILE {
-            return Err(TreeError::Full);
-        }
-        if self.fits(path, 1, name_spelled(&path.key()) + 5 + size) {
-            Ok(())
-        } else {
-            Err(TreeError::Full)
-        }
-    }
-
-    /// Why a directory is not made.
-    fn check_make_dir(&self, path: &Path) -> Result<(), TreeError>
-        ensures { refusal_in result ≡ edit_refusal self.now (MakeDir path.now) }
-    {
-        self.check_place(path)?;
-        if self.get(path).is_some() {
-            return Err(TreeError::Exists);
-        }
-        if self.fits(path, 1, name_spelled(&path.key()) + 3) {
-            Ok(())
-        } else {
-            Err(TreeError::Full)
-        }
-    }
-
-    /// Why nothing is removed.
-    fn check_remove(&self, path: &Path) -> Result<(), TreeError>
-        ensures { refusal_in result ≡ edit_refusal self.now (Remove path.now) }
-    {
-        self.check_place(path)?;
-        if self.get(path).is_none() {
-            return Err(TreeError::Absent);
-        }
-        // what is left keeps the limits that the whole kept
-        let _ = self.entries();
-        Ok(())
+        check(self, edit)
     }
 
     /// The edit, ready to be made, with all memory for it. The tree stays as it is.
@@ -257,10 +162,10 @@ impl Tree {
             (part_of (option_map (λ there. there.now) new.entry)) ≡ Some (refusal_of e)) }
     {
         self.check_place(path)?;
-        if is_brief(new) {
-            Ok(())
-        } else {
-            Err(TreeError::Full)
+        match new {
+            None => Ok(()),
+            Some(node) if !node.is_brief() => Err(TreeError::Full),
+            Some(_) => Ok(()),
         }
     }
 
@@ -270,7 +175,8 @@ impl Tree {
         ensures { self.new ≡ after_change self.old change }
     {
         let (at, added, size) = change.into_parts();
-        let removed = splice(&mut self.list, &at, added);
+        let removed = spelled(part_at(&self.list, &at));
+        replace_part(&mut self.list, &at, added);
         self.spelled = self.spelled - removed + size;
     }
 
@@ -387,25 +293,35 @@ impl Tree {
     }
 }
 
-/// A part keeps the limit of a file's bytes.
-fn is_brief(part: Option<&Node>) -> bool
-    ensures brief { result ≡ true
-        → fits_part (part_of (option_map (λ there. there.now) part.entry)) ≡ true }
-    ensures long { result ≡ false
-        → (at : Where) → FitsNowhere at (part_of (option_map (λ there. there.now) part.entry)) }
-    ensures paths { fits_paths (part_of (option_map (λ there. there.now) part.entry)) ≡ true }
-{
-    match part {
-        None => true,
-        Some(node) => node.is_brief(),
-    }
-}
+impl Limited for Tree {
+    ghost tree = { λ t. t };
 
-/// So many nodes below the root, so many bytes and so many names in each directory are allowed.
-fn is_within_limits(count: usize, length: usize, room: bool) -> bool
-    ensures { result ≡ (nat_le count 1023 && nat_le length 524288 && room) }
-{
-    count <= MOST_BELOW && length <= LONGEST_SPELLING && room
+    fn get(&self, path: &Path) -> Option<Found<'_>> {
+        self.get(path)
+    }
+
+    fn check_place(&self, path: &Path) -> Result<(), TreeError> {
+        if path.key().is_root() {
+            return Err(TreeError::Root);
+        }
+        if is_directory(&self.list, &path.parent_key()) {
+            Ok(())
+        } else {
+            Err(TreeError::NoParent)
+        }
+    }
+
+    fn fits(&self, path: &Path, nodes: usize, size: usize) -> bool {
+        let part = part_at(&self.list, &path.key());
+        let count = self.list.len() - part.len() + nodes;
+        let length = self.spelled - spelled(part) + size;
+        let room = has_room(&self.list, path, !part.is_empty(), nodes);
+        is_within_limits(count, length, room)
+    }
+
+    fn limits(&self) {
+        let _ = self.list.len();
+    }
 }
 
 /// The directory of the path has a place for what is put there, where something stands there or it
@@ -428,16 +344,4 @@ fn has_place(list: &[Entry], above: &Key) -> bool
     let part = part_at(list, above);
     // where so few stand below it, no more stand in it
     part.len() < MOST_CHILDREN || count_children(part, above) < MOST_CHILDREN
-}
-
-/// The names, each with whether it is a directory. Refused 11 where memory is refused.
-fn kinds(alloc: Global, children: Vec<(Name, Found<'_>)>) -> Result<Vec<(Name, bool)>, TreeError>
-    ensures ok { IfOk result (λ names. names.items ≡ kinds_of (contents_at children.entry.items)) }
-    ensures memory { IfErr result (λ e. e ≡ TreeError.Memory) }
-{
-    let mut names = Vec::with_capacity(alloc, children.len())?;
-    for (name, found) in children {
-        names.push((name, found.is_directory()))?;
-    }
-    Ok(names)
 }

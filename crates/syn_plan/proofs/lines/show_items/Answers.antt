@@ -1,6 +1,7 @@
 use Rattle.std.proofs.Common.{rules, ◌≡◌, get_or, subst, sym, take}
 use Rattle.std.specs.Io.KnownBytes.{Appends}
-use Rattle.syn_plan.proofs.PlanLemmas.{appends_more, one_more}
+use Rattle.std.proofs.KnownBytes.{Appends-trans}
+use Rattle.syn_plan.proofs.PlanLemmas.{one_more}
 use Rattle.syn_plan.proofs.lines.show_items.Goals as goal
 use Rattle.syn_plan.specs.Printed.{item_lines, items_lines}
 use Rattle.syn_recon.specs.Items.{item_of}
@@ -22,5 +23,5 @@ loop-item-preserved g c =
     let shown : c.as_bytes.result.now ≡ lines = search rules in
     let more = one_more left right archive all at c.item-item.result c.loop-item-test.true in
     subst (Appends old new) (sym more)
-    (appends_more old middle new so_far lines c.loop-item.invariant
+    (Appends-trans old middle new so_far lines c.loop-item.invariant
     (subst (Appends middle new) shown c.in_ok-write_all.ensures.bytes))

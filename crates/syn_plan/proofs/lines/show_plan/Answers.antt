@@ -3,7 +3,7 @@ use Rattle.std.proofs.lemmas.Result.{on_ok_weaker}
 use Rattle.std.specs.Io.KnownBytes.{Appends}
 use Rattle.syn_plan.specs.Counting.{carried_in, conflicts_in, marked_in}
 use Rattle.syn_plan.specs.Printed.{items_lines, plan_line}
-use Rattle.syn_plan.proofs.PlanLemmas.{appends_more}
+use Rattle.std.proofs.KnownBytes.{Appends-trans}
 use Rattle.syn_plan.proofs.lines.show_plan.Goals as goal
 
 pub returns : goal.returns
@@ -23,6 +23,6 @@ returns g c =
     ∙ ap (λ n. plan_line (carried_in items) (marked_in items) n) c.counts_of.ensures.conflicts)))
     in
     on_ok_weaker c.show_items.result (λ shown.
-    appends_more old middle new line rest
+    Appends-trans old middle new line rest
     (subst (λ xs. Appends old middle xs) first c.in_ok-write_all.ensures.bytes) shown)
     c.show_items.ensures

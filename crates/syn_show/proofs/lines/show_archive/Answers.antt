@@ -6,7 +6,7 @@ use Rattle.syn_archive.specs.Archive.{pair_of, session_shown, marks_shown}
 use Rattle.syn_model.specs.Tree.{Tree}
 use Rattle.syn_placed.specs.Pairs.{is_below}
 use Rattle.syn_show.specs.Printed.{archive_line, lines_of_marks}
-use Rattle.syn_show.proofs.ShowLemmas.{appends_more}
+use Rattle.std.proofs.KnownBytes.{Appends-trans}
 use Rattle.syn_show.proofs.lines.show_archive.Goals as goal
 
 pub returns : goal.returns
@@ -25,6 +25,6 @@ returns g c =
     ∙ ap₂ (λ at (tree : Tree). filter (is_below at) (entries tree))
     c.root.ensures c.tree.ensures) in
     on_ok_weaker c.show_marks.result (λ shown.
-    appends_more old middle new line marks
+    Appends-trans old middle new line marks
     (subst (λ xs. Appends old middle xs) first c.in_ok-write_all.ensures.bytes)
     (subst (λ xs. Appends middle new xs) lines shown)) c.show_marks.ensures

@@ -3,7 +3,7 @@ use Rattle.std.proofs.lemmas.Result.{on_ok_weaker}
 use Rattle.std.specs.Io.KnownBytes.{Appends}
 use Rattle.syn_replica.specs.Replica.{pair_of, position_shown, tree_shown}
 use Rattle.syn_show.specs.Printed.{replica_line, lines_below}
-use Rattle.syn_show.proofs.ShowLemmas.{appends_more}
+use Rattle.std.proofs.KnownBytes.{Appends-trans}
 use Rattle.syn_show.proofs.lines.show_replica.Goals as goal
 
 pub returns : goal.returns
@@ -19,6 +19,6 @@ returns g c =
     ∙ (c.in_ok-line.ensures ∙ ap₂ replica_line c.pair.ensures c.position.ensures) in
     let lines = ap₂ lines_below c.tree.ensures c.root.ensures in
     on_ok_weaker c.show_below-2.result (λ shown.
-    appends_more old middle new line below
+    Appends-trans old middle new line below
     (subst (λ xs. Appends old middle xs) first c.in_ok-write_all.ensures.bytes)
     (subst (λ xs. Appends middle new xs) lines shown)) c.show_below-2.ensures

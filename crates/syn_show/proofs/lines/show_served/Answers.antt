@@ -2,7 +2,7 @@ use Rattle.std.proofs.Common.{◌≡◌, ◌∙◌, [], ap, subst}
 use Rattle.std.proofs.lemmas.Result.{on_ok_weaker}
 use Rattle.std.specs.Io.KnownBytes.{Appends}
 use Rattle.syn_show.specs.Printed.{served_line, lines_below}
-use Rattle.syn_show.proofs.ShowLemmas.{appends_more}
+use Rattle.std.proofs.KnownBytes.{Appends-trans}
 use Rattle.syn_show.proofs.lines.show_served.Goals as goal
 
 pub returns : goal.returns
@@ -16,6 +16,6 @@ returns g c =
     let first : c.as_bytes.result.now ≡ line = c.as_bytes.ensures.value ∙ c.in_ok-line.ensures in
     let lines = ap (lines_below tree) c.root.ensures in
     on_ok_weaker c.show_below-2.result (λ shown.
-    appends_more old middle new line below
+    Appends-trans old middle new line below
     (subst (λ xs. Appends old middle xs) first c.in_ok-write_all.ensures.bytes)
     (subst (λ xs. Appends middle new xs) lines shown)) c.show_below-2.ensures

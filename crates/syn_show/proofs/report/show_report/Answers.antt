@@ -10,7 +10,7 @@ use Rattle.syn_session.specs.Reports.{end_of, report_model}
 use Rattle.syn_show.specs.Reports.{counts_line, ended_line, in_order, is_earlier, lines_of_named}
 use Rattle.syn_show.specs.Reports.{named_in, session_line}
 use Rattle.syn_show.specs.inner.Named.{named_of}
-use Rattle.syn_show.proofs.ShowLemmas.{appends_more}
+use Rattle.std.proofs.KnownBytes.{Appends-trans}
 use Rattle.syn_show.proofs.report.show_report.Goals as goal
 
 pub returns : goal.returns
@@ -39,7 +39,7 @@ returns g c =
     subst (Appends two three) (ap lines_of_named is_named) c.in_ok-show_named.ensures in
     on_ok_weaker c.show_ended.result
     (λ wrote_ended.
-    appends_more old one new first (counts ++ (named ++ ended)) wrote_first
-    (appends_more one two new counts (named ++ ended) wrote_counts
-    (appends_more two three new named ended wrote_named wrote_ended)))
+    Appends-trans old one new first (counts ++ (named ++ ended)) wrote_first
+    (Appends-trans one two new counts (named ++ ended) wrote_counts
+    (Appends-trans two three new named ended wrote_named wrote_ended)))
     c.show_ended.ensures

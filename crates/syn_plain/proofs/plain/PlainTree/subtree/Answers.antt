@@ -8,7 +8,6 @@ use Rattle.syn_model.specs.Limits.{greatest_spelling}
 use Rattle.syn_tree.specs.Contents.{found_content}
 use Rattle.syn_placed.specs.Pairs.{within}
 use Rattle.syn_tree.specs.Lists.{stripped}
-use Rattle.syn_tree.specs.Entries.{AreEntries}
 use Rattle.syn_placed.proofs.TreeLemmas.{entries-with}
 use Rattle.syn_tree.proofs.WholeLemmas.{whole_tree}
 use Rattle.syn_tree.proofs.WithinLemmas.{stripped-within}
@@ -34,12 +33,12 @@ lawful-requires c =
     let dir : get t c.args.path.now ≡ Some Directory = sym c.get.ensures
     ∙ (ap (option_map (λ found. found_content found)) c.in-Some-Dir.is
     ∙ ap (λ f. Some (found_content f)) c.in-Some-Dir.field-0-is) in
-    subst AreEntries (sym c.in_ok-entries-in-Some-Dir.ensures.ok)
-    (stripped_lawful t c.args.path.now ds c.in_ok-list-in-Some-Dir.list.items all
+    let part = c.deref-in-Some-Dir.ensures.value ∙ (c.in_ok-part-in-Some-Dir.ensures.ok
+    ∙ (c.part_at.ensures ∙ ap₂ within c.names.ensures.names c.deref.ensures.value)) in
+    stripped_lawful t c.args.path.now ds c.in_ok-list-in-Some-Dir.list.items all
     (subst IsTree c.self.view_is c.self.invariant.tree) limits.0 limits.1 dir
-    (c.in_ok-list-in-Some-Dir.ensures.ok ∙ (ap (stripped c.args.path.now)
-    (c.part_at-part.ensures ∙ ap₂ within c.names.ensures.names c.deref.ensures.value)
-    ∙ stripped-within c.args.path.now ds)))
+    (c.in_ok-list-in-Some-Dir.ensures.ok ∙ (ap₂ stripped c.key.ensures part
+    ∙ stripped-within c.args.path.now ds))
 
 pub returns-in-None-clause-ok : goal.returns-in-None-clause-ok
 returns-in-None-clause-ok c =
@@ -59,17 +58,17 @@ returns-in_ok-bytes-in-Some-File-clause-ok c =
     ap file c.in_ok-bytes-in-Some-File.ensures.items ∙ subtree_file t c.args.path.now
     (contents_of bytes) (subst IsTree c.self.view_is c.self.invariant.tree).part.parents here
 
-pub returns-in_ok-entries-in-Some-Dir-clause-ok : goal.returns-in_ok-entries-in-Some-Dir-clause-ok
-returns-in_ok-entries-in-Some-Dir-clause-ok c =
+pub returns-in_ok-list-in-Some-Dir-clause-ok : goal.returns-in_ok-list-in-Some-Dir-clause-ok
+returns-in_ok-list-in-Some-Dir-clause-ok c =
     let t = c.args.self.now in
     let ds = c.self.inside.list.items in
     let all = ap entries (sym c.self.view_is) ∙ entries-with ds c.self.invariant.rising in
     let dir : get t c.args.path.now ≡ Some Directory = sym c.get.ensures
     ∙ (ap (option_map (λ found. found_content found)) c.in-Some-Dir.is
     ∙ ap (λ f. Some (found_content f)) c.in-Some-Dir.field-0-is) in
-    let copies = c.in_ok-entries-in-Some-Dir.entries.items in
+    let part = c.deref-in-Some-Dir.ensures.value ∙ (c.in_ok-part-in-Some-Dir.ensures.ok
+    ∙ (c.part_at.ensures ∙ ap₂ within c.names.ensures.names c.deref.ensures.value)) in
+    let copies = c.in_ok-list-in-Some-Dir.list.items in
     c.lawful.ensures ∙ whole_tree (subtree t c.args.path.now) copies
-    (stripped_entries t c.args.path.now ds copies all dir (c.in_ok-entries-in-Some-Dir.ensures.ok
-    ∙ (c.in_ok-list-in-Some-Dir.ensures.ok
-    ∙ (ap (stripped c.args.path.now) (c.part_at-part.ensures ∙ ap₂ within c.names.ensures.names
-    c.deref.ensures.value) ∙ stripped-within c.args.path.now ds))))
+    (stripped_entries t c.args.path.now ds copies all dir (c.in_ok-list-in-Some-Dir.ensures.ok
+    ∙ (ap₂ stripped c.key.ensures part ∙ stripped-within c.args.path.now ds)))

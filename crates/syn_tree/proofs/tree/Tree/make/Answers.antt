@@ -1,7 +1,7 @@
 use Rattle.std.proofs.Common.{◌≡◌, ◌+◌, ◌-◌, refl, sym, ap, ap₂, ◌∙◌, subst, arith, vec_capacity}
 use Rattle.syn_model.specs.Path.{Path}
 use Rattle.syn_model.specs.Tree.{Tree}
-use Rattle.syn_placed.specs.Pairs.{Pairs, tree_with}
+use Rattle.syn_placed.specs.Pairs.{Pairs, tree_with, within, spelling_length}
 use Rattle.syn_tree.specs.Change.{Replacement, taken_from, IsPreparedFor, after_change}
 use Rattle.syn_tree.proofs.MeasureLemmas.{kept_size, part_size}
 use Rattle.syn_tree.proofs.MakeLemmas.{made_kept, made_tree, made_room}
@@ -20,8 +20,8 @@ ready at added change t u e k is h =
     subst (λ w. IsPreparedFor w (record { at = at; new = taken_from at added })) (sym is)
     (subst (IsPreparedFor u) (sym (same_change at added change e k)) h)
 
-pub splice-removed-requires-clause-brief : goal.splice-removed-requires-clause-brief
-splice-removed-requires-clause-brief c =
+pub spelled-removed-requires : goal.spelled-removed-requires
+spelled-removed-requires c =
     let ds = c.self.inside.list.items in
     let at = c.into_parts-at.result.0 in
     let prepared = ready at c.into_parts-at.result.1.items c.args.change
@@ -29,12 +29,13 @@ splice-removed-requires-clause-brief c =
     c.self.view_is c.requires in
     omega (
       arith,
+      ap spelling_length (c.part_at.ensures ∙ ap (within at) c.deref.ensures.value),
       part_size ds c.self.inside.spelled _ at c.self.invariant prepared.below,
       kept_size ds c.self.inside.spelled _ c.self.invariant,
     )
 
-pub splice-removed-requires-clause-room : goal.splice-removed-requires-clause-room
-splice-removed-requires-clause-room c =
+pub replace_part-requires-clause-room : goal.replace_part-requires-clause-room
+replace_part-requires-clause-room c =
     let ds = c.self.inside.list.items in
     let at = c.into_parts-at.result.0 in
     let added = c.into_parts-at.result.1.items in
@@ -55,7 +56,8 @@ overflow_sub-self c =
     omega (
       arith,
       part_size ds c.self.inside.spelled _ at c.self.invariant prepared.below,
-      c.splice-removed.ensures.removed,
+      c.spelled-removed.ensures,
+      ap spelling_length (c.part_at.ensures ∙ ap (within at) c.deref.ensures.value),
     )
 
 pub overflow_add-self : goal.overflow_add-self
@@ -69,7 +71,12 @@ overflow_add-self c =
     let kept = made_kept ds c.self.inside.spelled (vec_capacity c.self.inside.list) change added
     c.into_parts-at.result.2 c.self.invariant prepared c.into_parts-at.ensures.placed refl _ _
     (vec_capacity c.self.inside.list) refl refl (omega arith) in
-    omega (arith, kept_size _ _ _ kept, c.splice-removed.ensures.removed)
+    omega (
+      arith,
+      kept_size _ _ _ kept,
+      c.spelled-removed.ensures,
+      ap spelling_length (c.part_at.ensures ∙ ap (within at) c.deref.ensures.value),
+    )
 
 pub returns : goal.returns
 returns c =
@@ -81,7 +88,7 @@ returns c =
     c.into_parts-at.ensures.at c.into_parts-at.ensures.new c.self.view_is c.requires in
     made_tree ds c.self.inside.spelled (vec_capacity c.self.inside.list) change added
     c.into_parts-at.result.2 c.self.invariant prepared c.into_parts-at.ensures.placed
-    refl c.splice-removed.new.list.items c.splice-removed.ensures.items
+    refl c.replace_part.new.list.items c.replace_part.ensures.items
     ∙ ap₂ after_change c.self.view_is
     (same_change at added c.args.change c.into_parts-at.ensures.at c.into_parts-at.ensures.new)
 
@@ -95,6 +102,7 @@ invariant_of-self c =
     c.into_parts-at.ensures.at c.into_parts-at.ensures.new c.self.view_is c.requires in
     made_kept ds c.self.inside.spelled
     (vec_capacity c.self.inside.list) change added c.into_parts-at.result.2 c.self.invariant
-    prepared c.into_parts-at.ensures.placed refl c.splice-removed.new.list.items _ _
-    c.splice-removed.ensures.items (ap (λ n. c.self.inside.spelled - n + c.into_parts-at.result.2)
-    c.splice-removed.ensures.removed) c.splice-removed.ensures.room
+    prepared c.into_parts-at.ensures.placed refl c.replace_part.new.list.items _ _
+    c.replace_part.ensures.items (ap (λ n. c.self.inside.spelled - n + c.into_parts-at.result.2)
+    (c.spelled-removed.ensures ∙ ap spelling_length
+    (c.part_at.ensures ∙ ap (within at) c.deref.ensures.value))) c.replace_part.ensures.room

@@ -1,0 +1,117 @@
+//! Why an edit is refused, whatever form the tree has.
+ghost use Rattle.std.specs.Prelude.{◌≡◌, ◌<◌, ◌^◌, ℕ, List, None, true, length, option_map};
+ghost use Rattle.std.specs.FinMap.{get};
+ghost use Rattle.syn_model.specs.Tree.{Tree as Pairs, is_directory, replace};
+ghost use Rattle.syn_model.specs.Event.{Put, MakeDir, Remove};
+ghost use Rattle.syn_model.specs.Limits.{fits_replica};
+ghost use Rattle.syn_model.specs.Refusal.{first_cause};
+ghost use Rattle.syn_model.specs.Standing.{edit_refusal, place_causes};
+ghost use Rattle.syn_tree.specs.Contents.{found_content};
+ghost use Rattle.syn_tree.specs.Edits.{edit_of};
+ghost use Rattle.syn_tree.specs.Lists.{IsMeasured};
+ghost use Rattle.syn_tree.specs.Refusals.{refusal_in};
+
+use crate::content::Found;
+use crate::edit::Edit;
+use crate::error::TreeError;
+use crate::measures::{LONGEST_FILE, name_spelled};
+use syn_path::Path;
+
+/// A form of a tree within the limits of a replica, as far as it decides which edits are refused.
+/// Contracts see the tree that it stands for.
+pub trait Limited {
+    ghost use Rattle.syn_model.specs.Tree.{Tree as Stood};
+
+    ghost tree: { Self → Stood };
+
+    /// What stands at the path; none where nothing does.
+    fn get(&self, path: &Path) -> Option<Found<'_>>
+        ensures { option_map (λ found. found_content found) result
+            ≡ get (tree self.now) path.now };
+
+    /// Why nothing may be put at the path or taken from it: it is the root (6), or its parent is no
+    /// directory (2).
+    fn check_place(&self, path: &Path) -> Result<(), TreeError>
+        ensures { refusal_in result ≡ first_cause (place_causes (tree self.now) path.now) };
+
+    /// Whether the limits are kept where so many nodes, spelled with so many bytes, take the place
+    /// of what is at the path.
+    fn fits(&self, path: &Path, nodes: usize, size: usize) -> bool
+        requires place { first_cause (place_causes (tree self.now) path.now) ≡ None }
+        requires nodes { nodes < 2 ^ 62 }
+        requires size { size < 2 ^ 62 }
+        ensures { (new : Pairs) → IsMeasured path.now new nodes size → result
+            ≡ fits_replica (replace (tree self.now) path.now new) };
+
+    /// It keeps the limits of a replica.
+    fn limits(&self)
+        ensures { fits_replica (tree self.now) ≡ true };
+}
+
+/// Why the edit is refused, as `Tree::check` has it.
+pub fn check<T: Limited>(tree: &T, edit: &Edit) -> Result<(), TreeError>
+    ensures { refusal_in result ≡ edit_refusal (T.tree tree.now) (edit_of edit.now) }
+{
+    match edit {
+        Edit::Put(path, bytes) => check_put(tree, path, bytes.len()),
+        Edit::MakeDir(path) => check_make_dir(tree, path),
+        Edit::Remove(path) => check_remove(tree, path),
+    }
+}
+
+/// A directory is at the path.
+fn is_directory<T: Limited>(tree: &T, path: &Path) -> bool
+    ensures { result ≡ is_directory (T.tree tree.now) path.now }
+{
+    match tree.get(path) {
+        Some(found) => found.is_directory(),
+        None => false,
+    }
+}
+
+/// Why a file of so many bytes is not put.
+fn check_put<T: Limited>(tree: &T, path: &Path, size: usize) -> Result<(), TreeError>
+    ensures { (bytes : List ℕ) → length bytes ≡ size → refusal_in result
+        ≡ edit_refusal (T.tree tree.now) (Put path.now bytes) }
+{
+    tree.check_place(path)?;
+    if is_directory(tree, path) {
+        return Err(TreeError::IsDirectory);
+    }
+    if size > LONGEST_FILE {
+        return Err(TreeError::Full);
+    }
+    if tree.fits(path, 1, name_spelled(&path.key()) + 5 + size) {
+        Ok(())
+    } else {
+        Err(TreeError::Full)
+    }
+}
+
+/// Why a directory is not made.
+fn check_make_dir<T: Limited>(tree: &T, path: &Path) -> Result<(), TreeError>
+    ensures { refusal_in result ≡ edit_refusal (T.tree tree.now) (MakeDir path.now) }
+{
+    tree.check_place(path)?;
+    if tree.get(path).is_some() {
+        return Err(TreeError::Exists);
+    }
+    if tree.fits(path, 1, name_spelled(&path.key()) + 3) {
+        Ok(())
+    } else {
+        Err(TreeError::Full)
+    }
+}
+
+/// Why nothing is removed.
+fn check_remove<T: Limited>(tree: &T, path: &Path) -> Result<(), TreeError>
+    ensures { refusal_in result ≡ edit_refusal (T.tree tree.now) (Remove path.now) }
+{
+    tree.check_place(path)?;
+    if tree.get(path).is_none() {
+        return Err(TreeError::Absent);
+    }
+    // what is left keeps the limits that the whole kept
+    tree.limits();
+    Ok(())
+}
