@@ -1,21 +1,10 @@
 -- What is appended in parts, and the lines of reports, one behind the other.
-use Rattle.std.proofs.Common.{◌≡◌, ◌++◌, ◌∷◌, ◌∙◌, ℕ, [], List, Option, Some, None, ap}
-use Rattle.std.proofs.Common.{append-nil, append_assoc}
+use Rattle.std.proofs.Common.{◌≡◌, ◌++◌, ◌∷◌, ◌∙◌, ℕ, [], List, ap, append-nil}
 use Rattle.std.proofs.lemmas.Grind.{flat_map-append}
-use Rattle.std.specs.Io.KnownBytes.{Appends}
 use Rattle.syn_session.specs.Reports.{report_model}
 use Rattle.syn_session.specs.declared.report.Report.{Report}
 use Rattle.syn_show.specs.Reports.{report_lines}
 use Rattle.syn_simulate.specs.Shown.{reports_shown}
-
--- what was appended twice was appended in a row
-pub appends_more : (a b c : Option (List ℕ)) (xs ys : List ℕ) → Appends a b xs → Appends b c ys
-    → Appends a c (xs ++ ys)
-appends_more None b c xs ys h g = tt
-appends_more (Some held) None c xs ys h g = absurd h
-appends_more (Some held) (Some bs) None xs ys h g = absurd g
-appends_more (Some held) (Some bs) (Some cs) xs ys h g =
-    g ∙ (ap (λ z. z ++ ys) h ∙ append_assoc held xs ys)
 
 -- one report more has its own lines
 pub more_reports : (reports : List (Report × ℕ)) (one : Report × ℕ)

@@ -5,7 +5,8 @@ use Rattle.std.specs.Io.KnownBytes.{Appends}
 use Rattle.syn_session.specs.Reports.{report_model}
 use Rattle.syn_show.specs.Reports.{report_lines}
 use Rattle.syn_simulate.specs.Shown.{reports_shown}
-use Rattle.syn_simulate.proofs.ShownLemmas.{appends_more, more_reports}
+use Rattle.std.proofs.KnownBytes.{Appends-trans}
+use Rattle.syn_simulate.proofs.ShownLemmas.{more_reports}
 use Rattle.syn_simulate.proofs.show.show_reports.Goals as goal
 
 pub loop-report-preserved : goal.loop-report-preserved
@@ -22,5 +23,5 @@ loop-report-preserved g c =
     ∙ ap (λ last. take index reports ++ last ∷ []) (sym c.loop-report-item.is) in
     let lines = ap reports_shown taken ∙ more_reports (take index reports) one in
     subst (Appends old new) (sym lines)
-    (appends_more old middle new (reports_shown (take index reports))
+    (Appends-trans old middle new (reports_shown (take index reports))
     (report_lines (report_model one.0)) c.loop-report.invariant c.in_ok-show_report.ensures)

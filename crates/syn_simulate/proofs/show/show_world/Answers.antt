@@ -2,7 +2,7 @@ use Rattle.std.proofs.Common.{ap, codes, subst}
 use Rattle.std.proofs.lemmas.Result.{on_ok_weaker}
 use Rattle.std.specs.Io.KnownBytes.{Appends}
 use Rattle.syn_simulate.specs.Shown.{archive_or_down, reports_shown, side_or_down}
-use Rattle.syn_simulate.proofs.ShownLemmas.{appends_more}
+use Rattle.std.proofs.KnownBytes.{Appends-trans}
 use Rattle.syn_simulate.proofs.show.show_world.Goals as goal
 
 pub returns : goal.returns
@@ -25,10 +25,11 @@ returns g c =
     c.in_ok-show_reports.ensures in
     on_ok_weaker c.show_coordinator.result
     (λ shown.
-    appends_more s0 s1 s7 reports _ wrote_reports
-    (appends_more s1 s2 s7 (codes "left\n") _ c.in_ok-write_all.ensures.bytes
-    (appends_more s2 s3 s7 left _ c.in_ok-show_side.ensures
-    (appends_more s3 s4 s7 (codes "right\n") _ c.in_ok-write_all-2.ensures.bytes
-    (appends_more s4 s5 s7 right _ c.in_ok-show_side-2.ensures
-    (appends_more s5 s6 s7 (codes "archive\n") archive c.in_ok-write_all-3.ensures.bytes shown))))))
+    Appends-trans s0 s1 s7 reports _ wrote_reports
+    (Appends-trans s1 s2 s7 (codes "left\n") _ c.in_ok-write_all.ensures.bytes
+    (Appends-trans s2 s3 s7 left _ c.in_ok-show_side.ensures
+    (Appends-trans s3 s4 s7 (codes "right\n") _ c.in_ok-write_all-2.ensures.bytes
+    (Appends-trans s4 s5 s7 right _ c.in_ok-show_side-2.ensures
+    (Appends-trans s5 s6 s7 (codes "archive\n") archive c.in_ok-write_all-3.ensures.bytes
+    shown))))))
     c.show_coordinator.ensures
