@@ -14,8 +14,8 @@ use syn_tree::{Edit, Tree};
 
 /// Writes the tree into a folder that is missing or empty.
 ///
-/// Refused 4 where something stands in it, and 11 where memory is refused. Refused 9, or 11 for want
-/// of memory, where a call of the system fails: a part may be written then.
+/// Refused 4 where something stands in it, and 11 where memory is refused. Refused 9, or 11 for
+/// want of memory, where a call of the system fails: a part may be written then.
 pub fn fill<F: Folder>(alloc: Global, wanted: &Tree, folder: &mut F) -> Result<(), FolderError>
     ensures done { OnOk result (F.tree folder.new ≡ wanted.now) }
     ensures refused { IfErr result (λ e. IsOfSystem e ⊎ (folder.new ≡ folder.old)) }

@@ -56,7 +56,10 @@ fn show_counts<W: Write>(report: &Report, output: &mut W) -> Result<(), ShowErro
     let marked = report.marked;
     let conflicts = report.conflicts.len();
     let refused = report.refused.len();
-    write!(output, "done {done} marked {marked} conflicts {conflicts} refused {refused}\n")?;
+    write!(
+        output,
+        "done {done} marked {marked} conflicts {conflicts} refused {refused}\n"
+    )?;
     Ok(())
 }
 
