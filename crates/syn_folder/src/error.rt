@@ -2,7 +2,7 @@
 ghost use Rattle.std.specs.Prelude.{◌≡◌, Some};
 ghost use Rattle.syn_model.specs.Refusal.{number, name_of};
 ghost use Rattle.syn_refusal.specs.Refusals.{cause_of};
-ghost use Rattle.syn_folder.specs.Refusals.{refusal_of};
+ghost use Rattle.syn_folder.specs.Refusals.{refusal_in, refusal_of};
 
 use crate::stranger::Stranger;
 use std::alloc::{AllocError, AllocFailed};
@@ -15,16 +15,16 @@ use thiserror::Error;
 /// Why a folder is not read or written.
 #[derive(Debug, Drop, Error)]
 pub enum FolderError {
-    /// 1 to 7, or 11: the tree that would come of it is refused so. Nothing was written.
+    /// 1 to 7, or 11: the tree that would come of it is refused so, or memory is. Nothing was
+    /// written.
     Tree(TreeError),
     /// 4: the folder is not empty. Nothing was written.
     NotEmpty,
     /// 7: these stand in the folder, or in the way, and can stand in no replica. Nothing was
     /// written.
     Strange(Vec<Stranger>),
-    /// 11: memory was refused before anything was written.
-    Memory,
-    /// 9 or 11: the system refuses it, and says why. A part may be written.
+    /// 9, or 11 for want of memory: a call of the system failed, for this reason. A part may be
+    /// written.
     System(io::Error),
 }
 
@@ -37,8 +37,7 @@ impl FolderError {
             FolderError::Tree(error) => error.refusal(),
             FolderError::NotEmpty => Refusal::Exists,
             FolderError::Strange(_) => Refusal::Full,
-            FolderError::Memory => Refusal::Memory,
-            FolderError::System(_) => Refusal::Device,
+            FolderError::System(error) => refusal_in(error.kind()),
         }
     }
 
@@ -47,6 +46,16 @@ impl FolderError {
         ensures { result ≡ number (refusal_of self.now) }
     {
         self.refusal().number()
+    }
+}
+
+/// The refusal of a call of the system that failed so.
+fn refusal_in(kind: io::ErrorKind) -> Refusal
+    ensures { cause_of result ≡ refusal_in kind }
+{
+    match kind {
+        io::ErrorKind::OutOfMemory => Refusal::Memory,
+        _ => Refusal::Device,
     }
 }
 
@@ -70,37 +79,33 @@ impl From<TreeError> for FolderError {
 }
 
 impl From<AllocError> for FolderError {
-    ghost use Rattle.syn_folder.specs.declared.error.FolderError.TheVariants.{Memory};
+    ghost use Rattle.syn_folder.specs.Refusals.{no_memory};
 
-    ghost from_gives = { λ _ e. e ≡ Memory };
+    ghost from_gives = { λ _ e. e ≡ no_memory };
 
     fn from(_error: AllocError) -> FolderError {
-        FolderError::Memory
+        FolderError::Tree(TreeError::Memory)
     }
 }
 
 impl<T: Drop> From<AllocFailed<T>> for FolderError {
-    ghost use Rattle.syn_folder.specs.declared.error.FolderError.TheVariants.{Memory};
+    ghost use Rattle.syn_folder.specs.Refusals.{no_memory};
 
-    ghost from_gives = { λ _ e. e ≡ Memory };
+    ghost from_gives = { λ _ e. e ≡ no_memory };
 
     fn from(_error: AllocFailed<T>) -> FolderError {
-        FolderError::Memory
+        FolderError::Tree(TreeError::Memory)
     }
 }
 
 impl From<PathError> for FolderError {
-    ghost use Rattle.syn_folder.specs.declared.error.FolderError.TheVariants.{Memory, Tree};
-    ghost use Rattle.std.specs.Prelude.{◌⊎◌};
-    ghost use Rattle.syn_tree.specs.declared.error.TreeError.TheVariants.{Full};
+    ghost use Rattle.syn_folder.specs.declared.error.FolderError.TheVariants.{Tree};
+    ghost use Rattle.syn_tree.specs.Refusals.{of_path};
 
-    ghost from_gives = { λ _ e. (e ≡ Memory) ⊎ (e ≡ Tree Full) };
+    ghost from_gives = { λ error e. e ≡ Tree (of_path error) };
 
     fn from(error: PathError) -> FolderError {
-        match error {
-            PathError::BadPath => FolderError::Tree(TreeError::Full),
-            PathError::Memory => FolderError::Memory,
-        }
+        FolderError::Tree(TreeError::from(error))
     }
 }
 

@@ -14,8 +14,8 @@ use syn_tree::{Edit, Tree};
 
 /// Writes the tree into a folder that is missing or empty.
 ///
-/// Refused 4 where something stands in it, 9 where the system refuses it, and 11 where memory is
-/// refused. Only after 9 may a part be written.
+/// Refused 4 where something stands in it, and 11 where memory is refused. Refused 9, or 11 for
+/// want of memory, where a call of the system fails: a part may be written then.
 pub fn fill<F: Folder>(alloc: Global, wanted: &Tree, folder: &mut F) -> Result<(), FolderError>
     ensures done { OnOk result (F.tree folder.new ≡ wanted.now) }
     ensures refused { IfErr result (λ e. IsOfSystem e ⊎ (folder.new ≡ folder.old)) }
@@ -28,8 +28,9 @@ pub fn fill<F: Folder>(alloc: Global, wanted: &Tree, folder: &mut F) -> Result<(
 
 /// Makes the folder's tree the wanted one. What is not wanted is removed.
 ///
-/// Refused 7 where something stands in the folder that can stand in no replica, 9 where the system
-/// refuses it, and 11 where memory is refused. Only after 9 may a part be written.
+/// Refused 7 where something stands in the folder that can stand in no replica, and 11 where memory
+/// is refused. Refused 9, or 11 for want of memory, where a call of the system fails: a part may be
+/// written then.
 pub fn mirror<F: Folder>(alloc: Global, wanted: &Tree, folder: &mut F) -> Result<(), FolderError>
     ensures done { OnOk result (F.tree folder.new ≡ wanted.now) }
     ensures refused { IfErr result (λ e. IsOfSystem e ⊎ (folder.new ≡ folder.old)) }
@@ -46,8 +47,8 @@ pub fn mirror<F: Folder>(alloc: Global, wanted: &Tree, folder: &mut F) -> Result
 ///
 /// Refused 3 where a file would take the place of a directory, 4 where a directory would take the
 /// place of a file, 7 where something that can stand in no replica is in the way or the folder
-/// would have more than a replica may, 9 where the system refuses it, and 11 where memory is
-/// refused. Only after 9 may a part be written.
+/// would have more than a replica may, and 11 where memory is refused. Refused 9, or 11 for want of
+/// memory, where a call of the system fails: a part may be written then.
 pub fn update<F: Folder>(alloc: Global, wanted: &Tree, folder: &mut F) -> Result<(), FolderError>
     ensures done { OnOk result (IsOverlaid (F.tree folder.old) wanted.now (F.tree folder.new)) }
     ensures refused { IfErr result (λ e. IsOfSystem e ⊎ (folder.new ≡ folder.old)) }

@@ -124,7 +124,7 @@ impl<F: Files> Reading<'_, '_, F> {
                     let text = text_of(alloc, path, name.as_str().as_bytes())?;
                     self.push_stranger(text, None, Strangeness::Path)?;
                 }
-                Err(PathError::Memory) => return Err(FolderError::Memory),
+                Err(error) => return Err(FolderError::from(error)),
             }
         }
         Ok(())
@@ -190,7 +190,7 @@ fn name_of(alloc: Global, bytes: &[u8]) -> Result<Option<Name>, FolderError> {
     match Name::parse(alloc, text) {
         Ok(name) => Ok(Some(name)),
         Err(PathError::BadPath) => Ok(None),
-        Err(PathError::Memory) => Err(FolderError::Memory),
+        Err(error) => Err(FolderError::from(error)),
     }
 }
 

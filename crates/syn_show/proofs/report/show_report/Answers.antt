@@ -24,22 +24,19 @@ returns g c =
     let named = lines_of_named (in_order is_earlier (named_in model)) in
     let ended = ended_line (option_map cause_of report.ended) in
     let old = g.W.Write.contents c.args.output.now in
-    let one = g.W.Write.contents c.write_all.new.self in
-    let two = g.W.Write.contents c.write_all-2.new.self in
+    let one = g.W.Write.contents c.show_end.new.output in
+    let two = g.W.Write.contents c.show_counts.new.output in
     let three = g.W.Write.contents c.show_named.new.output in
     let new = g.W.Write.contents c.show_ended.new.output in
-    let is_first = c.as_bytes.ensures.value ∙ c.in_ok-first.ensures in
     let lengths = sym (length-map report.refused.items cause_and_path) in
-    let is_counts = c.as_bytes-2.ensures.value ∙ (c.in_ok-counts.ensures
-    ∙ ap (counts_line report.done report.marked (length model.conflicts)) lengths) in
+    let is_counts = ap (counts_line report.done report.marked (length model.conflicts)) lengths in
     let is_named = ap (map named_of) c.deref.ensures.value ∙ c.in_ok-items.ensures in
-    let wrote_first = subst (Appends old one) is_first c.in_ok-write_all.ensures.bytes in
-    let wrote_counts = subst (Appends one two) is_counts c.in_ok-write_all-2.ensures.bytes in
+    let wrote_counts = subst (Appends one two) is_counts c.in_ok-show_counts.ensures in
     let wrote_named =
     subst (Appends two three) (ap lines_of_named is_named) c.in_ok-show_named.ensures in
     on_ok_weaker c.show_ended.result
     (λ wrote_ended.
-    Appends-trans old one new first (counts ++ (named ++ ended)) wrote_first
+    Appends-trans old one new first (counts ++ (named ++ ended)) c.in_ok-show_end.ensures
     (Appends-trans one two new counts (named ++ ended) wrote_counts
     (Appends-trans two three new named ended wrote_named wrote_ended)))
     c.show_ended.ensures
