@@ -17,7 +17,7 @@ pub mod host;
 mod image;
 pub mod mirror;
 
-use host::{Access, HostFile};
+use host::{Access, HostFile, take_lock};
 use mirror::MirroredFile;
 
 /// A file of `DISK_SIZE` bytes, by what each call on it leaves.
@@ -114,6 +114,23 @@ impl<H: HostFile> FileDisk<MirroredFile<H>> {
     ghost use Rattle.syn_file.specs.FileDisk.{file_of, failures_of};
     ghost use Rattle.syn_file.specs.Mirrored.{seen_of, MayBeLeft, host_of};
 
+    /// Opens the file at the path for this access, and takes the system's lock on it. Nothing of it
+    /// is read; `of_file` makes it a disk.
+    ///
+    /// It is refused 12 where another process has the file open, to write where this one reads; 9
+    /// where the file is missing or cannot be locked; and 11 for want of memory.
+    pub fn lock<R: Files<File = H>>(files: &R, path: &str, access: Access) -> Result<H, OpenError>
+        ensures held { IfOk result (λ file. H.is_held file access) }
+    {
+        let writes = access == Access::Write;
+        let file = OpenOptions::new()
+            .read(true)
+            .write(writes)
+            .open(files, path)?;
+        take_lock(&file, access)?;
+        Ok(file)
+    }
+
     /// The disk in the file at the path, which no other process may open as long as this one has
     /// it.
     ///
@@ -129,7 +146,7 @@ impl<H: HostFile> FileDisk<MirroredFile<H>> {
         ensures held { IfOk result (λ disk. H.is_held (host_of (file_of disk)) Access.Write) }
         ensures failures { IfOk result (λ disk. failures_of disk ≡ 0) }
     {
-        let file = OpenOptions::new().read(true).write(true).open(files, path)?;
+        let file = FileDisk::lock(files, path, Access::Write)?;
         FileDisk::of_file(alloc, file, Access::Write)
     }
 
@@ -148,7 +165,7 @@ impl<H: HostFile> FileDisk<MirroredFile<H>> {
         ensures held { IfOk result (λ disk. H.is_held (host_of (file_of disk)) Access.Read) }
         ensures failures { IfOk result (λ disk. failures_of disk ≡ 0) }
     {
-        let file = OpenOptions::new().read(true).open(files, path)?;
+        let file = FileDisk::lock(files, path, Access::Read)?;
         FileDisk::of_file(alloc, file, Access::Read)
     }
 

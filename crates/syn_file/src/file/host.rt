@@ -2,6 +2,7 @@
 ghost use Rattle.std.specs.Prelude.{OnOk};
 ghost use Rattle.syn_file.specs.declared.file.host.Access.{Access};
 
+use crate::error::OpenError;
 use std::fs::{File, OpenFile, TryLockError};
 use std::io;
 use std::ops::Range;
@@ -34,6 +35,18 @@ pub trait HostFile: FileExt + OpenFile + Drop {
     /// Lets the system forget what it has in memory of the file and takes for synced. After a sync
     /// that failed in an earlier process that may be other than what the device has.
     fn forget(&self);
+}
+
+/// Takes the system's lock on a file that was opened. It is refused 12 where another process has
+/// the lock, and 9 where the file cannot be locked.
+pub(crate) fn take_lock<H: HostFile>(file: &H, access: Access) -> Result<(), OpenError>
+    ensures held { OnOk result (H.is_held file.now access) }
+{
+    match file.try_lock(access) {
+        Ok(()) => Ok(()),
+        Err(TryLockError::WouldBlock) => Err(OpenError::Busy),
+        Err(TryLockError::Error(error)) => Err(OpenError::from(error)),
+    }
 }
 
 /// `lseek`'s word for the next bytes that a file keeps.

@@ -8,10 +8,9 @@ ghost use Rattle.syn_disk.specs.MomentLaws.{now_counts, only_now};
 
 use crate::error::OpenError;
 use crate::file::DiskFile;
-use crate::file::host::{Access, HostFile};
+use crate::file::host::{Access, HostFile, take_lock};
 use crate::file::image::Image;
 use std::alloc::Global;
-use std::fs::TryLockError;
 use std::io;
 use syn_disk::{DISK_SIZE, DeviceFailed, History};
 
@@ -45,11 +44,7 @@ impl<H: HostFile> MirroredFile<H> {
         ensures sound { IfOk result (λ file. has_failed_of file ≡ false) }
         ensures held { IfOk result (λ file. H.is_held (host_of file) access) }
     {
-        match file.try_lock(access) {
-            Ok(()) => {}
-            Err(TryLockError::WouldBlock) => return Err(OpenError::Busy),
-            Err(TryLockError::Error(error)) => return Err(OpenError::from(error)),
-        }
+        take_lock(&file, access)?;
         let length = file.metadata()?.len();
         if length != DISK_SIZE as u64 {
             return Err(OpenError::Length(length));
