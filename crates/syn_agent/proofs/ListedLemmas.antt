@@ -1,6 +1,5 @@
 -- What stands in a directory of a history is a listing that can be sent.
 use Rattle.sha2.proofs.Facts256.{length-sha256}
-use Rattle.sha2.specs.Sha256.{digest_bytes, sha256}
 use Rattle.std.proofs.Common.{◌≡◌, ◌∙◌, ◌+◌, ◌<◌, ◌≤◌, ℕ, zero, suc, Bool, true, false, ◌&&◌}
 use Rattle.std.proofs.Common.{List, [], ◌∷◌, ◌++◌, Option, Some, None, T, Less, Equal, Greater, ap}
 use Rattle.std.proofs.Common.{ap₂, arith, cond, is_eq, IsSome, length, map, nat_le, refl}
@@ -8,21 +7,19 @@ use Rattle.std.proofs.Common.{option_map, subst, sym}
 use Rattle.std.proofs.lemmas.Bool.{and_parts}
 use Rattle.std.proofs.lemmas.Bool.Decides.{nat_tests}
 use Rattle.std.proofs.lemmas.Cmp.{lists_total, nat_list_cmp_total}
-use Rattle.std.proofs.lemmas.List.Elements.{All-append, All-cons, All-head, All-nil, All-tail}
+use Rattle.std.proofs.lemmas.List.Elements.{All-cons, All-head, All-nil, All-tail}
 use Rattle.std.proofs.lemmas.Option.{none-some, same_Some}
 use Rattle.std.specs.Cmp.{IsTotalOrder, tied_itself}
 use Rattle.std.specs.FinMap.{IsAntisymmetric, entries, entries_sorted, find, get-entries}
 use Rattle.std.specs.FinMap.{nat_cmp-IsAntisymmetric, slice_cmp-IsAntisymmetric}
 use Rattle.std.specs.FinMap.Entries.{below_all, is_sorted, same_entries}
-use Rattle.std.specs.Int.{byte_at, bytes_high_first, to_be_bytes, w32}
 use Rattle.std.specs.List.{cons_option, list_all, slice_index_or}
-use Rattle.std.specs.Ordering.{eq_by_cmp, is_lt, ordering_then}
+use Rattle.std.specs.Ordering.{eq_by_cmp, is_lt, ordering_reverse, ordering_then}
 use Rattle.std.specs.Prelude.{All, filter_map, if◌then◌else◌, option_and_then}
 use Rattle.std.specs.declared.cmp.Ordering.{Ordering}
 use Rattle.syn_agent.specs.inner.Lawful.{ListsLawfully}
 use Rattle.syn_mark.specs.Marks.{IsDigestOrDirectory}
 use Rattle.syn_message.specs.Listings.{AreRising, IsEntry, IsListing}
-use Rattle.syn_model.specs.Event.{AreBytes}
 use Rattle.syn_model.specs.Laws.{MarkHas}
 use Rattle.syn_model.specs.Limits.{children, fits_content, fits_part, fits_paths, greatest_spelling}
 use Rattle.syn_model.specs.Limits.{fits_replica, only_name, tree_spelling_length}
@@ -30,7 +27,9 @@ use Rattle.syn_model.specs.Mark.{mark, mark_of}
 use Rattle.syn_model.specs.Path.{IsName, Name, Path, name_cmp, path_cmp, strip_prefix}
 use Rattle.syn_model.specs.Tree.{Content, Directory, File, IsPart, IsTree, Pair, Tree}
 use Rattle.syn_model.specs.Tree.{is_directory, is_directory_content}
-use Rattle.std.specs.FinMap.{len}
+use Rattle.std.specs.FinMap.{get, len}
+use Rattle.syn_model.proofs.ContentsLemmas.{digest_is_bytes}
+use Rattle.syn_tree.specs.Contents.{IsLawful}
 
 name_total : IsTotalOrder name_cmp
 name_total = nat_list_cmp_total
@@ -273,28 +272,12 @@ few tree path fits there =
 
 -- Each is a name with a mark
 
-byte_below : (k n : ℕ) → byte_at k n < 256
-byte_below zero n = omega arith
-byte_below (suc k) n = omega arith
-
-high_bytes : (k n : ℕ) → AreBytes (bytes_high_first k n)
-high_bytes zero n = All-nil (λ byte. byte < 256)
-high_bytes (suc k) n = All-cons (λ byte. byte < 256) (byte_at k n) (bytes_high_first k n)
-    (byte_below k n) (high_bytes k n)
-
-words_bytes : (words : List ℕ) (n : ℕ) → AreBytes (digest_bytes words n)
-unfolding digest_bytes
-words_bytes words zero = All-nil (λ byte. byte < 256)
-words_bytes words (suc n) = All-append (λ byte. byte < 256) (digest_bytes words n)
-    (to_be_bytes w32 _) (words_bytes words n) (high_bytes 4 _)
-
-digest_is_bytes : (bytes : List ℕ) → AreBytes (sha256 bytes)
-unfolding sha256
-digest_is_bytes bytes = words_bytes _ 8
-
-is_digest : (content : Content) → IsDigestOrDirectory (mark_of content)
-is_digest Directory = tt
-is_digest (File contents) = (digest_is_bytes contents.bytes, length-sha256 contents.bytes)
+is_digest : (content : Content) → IsLawful content → IsDigestOrDirectory (mark_of content)
+is_digest Directory is = tt
+is_digest (File contents) is = (
+  record { mode = is.mode; bytes = digest_is_bytes contents.bytes },
+  length-sha256 contents.bytes,
+)
 
 last_name : (path : Path) (name : Name) → All IsName (path ++ name ∷ []) → IsName name
 last_name [] name all = All-head IsName name [] all
@@ -310,23 +293,42 @@ each_of : (P Q : Pair → Type 0) → ((pair : Pair) → P pair → Q pair) → 
 each_of P Q so [] h = tt
 each_of P Q so (pair ∷ pairs) h = (so pair h.0, each_of P Q so pairs h.1)
 
-abbrev IsIn : List Pair → Pair → Type 0
-IsIn pairs pair = IsSome (find path_cmp pair.0 pairs)
+-- a pair is found at its path
+abbrev IsAt : List Pair → Pair → Type 0
+IsAt pairs pair = find path_cmp pair.0 pairs ≡ Some pair.1
 
-further : (pair other : Pair) (pairs : List Pair) → IsIn pairs other → IsIn (pair ∷ pairs) other
-further pair other pairs h = elim (eq_by_cmp path_cmp other.0 pair.0) as (λ b.
-    IsSome (cond b (Some pair.1) (find path_cmp other.0 pairs))) [ true ↦ refl | false ↦ h ]
+further : (pair other : Pair) (pairs : List Pair) → path_cmp pair.0 other.0 ≡ Less
+    → IsAt pairs other → IsAt (pair ∷ pairs) other
+further pair other pairs less at =
+    ap (λ o. cond (is_eq o) (Some pair.1) (find path_cmp other.0 pairs))
+    (path_total.antisymm other.0 pair.0 ∙ ap ordering_reverse less)
+    ∙ at
 
-each_is_in : (pairs : List Pair) → Each (IsIn pairs) pairs
-each_is_in [] = tt
-each_is_in (pair ∷ pairs) = (
-  subst (λ b. IsSome (cond b (Some pair.1) (find path_cmp pair.0 pairs)))
-      (sym (ap is_eq (tied_itself path_total pair.0))) refl,
-  each_of (IsIn pairs) (IsIn (pair ∷ pairs)) (λ other h. further pair other pairs h) pairs
-      (each_is_in pairs),
-)
+more_at : (pair : Pair) (pairs others : List Pair) → T (below_all path_cmp pair.0 others)
+    → Each (IsAt pairs) others → Each (IsAt (pair ∷ pairs)) others
+more_at pair pairs [] below h = tt
+more_at pair pairs (other ∷ others) below h =
+    let both = parts (is_lt (path_cmp pair.0 other.0)) (below_all path_cmp pair.0 others) below in
+    (further pair other pairs (less_of _ both.0) h.0, more_at pair pairs others both.1 h.1)
 
-each_row : (path : Path) (pairs : List Pair) → Each (λ pair. All IsName pair.0) pairs
+each_is_at : (pairs : List Pair) → T (is_sorted path_cmp pairs) → Each (IsAt pairs) pairs
+each_is_at [] sorted = tt
+each_is_at (pair ∷ pairs) sorted =
+    let both = parts (below_all path_cmp pair.0 pairs) (is_sorted path_cmp pairs) sorted in (
+      ap (λ o. cond (is_eq o) (Some pair.1) (find path_cmp pair.0 pairs))
+          (tied_itself path_total pair.0),
+      more_at pair pairs pairs both.0 (each_is_at pairs both.1),
+    )
+
+lawful_at : (tree : Tree) → IsPart tree → (path : Path) (content : Content)
+    → get tree path ≡ Some content → IsLawful content
+lawful_at tree part path Directory is = tt
+lawful_at tree part path (File contents) is = part.lawful path contents is
+
+abbrev IsNamed : Pair → Type 0
+IsNamed pair = All IsName pair.0 × IsLawful pair.1
+
+each_row : (path : Path) (pairs : List Pair) → Each IsNamed pairs
     → All IsEntry (rows path (marked pairs))
 each_row path [] named = All-nil IsEntry
 each_row path (pair ∷ pairs) named =
@@ -339,8 +341,8 @@ each_row path (pair ∷ pairs) named =
     by (Some found) at rest =
         let is = row_is path (pair.0, mark_of pair.1) found at in
         All-cons IsEntry found (rows path (marked pairs)) (
-          last_name path found.0 (subst (λ k. All IsName k) is.0 named.0),
-          subst IsDigestOrDirectory is.1 (is_digest pair.1),
+          last_name path found.0 (subst (λ k. All IsName k) is.0 named.0.0),
+          subst IsDigestOrDirectory is.1 (is_digest pair.1 named.0.1),
         ) rest
 
 -- All three of a directory
@@ -351,10 +353,12 @@ listed has tree part fits path there =
     subst (λ pairs. IsListing (rows path pairs)) (sym (entries_mark has tree)) (record {
       few = subst (λ n. n ≤ 256) (sym (length_marked path (entries tree)))
           (few tree path fits there);
-      each = each_row path (entries tree) (each_of (IsIn (entries tree))
-          (λ pair. All IsName pair.0)
-          (λ pair h. part.names pair.0 (subst IsSome (sym (get-entries tree pair.0)) h))
-          (entries tree) (each_is_in (entries tree)));
+      each = each_row path (entries tree) (each_of (IsAt (entries tree)) IsNamed
+          (λ pair h. let is = get-entries tree pair.0 ∙ h in (
+            part.names pair.0 (subst IsSome (sym is) refl),
+            lawful_at tree part pair.0 pair.1 is,
+          ))
+          (entries tree) (each_is_at (entries tree) (entries_sorted tree)));
       rising = rising (rows path (marked (entries tree)))
           (rise_rows path (marked (entries tree)) (in_order tree));
     })

@@ -10,7 +10,7 @@ use Rattle.syn_model.specs.Archive.{new_archive}
 use Rattle.syn_model.specs.MarkSpelling.{archive_spelling, mark_spelling}
 use Rattle.syn_placed.proofs.TreeLemmas.{entries-one}
 use Rattle.syn_mark.proofs.MarkLemmas.{one_marks, one_present}
-use Rattle.syn_wire.specs.Marks.{digest_spelling}
+use Rattle.syn_model.specs.Contents.{digest_spelling}
 use Rattle.syn_wire.specs.Trees.{pair_by}
 use Rattle.syn_wire.proofs.MarkLemmas.{marks_walk}
 use Rattle.syn_archive.specs.Refusals.{IsOfFormat, of_journal}

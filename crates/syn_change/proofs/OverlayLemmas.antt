@@ -6,7 +6,8 @@ use Rattle.std.specs.Ordering.{eq_by_cmp}
 use Rattle.std.proofs.lemmas.Option.{none-some}
 use Rattle.std.specs.FinMap.{get, find, entries, get-entries}
 use Rattle.syn_model.specs.Path.{Path, Name, path_cmp, root, strip_prefix, is_root, parent}
-use Rattle.syn_model.specs.Tree.{Tree, Content, Directory, File, Pair, HasParents, at_root}
+use Rattle.syn_model.specs.Contents.{contents_of}
+use Rattle.syn_model.specs.Tree.{Tree, Content, Directory, File, Pair, HasParents, at_root, file}
 use Rattle.syn_model.specs.Tree.{is_directory, is_directory_content, is_present}
 use Rattle.syn_model.specs.Event.{Edit, after_edit}
 use Rattle.syn_model.specs.Refusal.{Refusal, Cause, first_cause, Root, NoParent, IsDirectory}
@@ -21,6 +22,9 @@ use Rattle.syn_placed.proofs.RisingLemmas.{Rising}
 use Rattle.syn_placed.proofs.FindLemmas.{find_after}
 use Rattle.syn_placed.proofs.TreeLemmas.{rising-entries}
 use Rattle.syn_change.specs.Changes.{IsOverlaid, IsPlaced, entry_edit}
+use Rattle.syn_tree.specs.Contents.{found_content}
+use Rattle.syn_tree.specs.declared.content.Found.{Found}
+use Rattle.syn_tree.specs.declared.content.Found.TheVariants as found
 
 -- ---- one edit
 
@@ -45,10 +49,10 @@ module _ (t : Tree) (p : Path) (c : Content) (parents : HasParents t)
   elsewhere_same : (q : Path) → q ≢ p → get (after_edit t (entry_edit (p, c))) q ≡ get t q
   elsewhere_same q other = replaced (strip_prefix p q) refl
     where
-      below : (r : Path) → strip_prefix p q ≡ Some r → get (at_root c) r ≡ get t q
-      below [] is = absurd (other (strip_prefix-is p q [] is ∙ append-nil p))
-      below (n ∷ r) is =
-          get-below_root c [] n r
+      below : (d : Content) (r : Path) → strip_prefix p q ≡ Some r → get (at_root d) r ≡ get t q
+      below d [] is = absurd (other (strip_prefix-is p q [] is ∙ append-nil p))
+      below d (n ∷ r) is =
+          get-below_root d [] n r
           ∙ sym (ap (get t) (strip_prefix-is p q (n ∷ r) is) ∙ nothing_below n r)
 
       replaced : (o : Option Path) → strip_prefix p q ≡ o →
@@ -57,23 +61,35 @@ module _ (t : Tree) (p : Path) (c : Content) (parents : HasParents t)
         where
           by_kind : (c : Content) → get (after_edit t (entry_edit (p, c))) q ≡ get t q
           by_kind Directory = beside t p (at_root Directory) q is
-          by_kind (File contents) = beside t p (at_root (File contents)) q is
-      replaced (Some r) is = by_kind c (below r is)
+          by_kind (File contents) = beside t p (file contents.bytes) q is
+      replaced (Some r) is = by_kind c
         where
-          by_kind : (c : Content) → get (at_root c) r ≡ get t q →
-              get (after_edit t (entry_edit (p, c))) q ≡ get t q
-          by_kind Directory same = within t p (at_root Directory) q r is ∙ same
-          by_kind (File contents) same = within t p (at_root (File contents)) q r is ∙ same
+          by_kind : (c : Content) → get (after_edit t (entry_edit (p, c))) q ≡ get t q
+          by_kind Directory = within t p (at_root Directory) q r is ∙ below Directory r is
+          by_kind (File contents) =
+              within t p (file contents.bytes) q r is
+              ∙ below (File (contents_of contents.bytes)) r is
 
-stands_there : (t : Tree) (p : Path) (c : Content) →
+-- a directory, or what a new file holds
+abbrev pub IsNew : Content → Type 0
+IsNew Directory = Unit {0}
+IsNew (File contents) = contents ≡ contents_of contents.bytes
+
+-- each file that a tree of the code has is new
+pub is_new : (f : Found) → IsNew (found_content f)
+is_new (found.File bytes) = refl
+is_new found.Dir = tt
+
+stands_there : (t : Tree) (p : Path) (c : Content) → IsNew c →
     get (after_edit t (entry_edit (p, c))) p ≡ Some c
-stands_there t p Directory =
+stands_there t p Directory new =
     within t p (at_root Directory) p [] (whole p) ∙ get-at_root Directory []
   where
     whole : (p : Path) → strip_prefix p p ≡ Some []
     whole p = ap (strip_prefix p) (sym (append-nil p)) ∙ strip_prefix-append p []
-stands_there t p (File contents) =
-    within t p (at_root (File contents)) p [] (whole p) ∙ get-at_root (File contents) []
+stands_there t p (File contents) new =
+    within t p (file contents.bytes) p [] (whole p)
+    ∙ (get-at_root (File (contents_of contents.bytes)) [] ∙ ap (λ c. Some (File c)) (sym new))
   where
     whole : (p : Path) → strip_prefix p p ≡ Some []
     whole p = ap (strip_prefix p) (sym (append-nil p)) ∙ strip_prefix-append p []
@@ -93,15 +109,15 @@ is_free t p Directory none =
 
 -- an edit of an entry that is not refused places it
 pub placed_by : (t : Tree) (pair : Pair) (edit : Edit) (new : Tree) → HasParents t →
-    edit ≡ entry_edit pair → edit_refusal t edit ≡ None → new ≡ after_edit t edit →
+    IsNew pair.1 → edit ≡ entry_edit pair → edit_refusal t edit ≡ None → new ≡ after_edit t edit →
     IsPlaced t pair new
-placed_by t pair edit new parents same none is =
+placed_by t pair edit new parents fresh same none is =
     let P : Edit → Type 0 = λ e. edit_refusal t e ≡ None in
     let allowed = subst P same none in
     let made : new ≡ after_edit t (entry_edit pair) = is ∙ ap (after_edit t) same in
     let Q : Tree → Type 0 = λ u. IsPlaced t pair u in
     subst Q (sym made) record {
-      there = stands_there t pair.0 pair.1;
+      there = stands_there t pair.0 pair.1 fresh;
       elsewhere = elsewhere_same t pair.0 pair.1 parents (is_free t pair.0 pair.1 allowed);
     }
 

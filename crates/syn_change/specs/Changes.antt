@@ -18,7 +18,7 @@ GoesOn old edits new more =
 abbrev pub IsUntouched : {A : Type 0} → Tree → Tree → List A → List A → Type 0
 IsUntouched old new edits more = (new ≡ old) × (more ≡ edits)
 
--- the edit that puts or makes what is to stand at the path
+-- the edit that puts or makes what is to stand at the path, where that is new
 abbrev pub entry_edit : Pair → Edit
 entry_edit (path, Directory) = MakeDir path
 entry_edit (path, File contents) = Put path contents.bytes

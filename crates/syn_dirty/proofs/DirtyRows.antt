@@ -18,8 +18,8 @@ use Rattle.syn_model.specs.Dirty.{Scan, dirty, has_unstable, is_unstable, is_sam
 use Rattle.syn_model.specs.Dirty.{is_same_content}
 use Rattle.syn_model.proofs.PathLemmas.{path_total, same_path, is_prefix-is}
 use Rattle.syn_model.proofs.TreeLemmas.{same_tree, get-subtree}
-use Rattle.syn_model.proofs.DirtyLemmas.{same_content, bytes_itself, tree_itself, dirty-closed}
-use Rattle.syn_model.proofs.DirtyLemmas.{dirty-safe}
+use Rattle.syn_model.proofs.DirtyLemmas.{same_content, tree_itself, dirty-closed, dirty-safe}
+use Rattle.syn_model.proofs.DirtyLemmas.{content_itself}
 use Rattle.syn_model.proofs.DirectoryLemmas.{same_content_at}
 use Rattle.syn_placed.proofs.TreeLemmas.{rising-entries}
 use Rattle.syn_placed.proofs.OrderLemmas.{under_prefix}
@@ -30,10 +30,6 @@ use Rattle.syn_dirty.proofs.RowLemmas.{RisingRows, combined, rising_compared, fi
 use Rattle.syn_dirty.proofs.RowLemmas.{rising_with_set, find_with_set}
 use Rattle.syn_dirty.proofs.ChangedLemmas.{prefix_self, touched, touched_by, toucher, among_changed}
 use Rattle.syn_dirty.proofs.ChangedLemmas.{rising_changed}
-
-content_itself : (a : Content) → is_same_content a a ≡ true
-content_itself Directory = refl
-content_itself (File a) = bytes_itself a.bytes
 
 combined_alike : (o : Option Content) → (combined o o ≡ None) ⊎ (combined o o ≡ Some false)
 combined_alike None = inl refl

@@ -2,7 +2,7 @@
 use Rattle.std.proofs.Common.{◌≡◌, ◌<◌, ◌≤◌, ◌^◌, ◌+◌, ℕ, zero, suc, true, List, [], ◌∷◌, ◌++◌}
 use Rattle.std.proofs.Common.{length, take, drop, slice_index_or, All, Option, Some, None, IfSome}
 use Rattle.std.proofs.Common.{refl, sym, ap, ap₂, ◌∙◌, subst, append_assoc, append-nil, arith}
-use Rattle.std.specs.Prelude.{bytes_eq, Result, Ok, Err, OnOk, IsErrAnd}
+use Rattle.std.specs.Prelude.{bytes_eq}
 use Rattle.std.specs.Int.{to_be_bytes, w16}
 use Rattle.std.proofs.lemmas.Slice.Eq.{bytes_eq-Decides}
 use Rattle.std.proofs.lemmas.List.{length-append, take-append-drop, take_more}
@@ -11,7 +11,7 @@ use Rattle.std.proofs.lemmas.Grind.{flat_map-append}
 use Rattle.syn_model.specs.Path.{Bytes, IsPath, path_spelling}
 use Rattle.syn_model.specs.Tree.{Tree}
 use Rattle.syn_model.specs.Event.{Token, IsLawfulToken}
-use Rattle.syn_model.specs.Spelling.{spelling, token_spelling}
+use Rattle.syn_model.specs.Spelling.{image_version, spelling, token_spelling}
 use Rattle.syn_model.specs.Laws.{NoSpellingBeginsAnother}
 use Rattle.syn_model.specs.Limits.{greatest}
 use Rattle.syn_model.specs.Standing.{Touch, Standing, most_touches}
@@ -205,10 +205,11 @@ in_row : (f a b c d t n m s r : Bytes) → (f ++ (a ++ (b ++ (c ++ (d ++ (t ++ (
 in_row f a b c d t n m s r = simp append_assoc
 
 image_row : (pair : ℕ) (standing : Standing) (r : Bytes) →
-    spelled_image (pair, standing) ++ r ≡ replica_front
+    spelled_image (pair, standing) ++ r ≡ replica_front image_version
     ++ (past_spelling (past_value pair (past_in standing)) ++ (spelling standing.tree ++ r))
 image_row pair standing r =
-    in_row replica_front (number64_spelling pair) (number64_spelling standing.position)
+    in_row (replica_front image_version) (number64_spelling pair)
+    (number64_spelling standing.position)
     (number64_spelling standing.floor) (number64_spelling standing.session)
     (last_token_spelling standing.token) (to_be_bytes w16 (length standing.touches))
     (each_spelling standing.touches) (spelling standing.tree) r
@@ -301,7 +302,7 @@ module _ (bytes fields after : Bytes) (past : PastValue) (behind : fields ≡ dr
       (subst (λ p. IsStanding (standing_with value.1.tree p)) (sym same) begins.lawful.1)
 
 pub image_found : (bytes fields after rest : Bytes) (pair : ℕ) (past : Past) (tree : Tree) →
-    bytes_eq (take 5 bytes) replica_front ≡ true → fields ≡ drop 5 bytes →
+    bytes_eq (take 5 bytes) (replica_front image_version) ≡ true → fields ≡ drop 5 bytes →
     BeginsWith IsPast past_spelling fields (past_value pair past) after →
     BeginsWith IsWholeTree spelling after tree rest → IsLawful past →
     BeginsWith IsImage spelled_image bytes (pair, standing_with tree past) rest
@@ -309,16 +310,18 @@ image_found bytes fields after rest pair past tree front behind found read lawfu
   lawful = (found.lawful.0.0.0.0, lawful tree read.lawful.tree read.lawful.fits);
   spelled =
       sym (take-append-drop 5 bytes)
-      ∙ (ap₂ (λ a b. a ++ b) ((bytes_eq-Decides (take 5 bytes) replica_front).0 front) (sym behind
+      ∙ (ap₂ (λ a b. a ++ b)
+      ((bytes_eq-Decides (take 5 bytes) (replica_front image_version)).0 front) (sym behind
       ∙ (found.spelled ∙ ap (λ xs. past_spelling (past_value pair past) ++ xs) read.spelled))
       ∙ sym (image_row pair (standing_with tree past) rest));
 }
 
 -- an image begins with its front
 pub fronted : (bytes rest : Bytes) (value : ℕ × Standing) →
-    BeginsWith IsImage spelled_image bytes value rest → bytes_eq (take 5 bytes) replica_front ≡ true
+    BeginsWith IsImage spelled_image bytes value rest →
+    bytes_eq (take 5 bytes) (replica_front image_version) ≡ true
 fronted bytes rest value begins =
-    (bytes_eq-Decides (take 5 bytes) replica_front).1 (ap (take 5) begins.spelled)
+    (bytes_eq-Decides (take 5 bytes) (replica_front image_version)).1 (ap (take 5) begins.spelled)
 
 pub images_tell : NoSpellingBeginsAnother → NoImageBeginsAnother
 images_tell trees v w r s hv hw e =

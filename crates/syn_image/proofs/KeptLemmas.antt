@@ -1,12 +1,13 @@
 -- What is read of what an archive keeps, and of the image of an archive.
-use Rattle.std.proofs.Common.{◌≡◌, ◌≢◌, ◌<◌, ◌≤◌, ◌^◌, ℕ, [], ◌∷◌, ◌++◌, drop, sym, ap, ap₂, ◌∙◌}
+use Rattle.std.proofs.Common.{◌≡◌, ◌≢◌, ◌<◌, ◌≤◌, ◌^◌, ℕ, ◌∷◌, ◌++◌, drop, sym, ap, ap₂, ◌∙◌}
 use Rattle.std.proofs.Common.{Some, None, is_some, append_assoc, arith}
 use Rattle.std.specs.FinMap.{get}
 use Rattle.syn_model.specs.Path.{Bytes, Path, IsPath, path_spelling, root}
 use Rattle.syn_model.specs.Tree.{Tree, Directory}
 use Rattle.syn_model.specs.Archive.{Archive, Session, Recorded, RecordedDir}
 use Rattle.syn_model.specs.Limits.{greatest}
-use Rattle.syn_model.specs.MarkSpelling.{kept_spelling, mark_spelling}
+use Rattle.syn_model.specs.MarkSpelling.{archive_front, kept_spelling, mark_spelling}
+use Rattle.syn_model.specs.Spelling.{image_version}
 use Rattle.syn_wire.specs.Events.{Both, both_spelling, number64_spelling}
 use Rattle.syn_wire.specs.Marks.{IsMarkTree, IsOptionalMarkTree, NoMarksBeginOthers}
 use Rattle.syn_wire.specs.Reads.{BeginsWith, IsReading}
@@ -66,14 +67,12 @@ no_record fields none (RecordedDir p) rest begins =
 -- ---- the image of an archive
 
 -- "SYNA" and the version
-abbrev pub archive_front : Bytes
-archive_front = 83 ∷ 89 ∷ 78 ∷ 65 ∷ 1 ∷ []
-
 archive_row : (pair : ℕ) (archive : Archive) (r : Bytes) →
-    spelled_archive (pair, archive) ++ r ≡ archive_front
+    spelled_archive (pair, archive) ++ r ≡ archive_front image_version
     ++ (two_spelling (pair, archive.last_session) ++ (mark_spelling archive.marks ++ r))
 archive_row pair archive r =
-    in_row archive_front (number64_spelling pair) (number64_spelling archive.last_session)
+    in_row (archive_front image_version) (number64_spelling pair)
+    (number64_spelling archive.last_session)
     (mark_spelling archive.marks) r
   where
     in_row : (f a b m r : Bytes) → (f ++ (a ++ (b ++ m))) ++ r ≡ f ++ ((a ++ b) ++ (m ++ r))

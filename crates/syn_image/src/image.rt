@@ -11,8 +11,11 @@ use syn_history::{Token, Touch, Trail};
 use syn_tree::Tree;
 use syn_wire::{WireError, write_path, write_token, write_tree, write_u16, write_u64};
 
+/// The version of the images of both kinds.
+pub(crate) const VERSION: u8 = 1;
+
 /// The letters and the version that an image begins with.
-pub(crate) const FRONT: [u8; 5] = [b'S', b'Y', b'N', b'R', 1];
+pub(crate) const FRONT: [u8; 5] = [b'S', b'Y', b'N', b'R', VERSION];
 
 /// What an image holds.
 #[derive(Debug, Drop)]

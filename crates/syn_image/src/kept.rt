@@ -5,6 +5,7 @@ ghost use Rattle.syn_model.specs.MarkSpelling.{archive_spelling, kept_spelling};
 ghost use Rattle.syn_mark.specs.Marks.{or_absent};
 ghost use Rattle.syn_image.specs.Archives.{kept_of};
 
+use crate::image::VERSION;
 use std::alloc::Global;
 use syn_mark::MarkTree;
 use syn_path::Path;
@@ -14,7 +15,7 @@ use syn_wire::{
 };
 
 /// The letters and the version that an archive's image begins with.
-pub(crate) const FRONT: [u8; 5] = [b'S', b'Y', b'N', b'A', 1];
+pub(crate) const FRONT: [u8; 5] = [b'S', b'Y', b'N', b'A', VERSION];
 
 pub(crate) const SESSION: u8 = 1;
 

@@ -56,7 +56,7 @@ nothing_part : IsPart absent
 nothing_part = record {
   parents = λ p n r h. absurd (true≢false (sym h ∙ ap is_some (nothing_at (p ++ n ∷ r))));
   names = λ p h. absurd (true≢false (sym h ∙ ap is_some (nothing_at p)));
-  bytes = λ p bytes h. absurd (none-some _ (sym (nothing_at p) ∙ h));
+  lawful = λ p contents h. absurd (none-some _ (sym (nothing_at p) ∙ h));
 }
 
 pub nothing_marks : IsMarks absent

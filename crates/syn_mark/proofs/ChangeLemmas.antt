@@ -13,6 +13,7 @@ use Rattle.std.proofs.lemmas.Option.{none-some}
 use Rattle.syn_model.specs.Path.{Path, path_cmp, root, is_root, parent, strip_prefix, IsPath}
 use Rattle.syn_model.specs.Tree.{Tree, Pair, File, IsPart, replace, subtree, absent, is_present}
 use Rattle.syn_model.specs.Tree.{is_directory, Directory, empty_directory}
+use Rattle.syn_model.specs.Contents.{HasDigest}
 use Rattle.syn_model.specs.Mark.{IsMarks}
 use Rattle.syn_model.specs.Laws.{ReplacedIsThere, SubtreeFitsPaths}
 use Rattle.syn_model.specs.Limits.{fits_archive, fits_path, fits_paths}
@@ -129,7 +130,7 @@ replaced_marks t p u part ht hu = record {
   digests =
       λ path contents found. elim (strip_prefix p path)
       as (λ rest. option_map_or (λ rest. get u rest) rest (get t path) ≡ Some (File contents) →
-      length contents.bytes ≡ 32) [
+      HasDigest contents) [
         | None ↦ λ e. ht.digests path contents e
         | Some rest ↦ λ e. hu.digests rest contents e
       ] (sym (get-replace t p u path) ∙ found);

@@ -1,28 +1,24 @@
 -- Lists of marks, and the trees that they are.
-use Rattle.std.proofs.Common.{◌≡◌, ◌≤◌, ◌<◌, ℕ, zero, suc, true, false, cond, ◌&&◌, nat_le, List}
+use Rattle.std.proofs.Common.{◌≡◌, ◌≤◌, ℕ, suc, true, false, cond, ◌&&◌, nat_le, List}
 use Rattle.std.proofs.Common.{[], ◌∷◌, ◌++◌, length, refl, sym, ap, ap₂, ◌∙◌, subst, Option, Some}
-use Rattle.std.proofs.Common.{None, option_map, is_some, IsSome, append-nil, arith}
-use Rattle.std.specs.Int.{w32, to_be_bytes, byte_at, bytes_high_first}
+use Rattle.std.proofs.Common.{None, option_map, is_some, append-nil, arith}
 use Rattle.std.specs.Ordering.{eq_by_cmp}
 use Rattle.std.specs.List.{list_all, cons_option}
 use Rattle.std.specs.Prelude.{filter_map, option_and_then}
 use Rattle.std.specs.FinMap.{find, entries, get, len, len-entries, from_sorted, get-from_entries}
 use Rattle.std.proofs.lemmas.Bool.{and_parts}
 use Rattle.std.proofs.lemmas.Bool.Decides.{nat_tests}
-use Rattle.std.proofs.lemmas.List.Elements.{All-nil, All-cons, All-append}
 use Rattle.std.proofs.lemmas.List.{map-append}
-use Rattle.std.proofs.lemmas.Option.{none-some, same_Some}
-use Rattle.sha2.specs.Sha256.{sha256, digest_bytes}
 use Rattle.syn_model.specs.Path.{Name, Path, path_cmp, root, strip_prefix}
-use Rattle.syn_model.specs.Tree.{Tree, Content, Contents, Pair, Directory, File, IsPart, at_root}
+use Rattle.syn_model.specs.Contents.{Contents, IsDigest}
+use Rattle.syn_model.specs.Tree.{Tree, Content, Pair, File, IsPart, at_root}
 use Rattle.syn_model.specs.Tree.{is_present, subtree}
-use Rattle.syn_model.specs.Event.{AreBytes}
 use Rattle.syn_model.specs.Mark.{mark, mark_of, IsMarks}
 use Rattle.syn_model.specs.Limits.{children, only_name, fits_archive, fits_path, fits_paths}
 use Rattle.syn_model.proofs.PathLemmas.{path_total}
 use Rattle.syn_model.proofs.TreeLemmas.{same_tree, get-subtree}
 use Rattle.syn_model.proofs.HistoryLemmas.{get-at_root, at_root-is_part, only}
-use Rattle.syn_model.proofs.MarkLemmas.{get-mark, mark-digests}
+use Rattle.syn_model.proofs.MarkLemmas.{get-mark, mark-digests, mark-is_part, some_mapped}
 use Rattle.syn_model.proofs.SubtreeLemmas.{subtree-is_part, subtree-fits_paths}
 use Rattle.syn_placed.specs.Pairs.{Pairs, AreRising}
 use Rattle.syn_placed.proofs.RisingLemmas.{Rising, After, rising_of, are_rising, counted}
@@ -63,7 +59,7 @@ are_marks t ds e present marks fits =
 -- ---- one mark
 
 lawful_bytes : (c : Content) → IsDigestOrDirectory c → (contents : Contents) → c ≡ File contents →
-    AreBytes contents.bytes × (length contents.bytes ≡ 32)
+    IsDigest contents
 lawful_bytes c h contents e = subst IsDigestOrDirectory e h
 
 pub one_marks : (c : Content) → IsDigestOrDirectory c → IsMarks (at_root c)
@@ -132,54 +128,9 @@ entries-mark t =
     path_total (marked (entries t)) q ∙ sym (get-rising (marked (entries t)) q rising)))
     ∙ entries-rising (marked (entries t)) rising
 
-some_mapped : (o : Option Content) → is_some (option_map mark_of o) ≡ is_some o
-some_mapped None = refl
-some_mapped (Some c) = refl
-
-there_of : (t : Tree) (q : Path) → IsSome (get (mark t) q) → IsSome (get t q)
-there_of t q some = sym (some_mapped (get t q)) ∙ (ap is_some (sym (get-mark t q)) ∙ some)
-
--- digests are bytes
-byte_below : (k n : ℕ) → byte_at k n < 256
-byte_below zero n = omega arith
-byte_below (suc k) n = omega arith
-
-high_bytes : (k n : ℕ) → AreBytes (bytes_high_first k n)
-high_bytes zero n = All-nil (λ byte. byte < 256)
-high_bytes (suc k) n =
-    All-cons (λ byte. byte < 256) (byte_at k n) (bytes_high_first k n) (byte_below k n)
-    (high_bytes k n)
-
-words_bytes : (h : List ℕ) (n : ℕ) → AreBytes (digest_bytes h n)
-unfolding digest_bytes
-words_bytes h zero = All-nil (λ byte. byte < 256)
-words_bytes h (suc n) =
-    All-append (λ byte. byte < 256) (digest_bytes h n) (to_be_bytes w32 _) (words_bytes h n)
-    (high_bytes 4 _)
-
-digest_is_bytes : (bytes : List ℕ) → AreBytes (sha256 bytes)
-unfolding sha256
-digest_is_bytes bytes = words_bytes _ 8
-
-bytes_of_mark : (o : Option Content) (contents : Contents) →
-    option_map mark_of o ≡ Some (File contents) → AreBytes contents.bytes
-bytes_of_mark None contents e = absurd (none-some _ e)
-bytes_of_mark (Some Directory) contents e =
-    absurd (let x : Directory ≡ File contents = same_Some _ _ e in cc)
-bytes_of_mark (Some (File was)) contents e =
-    let x : File (record was { bytes = sha256 was.bytes }) ≡ File contents = same_Some _ _ e in
-    let same : record was { bytes = sha256 was.bytes } ≡ contents = cc in
-    subst (λ c. AreBytes c.bytes) same (digest_is_bytes was.bytes)
-
 pub mark_is_marks : (t : Tree) → IsPart t → IsMarks (mark t)
 mark_is_marks t h = record {
-  part = record {
-    parents =
-        λ p n r some. get-mark t p
-        ∙ ap (option_map mark_of) (h.parents p n r (there_of t (p ++ n ∷ r) some));
-    names = λ p some. h.names p (there_of t p some);
-    bytes = λ p contents found. bytes_of_mark (get t p) contents (sym (get-mark t p) ∙ found);
-  };
+  part = mark-is_part t h;
   digests = mark-digests t;
 }
 

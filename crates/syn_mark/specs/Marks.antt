@@ -1,11 +1,11 @@
 -- Marks as the model has them: contents whose files hold digests.
-use Rattle.std.specs.Prelude.{◌≡◌, true, List, length, map, Option, Some, None}
+use Rattle.std.specs.Prelude.{◌≡◌, true, List, map, Option, Some, None}
 use Rattle.std.specs.List.{AllByRecursion}
 use Rattle.std.specs.FinMap.{from_sorted}
 use Rattle.syn_model.specs.Path.{Name, root, path_cmp, IsPath}
-use Rattle.syn_model.specs.Tree.{Tree, Pair, Directory, File, contents_of, absent, is_present}
+use Rattle.syn_model.specs.Contents.{contents_of, IsDigest}
+use Rattle.syn_model.specs.Tree.{Tree, Pair, Directory, File, absent, is_present}
 use Rattle.syn_model.specs.Tree as model
-use Rattle.syn_model.specs.Event.{AreBytes}
 use Rattle.syn_model.specs.Mark.{IsMarks}
 use Rattle.syn_model.specs.Limits.{fits_archive}
 use Rattle.syn_placed.specs.Pairs.{Pairs, AreRising}
@@ -28,7 +28,7 @@ or_absent (Some marks) = marks
 -- a directory, or a file with a digest of 32 bytes
 abbrev pub IsDigestOrDirectory : model.Content → Type 0
 IsDigestOrDirectory Directory = Unit {0}
-IsDigestOrDirectory (File contents) = AreBytes contents.bytes × (length contents.bytes ≡ 32)
+IsDigestOrDirectory (File digest) = IsDigest digest
 
 -- a lawful path with a mark
 abbrev pub IsMarkPair : Pair → Type 0

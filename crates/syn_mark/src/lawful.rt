@@ -1,5 +1,5 @@
 //! What the types of paths and marks say of them.
-ghost use Rattle.std.specs.Prelude.{◌≡◌, length};
+ghost use Rattle.syn_model.specs.Contents.{AreLawfulContents, HasDigest, contents_of};
 ghost use Rattle.syn_model.specs.Event.{AreBytes};
 ghost use Rattle.syn_model.specs.Path.{IsPath};
 ghost use Rattle.syn_mark.specs.Marks.{content_of, IsMarkPair, IsDigestOrDirectory};
@@ -8,8 +8,8 @@ use crate::mark::Mark;
 use crate::tree::MarkEntry;
 use syn_path::Path;
 
-/// The digest of a file has 32 bytes.
-pub(crate) fn is_mark(mark: Mark)
+/// What the type of a mark says: it is a directory, or a digest of 32 bytes.
+pub fn is_mark(mark: Mark)
     ensures { IsDigestOrDirectory (content_of mark) }
 {
     match mark {
@@ -20,8 +20,8 @@ pub(crate) fn is_mark(mark: Mark)
 
 /// It is 32 bytes.
 fn is_digest(digest: [u8; 32])
-    ensures bytes { AreBytes digest }
-    ensures length { length digest ≡ 32 }
+    ensures lawful { AreLawfulContents (contents_of digest) }
+    ensures length { HasDigest (contents_of digest) }
 {
     are_bytes(digest.as_slice());
 }

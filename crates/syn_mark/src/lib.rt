@@ -1,5 +1,24 @@
 //! Marks: what stands for the contents of a file tree, with the digest of each file in place of its
 //! bytes.
+//!
+//! # What it promises
+//!
+//! - `Mark::of_file` is the model's mark of the bytes, their SHA-256 digest, and takes no memory.
+//!   `mark_of` marks a file or a directory with all below it (`ok`), refused 7 only where that has
+//!   more than 4,096 nodes (`full`).
+//! - A `MarkTree` is a tree of digests as the model has it, by its type (`as_slice`: `all`,
+//!   `present`, `marks`, `fits`). Its root stands, each path has its parents, and the limits of an
+//!   archive are kept. `from_vec` takes entries in path order exactly where they are such (`some`,
+//!   `none`).
+//! - `get`, `root`, `below`, `child_count` and `subtree` give what stands there. `is_same` and
+//!   `is_same_at` say exactly whether two trees, or their parts at a path, are the same, without
+//!   memory.
+//! - `check_replace` answers the definition's refusal of a replacement, or none
+//!   (`replace_refusal`), and takes no memory. `prepare_replace` makes it ready (`ready`, `at`,
+//!   `new`), refused as `check_replace` or for want of memory; `make` makes it, without memory, and
+//!   cannot fail.
+//! - `check_dir` answers the same of an empty directory, and takes no memory either. What may be
+//!   put somewhere within the limits is within them by itself (`replacement_laws`).
 #![tactic(auto)]
 
 mod change;
@@ -14,6 +33,7 @@ mod same;
 mod tree;
 
 pub use change::MarkChange;
+pub use lawful::is_mark;
 pub use laws::replacement_laws;
 pub use listing::list_marks;
 pub use mark::Mark;

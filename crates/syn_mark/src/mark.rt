@@ -2,7 +2,8 @@
 //! listing.
 ghost use Rattle.std.specs.Prelude.{◌≡◌};
 ghost use Rattle.syn_model.specs.Mark.{mark_of};
-ghost use Rattle.syn_model.specs.Tree.{File, contents_of};
+ghost use Rattle.syn_model.specs.Contents.{contents_of};
+ghost use Rattle.syn_model.specs.Tree.{File};
 ghost use Rattle.syn_mark.specs.Marks.{content_of};
 
 use sha2::{Digest, Sha256};

@@ -2,7 +2,9 @@
 use Rattle.std.proofs.Common.{◌≡◌, ◌<◌, ◌^◌, ap, ap₂, arith, refl, Option, Some, None}
 use Rattle.std.specs.Int.{to_be_bytes, w64}
 use Rattle.syn_model.specs.Path.{Bytes}
-use Rattle.syn_model.specs.Tree.{Content, Directory, File, contents_of}
+use Rattle.syn_model.specs.Contents.{Contents}
+use Rattle.syn_model.specs.Tree.{Content, Directory, File}
+use Rattle.syn_model.proofs.ContentsLemmas.{same_lawful}
 use Rattle.syn_message.proofs.HeadLemmas.{body_tells}
 use Rattle.syn_message.proofs.RefusalLemmas.{number_tells}
 use Rattle.syn_message.proofs.WholeLemmas.{alone, first_of, rest_of}
@@ -13,8 +15,8 @@ use Rattle.syn_wire.specs.Events.{IsFile, file_spelling}
 use Rattle.syn_wire.specs.Laws.{NoU32BeginsAnother, NoU64BeginsAnother}
 use Rattle.syn_wire.specs.Reads.{NoneBeginsAnother}
 
-short : (bytes : Bytes) → IsWithinFile bytes → IsFile bytes
-short bytes is = record { bytes = is.1; brief = omega (arith, is.0) }
+short : (contents : Contents) → IsWithinFile contents → IsFile contents.bytes
+short contents is = record { bytes = is.1.bytes; brief = omega (arith, is.0) }
 
 module _ (u32 : NoU32BeginsAnother) (u64 : NoU64BeginsAnother)
     (files : NoneBeginsAnother IsFile file_spelling) where
@@ -22,8 +24,9 @@ module _ (u32 : NoU32BeginsAnother) (u64 : NoU64BeginsAnother)
       → found_spelling a ≡ found_spelling b → a ≡ b
   found_tells None None p q same = refl
   found_tells (Some (File a)) (Some (File b)) p q same =
-      ap (λ bytes. Some (File (contents_of bytes))) (alone IsFile file_spelling files a.bytes
-      b.bytes (short a.bytes p) (short b.bytes q) (ap rest_of same))
+      let bytes = alone IsFile file_spelling files a.bytes b.bytes (short a p) (short b q)
+      (ap rest_of same) in
+      ap (λ c. Some (File c)) (same_lawful a b p.1 q.1 bytes)
   found_tells (Some Directory) (Some Directory) p q same = refl
   found_tells None (Some (File b)) p q same =
       absurd (let k : 0 ≡ 1 = ap first_of same in omega (arith, k))

@@ -6,6 +6,7 @@ use Rattle.std.specs.declared.cmp.Ordering.TheVariants.{Less}
 use Rattle.syn_mark.specs.Marks.{IsDigestOrDirectory, content_of}
 use Rattle.syn_mark.specs.declared.mark.Mark.{Mark}
 use Rattle.syn_model.specs.Path.{Bytes, Name, IsName, name_cmp}
+use Rattle.syn_model.specs.Contents.{digest_spelling}
 use Rattle.syn_model.specs.Tree.{Content, Directory, File}
 
 abbrev pub Entries : Type 0
@@ -17,9 +18,9 @@ entry_of entry = (entry.0, content_of entry.1)
 abbrev pub entries_of : List (Name × Mark) → Entries
 entries_of entries = map entry_of entries
 
--- a file's mark is its digest of 32 bytes, with no length
+-- a file's mark is its digest
 abbrev pub mark_spelling : Content → Bytes
-mark_spelling (File contents) = 1 ∷ contents.bytes
+mark_spelling (File digest) = 1 ∷ digest_spelling digest
 mark_spelling Directory = 2 ∷ []
 
 abbrev pub entry_spelling : Name × Content → Bytes

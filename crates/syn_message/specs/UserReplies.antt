@@ -3,7 +3,7 @@ use Rattle.std.specs.Prelude.{◌≡◌, ◌≤◌, ◌<◌, ◌^◌, ℕ, [], �
 use Rattle.std.specs.Option.{option_map}
 use Rattle.std.specs.Int.{to_be_bytes, w64}
 use Rattle.syn_model.specs.Limits.{greatest_file}
-use Rattle.syn_model.specs.Event.{AreBytes}
+use Rattle.syn_model.specs.Contents.{Contents, AreLawfulContents, contents_spelling}
 use Rattle.syn_model.specs.Path.{Bytes}
 use Rattle.syn_model.specs.Refusal.{Refusal, number}
 use Rattle.syn_model.specs.Tree.{Content, Directory, File}
@@ -14,7 +14,6 @@ use Rattle.syn_message.specs.declared.user_reply.UserReply.{UserReply}
 use Rattle.syn_message.specs.declared.user_reply.UserReply.TheVariants as has
 use Rattle.syn_refusal.specs.Refusals.{cause_of}
 use Rattle.syn_tree.specs.Contents.{content_of}
-use Rattle.syn_wire.specs.Events.{file_spelling}
 
 -- what a user is told
 pub data Told : Type 0 where
@@ -43,7 +42,7 @@ told_kind (Refused why) = REFUSED
 -- nothing, a file with its bytes, or a directory
 abbrev pub found_spelling : Option Content → Bytes
 found_spelling None = 0 ∷ []
-found_spelling (Some (File contents)) = 1 ∷ file_spelling contents.bytes
+found_spelling (Some (File contents)) = 1 ∷ contents_spelling contents
 found_spelling (Some Directory) = 2 ∷ []
 
 abbrev pub told_fields : Told → Bytes
@@ -56,12 +55,12 @@ telling_spelling telling =
     body_spelling (told_kind telling.told) 0 telling.number (told_fields telling.told)
 
 -- a file within the limit of each file
-abbrev pub IsWithinFile : Bytes → Type 0
-IsWithinFile bytes = (length bytes ≤ greatest_file) × AreBytes bytes
+abbrev pub IsWithinFile : Contents → Type 0
+IsWithinFile contents = (length contents.bytes ≤ greatest_file) × AreLawfulContents contents
 
 abbrev pub IsFound : Option Content → Type 0
 IsFound None = Unit {0}
-IsFound (Some (File contents)) = IsWithinFile contents.bytes
+IsFound (Some (File contents)) = IsWithinFile contents
 IsFound (Some Directory) = Unit {0}
 
 abbrev pub IsLawfulTold : Told → Type 0

@@ -5,9 +5,8 @@ ghost use Rattle.syn_model.specs.Path.{IsName};
 ghost use Rattle.syn_message.specs.Bodies.{IsWholeReading};
 ghost use Rattle.syn_message.specs.Listings.{IsEntry, IsListing, entries_of, entries_spelling};
 ghost use Rattle.syn_message.specs.Listings.{AreRising, entry_of, entry_spelling, mark_spelling};
-ghost use Rattle.syn_message.specs.inner.Listed.{AreEntries, IsDigest, each_spelling};
-ghost use Rattle.syn_message.specs.inner.Listed.{name_spelling};
-ghost use Rattle.syn_wire.specs.Marks.{digest_spelling};
+ghost use Rattle.syn_message.specs.inner.Listed.{AreEntries, each_spelling, name_spelling};
+ghost use Rattle.syn_model.specs.Contents.{IsDigest, contents_of, digest_spelling};
 ghost use Rattle.syn_wire.specs.Reads.{IsReading};
 
 use std::alloc::Global;
@@ -166,7 +165,7 @@ fn read_mark(bytes: &[u8]) -> Option<(Mark, &[u8])>
 /// A digest of 32 bytes, and the rest.
 fn read_digest(bytes: &[u8]) -> Option<([u8; DIGEST_LENGTH], &[u8])>
     ensures { IsReading IsDigest digest_spelling bytes.now
-        (option_map (λ found. (found.0, found.1.now)) result) }
+        (option_map (λ found. (contents_of found.0, found.1.now)) result) }
 {
     if bytes.len() < DIGEST_LENGTH {
         return None;

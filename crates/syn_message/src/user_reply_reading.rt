@@ -1,11 +1,11 @@
 //! Reads the body of a reply to a user.
 ghost use Rattle.std.specs.Prelude.{◌≡◌, IfOk, option_map};
+ghost use Rattle.syn_model.specs.Contents.{contents_of, contents_spelling};
 ghost use Rattle.syn_message.specs.Bodies.{IsWholeReading};
 ghost use Rattle.syn_message.specs.UserReplies.{IsFound, IsLawfulTelling, IsWithinFile, ReadsTold};
 ghost use Rattle.syn_message.specs.UserReplies.{found_spelling};
 ghost use Rattle.syn_message.specs.UserReplies.{telling_of, telling_spelling, told_of};
 ghost use Rattle.syn_tree.specs.Contents.{content_of};
-ghost use Rattle.syn_wire.specs.Events.{file_spelling};
 
 use crate::head::read_user_head;
 use crate::kind::{EDITED, GOT, REFUSED};
@@ -91,8 +91,8 @@ fn read_found(alloc: Global, fields: &[u8]) -> Result<Option<Option<Content>>, W
 
 /// At most `LONGEST_FILE` bytes behind their length, with nothing behind them.
 fn read_whole_file(alloc: Global, bytes: &[u8]) -> Result<Option<Vec<u8>>, WireError>
-    ensures { IfOk result (λ read. IsWholeReading IsWithinFile file_spelling bytes.now
-        (option_map (λ file. file.items) read)) }
+    ensures { IfOk result (λ read. IsWholeReading IsWithinFile contents_spelling bytes.now
+        (option_map (λ file. contents_of file.items) read)) }
 {
     spelling_laws();
     let Some((file, rest)) = read_file(alloc, bytes)? else {

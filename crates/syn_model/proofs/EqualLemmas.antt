@@ -1,16 +1,16 @@
 -- A session that prefers a side leaves both equal, and the archive their marks.
-use Rattle.std.proofs.Common.{◌≡◌, Bool, true, false, [], ◌∷◌, ◌++◌, refl, sym, ap, ◌∙◌, Option}
-use Rattle.std.proofs.Common.{Some, append_assoc, append-nil, option_map}
+use Rattle.std.proofs.Common.{◌≡◌, true, false, [], ◌∷◌, ◌++◌, refl, sym, ap, ◌∙◌}
+use Rattle.std.proofs.Common.{Some, append_assoc, append-nil}
 use Rattle.std.specs.FinMap.{get}
 use Rattle.std.proofs.lemmas.Bool.{and_parts}
-use Rattle.syn_model.specs.Path.{Path, Name}
-use Rattle.syn_model.specs.Tree.{Tree, Directory, subtree, is_directory}
-use Rattle.syn_model.specs.Mark.{mark, mark_of}
+use Rattle.syn_model.specs.Path.{Path}
+use Rattle.syn_model.specs.Tree.{Tree, subtree, is_directory}
+use Rattle.syn_model.specs.Mark.{mark}
 use Rattle.syn_model.specs.Which.{Which, Left, Right}
 use Rattle.syn_model.specs.Dirty.{Paths, dirty}
 use Rattle.syn_model.specs.Reconcile.{is_directory_in_both, is_relevant, BothHave, IsSyncedAt}
 use Rattle.syn_model.specs.Reconcile.{IsSynchronization, ConflictLeaves}
-use Rattle.syn_model.specs.Plan.{Trees, scan_of, PreferenceSettles}
+use Rattle.syn_model.specs.Plan.{scan_of, PreferenceSettles}
 use Rattle.syn_model.proofs.TreeLemmas.{get-subtree, same_tree, subtree-root}
 use Rattle.syn_model.proofs.SyncLemmas.{directory_is, child_relevant}
 

@@ -7,7 +7,8 @@ use Rattle.std.specs.List.{list_all}
 use Rattle.std.specs.FinMap.{find, entries, get, get-entries, len}
 use Rattle.std.proofs.lemmas.Bool.{leb-true, and_parts, not-false}
 use Rattle.syn_model.specs.Path.{Path, path_cmp, path_spelling, root}
-use Rattle.syn_model.specs.Tree.{Tree, Content, Contents, Pair, File, contents_of, file, replace}
+use Rattle.syn_model.specs.Contents.{Contents, contents_of}
+use Rattle.syn_model.specs.Tree.{Tree, Content, Pair, File, file, replace}
 use Rattle.syn_model.specs.Limits.{children, fits_path, fits_content, fits_part, fits_paths}
 use Rattle.syn_model.specs.Limits.{fits_replica, tree_spelling_length, greatest_spelling}
 use Rattle.syn_model.specs.Refusal.{Cause, first_cause, OldSession}

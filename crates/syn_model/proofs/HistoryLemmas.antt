@@ -1,5 +1,5 @@
 -- Histories leave whole trees.
-use Rattle.std.proofs.Common.{◌≡◌, ℕ, Bool, true, false, cond, not, if◌then◌else◌, List, [], ◌∷◌}
+use Rattle.std.proofs.Common.{◌≡◌, Bool, true, false, cond, not, if◌then◌else◌, List, [], ◌∷◌}
 use Rattle.std.proofs.Common.{◌++◌, refl, sym, ap, ◌∙◌, subst, Some, None, is_some, IsSome}
 use Rattle.std.proofs.Common.{true≢false, ◌≢◌, append_assoc, append-nil, fold, inr, All}
 use Rattle.std.specs.Ordering.{eq_by_cmp}
@@ -8,13 +8,14 @@ use Rattle.std.proofs.lemmas.List.Elements.{All-nil}
 use Rattle.std.proofs.lemmas.Option.{none-some, same_Some}
 use Rattle.std.proofs.lemmas.Bool.{not-false}
 use Rattle.syn_model.specs.Path.{Name, Path, path_cmp, root, is_root, parent, IsName}
-use Rattle.syn_model.specs.Tree.{Tree, Content, Contents, contents_of, Directory, File, IsPart}
+use Rattle.syn_model.specs.Contents.{Contents, AreLawfulContents, contents_of}
+use Rattle.syn_model.specs.Tree.{Tree, Content, Directory, File, IsPart}
 use Rattle.syn_model.specs.Tree.{IsTree, StandsIn, at_root, file, empty_directory, absent, replace}
 use Rattle.syn_model.specs.Tree.{is_directory, is_present}
 use Rattle.syn_model.specs.Refusal.{Cause, first_cause, NoParent, Root, IsDirectory, Exists, Absent}
 use Rattle.syn_model.specs.Refusal.{OldSession}
 use Rattle.syn_model.specs.Event.{Edit, Put, MakeDir, Remove, Event, Edited, Began, Replaced}
-use Rattle.syn_model.specs.Event.{after_edit, after_event, AreBytes, IsLawfulEdit}
+use Rattle.syn_model.specs.Event.{after_edit, after_event, IsLawfulEdit}
 use Rattle.syn_model.specs.History.{History, tree_of, position_causes, is_old_token, IsAllowed}
 use Rattle.syn_model.specs.History.{AllAllowed, IsHistory}
 use Rattle.syn_model.specs.Standing.{place_causes, edit_causes, full_causes}
@@ -22,6 +23,7 @@ use Rattle.syn_model.specs.Laws.{AllowedGoesOn}
 use Rattle.syn_model.proofs.PathLemmas.{path_total}
 use Rattle.syn_model.proofs.TreeLemmas.{replace-is_part, beside}
 use Rattle.syn_model.proofs.SyncLemmas.{directory_is}
+use Rattle.syn_model.proofs.ContentsLemmas.{new_are_lawful}
 
 pub first_cause-none : (cause : Cause) (causes : List Cause) → first_cause (cause ∷ causes) ≡ None →
     (cause.0 ≡ false) × (first_cause causes ≡ None)
@@ -81,18 +83,18 @@ only x [] contents h = same_Some _ _ (sym (get-at_root x root) ∙ h)
 only x (n ∷ p) contents h = absurd (none-some _ (sym (get-at_root x (n ∷ p)) ∙ h))
 
 pub at_root-is_part : (x : Content) →
-    ((contents : Contents) → x ≡ File contents → AreBytes contents.bytes) → IsPart (at_root x)
+    ((contents : Contents) → x ≡ File contents → AreLawfulContents contents) → IsPart (at_root x)
 at_root-is_part x lawful = record {
   parents = λ p n r h. absurd (true≢false (sym h ∙ ap is_some (get-below_root x p n r)));
   names = names x;
-  bytes = λ p contents h. lawful contents (only x p contents h);
+  lawful = λ p contents h. lawful contents (only x p contents h);
 }
 
 pub absent-is_part : IsPart absent
 absent-is_part = record {
   parents = λ p n r h. absurd (true≢false (sym h ∙ ap is_some (get-empty path_cmp (p ++ n ∷ r))));
   names = λ p h. absurd (true≢false (sym h ∙ ap is_some (get-empty path_cmp p)));
-  bytes = λ p bytes h. absurd (none-some _ (sym (get-empty path_cmp p) ∙ h));
+  lawful = λ p contents h. absurd (none-some _ (sym (get-empty path_cmp p) ∙ h));
 }
 
 -- what is put below the root leaves a whole tree
@@ -104,12 +106,12 @@ replace-is_tree t (n ∷ p) u ht hu r place lawful = record {
   part = replace-is_part t (n ∷ p) u ht.part hu place lawful;
 }
 
-abbrev bytes_or : Content → List ℕ → List ℕ
-bytes_or Directory d = d
-bytes_or (File contents) d = contents.bytes
+abbrev contents_or : Content → Contents → Contents
+contents_or Directory d = d
+contents_or (File contents) d = contents
 
-pub same_file : (a b : Contents) → File a ≡ File b → a.bytes ≡ b.bytes
-same_file a b e = ap (λ x. bytes_or x a.bytes) e
+pub same_file : (a b : Contents) → File a ≡ File b → a ≡ b
+same_file a b e = ap (λ x. contents_or x a) e
 
 abbrev is_file : Content → Bool
 is_file Directory = false
@@ -123,7 +125,8 @@ edit-is_tree : (t : Tree) (edit : Edit) (more : List Cause) → IsTree t → IsL
 edit-is_tree t (Put p bytes) more ht h e =
     let place = place-stands t p ((is_directory t p, IsDirectory) ∷ more) e in
     replace-is_tree t p (file bytes) ht (at_root-is_part (File (contents_of bytes))
-    (λ b x. subst AreBytes (same_file (contents_of bytes) b x) h.1)) place.0 place.1 h.0.names
+    (λ b x. subst AreLawfulContents (same_file (contents_of bytes) b x)
+    (new_are_lawful bytes h.1))) place.0 place.1 h.0.names
 edit-is_tree t (MakeDir p) more ht h e =
     let place = place-stands t p ((is_present t p, Exists) ∷ more) e in
     replace-is_tree t p empty_directory ht

@@ -1,4 +1,5 @@
 pub mod PathLemmas
+pub mod ContentsLemmas
 pub mod TreeLemmas
 pub mod DirtyLemmas
 pub mod SyncLemmas

@@ -4,7 +4,7 @@ use Rattle.std.proofs.Common.{refl, sym, ap, ◌∙◌, Option, Some, None, is_s
 use Rattle.std.specs.FinMap.{entries, get, len, len-entries}
 use Rattle.std.proofs.lemmas.Option.{same_Some}
 use Rattle.syn_model.specs.Path.{Bytes, Name, Path, root}
-use Rattle.syn_model.specs.Tree.{Tree, Content, contents_of, Directory, File, Pair, subtree}
+use Rattle.syn_model.specs.Tree.{Tree, Content, Directory, File, Pair, subtree}
 use Rattle.syn_model.specs.Mark.{IsMarks}
 use Rattle.syn_model.specs.MarkSpelling.{mark_spelling_within, mark_spelling, mark_content_spelling}
 use Rattle.syn_model.specs.MarkSpelling.{MarkSpellingUnfolds, NoMarkSpellingBeginsAnother}
@@ -14,6 +14,7 @@ use Rattle.syn_model.proofs.SubtreeLemmas.{subtree_smaller, subtree-is_part}
 use Rattle.syn_model.proofs.LengthLemmas.{top}
 use Rattle.syn_model.proofs.SpellingLemmas.{IsCounted, Tells, level, split, rest_of, no_directory}
 use Rattle.syn_model.proofs.SpellingLemmas.{heads_differ, alike_content}
+use Rattle.syn_model.proofs.ContentsLemmas.{same_lawful}
 
 -- what is below a path of marks are marks
 pub marks_below : (t : Tree) (p : Path) → IsMarks t → IsMarks (subtree t p)
@@ -65,7 +66,8 @@ mark_level f g t u r s ht hu lt lu tells (Some (File c)) (Some Directory) a b e 
 mark_level f g t u r s ht hu lt lu tells (Some (File c)) (Some (File d)) a b e =
     let text = split c.bytes d.bytes r s (ht.digests root c a ∙ sym (hu.digests root d b))
     (ap rest_of e) in
-    let alike : Some (File c) ≡ Some (File d) = ap (λ x. Some (File (contents_of x))) text.0 in (
+    let same = same_lawful c d (ht.part.lawful root c a) (hu.part.lawful root d b) text.0 in
+    let alike : Some (File c) ≡ Some (File d) = ap (λ x. Some (File x)) same in (
       no_directory t u ht.part hu.part (a ∙ (alike ∙ sym b))
           (λ k. no_file c (same_Some _ _ (sym k ∙ a))),
       text.1,

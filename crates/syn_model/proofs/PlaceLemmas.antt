@@ -5,7 +5,8 @@ use Rattle.std.specs.FinMap.{get}
 use Rattle.std.proofs.lemmas.Option.{none-some}
 use Rattle.sha2.specs.Sha256.{sha256}
 use Rattle.syn_model.specs.Path.{Path, Bytes}
-use Rattle.syn_model.specs.Tree.{Tree, Content, Contents, contents_of, Directory, File, subtree}
+use Rattle.syn_model.specs.Contents.{Contents}
+use Rattle.syn_model.specs.Tree.{Tree, Content, Directory, File, subtree}
 use Rattle.syn_model.specs.Tree.{is_directory_content}
 use Rattle.syn_model.specs.Mark.{mark, mark_of, AreApart}
 use Rattle.syn_model.specs.Dirty.{dirty}
@@ -15,8 +16,9 @@ use Rattle.syn_model.proofs.TreeLemmas.{same_tree, get-subtree}
 use Rattle.syn_model.proofs.MarkLemmas.{get-mark, mark-subtree}
 use Rattle.syn_model.proofs.DirectoryLemmas.{moved-directory}
 use Rattle.syn_model.proofs.CarryLemmas.{SameAt, same-deeper}
-use Rattle.syn_model.proofs.PlanOrder.{below}
 use Rattle.syn_model.specs.Which.{Which, Left, Right}
+use Rattle.syn_model.proofs.ContentsLemmas.{same_contents}
+use Rattle.std.specs.Prelude.{ℕ}
 
 -- Marks of files that are apart
 
@@ -25,10 +27,15 @@ bytes_in None = []
 bytes_in (Some Directory) = []
 bytes_in (Some (File contents)) = contents.bytes
 
+mode_in : Option Content → ℕ
+mode_in None = 0
+mode_in (Some Directory) = 0
+mode_in (Some (File contents)) = contents.mode
+
 unmarked : (x y : Option Content) → ((c d : Contents) → x ≡ Some (File c) → y ≡ Some (File d) →
     sha256 c.bytes ≡ sha256 d.bytes → c.bytes ≡ d.bytes) →
     option_map mark_of x ≡ option_map mark_of y → x ≡ y
-unfolding bytes_in
+unfolding bytes_in mode_in
 unmarked None None h e = refl
 unmarked None (Some d) h e = absurd (none-some _ e)
 unmarked (Some c) None h e = absurd (none-some _ (sym e))
@@ -37,7 +44,8 @@ unmarked (Some Directory) (Some (File d)) h e = absurd (true≢false (ap is_dire
 unmarked (Some (File c)) (Some Directory) h e =
     absurd (true≢false (sym (ap is_directory_content e)))
 unmarked (Some (File c)) (Some (File d)) h e =
-    ap (λ z. Some (File (contents_of z))) (h c d refl refl (ap bytes_in e))
+    ap (λ z. Some (File z))
+    (same_contents c d (ap mode_in e) (h c d refl refl (ap bytes_in e)))
 
 -- parts with one mark are one
 pub same_by_mark : (a b : Tree) → AreApart a b → (p : Path) →

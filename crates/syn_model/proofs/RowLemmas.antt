@@ -7,7 +7,8 @@ use Rattle.std.specs.FinMap.{len-empty}
 use Rattle.std.proofs.lemmas.Option.{none-some, same_Some}
 use Rattle.syn_model.specs.Spelling.{spelling_within}
 use Rattle.syn_model.specs.Path.{Bytes, root, path_cmp}
-use Rattle.syn_model.specs.Tree.{Tree, Pair, Content, contents_of, File, Directory, at_root, file}
+use Rattle.syn_model.specs.Contents.{contents_of}
+use Rattle.syn_model.specs.Tree.{Tree, Pair, Content, File, Directory, at_root, file}
 use Rattle.syn_model.specs.Tree.{empty_directory, absent, is_directory, is_directory_content}
 use Rattle.syn_model.specs.Dirty.{is_same_tree}
 use Rattle.syn_model.specs.Rows.{Spellings, ItemsOfOneNameHold, Floors, file_in, a_name}
@@ -33,8 +34,8 @@ get-absent = get-empty path_cmp root
 
 files_differ : (f g : Bytes) → f ≢ g → is_same_tree (file f) (file g) ≡ false
 files_differ f g h =
-    differ_at_root (file f) (file g) (λ e. h (same_file (contents_of f) (contents_of g)
-    (same_Some _ _ (sym (get-file f) ∙ (e ∙ get-file g)))))
+    differ_at_root (file f) (file g) (λ e. h (ap (λ c. c.bytes) (same_file (contents_of f)
+    (contents_of g) (same_Some _ _ (sym (get-file f) ∙ (e ∙ get-file g))))))
 
 file_differs : (f : Bytes) → is_same_tree (file f) absent ≡ false
 file_differs f =
@@ -70,8 +71,9 @@ get-file_in f = within empty_directory (a_name ∷ []) (file f) (a_name ∷ []) 
 file_in-differs : (f g : Bytes) → f ≢ g → is_same_tree (file_in f) (file_in g) ≡ false
 file_in-differs f g h =
     false_from_ne_true _
-    (λ e. h (same_file (contents_of f) (contents_of g) (same_Some _ _ (sym (get-file_in f)
-    ∙ (ap (λ w. get w (a_name ∷ [])) (same_tree_is (file_in f) (file_in g) e) ∙ get-file_in g)))))
+    (λ e. h (ap (λ c. c.bytes) (same_file (contents_of f) (contents_of g) (same_Some _ _
+    (sym (get-file_in f) ∙ (ap (λ w. get w (a_name ∷ [])) (same_tree_is (file_in f) (file_in g) e)
+    ∙ get-file_in g))))))
 
 absent_differs_in : (f : Bytes) → is_same_tree absent (file_in f) ≡ false
 absent_differs_in f =

@@ -13,7 +13,8 @@ use Rattle.std.specs.FinMap.{entries, find, get, get-entries, len}
 use Rattle.std.proofs.lemmas.Bool.{false_from_ne_true}
 use Rattle.std.proofs.lemmas.Option.{none-some, same_Some}
 use Rattle.syn_model.specs.Path.{Bytes, Name, Path, name_cmp, path_cmp, root}
-use Rattle.syn_model.specs.Tree.{Tree, Content, Contents, contents_of, Directory, File, IsPart}
+use Rattle.syn_model.specs.Contents.{Contents}
+use Rattle.syn_model.specs.Tree.{Tree, Content, Directory, File, IsPart}
 use Rattle.syn_model.specs.Tree.{subtree, is_directory}
 use Rattle.syn_model.specs.Limits.{children, fits_content, fits_part}
 use Rattle.syn_model.specs.Spelling.{content_spelling, spelling, spelling_within}
@@ -25,6 +26,7 @@ use Rattle.syn_model.proofs.HistoryLemmas.{no_file}
 use Rattle.syn_model.proofs.SyncLemmas.{directory_is}
 use Rattle.syn_model.proofs.QuietLemmas.{nothing_below}
 use Rattle.syn_model.proofs.DirectoryLemmas.{not_child, absent_below}
+use Rattle.syn_model.proofs.ContentsLemmas.{same_lawful}
 
 -- ---- bytes
 
@@ -228,7 +230,8 @@ level f g t u r s ht hu ft fu tells (Some (File c)) (Some (File d)) a b e =
     let long = sym (from_be_bytes-to_be_bytes_4 (length c.bytes) (ft.brief c a)) ∙ (ap
     (from_be_bytes w32) count.0 ∙ from_be_bytes-to_be_bytes_4 (length d.bytes) (fu.brief d b)) in
     let text = split c.bytes d.bytes r s long count.1 in
-    let alike : Some (File c) ≡ Some (File d) = ap (λ x. Some (File (contents_of x))) text.0 in (
+    let same = same_lawful c d (ht.lawful root c a) (hu.lawful root d b) text.0 in
+    let alike : Some (File c) ≡ Some (File d) = ap (λ x. Some (File x)) same in (
       no_directory t u ht hu (a ∙ (alike ∙ sym b)) (λ k. no_file c (same_Some _ _ (sym k ∙ a))),
       text.1,
     )

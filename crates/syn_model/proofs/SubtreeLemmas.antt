@@ -233,5 +233,5 @@ subtree-is_part t p h = record {
       λ q n rest some. get-subtree t p q ∙ h.parents (p ++ q) n rest (subst IsSome
       (get-subtree t p (q ++ n ∷ rest) ∙ ap (get t) (sym (append_assoc p q (n ∷ rest)))) some);
   names = λ q some. (later IsName p q (h.names (p ++ q) (subst IsSome (get-subtree t p q) some)));
-  bytes = λ q contents e. h.bytes (p ++ q) contents (sym (get-subtree t p q) ∙ e);
+  lawful = λ q contents e. h.lawful (p ++ q) contents (sym (get-subtree t p q) ∙ e);
 }

@@ -8,7 +8,7 @@ use Rattle.syn_model.specs.Limits.{greatest, fits_replica}
 use Rattle.syn_model.specs.Event.{Token, Event, IsLawfulToken}
 use Rattle.syn_model.specs.Standing.{Touch, Standing, most_touches, standing_after, AllAllowedAt}
 use Rattle.syn_model.specs.History.{History, IsHistory, standing_of}
-use Rattle.syn_model.specs.Spelling.{spelling, token_spelling, event_spelling}
+use Rattle.syn_model.specs.Spelling.{image_version, spelling, token_spelling, event_spelling}
 
 abbrev pub last_token_spelling : Option Token → Bytes
 last_token_spelling None = 0 ∷ []
@@ -18,12 +18,12 @@ abbrev pub touch_spelling : Touch → Bytes
 touch_spelling touch = to_be_bytes w64 touch.position ++ path_spelling touch.path
 
 -- "SYNR" and the version
-abbrev pub replica_front : Bytes
-replica_front = 83 ∷ 89 ∷ 78 ∷ 82 ∷ 1 ∷ []
+abbrev pub replica_front : ℕ → Bytes
+replica_front version = 83 ∷ 89 ∷ 78 ∷ 82 ∷ version ∷ []
 
 abbrev pub image_spelling : ℕ → Standing → Bytes
 image_spelling pair standing =
-    replica_front ++ (to_be_bytes w64 pair
+    replica_front image_version ++ (to_be_bytes w64 pair
     ++ (to_be_bytes w64 standing.position
     ++ (to_be_bytes w64 standing.floor ++ (to_be_bytes w64 standing.session
     ++ (last_token_spelling standing.token

@@ -7,7 +7,8 @@ use Rattle.syn_model.specs.Mark.{mark, mark_of}
 use Rattle.std.specs.FinMap.{get}
 use Rattle.syn_model.specs.Path.{Bytes, Path, path_cmp, path_key, key_cmp, root, comparable}
 use Rattle.syn_model.specs.Path.{strip_prefix, IsName, IsPath}
-use Rattle.syn_model.specs.Tree.{Tree, Contents, File, IsPart, IsTree, StandsIn, subtree, replace}
+use Rattle.syn_model.specs.Contents.{Contents, HasDigest}
+use Rattle.syn_model.specs.Tree.{Tree, File, IsPart, IsTree, StandsIn, subtree, replace}
 use Rattle.syn_model.specs.Limits.{greatest_file, greatest_image, fits_part, fits_paths}
 use Rattle.syn_model.specs.Limits.{fits_replica}
 use Rattle.syn_model.specs.Standing.{Standing, new_standing, standing_after, AllAllowedAt}
@@ -119,7 +120,7 @@ MarkOfSubtree = (tree : Tree) (path : Path) → mark (subtree tree path) ≡ sub
 -- and each of its files is a digest
 abbrev pub MarkIsDigests : Type 0
 MarkIsDigests = (tree : Tree) (path : Path) (contents : Contents) →
-    get (mark tree) path ≡ Some (File contents) → length contents.bytes ≡ 32
+    get (mark tree) path ≡ Some (File contents) → HasDigest contents
 
 -- one more event takes what an image keeps of a history one step on
 abbrev pub StandingSteps : Type 0

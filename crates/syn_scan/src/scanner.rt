@@ -15,12 +15,11 @@ ghost use Rattle.syn_scan.specs.Asked.{with_listing, with_no_directory, is_too_l
 ghost use Rattle.syn_scan.specs.Asked.{ListsOnly, directory_with, listing_pairs, named, names_rise};
 
 use crate::error::ScanError;
-use crate::lawful::is_mark;
 use crate::paths::{is_among, take_back};
 use crate::scan::Scan;
 use std::alloc::Global;
 use std::marker::Model;
-use syn_mark::{MOST_NODES, Mark, MarkEntry, MarkTree};
+use syn_mark::{MOST_NODES, Mark, MarkEntry, MarkTree, is_mark};
 use syn_path::{Name, Path};
 
 /// Makes a scan of one side, a listing at a time. Contracts see it as what was found so far, and

@@ -5,23 +5,25 @@ use Rattle.std.specs.FinMap.{entries}
 use Rattle.hex.specs.Hex.{encode_lower}
 use Rattle.sha2.specs.Sha256.{sha256}
 use Rattle.syn_model.specs.Path.{Path}
+use Rattle.syn_model.specs.Contents.{Contents}
 use Rattle.syn_model.specs.Tree.{Tree, Pair, Content, Directory, File}
 use Rattle.syn_placed.specs.Pairs.{is_below}
 use Rattle.syn_path.specs.Paths.{printed_form}
 
 -- the line of a file: its path, its length, and its digest in lower case hexadecimal digits
-abbrev pub file_line : List (List ℕ) → List ℕ → List ℕ
-file_line path bytes = codes "f " ++
+abbrev pub file_line : Path → Contents → List ℕ
+file_line path contents = codes "f " ++
     (printed_form path ++ (codes " " ++
-    (decimal (length bytes) ++ (codes " " ++ (encode_lower (sha256 bytes) ++ codes "\n")))))
+    (decimal (length contents.bytes) ++ (codes " " ++ (encode_lower (sha256 contents.bytes) ++ codes
+    "\n")))))
 
 -- the line of a directory
-abbrev pub directory_line : List (List ℕ) → List ℕ
+abbrev pub directory_line : Path → List ℕ
 directory_line path = codes "d " ++ (printed_form path ++ codes "\n")
 
 abbrev pub content_line : Path → Content → List ℕ
 content_line path Directory = directory_line path
-content_line path (File contents) = file_line path contents.bytes
+content_line path (File contents) = file_line path contents
 
 -- the lines of these pairs, in their order
 abbrev pub lines_of : List Pair → List ℕ
@@ -41,13 +43,13 @@ abbrev pub served_line : ℕ → List ℕ
 served_line position = codes "replica position " ++ (decimal position ++ codes "\n")
 
 -- the line of a file in an archive: its path, and its digest in lower case hexadecimal digits
-abbrev pub digest_line : List (List ℕ) → List ℕ → List ℕ
+abbrev pub digest_line : Path → Contents → List ℕ
 digest_line path digest = codes "f " ++
-    (printed_form path ++ (codes " " ++ (encode_lower digest ++ codes "\n")))
+    (printed_form path ++ (codes " " ++ (encode_lower digest.bytes ++ codes "\n")))
 
 abbrev pub mark_line : Path → Content → List ℕ
 mark_line path Directory = directory_line path
-mark_line path (File digest) = digest_line path digest.bytes
+mark_line path (File digest) = digest_line path digest
 
 -- the lines of marks, in their order
 abbrev pub lines_of_marks : List Pair → List ℕ

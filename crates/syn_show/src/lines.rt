@@ -2,6 +2,7 @@
 ghost use Rattle.std.specs.Prelude.{◌≡◌, IfOk, OnOk};
 ghost use Rattle.std.specs.Io.KnownBytes.{Appends};
 ghost use Rattle.std.specs.String.{string_bytes};
+ghost use Rattle.syn_model.specs.Contents.{contents_of};
 ghost use Rattle.syn_show.specs.Printed.{content_line, digest_line, directory_line};
 ghost use Rattle.syn_show.specs.Printed.{archive_line, file_line, lines_below, lines_of_marks};
 ghost use Rattle.syn_show.specs.Printed.{mark_line, replica_line, served_line};
@@ -152,7 +153,7 @@ fn directory_line(alloc: Global, path: &Path) -> Result<String, AllocError>
 
 /// The line of a file: its path, its length and its SHA-256 digest.
 fn file_line(alloc: Global, path: &Path, bytes: &[u8]) -> Result<String, AllocError>
-    ensures { IfOk result (λ line. string_bytes line ≡ file_line path.now bytes.now) }
+    ensures { IfOk result (λ line. string_bytes line ≡ file_line path.now (contents_of bytes.now)) }
 {
     let digest = hex::encode(alloc, Sha256::digest(bytes))?;
     let length = bytes.len();
@@ -161,7 +162,8 @@ fn file_line(alloc: Global, path: &Path, bytes: &[u8]) -> Result<String, AllocEr
 
 /// The line of a file in an archive: its path and its digest.
 fn digest_line(alloc: Global, path: &Path, digest: &[u8; 32]) -> Result<String, AllocError>
-    ensures { IfOk result (λ line. string_bytes line ≡ digest_line path.now digest.now) }
+    ensures { IfOk result (λ line. string_bytes line
+        ≡ digest_line path.now (contents_of digest.now)) }
 {
     let digest = hex::encode(alloc, *digest)?;
     format!(in alloc; "f {path} {digest}\n")

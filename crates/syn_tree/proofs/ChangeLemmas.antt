@@ -4,10 +4,10 @@ use Rattle.std.proofs.Common.{ap, ◌∙◌, subst, Option, Some, None, is_some,
 use Rattle.std.specs.FinMap.{entries, get, get-empty}
 use Rattle.std.proofs.lemmas.List.Sums.{sum_by-cons}
 use Rattle.std.proofs.lemmas.Option.{none-some}
-use Rattle.syn_model.specs.Path.{Bytes, Path, path_cmp, IsPath}
-use Rattle.syn_model.specs.Tree.{Tree, Content, Contents, Directory, File, IsPart, at_root, absent}
-use Rattle.syn_model.specs.Event.{AreBytes}
-use Rattle.syn_model.proofs.HistoryLemmas.{at_root-is_part}
+use Rattle.syn_model.specs.Path.{Path, path_cmp, IsPath}
+use Rattle.syn_model.specs.Contents.{Contents, AreLawfulContents}
+use Rattle.syn_model.specs.Tree.{Tree, Content, Directory, File, IsPart, at_root, absent}
+use Rattle.syn_model.proofs.HistoryLemmas.{at_root-is_part, same_file}
 use Rattle.syn_tree.specs.Contents.{IsLawful}
 use Rattle.syn_placed.specs.Pairs.{Pairs, under, spelling_length, pair_spelling_length}
 use Rattle.syn_tree.specs.Change.{taken_from, ArePlaced}
@@ -52,16 +52,12 @@ nothing_part = record {
       λ p n r h. absurd (none-some _
       (sym (get-empty path_cmp (p ++ n ∷ r)) ∙ is_some_some (get absent (p ++ n ∷ r)) h));
   names = λ p h. absurd (none-some _ (sym (get-empty path_cmp p) ∙ is_some_some (get absent p) h));
-  bytes = λ p contents h. absurd (none-some _ (sym (get-empty path_cmp p) ∙ h));
+  lawful = λ p contents h. absurd (none-some _ (sym (get-empty path_cmp p) ∙ h));
 }
 
 abbrev is_dir : Content → Bool
 is_dir Directory = true
 is_dir (File c) = false
-
-abbrev bytes_in : Content → Contents → Bytes
-bytes_in Directory d = d.bytes
-bytes_in (File c) d = c.bytes
 
 pub lawful_part : (content : Content) → IsLawful content → IsPart (at_root content)
 lawful_part Directory h = at_root-is_part Directory (λ contents e. absurd (no_file contents e))
@@ -69,7 +65,7 @@ lawful_part Directory h = at_root-is_part Directory (λ contents e. absurd (no_f
     no_file : (contents : Contents) → ◌≡◌ {A = Content} Directory (File contents) → ⊥
     no_file contents e = true≢false (ap is_dir e)
 lawful_part (File c) h =
-    at_root-is_part (File c) (λ contents e. subst AreBytes (ap (λ x. bytes_in x c) e) h)
+    at_root-is_part (File c) (λ contents e. subst AreLawfulContents (same_file c contents e) h)
 
 pub size_one : (at : Path) (content : Content) (pairs : Pairs) → pairs ≡ (at, content) ∷ [] →
     pair_spelling_length (at, content) ≡ spelling_length pairs

@@ -101,7 +101,7 @@ module _ (ds : Pairs) (rising : AreRising (rooted ds)) where
             each-map IsLawfulPair (λ e. All IsName e.0) (λ e k. k.0.names) ds lawful,
           )
           (some_is (find path_cmp p (rooted ds)) (subst IsSome (get-with ds p rising) is));
-      bytes =
+      lawful =
           λ p contents is. each-find (λ q c. IsLawful c) p (File contents) (rooted ds)
           (tt, each-map IsLawfulPair (λ e. IsLawful e.1) (λ e k. k.1) ds lawful)
           (sym (get-with ds p rising) ∙ is);

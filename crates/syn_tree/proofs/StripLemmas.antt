@@ -16,7 +16,8 @@ use Rattle.std.proofs.lemmas.List.Elements.{filter_map-append, All-drop}
 use Rattle.std.proofs.lemmas.List.Folds.{list_all-append}
 use Rattle.syn_model.specs.Path.{Name, Path, IsName, IsPath, path_cmp, root, is_root, strip_prefix}
 use Rattle.syn_model.specs.Path.{is_prefix, path_spelling}
-use Rattle.syn_model.specs.Tree.{Tree, Content, Contents, Pair, Directory, File, HasParents, IsTree}
+use Rattle.syn_model.specs.Contents.{Contents}
+use Rattle.syn_model.specs.Tree.{Tree, Content, Pair, Directory, File, HasParents, IsTree}
 use Rattle.syn_model.specs.Tree.{absent, at_root, subtree, is_directory_content}
 use Rattle.syn_model.proofs.HistoryLemmas.{get-at_root}
 use Rattle.std.specs.Ordering.{eq_by_cmp}
@@ -177,7 +178,7 @@ subtree_tree t at tree dir = record {
     parents = subtree-parents t at tree.part.parents;
     names =
         λ p h. names_behind at p (tree.part.names (at ++ p) (subst IsSome (get-subtree t at p) h));
-    bytes = λ p contents h. tree.part.bytes (at ++ p) contents (sym (get-subtree t at p) ∙ h);
+    lawful = λ p contents h. tree.part.lawful (at ++ p) contents (sym (get-subtree t at p) ∙ h);
   };
 }
 

@@ -1,7 +1,7 @@
 -- What stands at a path, and what is found there, as the model has it.
-use Rattle.syn_model.specs.Tree.{Directory, File, contents_of}
+use Rattle.syn_model.specs.Contents.{contents_of, AreLawfulContents}
+use Rattle.syn_model.specs.Tree.{Directory, File}
 use Rattle.syn_model.specs.Tree as model
-use Rattle.syn_model.specs.Event.{AreBytes}
 use Rattle.syn_tree.specs.declared.content.Content.{Content}
 use Rattle.syn_tree.specs.declared.content.Content.TheVariants as has
 use Rattle.syn_tree.specs.declared.content.Found.{Found}
@@ -18,4 +18,4 @@ found_content found.Dir = Directory
 -- its bytes are bytes
 abbrev pub IsLawful : model.Content → Type 0
 IsLawful Directory = Unit {0}
-IsLawful (File contents) = AreBytes contents.bytes
+IsLawful (File contents) = AreLawfulContents contents

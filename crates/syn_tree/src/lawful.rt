@@ -1,12 +1,12 @@
 //! What the types of bytes and paths say of them.
-ghost use Rattle.syn_model.specs.Event.{AreBytes};
+ghost use Rattle.syn_model.specs.Contents.{AreLawfulContents, contents_of};
 ghost use Rattle.syn_model.specs.Path.{IsPath};
 
 use syn_path::Key;
 
 /// Each byte is below 256.
 pub(crate) fn are_bytes(bytes: &[u8])
-    ensures { AreBytes bytes.now }
+    ensures { AreLawfulContents (contents_of bytes.now) }
 {
     let _ = bytes;
 }

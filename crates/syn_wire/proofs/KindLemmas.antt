@@ -5,7 +5,8 @@ use Rattle.std.specs.List.{list_all}
 use Rattle.std.specs.FinMap.{get}
 use Rattle.std.proofs.lemmas.Bool.{and_parts, leb-true}
 use Rattle.syn_model.specs.Path.{Name, root}
-use Rattle.syn_model.specs.Tree.{Tree, Content, Contents, Pair, File, IsPart, is_present, subtree}
+use Rattle.syn_model.specs.Contents.{Contents}
+use Rattle.syn_model.specs.Tree.{Tree, Content, Pair, File, IsPart, is_present, subtree}
 use Rattle.syn_model.specs.Mark.{IsMarks}
 use Rattle.syn_model.specs.Limits.{children, fits_content, fits_part}
 use Rattle.syn_model.proofs.TreeLemmas.{get-subtree}
@@ -18,6 +19,7 @@ use Rattle.syn_tree.proofs.RootedLemmas.{is_rooted}
 use Rattle.syn_wire.proofs.MarkLemmas.{few_children, mark_unfolds}
 use Rattle.syn_wire.proofs.NameLemmas.{split}
 use Rattle.syn_wire.proofs.WalkLemmas.{content_by, tree_unfolds}
+use Rattle.syn_model.proofs.ContentsLemmas.{same_lawful}
 
 -- what stands at the root keeps its limits
 pub root_fits : (t : Tree) (c : Content) → fits_part t ≡ true → get t root ≡ Some c →
@@ -45,11 +47,11 @@ is_part OfContents t h = h.0
 is_part OfMarks t h = h.0.part
 
 pub is_file : (kind : Kind) (t : Tree) → IsPartOf kind t → (c : Contents) →
-    get t root ≡ Some (File c) → IsFileOf kind c.bytes
+    get t root ≡ Some (File c) → IsFileOf kind c
 is_file OfContents t h c is =
     let short = leb-true (length c.bytes) 16384 (root_fits t (File c) h.1 is).0 in
-    record { bytes = h.0.bytes root c is; brief = omega (arith, short) }
-is_file OfMarks t h c is = (h.0.part.bytes root c is, h.0.digests root c is)
+    (h.0.lawful root c is, omega (arith, short))
+is_file OfMarks t h c is = (h.0.part.lawful root c is, h.0.digests root c is)
 
 pub has_few : (kind : Kind) (t : Tree) → IsPartOf kind t → (c : Content) → get t root ≡ Some c →
     length (children t root) < 2 ^ 16
@@ -68,5 +70,10 @@ is_part_below OfMarks t n is h =
 
 -- a spelling of a file tells it
 pub files_tell : (kind : Kind) → NoneBeginsAnother (IsFileOf kind) (file_spelling_of kind)
-files_tell OfContents v w r s hv hw e = file_tells v w r s hv hw e
-files_tell OfMarks v w r s hv hw e = split v w r s (hv.1 ∙ sym hw.1) e
+files_tell OfContents v w r s hv hw e =
+    let same = file_tells v.bytes w.bytes r s (record { bytes = hv.0.bytes; brief = hv.1 })
+    (record { bytes = hw.0.bytes; brief = hw.1 }) e in
+    (same_lawful v w hv.0 hw.0 same.0, same.1)
+files_tell OfMarks v w r s hv hw e =
+    let same = split v.bytes w.bytes r s (hv.1 ∙ sym hw.1) e in
+    (same_lawful v w hv.0 hw.0 same.0, same.1)

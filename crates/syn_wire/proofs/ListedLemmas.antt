@@ -14,7 +14,8 @@ use Rattle.std.proofs.lemmas.Grind.{flat_map-append}
 use Rattle.std.proofs.lemmas.List.{map-append}
 use Rattle.std.proofs.lemmas.List.Elements.{filter_map-append}
 use Rattle.syn_model.specs.Path.{Bytes, Name, Path, name_cmp, path_cmp, root, strip_prefix}
-use Rattle.syn_model.specs.Tree.{Tree, Content, Contents, Pair, Directory, File, contents_of}
+use Rattle.syn_model.specs.Contents.{Contents}
+use Rattle.syn_model.specs.Tree.{Tree, Content, Pair, Directory, File}
 use Rattle.syn_model.specs.Tree.{subtree, taken_off}
 use Rattle.syn_model.specs.Limits.{children, only_name}
 use Rattle.syn_model.proofs.PathLemmas.{name_total, path_itself, same_name, strip_prefix-append}
@@ -231,26 +232,27 @@ module _ (kind : Kind) where
   -- ---- what was read, name by name
 
   file_of_pair : (contents : Contents) → spelling_of kind (from_sorted ((root, File contents) ∷ []))
-      ≡ 1 ∷ file_spelling_of kind contents.bytes
+      ≡ 1 ∷ file_spelling_of kind contents
   file_of_pair contents =
       let t : Tree = from_sorted ((root, File contents) ∷ []) in
       unfolds kind t ∙ ap (content_by (file_spelling_of kind) (spelling_of kind) t)
       (get-rising ((root, File contents) ∷ []) root (tt, tt))
 
-  pub file_spelled : (at : Path) (fields file left : Bytes) (old new : Pairs) (entry : Pair) →
+  pub file_spelled : (at : Path) (fields : Bytes) (file : Contents) (left : Bytes)
+      (old new : Pairs) (entry : Pair) →
       BeginsWith (IsFileOf kind) (file_spelling_of kind) fields file left →
-      entry ≡ (at, File (contents_of file)) → new ≡ old ++ entry ∷ [] →
+      entry ≡ (at, File file) → new ≡ old ++ entry ∷ [] →
       PartIsRead kind at (1 ∷ fields) old new (Some left)
   file_spelled at fields file left old new entry found is added = (
-    (root, File (contents_of file)) ∷ [],
-    added ∙ ap (λ x. old ++ x ∷ []) (is ∙ sym (own_pair at (File (contents_of file)))),
+    (root, File file) ∷ [],
+    added ∙ ap (λ x. old ++ x ∷ []) (is ∙ sym (own_pair at (File file))),
     record {
-      content = File (contents_of file);
+      content = File file;
       below = [];
       whole = refl;
       spelled =
           λ _. ap (λ b. 1 ∷ b) found.spelled
-          ∙ ap (λ b. b ++ left) (sym (file_of_pair (contents_of file)));
+          ∙ ap (λ b. b ++ left) (sym (file_of_pair file));
     },
   )
 

@@ -10,7 +10,8 @@ use Rattle.std.proofs.lemmas.Bool.{and_parts, le-leb, leb-true}
 use Rattle.std.proofs.lemmas.Option.{none-some}
 use Rattle.syn_model.specs.Path.{Bytes, Path, IsPath, path_cmp, root}
 use Rattle.syn_model.specs.Tree.{Tree, Content, Directory, File, IsPart, IsTree, absent}
-use Rattle.syn_model.specs.Tree.{contents_of, file}
+use Rattle.syn_model.specs.Contents.{contents_of}
+use Rattle.syn_model.specs.Tree.{file}
 use Rattle.syn_model.specs.Limits.{fits_part, fits_path, fits_paths, fits_replica}
 use Rattle.syn_model.specs.Limits.{greatest_spelling, tree_spelling_length}
 use Rattle.syn_model.specs.Spelling.{spelling, content_spelling}
@@ -35,6 +36,7 @@ use Rattle.syn_wire.proofs.NameLemmas.{first_or}
 use Rattle.syn_wire.proofs.NodeLemmas.{file_spelled}
 use Rattle.syn_wire.proofs.NumberLemmas.{u16_tells}
 use Rattle.syn_wire.proofs.PartsLemmas.{file_at, directory_at, parts_in, parts_stand}
+use Rattle.syn_model.proofs.ContentsLemmas.{new_are_lawful}
 
 -- ---- limits
 
@@ -175,7 +177,10 @@ pub no_file_read : (fields : Bytes) → IsReading IsFile file_spelling fields No
 no_file_read fields none t rest begins =
     let f = file_at OfContents t fields rest
     (begins.lawful.part, begins.lawful.fits) begins.spelled in
-    none f.contents.bytes rest (record { lawful = f.lawful; spelled = f.spelled })
+    none f.contents.bytes rest (record {
+      lawful = record { bytes = f.lawful.0.bytes; brief = f.lawful.1 };
+      spelled = f.spelled;
+    })
 
 pub long_file_read : (fields bytes after : Bytes) →
     BeginsWith IsFile file_spelling fields bytes after → 16384 < length bytes →
@@ -183,8 +188,8 @@ pub long_file_read : (fields bytes after : Bytes) →
 long_file_read fields bytes after found long t rest begins =
     let f = file_at OfContents t fields rest
     (begins.lawful.part, begins.lawful.fits) begins.spelled in
-    let same = ap length (file_tells bytes f.contents.bytes after rest found.lawful f.lawful
-    (sym found.spelled ∙ f.spelled)).0 in
+    let same = ap length (file_tells bytes f.contents.bytes after rest found.lawful
+    (record { bytes = f.lawful.0.bytes; brief = f.lawful.1 }) (sym found.spelled ∙ f.spelled)).0 in
     let short = leb-true (length f.contents.bytes) 16384
     (root_fits t (File f.contents) begins.lawful.fits f.here).0 in
     absurd (omega (arith, same, short, long))
@@ -193,7 +198,8 @@ pub file_read : (fields bytes after : Bytes) → BeginsWith IsFile file_spelling
     length bytes ≤ 16384 → BeginsWith IsOptionalTree spelling (1 ∷ fields) (file bytes) after
 file_read fields bytes after found short = record {
   lawful = record {
-    part = lawful_part (File (contents_of bytes)) found.lawful.bytes;
+    part =
+        lawful_part (File (contents_of bytes)) (new_are_lawful bytes found.lawful.bytes);
     fits = one_fits (File (contents_of bytes)) (le-leb (length bytes) 16384 short);
     paths = ap (list_all (λ pair. fits_path pair.0)) (entries-one (File (contents_of bytes)));
   };

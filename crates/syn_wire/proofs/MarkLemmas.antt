@@ -16,7 +16,7 @@ use Rattle.syn_model.specs.MarkSpelling.{mark_spelling, mark_spelling_within}
 use Rattle.syn_model.proofs.SubtreeLemmas.{subtree_smaller}
 use Rattle.syn_placed.specs.Pairs.{Pairs, is_child}
 use Rattle.syn_placed.proofs.CountLemmas.{length-children}
-use Rattle.syn_wire.specs.Marks.{digest_spelling}
+use Rattle.syn_model.specs.Contents.{digest_spelling}
 use Rattle.syn_wire.specs.Trees.{pair_by}
 use Rattle.syn_wire.proofs.WalkLemmas.{content_by, walks_by}
 

@@ -12,7 +12,8 @@ use Rattle.syn_mark.specs.Marks.{AreMarks, marks_with}
 use Rattle.syn_placed.specs.Pairs.{Pairs, AreRising, under}
 use Rattle.syn_placed.proofs.RisingLemmas.{sorted_of}
 use Rattle.syn_placed.proofs.TreeLemmas.{entries-absent, from_entries-same}
-use Rattle.syn_wire.specs.Marks.{IsMarkTree, IsOptionalMarkTree, digest_spelling}
+use Rattle.syn_model.specs.Contents.{digest_spelling}
+use Rattle.syn_wire.specs.Marks.{IsMarkTree, IsOptionalMarkTree}
 use Rattle.syn_wire.specs.Marks.{NoMarksBeginOthers}
 use Rattle.syn_wire.specs.Reads.{BeginsWith, IsReading}
 use Rattle.syn_wire.specs.inner.Kinds.{OfMarks}

@@ -4,7 +4,8 @@ use Rattle.std.specs.List.{list_all}
 use Rattle.std.specs.FinMap.{get-empty}
 use Rattle.std.proofs.lemmas.Bool.{and_parts, leb-true}
 use Rattle.syn_model.specs.Path.{Bytes, root, path_cmp}
-use Rattle.syn_model.specs.Tree.{File, contents_of, absent, file}
+use Rattle.syn_model.specs.Contents.{contents_of}
+use Rattle.syn_model.specs.Tree.{File, absent, file}
 use Rattle.syn_model.specs.Limits.{children, fits_content, fits_part}
 use Rattle.syn_model.specs.Spelling.{spelling, content_spelling}
 use Rattle.syn_model.proofs.HistoryLemmas.{get-at_root}

@@ -13,7 +13,8 @@ use Rattle.std.proofs.lemmas.List.Elements.{All-head, All-tail}
 use Rattle.std.proofs.lemmas.List.Folds.{flat_map-map}
 use Rattle.std.proofs.lemmas.Option.{none-some, same_Some}
 use Rattle.syn_model.specs.Path.{Bytes, Name, Path, IsName, IsPath, root}
-use Rattle.syn_model.specs.Tree.{Tree, Content, Contents, Pair, Directory, File, is_present}
+use Rattle.syn_model.specs.Contents.{Contents}
+use Rattle.syn_model.specs.Tree.{Tree, Content, Pair, Directory, File, is_present}
 use Rattle.syn_model.specs.Tree.{subtree}
 use Rattle.syn_model.specs.Limits.{children}
 use Rattle.syn_model.proofs.TreeLemmas.{get-subtree}
@@ -105,8 +106,8 @@ pub record IsFileAt (kind : Kind) (t : Tree) (fields rest : Bytes) : Type 0 wher
   pub contents : Contents
   pub here : get t root ≡ Some (File contents)
   pub alone : entries t ≡ (root, File contents) ∷ []
-  pub lawful : IsFileOf kind contents.bytes
-  pub spelled : fields ≡ file_spelling_of kind contents.bytes ++ rest
+  pub lawful : IsFileOf kind contents
+  pub spelled : fields ≡ file_spelling_of kind contents ++ rest
 
 -- what stands at each name in a directory
 abbrev pub parts_in : Tree → Parts

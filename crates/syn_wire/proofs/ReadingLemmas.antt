@@ -3,7 +3,8 @@ use Rattle.std.proofs.Common.{◌≡◌, ◌≢◌, ◌<◌, ◌^◌, ℕ, [], �
 use Rattle.std.proofs.Common.{Option, Some, None, append_assoc, arith}
 use Rattle.std.specs.Int.{to_be_bytes, w16}
 use Rattle.syn_model.specs.Path.{Bytes, Path, root}
-use Rattle.syn_model.specs.Tree.{Pair, Directory, File, contents_of}
+use Rattle.syn_model.specs.Contents.{Contents}
+use Rattle.syn_model.specs.Tree.{Pair, Directory, File}
 use Rattle.syn_placed.specs.Pairs.{Pairs, under}
 use Rattle.syn_wire.specs.Reads.{BeginsWith, IsReading}
 use Rattle.syn_wire.specs.inner.Kinds.{Kind, IsFileOf, file_spelling_of}
@@ -20,20 +21,21 @@ module _ (kind : Kind) where
       ReadsPart kind at (1 ∷ fields) old new None
   no_file_there at fields old new none part rest h e =
       let f = file_at kind part fields rest h.part e in
-      absurd (none f.contents.bytes rest (record { lawful = f.lawful; spelled = f.spelled }))
+      absurd (none f.contents rest (record { lawful = f.lawful; spelled = f.spelled }))
 
-  pub file_there : (at : Path) (fields file left : Bytes) (old new : Pairs) (entry : Pair) →
+  pub file_there : (at : Path) (fields : Bytes) (file : Contents) (left : Bytes) (old new : Pairs)
+      (entry : Pair) →
       BeginsWith (IsFileOf kind) (file_spelling_of kind) fields file left →
-      entry ≡ (at, File (contents_of file)) → new ≡ old ++ entry ∷ [] →
+      entry ≡ (at, File file) → new ≡ old ++ entry ∷ [] →
       ReadsPart kind at (1 ∷ fields) old new (Some left)
   file_there at fields file left old new entry found is added part rest h e =
       let f = file_at kind part fields rest h.part e in
-      let same = files_tell kind file f.contents.bytes left rest found.lawful f.lawful
+      let same = files_tell kind file f.contents left rest found.lawful f.lawful
       (sym found.spelled ∙ f.spelled) in (
         ap (λ b. Some b) same.1,
         added ∙ ap (λ es. old ++ es) (ap (λ x. x ∷ [])
             (is
-            ∙ (ap (λ b. (at, File (contents_of b))) same.0 ∙ sym (own_pair at (File f.contents))))
+            ∙ (ap (λ b. (at, File b)) same.0 ∙ sym (own_pair at (File f.contents))))
             ∙ sym (ap (under at) f.alone)),
       )
 

@@ -12,6 +12,7 @@ use Rattle.std.proofs.lemmas.Grind.{flat_map-append}
 use Rattle.std.proofs.lemmas.List.Concat.{length-flat_map}
 use Rattle.std.proofs.lemmas.Option.{same_Some}
 use Rattle.syn_model.specs.Path.{Bytes, Name, Path, name_cmp, root}
+use Rattle.syn_model.specs.Contents.{Contents, contents_spelling}
 use Rattle.syn_model.specs.Tree.{Tree, Content, Pair, Directory, File, HasParents, is_present}
 use Rattle.syn_model.specs.Tree.{subtree}
 use Rattle.syn_model.specs.Limits.{children, last_name_spelling_length, content_spelling_length}
@@ -26,7 +27,6 @@ use Rattle.syn_placed.specs.Pairs.{Pairs, under}
 use Rattle.syn_tree.proofs.PartLemmas.{subtree-parents}
 use Rattle.syn_placed.proofs.RisingLemmas.{Rising, After, each-map}
 use Rattle.syn_placed.proofs.TreeLemmas.{rising-entries}
-use Rattle.syn_wire.specs.Events.{file_spelling}
 use Rattle.syn_wire.specs.Trees.{last_name_spelling, standing_by, standing_spelling, pair_by}
 use Rattle.syn_wire.specs.Trees.{pair_spelling, SpellingIsWalk, SpellingIsMeasured}
 use Rattle.syn_tree.proofs.RootedLemmas.{IsRooted, is_rooted}
@@ -69,13 +69,13 @@ some_rooted t is = by_content (get t root) refl
 -- ---- walks
 
 -- what stands at the root with all below it, by a spelling of files and one of parts
-abbrev pub content_by : (Bytes → Bytes) → (Tree → Bytes) → Tree → Option Content → Bytes
+abbrev pub content_by : (Contents → Bytes) → (Tree → Bytes) → Tree → Option Content → Bytes
 content_by file spell t None = 0 ∷ []
-content_by file spell t (Some (File contents)) = 1 ∷ file contents.bytes
+content_by file spell t (Some (File contents)) = 1 ∷ file contents
 content_by file spell t (Some Directory) =
     2 ∷ to_be_bytes w16 (length (children t root)) ++ entries_spelling spell t
 
-module _ (file : Bytes → Bytes) (spell : Tree → Bytes)
+module _ (file : Contents → Bytes) (spell : Tree → Bytes)
     (unfolds : (t : Tree) → spell t ≡ content_by file spell t (get t root)) where
   abbrev pub Walked : Tree → Type 0
   Walked t = spell t ≡ flat_map (pair_by file t) (entries t)
@@ -152,7 +152,7 @@ module _ (file : Bytes → Bytes) (spell : Tree → Bytes)
       walked_within d (subtree t (n ∷ [])) (omega (arith, small, l))
       (subtree-parents t (n ∷ []) h) there)
 
-pub walks_by : (file : Bytes → Bytes) (spell : Tree → Bytes) →
+pub walks_by : (file : Contents → Bytes) (spell : Tree → Bytes) →
     ((t : Tree) → spell t ≡ content_by file spell t (get t root)) → (t : Tree) → HasParents t →
     is_present t root ≡ true → spell t ≡ flat_map (pair_by file t) (entries t)
 walks_by file spell unfolds t h is =
@@ -160,16 +160,16 @@ walks_by file spell unfolds t h is =
 
 -- a tree's parts unfold so
 tree_content : (t : Tree) (o : Option Content) →
-    content_spelling spelling t o ≡ content_by file_spelling spelling t o
+    content_spelling spelling t o ≡ content_by contents_spelling spelling t o
 tree_content t None = refl
 tree_content t (Some (File c)) = refl
 tree_content t (Some Directory) = refl
 
-pub tree_unfolds : (t : Tree) → spelling t ≡ content_by file_spelling spelling t (get t root)
+pub tree_unfolds : (t : Tree) → spelling t ≡ content_by contents_spelling spelling t (get t root)
 tree_unfolds t = spelling_unfolds t ∙ tree_content t (get t root)
 
 pub spelling_walks : SpellingIsWalk
-spelling_walks t h is = walks_by file_spelling spelling tree_unfolds t h is
+spelling_walks t h is = walks_by contents_spelling spelling tree_unfolds t h is
 
 -- ---- lengths
 

@@ -10,6 +10,7 @@ use Rattle.std.proofs.lemmas.Grind.{flat_map-append}
 use Rattle.std.proofs.lemmas.List.{take_more}
 use Rattle.std.proofs.lemmas.List.Folds.{list_all-append}
 use Rattle.syn_model.specs.Path.{Bytes, Name, Path, root}
+use Rattle.syn_model.specs.Contents.{Contents, contents_spelling}
 use Rattle.syn_model.specs.Tree.{Tree, Pair, Directory, IsTree}
 use Rattle.syn_model.specs.Limits.{children, fits_content, fits_part, fits_replica, fits_paths}
 use Rattle.syn_model.specs.Limits.{tree_spelling_length, greatest_spelling}
@@ -17,7 +18,6 @@ use Rattle.std.specs.FinMap.{len}
 use Rattle.std.proofs.lemmas.Option.{none-some, same_Some}
 use Rattle.syn_model.specs.Spelling.{spelling}
 use Rattle.syn_placed.specs.Pairs.{Pairs, rooted}
-use Rattle.syn_wire.specs.Events.{file_spelling}
 use Rattle.syn_wire.specs.Trees.{last_name_spelling, standing_by, standing_spelling, pair_by}
 use Rattle.syn_wire.specs.Trees.{pair_spelling}
 use Rattle.syn_wire.proofs.WalkLemmas.{walks_by, tree_unfolds}
@@ -58,7 +58,7 @@ module _ (t : Tree) (ds : Pairs) (all : rooted ds ≡ entries t) (fits : fits_pa
       (parts.0, few (length (children t x.0)) parts.1)
 
 -- one pair more
-pub pair_more : (file : Bytes → Bytes) (t : Tree) (read : Pairs) (x : Pair) (count : ℕ)
+pub pair_more : (file : Contents → Bytes) (t : Tree) (read : Pairs) (x : Pair) (count : ℕ)
     (base old new : Bytes) →
     standing_by file count x.1 ≡ standing_by file (length (children t x.0)) x.1 →
     old ≡ base ++ flat_map (pair_by file t) read →
@@ -70,7 +70,7 @@ pair_more file t read x count base old new counted so_far added =
     ∙ ap (λ b. base ++ b) (sym (flat_map-append (pair_by file t) read (x ∷ [])
     ∙ ap (λ b. flat_map (pair_by file t) read ++ b) (append-nil (pair_by file t x))))))
 
-pub pairs_more : (file : Bytes → Bytes) (t : Tree) (ds : Pairs) (i : ℕ) (x : Pair) (count : ℕ)
+pub pairs_more : (file : Contents → Bytes) (t : Tree) (ds : Pairs) (i : ℕ) (x : Pair) (count : ℕ)
     (base old new : Bytes) → i < length ds → x ≡ slice_index_or ds i x →
     standing_by file count x.1 ≡ standing_by file (length (children t x.0)) x.1 →
     old ≡ base ++ flat_map (pair_by file t) (take i ds) →
@@ -90,7 +90,8 @@ whole_written t ds count base first out h all counted begun written =
     let top = standing_spelling (length (children t root)) Directory in
     let walked : top ++ flat_map (pair_spelling t) ds ≡ spelling t =
     ap (flat_map (pair_spelling t)) all
-    ∙ sym (walks_by file_spelling spelling tree_unfolds t h.part.parents (ap is_some h.rooted)) in
+    ∙ sym (walks_by contents_spelling spelling tree_unfolds t h.part.parents (ap is_some h.rooted))
+    in
     written ∙ (ap (λ b. b ++ flat_map (pair_spelling t) ds)
     (begun ∙ ap (λ n. base ++ standing_spelling n Directory) counted)
     ∙ (append_assoc base top (flat_map (pair_spelling t) ds) ∙ ap (λ b. base ++ b) walked))

@@ -1,15 +1,11 @@
 -- How marks are spelled, and which of them are read.
 use Rattle.std.specs.Prelude.{◌≡◌, true}
-use Rattle.syn_model.specs.Path.{Bytes, root}
+use Rattle.syn_model.specs.Path.{root}
 use Rattle.syn_model.specs.Tree.{Tree, is_present}
 use Rattle.syn_model.specs.Limits.{fits_archive}
 use Rattle.syn_model.specs.Mark.{IsMarks}
 use Rattle.syn_model.specs.MarkSpelling.{mark_spelling}
 use Rattle.syn_wire.specs.Reads.{NoneBeginsAnother}
-
--- a file's mark is its digest, with no length
-abbrev pub digest_spelling : Bytes → Bytes
-digest_spelling digest = digest
 
 -- the marks of a file, of a directory with all below it, or of nothing, within the limits of an
 -- archive

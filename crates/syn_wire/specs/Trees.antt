@@ -1,14 +1,14 @@
 -- How trees are spelled in one walk over their pairs in path order, and which of them are read.
 use Rattle.std.specs.Prelude.{◌≡◌, ℕ, true, [], ◌∷◌, ◌++◌, length, flat_map}
-use Rattle.std.specs.Int.{to_be_bytes, w16, w32}
+use Rattle.std.specs.Int.{to_be_bytes, w16}
 use Rattle.std.specs.FinMap.{entries}
 use Rattle.syn_model.specs.Path.{Bytes, Path, root}
+use Rattle.syn_model.specs.Contents.{Contents, contents_front, contents_spelling}
 use Rattle.syn_model.specs.Tree.{Tree, Content, Directory, File, Pair, HasParents, IsPart, IsTree}
 use Rattle.syn_model.specs.Tree.{is_present}
 use Rattle.syn_model.specs.Limits.{children, fits_part, fits_paths, fits_replica}
 use Rattle.syn_model.specs.Limits.{tree_spelling_length}
 use Rattle.syn_model.specs.Spelling.{spelling}
-use Rattle.syn_wire.specs.Events.{file_spelling}
 use Rattle.syn_wire.specs.Reads.{NoneBeginsAnother}
 
 -- the last name with its length; the root has none
@@ -17,27 +17,27 @@ last_name_spelling [] = []
 last_name_spelling (name ∷ []) = length name ∷ name
 last_name_spelling (name ∷ next ∷ path) = last_name_spelling (next ∷ path)
 
--- a file, by a spelling of its bytes, or a directory with so many names
-abbrev pub standing_by : (Bytes → Bytes) → ℕ → Content → Bytes
-standing_by file count (File contents) = 1 ∷ file contents.bytes
+-- a file, by a spelling of what it holds, or a directory with so many names
+abbrev pub standing_by : (Contents → Bytes) → ℕ → Content → Bytes
+standing_by file count (File contents) = 1 ∷ file contents
 standing_by file count Directory = 2 ∷ to_be_bytes w16 count
 
--- its front: the kind, and the length of a file or the count of a directory
+-- its front: the kind, and the front of a file or the count of a directory
 abbrev pub kind_spelling : ℕ → Content → Bytes
-kind_spelling count (File contents) = 1 ∷ to_be_bytes w32 (length contents.bytes)
+kind_spelling count (File contents) = 1 ∷ contents_front contents
 kind_spelling count Directory = 2 ∷ to_be_bytes w16 count
 
 -- a pair of the tree, without what is below it
-abbrev pub pair_by : (Bytes → Bytes) → Tree → Pair → Bytes
+abbrev pub pair_by : (Contents → Bytes) → Tree → Pair → Bytes
 pair_by file tree pair = last_name_spelling pair.0
     ++ standing_by file (length (children tree pair.0)) pair.1
 
--- in a tree a file is spelled with its length and its bytes
+-- in a tree a file is spelled whole
 abbrev pub standing_spelling : ℕ → Content → Bytes
-standing_spelling count content = standing_by file_spelling count content
+standing_spelling count content = standing_by contents_spelling count content
 
 abbrev pub pair_spelling : Tree → Pair → Bytes
-pair_spelling tree pair = pair_by file_spelling tree pair
+pair_spelling tree pair = pair_by contents_spelling tree pair
 
 -- the spelling of what is there is that of one pair after the other
 abbrev pub SpellingIsWalk : Type 0

@@ -3,7 +3,7 @@ ghost use Rattle.std.specs.Prelude.{◌≡◌, ◌≤◌, ◌<◌, ◌^◌, ◌+
 ghost use Rattle.syn_model.specs.Limits.{children};
 ghost use Rattle.syn_model.specs.MarkSpelling.{mark_spelling};
 ghost use Rattle.syn_mark.specs.Marks.{or_absent};
-ghost use Rattle.syn_wire.specs.Marks.{digest_spelling};
+ghost use Rattle.syn_model.specs.Contents.{digest_spelling};
 ghost use Rattle.syn_wire.specs.Reads.{IsBeginning};
 ghost use Rattle.syn_wire.specs.Trees.{last_name_spelling, standing_by};
 

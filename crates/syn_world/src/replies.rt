@@ -1,11 +1,10 @@
 //! Which replies of a side can be sent.
-ghost use Rattle.std.specs.Prelude.{◌≡◌, ◌↔◌, ◌<◌, ◌^◌, All, IsTrue, length};
-ghost use Rattle.syn_mark.specs.Marks.{IsDigestOrDirectory, content_of};
+ghost use Rattle.std.specs.Prelude.{◌≡◌, ◌↔◌, ◌<◌, ◌^◌, All, IsTrue};
+ghost use Rattle.syn_mark.specs.Marks.{content_of};
 ghost use Rattle.syn_message.specs.Listings.{AreRising, IsEntry, IsListing, entries_of, entry_of};
 ghost use Rattle.syn_message.specs.Replies.{IsFetchedBytes, IsLawfulReply, reply_of};
-ghost use Rattle.syn_model.specs.Event.{AreBytes};
 
-use syn_mark::Mark;
+use syn_mark::{Mark, is_mark};
 use syn_message::Reply;
 use syn_path::Name;
 
@@ -77,31 +76,6 @@ fn is_entry(name: &Name, mark: Mark)
 {
     let _ = name.as_str();
     is_mark(mark);
-}
-
-/// The digest of a file has 32 bytes.
-fn is_mark(mark: Mark)
-    ensures { IsDigestOrDirectory (content_of mark) }
-{
-    match mark {
-        Mark::File(digest) => is_digest(digest),
-        Mark::Dir => {}
-    }
-}
-
-/// It is 32 bytes.
-fn is_digest(digest: [u8; 32])
-    ensures bytes { AreBytes digest }
-    ensures length { length digest ≡ 32 }
-{
-    are_bytes(digest.as_slice());
-}
-
-/// Each byte is below 256.
-fn are_bytes(bytes: &[u8])
-    ensures { AreBytes bytes.now }
-{
-    let _ = bytes;
 }
 
 /// Each name is below the next.

@@ -1,14 +1,10 @@
 -- What is read of a listing, part by part.
 use Rattle.std.specs.Prelude.{◌≡◌, ℕ, ◌∷◌, length, flat_map, All}
-use Rattle.syn_model.specs.Event.{AreBytes}
 use Rattle.syn_model.specs.Path.{Bytes, Name}
 use Rattle.syn_message.specs.Listings.{Entries, IsEntry, entry_spelling}
 
 abbrev pub name_spelling : Name → Bytes
 name_spelling name = length name ∷ name
-
-abbrev pub IsDigest : Bytes → Type 0
-IsDigest digest = AreBytes digest × (length digest ≡ 32)
 
 abbrev pub each_spelling : Entries → Bytes
 each_spelling entries = flat_map entry_spelling entries

@@ -1,4 +1,5 @@
-use Rattle.syn_change.proofs.OverlayLemmas.{placed_by}
+use Rattle.std.proofs.Common.{subst}
+use Rattle.syn_change.proofs.OverlayLemmas.{IsNew, is_new, placed_by}
 use Rattle.syn_change.proofs.ResultLemmas.{both_ok}
 use Rattle.syn_change.proofs.additions.put_pair.Goals as goal
 
@@ -6,5 +7,6 @@ pub returns-clause-placed : goal.returns-clause-placed
 returns-clause-placed c =
     both_ok c.apply.result
     (λ made allowed. placed_by c.args.work.now c.args.pair.now _ c.apply.new.self
-    c.entries.ensures.tree.part.parents c.in_ok-edit_for-2.ensures allowed made)
+    c.entries.ensures.tree.part.parents (subst IsNew c.found.ensures (is_new c.found.result))
+    c.in_ok-edit_for-2.ensures allowed made)
     c.apply.ensures.done c.apply.ensures.allowed

@@ -1,6 +1,7 @@
 use Rattle.std.proofs.Common.{◌≡◌, sym, ap, ◌∙◌, subst, IfOk}
 use Rattle.syn_model.specs.Mark.{mark, mark_of}
-use Rattle.syn_model.specs.Tree.{File, contents_of, at_root}
+use Rattle.syn_model.specs.Contents.{contents_of}
+use Rattle.syn_model.specs.Tree.{File, at_root}
 use Rattle.syn_tree.specs.Nodes.{node_tree}
 use Rattle.syn_mark.specs.Marks.{content_of}
 use Rattle.syn_mark.proofs.MarkLemmas.{mark_one}

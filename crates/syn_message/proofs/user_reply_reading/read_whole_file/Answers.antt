@@ -10,5 +10,5 @@ returns-in_default c file is =
     let none = subst (λ o. IsReading IsFile file_spelling bytes
     (option_map (λ found. (found.0.items, found.1.now)) o)) c.in_default.is
     c.in_ok-file.ensures.read in
-    no_value IsFile file_spelling bytes none file
-    (record { bytes = is.1; brief = omega (arith, is.0) })
+    no_value IsFile file_spelling bytes none file.bytes
+    (record { bytes = is.1.bytes; brief = omega (arith, is.0) })

@@ -1,7 +1,8 @@
 use Rattle.std.proofs.Common.{◌+◌, Some, None, if◌then◌else◌, length, refl, sym, ap, ◌∙◌, arith}
 use Rattle.std.proofs.Common.{subst}
 use Rattle.std.proofs.lemmas.Bool.{le-leb, lt-leb}
-use Rattle.syn_model.specs.Tree.{File, contents_of, at_root}
+use Rattle.syn_model.specs.Contents.{contents_of}
+use Rattle.syn_model.specs.Tree.{File, at_root}
 use Rattle.syn_model.specs.Refusal.{Full}
 use Rattle.syn_model.specs.Path.{IsPath}
 use Rattle.syn_model.specs.Limits.{last_name_spelling_length}

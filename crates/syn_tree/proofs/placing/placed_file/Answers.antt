@@ -1,7 +1,7 @@
 use Rattle.std.proofs.Common.{◌++◌, ◌∷◌, [], length, refl, ap₂, ◌∙◌, subst, arith}
 use Rattle.std.proofs.lemmas.Bool.{le-leb, lt-leb}
-use Rattle.syn_model.specs.Tree.{File, contents_of}
-use Rattle.syn_model.specs.Event.{AreBytes}
+use Rattle.syn_model.specs.Contents.{AreLawfulContents, contents_of}
+use Rattle.syn_model.specs.Tree.{File}
 use Rattle.syn_tree.proofs.PlaceableLemmas.{placeable_one, nowhere_content}
 use Rattle.syn_tree.proofs.placing.placed_file.Goals as goal
 
@@ -20,5 +20,6 @@ returns-clause-ok c =
     let pairs = c.in_ok-push.ensures.items
     ∙ ap₂ (λ xs x. xs ++ x ∷ []) c.new-list.ensures.items c.in_ok-new.ensures in
     placeable_one at (File (contents_of bytes)) c.push.new.self.items c.is_path.ensures
-    (subst AreBytes c.deref.ensures.value c.are_bytes.ensures) (le-leb (length bytes) 16384
+    (subst (λ bs. AreLawfulContents (contents_of bs)) c.deref.ensures.value c.are_bytes.ensures)
+    (le-leb (length bytes) 16384
     (omega (arith, c.if-len-gt-LONGEST_FILE.false, c.len.ensures, c.args.bytes.ok))) pairs

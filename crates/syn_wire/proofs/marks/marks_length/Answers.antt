@@ -2,7 +2,7 @@ use Rattle.std.proofs.Common.{◌≡◌, ◌+◌, length, take, flat_map, refl, 
 use Rattle.std.specs.FinMap.{len-entries}
 use Rattle.std.proofs.Math.Seq.{take-length}
 use Rattle.syn_model.specs.Limits.{children}
-use Rattle.syn_wire.specs.Marks.{digest_spelling}
+use Rattle.syn_model.specs.Contents.{digest_spelling}
 use Rattle.syn_wire.specs.Trees.{pair_by}
 use Rattle.syn_wire.proofs.MarkLemmas.{few_nodes, marks_walk, measured_more}
 use Rattle.syn_wire.proofs.marks.marks_length.Goals as goal

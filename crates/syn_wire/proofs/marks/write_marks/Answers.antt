@@ -2,7 +2,7 @@ use Rattle.std.proofs.Common.{◌≡◌, ◌≤◌, ◌++◌, length, take, flat
 use Rattle.std.proofs.Common.{arith}
 use Rattle.std.proofs.Math.Seq.{take-length}
 use Rattle.syn_model.specs.Limits.{children}
-use Rattle.syn_wire.specs.Marks.{digest_spelling}
+use Rattle.syn_model.specs.Contents.{digest_spelling}
 use Rattle.syn_wire.specs.Trees.{pair_by}
 use Rattle.syn_model.proofs.ExitLemmas.{on_ok_of_exit}
 use Rattle.syn_wire.proofs.ByteLemmas.{begins_further}

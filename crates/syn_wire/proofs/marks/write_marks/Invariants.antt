@@ -1,5 +1,5 @@
 use Rattle.std.proofs.Common.{◌≡◌, ◌++◌, take, flat_map}
-use Rattle.syn_wire.specs.Marks.{digest_spelling}
+use Rattle.syn_model.specs.Contents.{digest_spelling}
 use Rattle.syn_wire.specs.Trees.{pair_by}
 use Rattle.syn_wire.proofs.marks.write_marks.Given as goal
 

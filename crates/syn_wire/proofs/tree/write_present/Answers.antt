@@ -1,6 +1,8 @@
 use Rattle.std.proofs.Common.{◌++◌, ◌∷◌, [], length, sym, ap, ap₂, ◌∙◌, subst, append_assoc, arith}
 use Rattle.syn_model.specs.Event.{AreBytes}
-use Rattle.syn_model.specs.Tree.{File, IsPart, contents_of}
+use Rattle.syn_model.specs.Contents.{contents_of}
+use Rattle.syn_model.specs.Tree.{File, IsPart}
+use Rattle.syn_model.proofs.ContentsLemmas.{new_are_lawful}
 use Rattle.syn_tree.proofs.ChangeLemmas.{lawful_part}
 use Rattle.std.proofs.lemmas.Result.{on_ok_weaker}
 use Rattle.syn_model.specs.Spelling.{spelling}
@@ -30,7 +32,7 @@ returns-in_ok-push-in-File-clause-added c =
 pub returns-in_ok-push-in-File-clause-lawful : goal.returns-in_ok-push-in-File-clause-lawful
 returns-in_ok-push-in-File-clause-lawful c =
     let bytes = c.in-File.bytes.items in
-    let part = lawful_part (File (contents_of bytes))
-    (subst AreBytes c.deref.ensures.value c.write_file.ensures.lawful) in
+    let part = lawful_part (File (contents_of bytes)) (new_are_lawful bytes
+    (subst AreBytes c.deref.ensures.value c.write_file.ensures.lawful)) in
     on_ok_weaker c.write_file.result
     (λ _. subst (λ n. IsPart (node_tree n)) (sym c.in-File.is) part) c.write_file.ensures.added

@@ -1,9 +1,9 @@
 use Rattle.std.proofs.Common.{◌≡◌, ◌<◌, ◌^◌, ◌++◌, ◌∷◌, [], length, flat_map, sym, ap, ◌∙◌, subst}
 use Rattle.std.proofs.Common.{append_assoc, append-nil, arith}
 use Rattle.std.specs.FinMap.{entries}
+use Rattle.syn_model.specs.Contents.{contents_spelling}
 use Rattle.syn_model.specs.Limits.{children}
 use Rattle.syn_placed.specs.Pairs.{rooted}
-use Rattle.syn_wire.specs.Events.{file_spelling}
 use Rattle.syn_wire.specs.Trees.{pair_spelling}
 use Rattle.syn_model.proofs.ExitLemmas.{on_ok_of_exit}
 use Rattle.syn_wire.proofs.ByteLemmas.{begins_more, begins_further}
@@ -26,7 +26,7 @@ loop-pair-preserved c =
           ap rooted (append_assoc read (x ∷ []) c.next.new.self
           ∙ ap (λ xs. read ++ xs) (sym c.in-Some.ensures.steps)) ∙ c.loop-pair.invariant.whole;
       written =
-          pair_more file_spelling c.args.tree.now read x c.count_in_tree.result
+          pair_more contents_spelling c.args.tree.now read x c.count_in_tree.result
           c.write_count.new.out.items c.loop-pair.out.items c.write_pair.new.out.items
           c.count_in_tree.ensures.spelled c.loop-pair.invariant.written
           c.in_ok-write_pair.ensures.added;

@@ -2,7 +2,8 @@ use Rattle.std.proofs.Common.{◌≡◌, ◌&&◌, nat_le, Some, None, true, sym
 use Rattle.std.specs.Prelude.{option_map}
 use Rattle.std.specs.FinMap.{entries, get, len}
 use Rattle.std.proofs.lemmas.Bool.{and_parts}
-use Rattle.syn_model.specs.Tree.{Tree, IsTree, Directory, File, contents_of, file, subtree}
+use Rattle.syn_model.specs.Contents.{contents_of}
+use Rattle.syn_model.specs.Tree.{Tree, IsTree, Directory, File, file, subtree}
 use Rattle.syn_model.specs.Limits.{fits_replica, fits_part, fits_paths, tree_spelling_length}
 use Rattle.syn_model.specs.Limits.{greatest_spelling}
 use Rattle.syn_tree.specs.Contents.{found_content}

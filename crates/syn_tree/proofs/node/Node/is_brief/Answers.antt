@@ -1,6 +1,7 @@
 use Rattle.std.proofs.Common.{◌≡◌, nat_le, length, true, false, sym, ap, ◌∙◌, subst}
 use Rattle.syn_model.specs.Limits.{fits_part, fits_paths}
-use Rattle.syn_model.specs.Tree.{File, contents_of}
+use Rattle.syn_model.specs.Contents.{contents_of}
+use Rattle.syn_model.specs.Tree.{File}
 use Rattle.syn_tree.specs.Nodes.{node_tree}
 use Rattle.syn_tree.proofs.CheckLemmas.{one_fits_as, one_path_fits}
 use Rattle.syn_tree.specs.Lists.{FitsNowhere}

@@ -1,0 +1,46 @@
+-- What a file holds.
+use Rattle.std.proofs.Common.{◌≡◌, ◌<◌, All, List, ℕ, zero, suc, refl, sym, ap₂, ◌∙◌, arith}
+use Rattle.std.specs.Int.{w32, to_be_bytes, byte_at, bytes_high_first}
+use Rattle.std.proofs.lemmas.List.Elements.{All-nil, All-cons, All-append}
+use Rattle.sha2.specs.Sha256.{sha256, digest_bytes}
+use Rattle.syn_model.specs.Path.{Bytes}
+use Rattle.syn_model.specs.Contents.{Contents, AreLawfulContents, contents_of}
+use Rattle.syn_model.specs.Event.{AreBytes}
+
+pub same_contents : (a b : Contents) → a.mode ≡ b.mode → a.bytes ≡ b.bytes → a ≡ b
+same_contents a b m e = ap₂ (λ mode bytes. record { mode = mode; bytes = bytes }) m e
+
+-- where both are lawful, the bytes tell them
+pub same_lawful : (a b : Contents) → AreLawfulContents a → AreLawfulContents b →
+    a.bytes ≡ b.bytes → a ≡ b
+same_lawful a b x y e = same_contents a b (x.mode ∙ sym y.mode) e
+
+pub as_new : (contents : Contents) → AreLawfulContents contents →
+    contents ≡ contents_of contents.bytes
+as_new contents h = same_contents contents (contents_of contents.bytes) h.mode refl
+
+pub new_are_lawful : (bytes : Bytes) → All (λ byte. byte < 256) bytes →
+    AreLawfulContents (contents_of bytes)
+new_are_lawful bytes h = record { mode = refl; bytes = h }
+
+-- digests are bytes
+byte_below : (k n : ℕ) → byte_at k n < 256
+byte_below zero n = omega arith
+byte_below (suc k) n = omega arith
+
+high_bytes : (k n : ℕ) → AreBytes (bytes_high_first k n)
+high_bytes zero n = All-nil (λ byte. byte < 256)
+high_bytes (suc k) n =
+    All-cons (λ byte. byte < 256) (byte_at k n) (bytes_high_first k n) (byte_below k n)
+    (high_bytes k n)
+
+words_bytes : (h : List ℕ) (n : ℕ) → AreBytes (digest_bytes h n)
+unfolding digest_bytes
+words_bytes h zero = All-nil (λ byte. byte < 256)
+words_bytes h (suc n) =
+    All-append (λ byte. byte < 256) (digest_bytes h n) (to_be_bytes w32 _) (words_bytes h n)
+    (high_bytes 4 _)
+
+pub digest_is_bytes : (bytes : List ℕ) → AreBytes (sha256 bytes)
+unfolding sha256
+digest_is_bytes bytes = words_bytes _ 8
