@@ -4,18 +4,18 @@ use Rattle.std.specs.Prelude.{IfSome}
 use Rattle.syn_model.specs.Event.{Edited}
 use Rattle.syn_headline.specs.Side.{Staging}
 use Rattle.syn_headline.specs.Network.{Which}
-use Rattle.syn_headline.proofs.Coarse.{World, side_of, Follows, same, edits, opens, changes, serves}
-use Rattle.syn_headline.proofs.Coarse.{starts_session, ticks_once, takes_answer, archive_changes}
-use Rattle.syn_headline.proofs.Coarse.{archive_opens, archive_recovers}
+use Rattle.syn_headline.specs.Picture.{Picture, side_of, Follows, same, edits, opens, changes}
+use Rattle.syn_headline.specs.Picture.{serves, starts_session, ticks_once, takes_answer}
+use Rattle.syn_headline.specs.Picture.{archive_changes, archive_opens, archive_recovers}
 use Rattle.syn_headline.proofs.Invariant.{Plans, histories_of, IsSoundStaging, IsKept}
 use Rattle.syn_headline.proofs.SideRuns.{Advances, next_same, stays, side_settles, was_written}
 use Rattle.syn_headline.proofs.SideRuns.{writes_advances, opens_advances, request_advances}
 use Rattle.syn_headline.proofs.CoordinatorRuns.{start_advances, tick_with, take_with}
-use Rattle.syn_headline.proofs.CoordinatorRuns.{archive_changes_so}
-use Rattle.syn_headline.proofs.CoordinatorRuns.{archive_opens_so, archive_recovers_so}
+use Rattle.syn_headline.proofs.CoordinatorRuns.{archive_changes_so, archive_opens_so}
+use Rattle.syn_headline.proofs.CoordinatorRuns.{archive_recovers_so}
 
 -- what is staged stays so, or nothing is
-staged_still : (plans : Plans) (old : World) → IsKept plans old → (which : Which)
+staged_still : (plans : Plans) (old : Picture) → IsKept plans old → (which : Which)
     (staging : Option Staging) → (staging ≡ (side_of old which).side.staging) ⊎ (staging ≡ None) →
     IfSome staging (IsSoundStaging plans (histories_of old) which)
 staged_still plans old k which staging (inl still) =
@@ -25,7 +25,7 @@ staged_still plans old k which staging (inr none) =
     subst (λ o. IfSome o (IsSoundStaging plans (histories_of old) which)) (sym none) tt
 
 -- each step keeps the invariant, and its replacements are legal
-pub step_advances : (plans : Plans) (old : World) (k : IsKept plans old) (new : World) →
+pub step_advances : (plans : Plans) (old : Picture) (k : IsKept plans old) (new : Picture) →
     Follows old new → Advances plans old new
 step_advances plans old k new (same e) = stays plans old new k e
 step_advances plans old k new (edits which user edit machine events allowed up g e) =

@@ -1,14 +1,14 @@
 -- What the items of a plan leave, in whatever order they are carried out.
 use Rattle.std.proofs.Common.{◌≡◌, Bool, true, false, not, ◌||◌, List, [], ◌∷◌, ◌++◌, refl, sym, ap}
 use Rattle.std.proofs.Common.{ap₂, ◌∙◌, subst, Some, None, true≢false, append-nil, inl, inr, ◌⊎◌}
+use Rattle.std.proofs.Common.{Option}
 use Rattle.std.specs.Prelude.{Contains}
 use Rattle.std.specs.FinMap.{get}
 use Rattle.std.proofs.lemmas.List.Elements.{All-contains}
 use Rattle.syn_model.specs.Path.{Path, strip_prefix}
-use Rattle.syn_model.specs.Tree.{Tree, Directory, subtree, replace}
+use Rattle.syn_model.specs.Tree.{Tree, Directory, subtree, replace, is_directory}
 use Rattle.syn_model.specs.Dirty.{Scan, dirty, is_same_tree, is_unstable}
 use Rattle.syn_model.specs.Reconcile.{is_directory_in_both}
-use Rattle.syn_model.specs.Tree.{is_directory}
 use Rattle.syn_model.specs.Decision.{Item, MarkDir, Do, DoAndGoOn, GoesOn, decision, path_of}
 use Rattle.syn_model.specs.Plan.{plan, IsDecided as IsDecidedAt, is_mark_dir}
 use Rattle.syn_model.proofs.PathLemmas.{strip_prefix-append, strip_prefix-is}
@@ -16,7 +16,6 @@ use Rattle.syn_model.proofs.TreeLemmas.{get-subtree, same_tree, within, beside}
 use Rattle.syn_model.proofs.PlanOrder.{plan_is_decided}
 use Rattle.syn_headline.proofs.PlanLemmas.{decided_by}
 use Rattle.syn_headline.proofs.HarmlessLemmas.{same_item}
-use Rattle.std.proofs.Common.{Option}
 use Rattle.syn_model.specs.Which.{Which}
 
 -- an item that marks no directory stands alone: no other stands at or below its path

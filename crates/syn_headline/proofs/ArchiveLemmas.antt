@@ -8,14 +8,14 @@ use Rattle.syn_model.specs.History.{History, IsHistory, last_session}
 use Rattle.syn_model.specs.Archive.{Archive, Kept, CanKeep, Held}
 use Rattle.syn_headline.specs.Network.{Which, Left, Right}
 use Rattle.syn_headline.specs.Acknowledged.{Grown, ArchiveGrown, stores_after}
-use Rattle.syn_headline.proofs.CoarseRuns.{stores_of, EachEntryWasHeld, OfEachRun, LeavesPair}
+use Rattle.syn_headline.specs.Headline.{EachEntryWasHeld, LeavesPair}
+use Rattle.syn_headline.specs.Picture.{stores_of, side_of}
+use Rattle.syn_headline.proofs.PictureRuns.{OfEachRun}
 use Rattle.syn_headline.proofs.Invariant.{Plans, Histories, IsSoundEvent, histories_of, IsHeld}
 use Rattle.syn_headline.proofs.Invariant.{IsHeldRecord, IsHarmless}
 use Rattle.syn_headline.proofs.GrownLemmas.{Extends, fold_one, held-grow}
-use Rattle.syn_headline.proofs.SoundLemmas.{kept_held, kept_is_tree}
-use Rattle.syn_headline.proofs.SoundLemmas.{kept_session}
+use Rattle.syn_headline.proofs.SoundLemmas.{kept_held, kept_is_tree, kept_session}
 use Rattle.syn_headline.proofs.WholeRuns.{no_plans, start_kept, start_stands, run_kept}
-use Rattle.syn_headline.proofs.Coarse.{side_of}
 use Rattle.syn_headline.specs.Machine.{Up}
 use Rattle.syn_headline.proofs.SideSteps.{if_some}
 use Rattle.syn_model.proofs.HistoryLemmas.{allowed_goes_on}

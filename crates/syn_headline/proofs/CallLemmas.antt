@@ -15,7 +15,7 @@ use Rattle.syn_model.specs.Decision.{Item}
 use Rattle.syn_headline.specs.Side.{Request, ListAt, Reply, IsLawfulRequest}
 use Rattle.syn_headline.specs.Network.{Which, Left, Right, Message, Asks, AsksNothingTwice, Answers}
 use Rattle.syn_headline.specs.Network.{NumbersTell}
-use Rattle.syn_headline.specs.Acknowledged.{Kept_by}
+use Rattle.syn_headline.specs.Acknowledged.{Kept_by, kept_in_session}
 use Rattle.syn_headline.specs.Planning.{Planned, Log}
 use Rattle.syn_headline.specs.Report.{Report, is_kept, conflict_at, is_carrying, is_marking}
 use Rattle.syn_headline.specs.Coordinator.{Exchange, Running, Walk, MayAsk, asked_of, numbered}
@@ -23,11 +23,10 @@ use Rattle.syn_headline.specs.Coordinator.{messages_to, report_of, CoordinatorMa
 use Rattle.syn_headline.specs.Coordinator.{IsShown, AsksNext, IsExpected, asked_count, outstanding}
 use Rattle.syn_headline.specs.Coordinator.{hearing, advanced, asking, sent_now, EndsFor}
 use Rattle.syn_headline.specs.Coordinator as fine
-use Rattle.syn_headline.proofs.Coarse.{kept_in_session, IsSettled, HasPlan, World, Follows}
-use Rattle.syn_headline.proofs.Coarse.{RunsOver, GoesOnAs, GoesOnFrom, IsDueAfter, IsOfSession}
-use Rattle.syn_headline.proofs.Coarse.{AllOfSession}
-use Rattle.syn_headline.proofs.Coarse as coarse
-use Rattle.syn_headline.proofs.View.{view_running, view, view_coordinator}
+use Rattle.syn_headline.specs.Picture.{IsSettled, HasPlan, Picture, Follows, RunsOver, GoesOnAs}
+use Rattle.syn_headline.specs.Picture.{GoesOnFrom, IsDueAfter, IsOfSession, AllOfSession}
+use Rattle.syn_headline.specs.Picture as picture
+use Rattle.syn_headline.specs.Runs.{session_picture, picture_of, coordinator_picture}
 use Rattle.syn_headline.proofs.Walks.{IsItems, IsSettledBy, IsLeft, AllSettled, advances_left}
 use Rattle.syn_headline.proofs.Walks.{advances_settled, advances_due, last_stays, take_whole}
 use Rattle.syn_headline.proofs.Remembers.{Remembers, hearing_remembers, advanced_remembers}
@@ -50,7 +49,7 @@ use Rattle.syn_headline.proofs.HeardLemmas.{any_last, all_asked, nowhere}
 
 -- A call
 
-module _ (plans : Plans) (old : fine_world.World) (k : IsKept plans (view old)) (r : Running)
+module _ (plans : Plans) (old : fine_world.World) (k : IsKept plans (picture_of old)) (r : Running)
     (e : old.coordinator.running ≡ Some r) (h : IsHeard old r)
     (from : Which) (number : ℕ) (reply : Reply)
     (heard : Contains old.sent (Answers from r.session number reply)) (request : Request)
@@ -58,10 +57,10 @@ module _ (plans : Plans) (old : fine_world.World) (k : IsKept plans (view old)) 
   abbrev pub exchange : Exchange
   exchange = record { side = from; number = number; request = request; reply = reply }
 
-  pub runs : (view old).coordinator.running ≡ Some (view_running r)
-  runs = ap (option_map view_running) e
+  pub runs : (picture_of old).coordinator.running ≡ Some (session_picture r)
+  runs = ap (option_map session_picture) e
 
-  over : RunsOver old.sent old.coordinator.journal.value (Some (view_running r))
+  over : RunsOver old.sent old.coordinator.journal.value (Some (session_picture r))
   over = subst (RunsOver old.sent old.coordinator.journal.value) runs k.coordinator.runs_over
 
   -- nothing is being written while a session runs
@@ -72,8 +71,9 @@ module _ (plans : Plans) (old : fine_world.World) (k : IsKept plans (view old)) 
       by None at = refl
       by (Some what) at =
           let h = subst (λ o. IfSome o (λ kept. (old.coordinator.journal.status ≢ Up)
-          × ((view old).coordinator.running ≡ None) × CanKeep old.coordinator.journal.value kept
-          × IsHarmless plans (histories_of (view old)) kept)) at k.coordinator.writing in
+          × ((picture_of old).coordinator.running ≡ None) × CanKeep old.coordinator.journal.value
+          kept
+          × IsHarmless plans (histories_of (picture_of old)) kept)) at k.coordinator.writing in
           absurd (none-some _ (sym (sym runs ∙ h.1)))
 
   pub remembers_then : Remembers old.sent (hearing r exchange)
@@ -86,17 +86,17 @@ module _ (plans : Plans) (old : fine_world.World) (k : IsKept plans (view old)) 
       hearing_in_order old.sent r h.in_order k.sound.numbers h.remembers from number request reply
       asked heard
 
-  coarse_asked : coarse.asked_of (view_running r) from number ≡ Some request
+  coarse_asked : picture.asked_of (session_picture r) from number ≡ Some request
   coarse_asked = same_asked from ∙ asked
     where
       same_asked : (side : Which) →
-          coarse.asked_of (view_running r) side number ≡ asked_of r side number
+          picture.asked_of (session_picture r) side number ≡ asked_of r side number
       same_asked Left = refl
       same_asked Right = refl
 
-  expected : coarse.IsExpected (view old).coordinator.running from r.session number
+  expected : picture.IsExpected (picture_of old).coordinator.running from r.session number
   expected =
-      subst (λ o. coarse.IsExpected o from r.session number) (sym runs)
+      subst (λ o. picture.IsExpected o from r.session number) (sym runs)
       (refl, subst (λ o. IsSome o) (sym coarse_asked) refl)
 
   module _ (plan : Option (List Planned)) (logged : Log)
@@ -112,26 +112,27 @@ module _ (plans : Plans) (old : fine_world.World) (k : IsKept plans (view old)) 
     -- a call is one of the coarser picture
     pub follows : All (IsItems (list_of plan) exchange) kept →
         IsLeft old.coordinator.journal new.journal kept (IsItems (list_of plan) exchange) →
-        GoesOnAs (view_running r) (list_of plan) (option_map view_running new.running) →
-        RunsOver (old.sent ++ messages) new.journal.value (option_map view_running new.running) →
+        GoesOnAs (session_picture r) (list_of plan) (option_map session_picture new.running) →
+        RunsOver (old.sent ++ messages) new.journal.value (option_map session_picture new.running) →
         NumbersTell (old.sent ++ messages) → AsksNothingTwice (old.sent ++ messages) →
-        AllOfSession old.pair old.sent (option_map view_running new.running) messages →
+        AllOfSession old.pair old.sent (option_map session_picture new.running) messages →
         (IsSome new.journal.writing →
-        (messages ≡ []) × (option_map view_running new.running ≡ None)) → coarse.Reports (view old)
-        (view after) (list_of plan) (coarse.Ends (view after) (list_of plan)) →
-        Follows (view old) (view after)
+        (messages ≡ []) × (option_map session_picture new.running ≡ None)) → picture.Reports
+        (picture_of old)
+        (picture_of after) (list_of plan) (picture.Ends (picture_of after) (list_of plan)) →
+        Follows (picture_of old) (picture_of after)
     follows due left on runs_over numbers repeats of_session silent reported =
-        let D = IsDueAfter (view old).coordinator.running (list_of plan) from number reply in
+        let D = IsDueAfter (picture_of old).coordinator.running (list_of plan) from number reply in
         let to_due : (what : Kept) → IsItems (list_of plan) exchange what → D what = λ what d.
         subst (λ o. IsDueAfter o (list_of plan) from number reply what) (sym runs)
         (due_of r (list_of plan) from number request reply coarse_asked what d) in
-        coarse.takes_answer from r.session number reply (list_of plan) logged heard expected
+        picture.takes_answer from r.session number reply (list_of plan) logged heard expected
         (subst (λ o. HasPlan old.sent old.coordinator.journal.value old.log o (list_of plan) logged)
         (sym runs) (has_plan old.sent old.coordinator.journal.value old.log
         (hearing r exchange) plan logged remembers_then in_order_then k.sound.repeats
         (λ none. (h.unplanned none).0) has))
         (record {
-          machine = view_coordinator new;
+          machine = coordinator_picture new;
           kept = kept;
           messages = messages;
           reports = map (λ report. (report, length (old.acknowledged ++ map Kept_by kept))) reports;
@@ -147,7 +148,7 @@ module _ (plans : Plans) (old : fine_world.World) (k : IsKept plans (view old)) 
           };
           unless_up = left.up;
           runs_on =
-              subst (λ o. GoesOnFrom o (list_of plan) (option_map view_running new.running))
+              subst (λ o. GoesOnFrom o (list_of plan) (option_map session_picture new.running))
               (sym runs) on;
           runs_over = runs_over;
           numbers = numbers;
@@ -174,7 +175,8 @@ module _ (plans : Plans) (old : fine_world.World) (k : IsKept plans (view old)) 
 
   -- an answer ends the session at once
   ends_now : (why : Refusal) →
-      Follows (view old) (view (coordinator_goes old (record old.coordinator { running = None })
+      Follows (picture_of old) (picture_of (coordinator_goes old
+      (record old.coordinator { running = None })
       (record fine.no_call { reports = report_of r (Some why) ∷ [] })))
   ends_now why =
       let kept_is = session_keeps old.acknowledged r.kept (list_of r.plan) exchange
@@ -184,10 +186,10 @@ module _ (plans : Plans) (old : fine_world.World) (k : IsKept plans (view old)) 
       follows r.plan [] fine.stays [] (record old.coordinator { running = None })
       [] (report_of r (Some why) ∷ [])
       (All-nil (IsItems (list_of r.plan) exchange)) (untouched (IsItems (list_of r.plan) exchange))
-      coarse.ended tt (subst NumbersTell sent_stays k.sound.numbers)
+      picture.ended tt (subst NumbersTell sent_stays k.sound.numbers)
       (subst AsksNothingTwice sent_stays k.sound.repeats) refl (λ _. (refl, refl))
       (inr (
-        view_running r,
+        session_picture r,
         report_of r (Some why),
         runs,
         refl,
@@ -293,12 +295,12 @@ module _ (plans : Plans) (old : fine_world.World) (k : IsKept plans (view old)) 
     logged_then _ _ (fine.makes made none makes) some =
         any_last (λ made. made.session ≡ r.session) old.log made makes.of_session
 
-    stops_so : Follows (view old)
-        (view (coordinator_goes old (record { journal = walk.journal; running = None })
+    stops_so : Follows (picture_of old)
+        (picture_of (coordinator_goes old (record { journal = walk.journal; running = None })
         (record fine.no_call { kept = kept; logged = logged })))
     stops_so =
         follows plan logged has kept (record { journal = walk.journal; running = None }) []
-        [] due left coarse.ended tt
+        [] due left picture.ended tt
         (subst NumbersTell sent_stays k.sound.numbers)
         (subst AsksNothingTwice sent_stays k.sound.repeats) refl (λ _. (refl, refl))
         (inl (append-nil old.reports))
@@ -346,18 +348,20 @@ module _ (plans : Plans) (old : fine_world.World) (k : IsKept plans (view old)) 
     )
 
     ends_so : (why : Option Refusal) →
-        EndsFor old.pair later exchange old.coordinator.journal.status walk why → Follows (view old)
-        (view (coordinator_goes old (record { journal = walk.journal; running = None }) (record
+        EndsFor old.pair later exchange old.coordinator.journal.status walk why → Follows
+        (picture_of old)
+        (picture_of (coordinator_goes old (record { journal = walk.journal; running = None })
+        (record
         { kept = kept; messages = []; reports = report_of later why ∷ []; logged = logged })))
     ends_so why ends =
         let count : (Item → Bool) → List Kept → ℕ = λ of_kind kept. count_by
         (λ planned. of_kind planned.item && is_kept kept planned.item) (list_of plan) in
         follows plan logged has kept (record { journal = walk.journal; running = None })
-        [] (report_of later why ∷ []) due left coarse.ended tt
+        [] (report_of later why ∷ []) due left picture.ended tt
         (subst NumbersTell sent_stays k.sound.numbers)
         (subst AsksNothingTwice sent_stays k.sound.repeats) refl (λ _. (refl, refl))
         (inr (
-          view_running r,
+          session_picture r,
           report_of later why,
           runs,
           refl,
@@ -402,7 +406,7 @@ module _ (plans : Plans) (old : fine_world.World) (k : IsKept plans (view old)) 
       remembers_on = asking_remembers old.sent later k.sound.numbers m asks_left asks_right
 
       runs_over_on : RunsOver (old.sent ++ sent_now later asks_left asks_right) walk.journal.value
-          (Some (view_running on))
+          (Some (session_picture on))
       runs_over_on = (
         over.0 ∙ (sym (last_stays (list_of plan) exchange old.coordinator.journal.value kept due)
             ∙ ap (λ a. a.last_session) (sym left.value)),
@@ -410,8 +414,8 @@ module _ (plans : Plans) (old : fine_world.World) (k : IsKept plans (view old)) 
         asks.waits,
       )
         where
-          all_sent : coarse.WasSent (old.sent ++ sent_now later asks_left asks_right)
-              (view_running on)
+          all_sent : picture.WasSent (old.sent ++ sent_now later asks_left asks_right)
+              (session_picture on)
           all_sent Left i d within =
               remembers_on.waiting Left _ (All-contains_itself on.left i d within)
           all_sent Right i d within =
@@ -419,20 +423,20 @@ module _ (plans : Plans) (old : fine_world.World) (k : IsKept plans (view old)) 
 
       of_plan : (side : Which) (n : ℕ) (q : Request) →
           IsLawfulRequest r.session q × MayAsk walk.journal.value later side q →
-          IsOfSession old.pair old.sent (view_running on) (Asks side r.session n q)
+          IsOfSession old.pair old.sent (session_picture on) (Asks side r.session n q)
       of_plan side n q both = (
         refl,
         both.0,
         request_of_plan old.pair old.sent walk.journal.value later side q m.taken both.1,
       )
 
-      of_session_on : All (IsOfSession old.pair old.sent (view_running on))
+      of_session_on : All (IsOfSession old.pair old.sent (session_picture on))
           (sent_now later asks_left asks_right)
       of_session_on =
-          All-append (IsOfSession old.pair old.sent (view_running on))
+          All-append (IsOfSession old.pair old.sent (session_picture on))
           (messages_to r.session Left (numbered (asked_count later Left) asks_left))
           (messages_to r.session Right (numbered (asked_count later Right) asks_right))
-          (all_asked (IsOfSession old.pair old.sent (view_running on)) r.session Left
+          (all_asked (IsOfSession old.pair old.sent (session_picture on)) r.session Left
           (λ q. IsLawfulRequest r.session q × MayAsk walk.journal.value later Left q)
           (of_plan Left) (asked_count later Left) asks_left
           (λ i d within. (
@@ -441,7 +445,7 @@ module _ (plans : Plans) (old : fine_world.World) (k : IsKept plans (view old)) 
                 (All-contains_itself asks_left i d within)),
             asks.may_left i d within,
           )))
-          (all_asked (IsOfSession old.pair old.sent (view_running on)) r.session Right
+          (all_asked (IsOfSession old.pair old.sent (session_picture on)) r.session Right
           (λ q. IsLawfulRequest r.session q × MayAsk walk.journal.value later Right q)
           (of_plan Right) (asked_count later Right) asks_right
           (λ i d within. (
@@ -462,11 +466,11 @@ module _ (plans : Plans) (old : fine_world.World) (k : IsKept plans (view old)) 
             logged = logged;
           })
 
-      goes_on_so : Follows (view old) (view new_world)
+      goes_on_so : Follows (picture_of old) (picture_of new_world)
       goes_on_so =
           follows plan logged has kept (record { journal = walk.journal; running = Some on })
           (sent_now later asks_left asks_right) [] due left
-          (coarse.goes_on (view_running on) refl refl) runs_over_on
+          (picture.goes_on (session_picture on) refl refl) runs_over_on
           (asking_tells old.sent later k.sound.numbers m asks_left asks_right)
           (asking_once old.sent later k.sound.numbers m asks_left asks_right k.sound.repeats
           asks.once) of_session_on
@@ -513,7 +517,7 @@ module _ (plans : Plans) (old : fine_world.World) (k : IsKept plans (view old)) 
   -- how an answer is taken
   pub takes_follow : (new : CoordinatorMachine) (call : Call) →
       fine.Takes old.pair old.coordinator r exchange new call →
-      Follows (view old) (view (coordinator_goes old new call))
+      Follows (picture_of old) (picture_of (coordinator_goes old new call))
       × IfSome new.running (IsHeard (coordinator_goes old new call))
       × Tells old (coordinator_goes old new call)
   takes_follow _ _ (fine.ends_at_once why fault) = (ends_now why, tt, tells_now why fault)

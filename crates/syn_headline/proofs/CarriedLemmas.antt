@@ -19,8 +19,8 @@ use Rattle.syn_model.specs.History.{position_causes}
 use Rattle.syn_model.specs.Standing.{place_causes, full_causes}
 use Rattle.syn_headline.specs.Network.{Left, Right, other}
 use Rattle.syn_headline.specs.Acknowledged.{history_of}
-use Rattle.syn_headline.specs.Headline.{UntouchedSince}
-use Rattle.syn_headline.proofs.CoarseRuns.{HeldIsMarked, OfEachRun}
+use Rattle.syn_headline.specs.Headline.{UntouchedSince, HeldIsMarked}
+use Rattle.syn_headline.proofs.PictureRuns.{OfEachRun}
 use Rattle.syn_model.proofs.PathLemmas.{strip_prefix-is}
 use Rattle.syn_model.proofs.TreeLemmas.{subtree-replace, beside}
 use Rattle.syn_model.proofs.HistoryLemmas.{first_cause-none, place-stands, tree_of-append}

@@ -18,7 +18,7 @@ use Rattle.syn_model.specs.Plan.{plan as items_by, is_mark_dir, scan_of, Trees, 
 use Rattle.syn_headline.specs.Network.{Which, Left, Right, other, Sent}
 use Rattle.syn_headline.specs.Planning.{Planned, seen_on, WritesTo}
 use Rattle.syn_headline.proofs.CountLemmas.{IsRecordOf}
-use Rattle.syn_headline.proofs.Coarse.{AllCanKeep}
+use Rattle.syn_headline.specs.Picture.{AllCanKeep}
 use Rattle.syn_headline.specs.Headline.{IsNoEdit}
 use Rattle.syn_headline.proofs.Invariant.{Scans, IsPlanFrom, Histories}
 use Rattle.syn_model.proofs.HistoryLemmas.{tree_of-append}

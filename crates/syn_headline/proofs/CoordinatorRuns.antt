@@ -8,10 +8,10 @@ use Rattle.syn_headline.specs.Side.{Request, Reply}
 use Rattle.syn_headline.specs.Network.{Which, Left, Right, other, Asks, Answers}
 use Rattle.syn_headline.specs.Planning.{Log, Planned}
 use Rattle.syn_headline.specs.Acknowledged.{Kept_by}
-use Rattle.syn_headline.proofs.Coarse.{World, side_of, CoordinatorMachine, Running, asked_of}
-use Rattle.syn_headline.proofs.Coarse.{outstanding, IsDueAfter, IsExpected, HasPlan, GoesOnAs}
-use Rattle.syn_headline.proofs.Coarse.{ended, goes_on, GoesOnFrom, plan_of, StartsFrom, RunsOver}
-use Rattle.syn_headline.proofs.Coarse.{IsNext, IsNothing, CoordinatorGoes}
+use Rattle.syn_headline.specs.Picture.{Picture, side_of, CoordinatorPicture, SessionPicture}
+use Rattle.syn_headline.specs.Picture.{asked_of, outstanding, IsDueAfter, IsExpected, HasPlan}
+use Rattle.syn_headline.specs.Picture.{GoesOnAs, ended, goes_on, GoesOnFrom, plan_of, StartsFrom}
+use Rattle.syn_headline.specs.Picture.{RunsOver, IsNext, IsNothing, CoordinatorGoes}
 use Rattle.syn_headline.specs.Machine.{Status, Up}
 use Rattle.syn_headline.proofs.Invariant.{Plans, plan_in, histories_of, IsKept, Histories, IsSound}
 use Rattle.syn_headline.proofs.Invariant.{IsFresh, IsHarmless, IsSoundSide, IsSoundCoordinator}
@@ -26,8 +26,9 @@ use Rattle.syn_headline.proofs.SideRuns.{Advances, kept_legal, stay_moves, stays
 
 -- The coordinator
 
-coordinator_advances : (plans later : Plans) (old : World) (logged : Log) (D : Kept → Type 0)
-    (R : Option Running → Type 0) (new : World) → (g : CoordinatorGoes old logged D R new) →
+coordinator_advances : (plans later : Plans) (old : Picture) (logged : Log) (D : Kept → Type 0)
+    (R : Option SessionPicture → Type 0) (new : Picture) →
+    (g : CoordinatorGoes old logged D R new) →
     IsKept later new → Advances plans old new
 coordinator_advances plans later old logged D R new g k = record {
   later = later;
@@ -45,30 +46,30 @@ coordinator_advances plans later old logged D R new g k = record {
   legal_step = kept_legal old g.kept;
 }
 
-abbrev pub HasItsPlan : Plans → Histories → Option Running → Type 0
+abbrev pub HasItsPlan : Plans → Histories → Option SessionPicture → Type 0
 HasItsPlan plans histories o =
     IfSome o (λ running. (plan_in plans running.session ≡ running.plan)
     × (running.plan ≡ [] → IsFresh histories running.session))
 
-runs_has : (plans : Plans) (histories : Histories) (r : Running) (plan : List Planned) →
+runs_has : (plans : Plans) (histories : Histories) (r : SessionPicture) (plan : List Planned) →
     plan_in plans r.session ≡ plan → (plan ≡ [] → IsFresh histories r.session) →
-    (o : Option Running) → GoesOnAs r plan o → HasItsPlan plans histories o
+    (o : Option SessionPicture) → GoesOnAs r plan o → HasItsPlan plans histories o
 runs_has plans histories r plan has fresh _ ended = tt
 runs_has plans histories r plan has fresh _ (goes_on new session_is plan_is) = (
   ap (plan_in plans) session_is ∙ (has ∙ sym plan_is),
   λ e. subst (IsFresh histories) (sym session_is) (fresh (sym plan_is ∙ e)),
 )
 
-module _ (plans : Plans) (old : World) (k : IsKept plans old) (new : World) where
-  pub running_has : (r : Running) → old.coordinator.running ≡ Some r →
+module _ (plans : Plans) (old : Picture) (k : IsKept plans old) (new : Picture) where
+  pub running_has : (r : SessionPicture) → old.coordinator.running ≡ Some r →
       (plan_in plans r.session ≡ r.plan) × (r.plan ≡ [] → IsFresh (histories_of old) r.session)
   running_has r e = subst (HasItsPlan plans (histories_of old)) e k.coordinator.running
 
-  pub running_over : (r : Running) → old.coordinator.running ≡ Some r →
+  pub running_over : (r : SessionPicture) → old.coordinator.running ≡ Some r →
       RunsOver old.sent old.coordinator.archive (Some r)
   running_over r e = subst (RunsOver old.sent old.coordinator.archive) e k.coordinator.runs_over
 
-  pub waits_for : (r : Running) →
+  pub waits_for : (r : SessionPicture) →
       old.coordinator.running ≡ Some r → (from : Which) (number : ℕ) (request : Request) →
       asked_of r from number ≡ Some request → Contains old.sent (Asks from r.session number request)
   waits_for r e from number request asked =
@@ -77,7 +78,7 @@ module _ (plans : Plans) (old : World) (k : IsKept plans old) (new : World) wher
 
   pub take_with : (from : Which) (session number : ℕ) (said : Reply)
       (plan : List Planned) (logged : Log) →
-      Contains old.sent (Answers from session number said) → (running : Option Running) →
+      Contains old.sent (Answers from session number said) → (running : Option SessionPicture) →
       old.coordinator.running ≡ running → IsExpected running from session number →
       HasPlan old.sent old.coordinator.archive old.log running plan logged →
       CoordinatorGoes old logged (IsDueAfter running plan from number said)
@@ -124,7 +125,7 @@ module _ (plans : Plans) (old : World) (k : IsKept plans old) (new : World) wher
       g
       (runs_has plans' (histories_of old) r plan planned (λ _. fresh) g.machine.running g.runs_on))
 
-  pub tick_with : (running : Option Running) → old.coordinator.running ≡ running →
+  pub tick_with : (running : Option SessionPicture) → old.coordinator.running ≡ running →
       CoordinatorGoes old [] IsNothing (GoesOnFrom running (plan_of running)) new →
       Advances plans old new
   tick_with None e g = coordinator_advances plans plans old [] IsNothing (GoesOnFrom None []) new g
@@ -145,7 +146,7 @@ module _ (plans : Plans) (old : World) (k : IsKept plans old) (new : World) wher
         held = tt;
       }
 
-  starts_has : (o : Option Running) → StartsFrom old.coordinator.archive o →
+  starts_has : (o : Option SessionPicture) → StartsFrom old.coordinator.archive o →
       HasItsPlan plans (histories_of old) o
   starts_has None s = tt
   starts_has (Some r) s =
@@ -164,7 +165,7 @@ module _ (plans : Plans) (old : World) (k : IsKept plans old) (new : World) wher
       (old.coordinator.archive.last_session + 1))) g (starts_has g.machine.running g.runs_on))
 
   -- the coordinator's machine alone changes, and says nothing
-  pub coordinator_settles : (machine : CoordinatorMachine) (ks : List Kept) →
+  pub coordinator_settles : (machine : CoordinatorPicture) (ks : List Kept) →
       IsSound plans (histories_of old) machine.archive old.sent →
       old.coordinator.archive.last_session ≤ machine.archive.last_session →
       IsSoundCoordinator plans (histories_of old) old.sent machine → new ≡ record old
@@ -197,12 +198,12 @@ module _ (plans : Plans) (old : World) (k : IsKept plans old) (new : World) wher
     legal_step = kept_legal old ks;
   }
 
-  abbrev IsPending : Status → Option Running → Kept → Type 0
+  abbrev IsPending : Status → Option SessionPicture → Kept → Type 0
   IsPending status running kept =
       (status ≢ Up) × (running ≡ None) × CanKeep old.coordinator.archive kept
       × IsHarmless plans (histories_of old) kept
 
-  pub no_acks : (machine : CoordinatorMachine) →
+  pub no_acks : (machine : CoordinatorPicture) →
       new ≡ record old { coordinator = machine } → new ≡ record old
       { coordinator = machine; acknowledged = old.acknowledged ++ map (λ k. Kept_by k) [] }
   no_acks machine e =
@@ -210,7 +211,7 @@ module _ (plans : Plans) (old : World) (k : IsKept plans old) (new : World) wher
       (sym (append-nil old.acknowledged))
 
   -- with another status, unless that is up, and with the session or without it
-  pub archive_changes_so : (status : Status) (running : Option Running) →
+  pub archive_changes_so : (status : Status) (running : Option SessionPicture) →
       (old.coordinator.status ≢ Up → status ≢ Up) →
       (running ≡ old.coordinator.running) ⊎ (running ≡ None) → new
       ≡ record old { coordinator = record old.coordinator { status = status; running = running } } →
@@ -227,19 +228,22 @@ module _ (plans : Plans) (old : World) (k : IsKept plans old) (new : World) wher
             (λ kept _ x. (keeps x.0, none running stays x.1, x.2, x.3));
       }) (no_acks (record old.coordinator { status = status; running = running }) e)
     where
-      has : (running : Option Running) → (running ≡ old.coordinator.running) ⊎ (running ≡ None) →
+      has : (running : Option SessionPicture) → (running ≡ old.coordinator.running) ⊎
+          (running ≡ None) →
           HasItsPlan plans (histories_of old) running
       has running (inl still) =
           subst (HasItsPlan plans (histories_of old)) (sym still) k.coordinator.running
       has running (inr gone) = subst (HasItsPlan plans (histories_of old)) (sym gone) tt
 
-      over : (running : Option Running) → (running ≡ old.coordinator.running) ⊎ (running ≡ None) →
+      over : (running : Option SessionPicture) → (running ≡ old.coordinator.running) ⊎
+          (running ≡ None) →
           RunsOver old.sent old.coordinator.archive running
       over running (inl still) =
           subst (RunsOver old.sent old.coordinator.archive) (sym still) k.coordinator.runs_over
       over running (inr gone) = subst (RunsOver old.sent old.coordinator.archive) (sym gone) tt
 
-      none : (running : Option Running) → (running ≡ old.coordinator.running) ⊎ (running ≡ None) →
+      none : (running : Option SessionPicture) → (running ≡ old.coordinator.running) ⊎
+          (running ≡ None) →
           old.coordinator.running ≡ None → running ≡ None
       none running (inl still) was = still ∙ was
       none running (inr gone) was = gone

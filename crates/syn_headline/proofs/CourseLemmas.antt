@@ -8,13 +8,14 @@ use Rattle.syn_headline.specs.Side.{Request, Reply}
 use Rattle.syn_headline.specs.Network.{Which, Left, Right, Sent, Answers}
 use Rattle.syn_headline.specs.Planning.{Planned, Log}
 use Rattle.syn_headline.specs.Acknowledged.{Ack, Happened, Kept_by, kept_in}
-use Rattle.syn_headline.proofs.Coarse.{World, Running, SideMachine, CoordinatorMachine, set_side}
-use Rattle.syn_headline.proofs.Coarse.{TakesRequest, answered, request_failed, request_cut}
-use Rattle.syn_headline.proofs.Coarse.{IsDueAfter, IsExpected, HasPlan, GoesOnFrom, plan_of}
-use Rattle.syn_headline.proofs.Coarse.{StartsFrom, IsNext, IsNothing, AllCanKeep, CoordinatorGoes}
-use Rattle.syn_headline.proofs.Coarse.{Reports, Ends, EndsUnanswered, Follows, same, edits, opens}
-use Rattle.syn_headline.proofs.Coarse.{changes, serves, starts_session, ticks_once, takes_answer}
-use Rattle.syn_headline.proofs.Coarse.{archive_changes, archive_opens, archive_recovers}
+use Rattle.syn_headline.specs.Picture.{Picture, SessionPicture, SidePicture, CoordinatorPicture}
+use Rattle.syn_headline.specs.Picture.{set_side, TakesRequest, answered, request_failed}
+use Rattle.syn_headline.specs.Picture.{request_cut, IsDueAfter, IsExpected, HasPlan, GoesOnFrom}
+use Rattle.syn_headline.specs.Picture.{plan_of, StartsFrom, IsNext, IsNothing, AllCanKeep}
+use Rattle.syn_headline.specs.Picture.{CoordinatorGoes, Reports, Ends, EndsUnanswered, Follows}
+use Rattle.syn_headline.specs.Picture.{same, edits, opens, changes, serves, starts_session}
+use Rattle.syn_headline.specs.Picture.{ticks_once, takes_answer, archive_changes, archive_opens}
+use Rattle.syn_headline.specs.Picture.{archive_recovers}
 use Rattle.syn_headline.specs.Machine.{Up}
 use Rattle.syn_headline.proofs.Invariant.{Plans, histories_of, IsHarmless, IsKept}
 use Rattle.syn_headline.proofs.WorldLemmas.{kept_events, kept_kept}
@@ -22,7 +23,7 @@ use Rattle.syn_headline.proofs.CoordinatorRuns.{no_acks}
 
 -- the session stays or is forgotten as something is kept or not; or it starts, waits or takes an
 -- answer
-pub data Course (old new : World) : Type 0 where
+pub data Course (old new : Picture) : Type 0 where
   beside : (acks : List Ack) → new.acknowledged ≡ old.acknowledged ++ acks →
       AllCanKeep old.coordinator.archive (filter_map kept_in acks) →
       (new.coordinator.running ≡ None)
@@ -42,7 +43,7 @@ pub data Course (old new : World) : Type 0 where
       Course old new
 
 -- the first of these, which is no matter of what was refused
-pub record IsAside (old new : World) : Type 0 where
+pub record IsAside (old new : Picture) : Type 0 where
   pub acks : List Ack
   pub added : new.acknowledged ≡ old.acknowledged ++ acks
   pub can : AllCanKeep old.coordinator.archive (filter_map kept_in acks)
@@ -51,33 +52,33 @@ pub record IsAside (old new : World) : Type 0 where
   pub reports : new.reports ≡ old.reports
   pub log : new.log ≡ old.log
 
-aside : (old new : World) → IsAside old new → Course old new
+aside : (old new : Picture) → IsAside old new → Course old new
 aside old new a = beside a.acks a.added a.can a.runs a.reports a.log
 
 -- nothing is kept
 nothing_kept : (a : Archive) (kept : List Kept) → kept ≡ [] → AllCanKeep a kept
 nothing_kept a kept e = subst (AllCanKeep a) (sym e) tt
 
-stays : (old new : World) → new ≡ old → Course old new
+stays : (old new : Picture) → new ≡ old → Course old new
 stays old new e =
     beside [] (ap (λ w. w.acknowledged) e ∙ sym (append-nil old.acknowledged)) tt
     (inr (ap (λ w. w.coordinator.running) e, refl)) (ap (λ w. w.reports) e) (ap (λ w. w.log) e)
 
 -- a side's machine is set, and nothing else
-pub record IsBeside (old new : World) : Type 0 where
+pub record IsBeside (old new : Picture) : Type 0 where
   pub coordinator : new.coordinator ≡ old.coordinator
   pub acknowledged : new.acknowledged ≡ old.acknowledged
   pub reports : new.reports ≡ old.reports
   pub log : new.log ≡ old.log
 
-set_beside : (old : World) (which : Which) (machine : SideMachine) →
+set_beside : (old : Picture) (which : Which) (machine : SidePicture) →
     IsBeside old (set_side old which machine)
 set_beside old Left machine =
     record { coordinator = refl; acknowledged = refl; reports = refl; log = refl }
 set_beside old Right machine =
     record { coordinator = refl; acknowledged = refl; reports = refl; log = refl }
 
-side_goes : (old new : World) (which : Which) (machine : SideMachine) (sent : Sent)
+side_goes : (old new : Picture) (which : Which) (machine : SidePicture) (sent : Sent)
     (events : List Event) → new ≡ record (set_side old which machine)
     { sent = sent; acknowledged = old.acknowledged ++ map (λ event. Happened which event) events } →
     IsAside old new
@@ -93,7 +94,7 @@ side_goes old new which machine sent events e =
       log = ap (λ w. w.log) e ∙ b.log;
     }
 
-side_says : (old new : World) (which : Which) (machine : SideMachine) (sent : Sent) →
+side_says : (old new : Picture) (which : Which) (machine : SidePicture) (sent : Sent) →
     new ≡ record (set_side old which machine) { sent = sent } → Course old new
 side_says old new which machine sent e =
     let b = set_beside old which machine in
@@ -101,7 +102,7 @@ side_says old new which machine sent e =
     (inr (ap (λ w. w.coordinator.running) e ∙ ap (λ c. c.running) b.coordinator, refl))
     (ap (λ w. w.reports) e ∙ b.reports) (ap (λ w. w.log) e ∙ b.log)
 
-besides : (old world new : World) → new ≡ world → IsBeside old world → IsAside old new
+besides : (old world new : Picture) → new ≡ world → IsBeside old world → IsAside old new
 besides old world new e b = record {
   acks = [];
   added = ap (λ w. w.acknowledged) e ∙ (b.acknowledged ∙ sym (append-nil old.acknowledged));
@@ -111,12 +112,12 @@ besides old world new e b = record {
   log = ap (λ w. w.log) e ∙ b.log;
 }
 
-side_set : (old new : World) (which : Which) (machine : SideMachine) →
+side_set : (old new : Picture) (which : Which) (machine : SidePicture) →
     new ≡ set_side old which machine → IsAside old new
 side_set old new which machine e =
     besides old (set_side old which machine) new e (set_beside old which machine)
 
-takes_request : (old new : World) (which : Which) (session number : ℕ) (request : Request) →
+takes_request : (old new : Picture) (which : Which) (session number : ℕ) (request : Request) →
     TakesRequest old which session number request new → Course old new
 takes_request old new which session number request (answered a) =
     aside old new (side_goes old new which _ _ a.events a.result)
@@ -126,7 +127,7 @@ takes_request old new which session number request (request_cut event would e) =
     aside old new (side_set old new which _ e)
 
 -- the coordinator's machine alone changes, and keeps this
-alone : (old new : World) (machine : CoordinatorMachine) (kept : List Kept) →
+alone : (old new : Picture) (machine : CoordinatorPicture) (kept : List Kept) →
     AllCanKeep old.coordinator.archive kept →
     (machine.running ≡ None) ⊎ ((machine.running ≡ old.coordinator.running) × (kept ≡ [])) → new
     ≡ record old { coordinator = machine; acknowledged = old.acknowledged ++ map Kept_by kept } →
@@ -147,14 +148,14 @@ alone old new machine kept can runs e =
       log = ap (λ w. w.log) e;
     }
 
-module _ (plans : Plans) (old : World) (k : IsKept plans old) (new : World) where
+module _ (plans : Plans) (old : Picture) (k : IsKept plans old) (new : Picture) where
   none_runs : (kept : Kept) → old.coordinator.writing ≡ Some kept → old.coordinator.running ≡ None
   none_runs kept w =
       (subst (λ o. IfSome o (λ kept. (old.coordinator.status ≢ Up) × (old.coordinator.running
       ≡ None) × CanKeep old.coordinator.archive kept × IsHarmless plans (histories_of old) kept))
       w k.coordinator.writing).1
 
-  still : (running : Option Running) (kept : List Kept) → kept ≡ [] →
+  still : (running : Option SessionPicture) (kept : List Kept) → kept ≡ [] →
       (running ≡ old.coordinator.running) ⊎ (running ≡ None) →
       (running ≡ None) ⊎ ((running ≡ old.coordinator.running) × (kept ≡ []))
   still running kept nothing (inl is) = inr (is, nothing)

@@ -13,9 +13,9 @@ use Rattle.syn_model.specs.Archive.{Kept}
 use Rattle.syn_headline.specs.Network.{Which, Left, Right}
 use Rattle.syn_headline.specs.Acknowledged.{Stores}
 use Rattle.syn_headline.specs.Planning.{Planned, seen_on, SessionPlan, Log, IsPlanOf, WritesTo}
-use Rattle.syn_headline.proofs.Coarse.{World, Running, IsExpected, HasPlan, ended, goes_on}
-use Rattle.syn_headline.proofs.Coarse.{GoesOnFrom, StartsFrom, AllCanKeep, CoordinatorGoes, plan_of}
-use Rattle.syn_headline.proofs.CoarseRuns.{StandsFor}
+use Rattle.syn_headline.specs.Picture.{Picture, SessionPicture, IsExpected, HasPlan, ended, goes_on}
+use Rattle.syn_headline.specs.Picture.{GoesOnFrom, StartsFrom, AllCanKeep, CoordinatorGoes, plan_of}
+use Rattle.syn_headline.specs.Headline.{StandsFor}
 use Rattle.syn_headline.proofs.Invariant.{Plans, histories_of, IsKept}
 use Rattle.syn_headline.proofs.Heard.{split_at}
 use Rattle.syn_headline.proofs.LogLemmas.{scans_of, plan_from}
@@ -30,7 +30,7 @@ use Rattle.syn_headline.proofs.CourseLemmas.{Course, beside, starts, ticks, take
 use Rattle.syn_headline.proofs.WatchLemmas.{all_kept}
 
 -- a side had the position that a plan saw when it began a later session
-abbrev pub SeenBefore : World → SessionPlan → Type 0
+abbrev pub SeenBefore : Picture → SessionPlan → Type 0
 SeenBefore world made =
     (item : ℕ) (planned : Planned) (to : Which) (path : Path) →
     slice_get made.plan item ≡ Some planned → WritesTo planned.item to path →
@@ -38,12 +38,12 @@ SeenBefore world made =
     ++ Began session ∷ rest → made.session < session → (seen_on planned side).since ≤ length first
 
 -- each session of the run is new, and its plan saw nothing later than that
-pub record IsEarly (before : Stores) (world : World) : Type 0 where
+pub record IsEarly (before : Stores) (world : Picture) : Type 0 where
   pub running : IfSome world.coordinator.running (λ r. before.archive.last_session < r.session)
   pub logged : All (λ made. before.archive.last_session < made.session) world.log
   pub seen : (made : SessionPlan) → Contains world.log made → SeenBefore world made
 
-module _ (before : Stores) (plans : Plans) (old new : World) (k : IsKept plans old)
+module _ (before : Stores) (plans : Plans) (old new : Picture) (k : IsKept plans old)
     (stands : StandsFor before old) (can : AllCanKeep before.archive (all_kept old))
     (a : Advances plans old new) (e : IsEarly before old) where
   abbrev base : ℕ
@@ -92,19 +92,19 @@ module _ (before : Stores) (plans : Plans) (old new : World) (k : IsKept plans o
     seen = λ made c. seen_still made (subst (λ log. Contains log made) same c);
   }
 
-  on_from : (o : Option Running) (plan : List Planned) (now : Option Running) →
+  on_from : (o : Option SessionPicture) (plan : List Planned) (now : Option SessionPicture) →
       IfSome o (λ r. base < r.session) → GoesOnFrom o plan now → IfSome now (λ r. base < r.session)
   on_from None plan now h none = subst (λ o. IfSome o (λ r. base < r.session)) (sym none) tt
   on_from (Some r) plan _ h ended = tt
   on_from (Some r) plan _ h (goes_on next session_is plan_is) =
       subst (λ n. base < n) (sym session_is) h
 
-  from_start : (o : Option Running) → StartsFrom old.coordinator.archive o →
+  from_start : (o : Option SessionPicture) → StartsFrom old.coordinator.archive o →
       IfSome o (λ r. base < r.session)
   from_start None h = tt
   from_start (Some r) h = let at = h.0 in omega (arith, last, at)
 
-  goes_same : {D : Kept → Type 0} {R : Option Running → Type 0}
+  goes_same : {D : Kept → Type 0} {R : Option SessionPicture → Type 0}
       (g : CoordinatorGoes old [] D R new) → IfSome g.machine.running (λ r. base < r.session) →
       IsEarly before new
   goes_same g running =
@@ -113,7 +113,7 @@ module _ (before : Stores) (plans : Plans) (old new : World) (k : IsKept plans o
       (sym (ap (λ w. w.coordinator.running) g.result)) running)
 
   -- a plan that is made now
-  module _ (r : Running) (runs : old.coordinator.running ≡ Some r) (made : SessionPlan)
+  module _ (r : SessionPicture) (runs : old.coordinator.running ≡ Some r) (made : SessionPlan)
       (of_session : made.session ≡ r.session)
       (same : (side : Which) → histories_of new side ≡ histories_of old side) where
     above : base < made.session
@@ -130,7 +130,7 @@ module _ (before : Stores) (plans : Plans) (old new : World) (k : IsKept plans o
         let running = (running_over plans old k new r runs).0 in
         absurd (omega (arith, begun, kept, running, of_session, later))
 
-  takes_early : (o : Option Running) → old.coordinator.running ≡ o → (from : Which)
+  takes_early : (o : Option SessionPicture) → old.coordinator.running ≡ o → (from : Which)
       (session number : ℕ) (plan : List Planned) (logged : Log) → IsExpected o from session number →
       HasPlan old.sent old.coordinator.archive old.log o plan logged → new.log ≡ old.log ++ logged →
       ((side : Which) → histories_of new side ≡ histories_of old side) →
@@ -157,7 +157,7 @@ module _ (before : Stores) (plans : Plans) (old new : World) (k : IsKept plans o
             ];
       }
 
-  same_histories : {logged : Log} {D : Kept → Type 0} {R : Option Running → Type 0}
+  same_histories : {logged : Log} {D : Kept → Type 0} {R : Option SessionPicture → Type 0}
       (g : CoordinatorGoes old logged D R new) → (side : Which) →
       histories_of new side ≡ histories_of old side
   same_histories g Left = ap (λ w. w.left.side.history) g.result

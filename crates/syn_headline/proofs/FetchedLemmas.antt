@@ -17,9 +17,10 @@ use Rattle.syn_headline.specs.Planning.{Planned, seen_on, SessionPlan, IsPlanOf,
 use Rattle.syn_headline.specs.Acknowledged.{Ack, Happened, Kept_by, event_at, Stores, history_of}
 use Rattle.syn_headline.specs.Acknowledged.{stores_after, IsLegal}
 use Rattle.syn_headline.specs.Report.{Report}
-use Rattle.syn_headline.specs.Headline.{IsQuietSession, IsFetched, UntouchedSince}
-use Rattle.syn_headline.proofs.Coarse.{World, FollowsAll}
-use Rattle.syn_headline.proofs.CoarseRuns.{stores_of, IsStart, CarriedIsMarked, OfEachRun}
+use Rattle.syn_headline.specs.Headline.{IsQuietSession, IsFetched, UntouchedSince, CarriedIsMarked}
+use Rattle.syn_headline.specs.Headline.{IsStart}
+use Rattle.syn_headline.specs.Picture.{Picture, FollowsAll, stores_of}
+use Rattle.syn_headline.proofs.PictureRuns.{OfEachRun}
 use Rattle.syn_headline.proofs.Invariant.{Plans, plan_in, histories_of, IsKept, IsSound_request}
 use Rattle.syn_headline.proofs.Heard.{split_at}
 use Rattle.syn_headline.proofs.LogLemmas.{entry_of, scans_of, plan_from}
@@ -95,7 +96,7 @@ tree_before : (history front rest : History) (position : ℕ) → history ≡ fr
 tree_before history front rest position is reached =
     ap tree_of (ap (take position) is ∙ take-append-le position front rest reached)
 
-module _ (old new : World) (s : IsStart old) (g : FollowsAll old new) (side : Which)
+module _ (old new : Picture) (s : IsStart old) (g : FollowsAll old new) (side : Which)
     (first rest : History) (token : Token) (path : Path) (since : ℕ) (u : Tree) (report : Report)
     (found left : Stores)
     (is : history_of found side ≡ first ++ Replaced token path since u ∷ rest)

@@ -1,16 +1,18 @@
 -- What is proved of whole runs, of the world itself.
-use Rattle.std.proofs.Common.{List, sym, ap, subst, Option, Some, None, option_map, ◌≡◌, ◌∙◌}
-use Rattle.std.specs.Prelude.{IfSome}
-use Rattle.syn_headline.specs.Network.{Left, Right, Which}
-use Rattle.syn_headline.specs.Coordinator.{Running, Waits}
+use Rattle.std.proofs.Common.{List, refl, sym, ap, subst, Option, Some, option_map, ◌≡◌, ◌∙◌}
+use Rattle.std.specs.Prelude.{IfSome, All}
+use Rattle.syn_headline.specs.Network.{Which}
 use Rattle.syn_headline.specs.World.{World, Step, Runs}
-use Rattle.syn_headline.specs.Headline.{IsStart, OfEachRun, EachReplacementIsLegal, EachTokenOnce}
-use Rattle.syn_headline.specs.Headline.{EachEntryWasHeld, LeavesPair, LogsPlans, Owes, PlansWith}
-use Rattle.syn_headline.specs.Headline.{CompleteSessionsSynchronize, CompleteSessionsReconcile}
-use Rattle.syn_headline.specs.Headline.{ReportsItsConflicts, CountsItsItems, CarriedIsMarked}
-use Rattle.syn_headline.proofs.Coarse as coarse
-use Rattle.syn_headline.proofs.CoarseRuns as picture
-use Rattle.syn_headline.proofs.View.{view, view_running}
+use Rattle.syn_headline.specs.Runs.{IsStart, OfEachRun, picture_of, session_picture}
+use Rattle.syn_headline.specs.Headline.{IsRunFrom, EachReplacementIsLegal, EachTokenOnce}
+use Rattle.syn_headline.specs.Headline.{RecoveredIsLegal, EachEntryWasHeld, LeavesPair, LogsPlans}
+use Rattle.syn_headline.specs.Headline.{Owes, PlansWith, CompleteSessionsSynchronize}
+use Rattle.syn_headline.specs.Headline.{CompleteSessionsReconcile, ReportsItsConflicts}
+use Rattle.syn_headline.specs.Headline.{CountsItsItems, CarriedIsMarked, HeldIsMarked}
+use Rattle.syn_headline.specs.Headline.{PreferenceLeavesOne, trees_of}
+use Rattle.syn_headline.proofs.RecoveredLemmas.{runs_recover_legally}
+use Rattle.syn_headline.specs.Picture as picture
+use Rattle.syn_headline.specs.Headline as promised
 use Rattle.syn_headline.proofs.Sessions.{IsHeard}
 use Rattle.syn_headline.proofs.Simulation.{runs_follow}
 use Rattle.syn_headline.proofs.WholeRuns.{no_plans, start_kept, runs_replace_legally}
@@ -21,71 +23,75 @@ use Rattle.syn_headline.proofs.SessionRuns.{runs_synchronize, runs_reconcile, ru
 use Rattle.syn_headline.proofs.SessionRuns.{runs_count_items}
 use Rattle.syn_headline.proofs.FetchedLemmas.{runs_mark_carried}
 use Rattle.syn_headline.proofs.CarriedLemmas.{runs_mark_held}
-use Rattle.syn_headline.specs.Headline.{HeldIsMarked, PreferenceLeavesOne, trees_of}
 use Rattle.syn_headline.specs.Reported.{EachReportTells}
 use Rattle.syn_headline.proofs.ReportedRuns.{AllTold, IsTold}
-use Rattle.std.specs.Prelude.{All}
 use Rattle.std.proofs.lemmas.List.Elements.{All-nil, All-weaker}
 use Rattle.syn_headline.proofs.EarlyLemmas.{entry_is}
 use Rattle.syn_model.proofs.EqualLemmas.{preference_settles}
 use Rattle.syn_model.specs.Plan.{IsSynchronized, IsReconciled}
 
-pub start_view : (old : World) → IsStart old → picture.IsStart (view old)
+pub start_view : (old : World) → IsStart old → promised.IsStart (picture_of old)
 start_view old s = record {
   pair = s.pair;
   left = (s.left.1, s.left.0.1);
   right = (s.right.1, s.right.0.1);
-  coordinator = (ap (option_map view_running) s.coordinator.1, s.coordinator.0.1);
+  coordinator = (ap (option_map session_picture) s.coordinator.1, s.coordinator.0.1);
   nothing_yet = (s.nothing_yet.0, s.nothing_yet.1, s.nothing_yet.2, s.nothing_yet.3);
 }
 
 module _ (old new : World) (steps : List Step) (s : IsStart old) (g : Runs old steps new) where
-  pub follows : coarse.FollowsAll (view old) (view new)
+  pub follows : picture.FollowsAll (picture_of old) (picture_of new)
       × IfSome new.coordinator.running (IsHeard new) × (AllTold old → AllTold new)
   follows =
-      runs_follow steps no_plans old new (start_kept (view old) (start_view old s))
+      runs_follow steps no_plans old new (start_kept (picture_of old) (start_view old s))
       (subst (λ o. IfSome o (IsHeard old)) (sym s.coordinator.1) tt) g
+
+-- each step of the world is one of the picture
+pub is_pictured : OfEachRun IsRunFrom
+is_pictured old new steps s g = record {
+  start = picture_of old;
+  is_start = start_view old s;
+  stands = refl;
+  follows = (follows old new steps s g).0;
+}
 
 pub replace_legally : OfEachRun EachReplacementIsLegal
 replace_legally old new steps s g =
-    runs_replace_legally (view old) (view new) (start_view old s) (follows old new steps s g).0
+    runs_replace_legally (picture_of old) (picture_of new) (start_view old s)
+    (follows old new steps s g).0
 
 pub use_tokens_once : OfEachRun EachTokenOnce
-use_tokens_once old new steps s g Left =
-    runs_use_tokens_once (view old) (view new) (start_view old s) (follows old new steps s g).0 Left
-use_tokens_once old new steps s g Right =
-    runs_use_tokens_once (view old) (view new) (start_view old s)
-    (follows old new steps s g).0 Right
+use_tokens_once old new steps s g =
+    runs_use_tokens_once (picture_of old) (picture_of new) (start_view old s)
+    (follows old new steps s g).0
 
 pub hold_archive : OfEachRun EachEntryWasHeld
 hold_archive old new steps s g =
-    runs_hold_archive (view old) (view new) (start_view old s) (follows old new steps s g).0
+    runs_hold_archive (picture_of old) (picture_of new) (start_view old s)
+    (follows old new steps s g).0
 
 pub leave_pair : OfEachRun LeavesPair
 leave_pair old new steps s g =
-    runs_leave_pair (view old) (view new) (start_view old s) (follows old new steps s g).0
+    runs_leave_pair (picture_of old) (picture_of new) (start_view old s)
+    (follows old new steps s g).0
 
 pub log_plans : OfEachRun LogsPlans
 log_plans old new steps s g =
-    runs_log (view old) (view new) (start_view old s) (follows old new steps s g).0
-
-waits_too : (running : Option Running) → IfSome (option_map view_running running) coarse.Waits →
-    IfSome running Waits
-waits_too None h = tt
-waits_too (Some r) h = h
+    runs_log (picture_of old) (picture_of new) (start_view old s) (follows old new steps s g).0
 
 pub owe : OfEachRun Owes
 owe old new steps s g =
-    let both = runs_owe (view old) (view new) (start_view old s) (follows old new steps s g).0 in
-    (waits_too new.coordinator.running both.0, both.1, both.2)
+    runs_owe (picture_of old) (picture_of new) (start_view old s) (follows old new steps s g).0
 
 pub synchronize : OfEachRun CompleteSessionsSynchronize
 synchronize old new steps s g =
-    runs_synchronize (view old) (view new) (start_view old s) (follows old new steps s g).0
+    runs_synchronize (picture_of old) (picture_of new) (start_view old s)
+    (follows old new steps s g).0
 
 pub reconcile : OfEachRun CompleteSessionsReconcile
 reconcile old new steps s g =
-    runs_reconcile (view old) (view new) (start_view old s) (follows old new steps s g).0
+    runs_reconcile (picture_of old) (picture_of new) (start_view old s)
+    (follows old new steps s g).0
 
 -- a session has one plan, so the preference of that is the one by which the sides are synchronized
 pub leave_one : OfEachRun PreferenceLeavesOne
@@ -106,15 +112,18 @@ leave_one old new steps s g report found left side quiet with apart =
 
 pub report_conflicts : OfEachRun ReportsItsConflicts
 report_conflicts old new steps s g =
-    runs_report_conflicts (view old) (view new) (start_view old s) (follows old new steps s g).0
+    runs_report_conflicts (picture_of old) (picture_of new) (start_view old s)
+    (follows old new steps s g).0
 
 pub count_items : OfEachRun CountsItsItems
 count_items old new steps s g =
-    runs_count_items (view old) (view new) (start_view old s) (follows old new steps s g).0
+    runs_count_items (picture_of old) (picture_of new) (start_view old s)
+    (follows old new steps s g).0
 
 pub mark_carried : OfEachRun CarriedIsMarked
 mark_carried old new steps s g =
-    runs_mark_carried (view old) (view new) (start_view old s) (follows old new steps s g).0
+    runs_mark_carried (picture_of old) (picture_of new) (start_view old s)
+    (follows old new steps s g).0
 
 pub tell_reports : OfEachRun EachReportTells
 tell_reports old new steps s g =
@@ -124,4 +133,10 @@ tell_reports old new steps s g =
 
 pub mark_held : OfEachRun HeldIsMarked
 mark_held old new steps s g =
-    runs_mark_held (view old) (view new) (start_view old s) (follows old new steps s g).0
+    runs_mark_held (picture_of old) (picture_of new) (start_view old s)
+    (follows old new steps s g).0
+
+pub recover_legally : OfEachRun RecoveredIsLegal
+recover_legally old new steps s g =
+    runs_recover_legally (picture_of old) (picture_of new) (start_view old s)
+    (follows old new steps s g).0

@@ -18,7 +18,7 @@ use Rattle.syn_model.specs.Archive.{Archive, Kept, Recorded, RecordedDir, after_
 use Rattle.syn_headline.specs.Side.{Request, Replace, Reply, Done}
 use Rattle.syn_headline.specs.Network.{Which, Left, Right, other, Sent, Asks, Answers}
 use Rattle.syn_headline.specs.Planning.{Planned, seen_on, WritesTo}
-use Rattle.syn_headline.proofs.Coarse.{Running, asked_of, IsDue, done, same, directory}
+use Rattle.syn_headline.specs.Picture.{SessionPicture, asked_of, IsDue, done, same, directory}
 use Rattle.syn_headline.proofs.Invariant.{Plans, plan_in, Scans, IsPlanFrom, Histories, IsSound}
 use Rattle.syn_headline.proofs.Invariant.{HadMarks, IsHeldRecord, IsHarmless}
 use Rattle.syn_model.proofs.DirectoryLemmas.{below_new_directory}
@@ -191,7 +191,7 @@ module _ (preference : Option Which) (scan : Which → Scan) (since : Which → 
       (at ∙ (sym equal ∙ sym e)) planned_is.decided)
 
 module _ (plans : Plans) (histories : Histories) (archive : Archive) (sent : Sent)
-    (sound : IsSound plans histories archive sent) (running : Running)
+    (sound : IsSound plans histories archive sent) (running : SessionPicture)
     (last : running.session ≡ archive.last_session) where
   -- an item whose session is still the last on a side is one of the running session, where that has
   -- a plan

@@ -20,16 +20,16 @@ use Rattle.syn_model.specs.Decision.{Item, ToLeft, ToRight, MarkSame, MarkDir, C
 use Rattle.syn_headline.specs.Side.{Request, Begin, ListAt, Fetch, Stage, Replace, Reply}
 use Rattle.syn_headline.specs.Network.{Which, Left, Right, other, Message, Asks, Sent}
 use Rattle.syn_headline.specs.Network.{AsksNothingTwice, WasAnswered}
-use Rattle.syn_headline.specs.Acknowledged.{Ack, Kept_by, kept_in}
+use Rattle.syn_headline.specs.Acknowledged.{Ack, Kept_by, kept_in, kept_in_session, since_start}
 use Rattle.syn_headline.specs.Planning.{Planned, SessionPlan, Log, WritesTo, HasBegun, IsPlanOf}
 use Rattle.syn_headline.specs.Report.{Report, Complete, Incomplete, is_kept, conflict_at}
 use Rattle.syn_headline.specs.Coordinator.{Exchange, Running, Walk, WasTaken, BothBegun, MakesPlan}
 use Rattle.syn_headline.specs.Coordinator.{MayAsk, asked_of, numbered, messages_to, plan_of}
 use Rattle.syn_headline.specs.Coordinator.{report_of, is_whole, is_unstable, IsDue}
 use Rattle.syn_headline.specs.Coordinator as fine
-use Rattle.syn_headline.proofs.Coarse.{kept_in_session, since_start, IsSettled, HasPlan, IsOfPlan}
-use Rattle.syn_headline.proofs.Coarse as coarse
-use Rattle.syn_headline.proofs.View.{view_running}
+use Rattle.syn_headline.specs.Picture.{IsSettled, HasPlan, IsOfPlan}
+use Rattle.syn_headline.specs.Picture as picture
+use Rattle.syn_headline.specs.Runs.{session_picture}
 use Rattle.syn_headline.proofs.Walks.{IsItems, of_item, IsSettledBy, as_conflict, as_kept}
 use Rattle.syn_headline.proofs.Walks.{as_refused}
 use Rattle.syn_headline.proofs.Heard.{TakenWas}
@@ -86,7 +86,7 @@ pub has_plan : (sent : Sent) (archive : Archive) (log : Log) (running : Running)
     ListsInOrder sent running → AsksNothingTwice sent →
     (running.plan ≡ None → All (λ made. made.session ≢ running.session) log) →
     fine.HasPlan archive running plan logged →
-    HasPlan sent archive log (Some (view_running running)) (list_of plan) logged
+    HasPlan sent archive log (Some (session_picture running)) (list_of plan) logged
 has_plan sent archive log running _ _ m in_order repeats fresh fine.stays = inl (refl, refl)
 has_plan sent archive log running _ _ m in_order repeats fresh (fine.makes made none makes) = inr (
   made,
@@ -140,18 +140,18 @@ request_of_plan pair sent archive running to (Replace item path since size) was 
 
 pub due_of : (running : Running) (plan : List Planned) (from : Which) (number : ℕ)
     (request : Request) (reply : Reply) →
-    coarse.asked_of (view_running running) from number ≡ Some request → (what : Kept) →
+    picture.asked_of (session_picture running) from number ≡ Some request → (what : Kept) →
     IsItems plan (record { side = from; number = number; request = request; reply = reply }) what →
-    coarse.IsDue (view_running running) plan from number reply what
+    picture.IsDue (session_picture running) plan from number reply what
 due_of running plan from number request reply asked what (of_item item planned at due) = by what due
   where
     by : (what : Kept) → IsDue item planned
         (record { side = from; number = number; request = request; reply = reply }) what →
-        coarse.IsDue (view_running running) plan from number reply what
+        picture.IsDue (session_picture running) plan from number reply what
     by _ (fine.done path since size is of w) =
-        coarse.done item path since size planned is (asked ∙ ap (λ q. Some q) of) at w
-    by _ (fine.same path is alike) = coarse.same item path planned at is alike
-    by _ (fine.directory path is) = coarse.directory item path planned at is
+        picture.done item path since size planned is (asked ∙ ap (λ q. Some q) of) at w
+    by _ (fine.same path is alike) = picture.same item path planned at is alike
+    by _ (fine.directory path is) = picture.directory item path planned at is
 
 -- records of items are the session's
 since_more : (plan : List Planned) (taken : Exchange) (had kept : List Kept) →

@@ -20,8 +20,8 @@ use Rattle.syn_headline.specs.Network.{AsksNothingTwice}
 use Rattle.syn_model.specs.Decision.{path_of}
 use Rattle.syn_model.specs.Dirty.{Scan}
 use Rattle.syn_headline.specs.Planning.{Planned, seen_on, Log, IsPlanOf, WritesTo, SessionPlan}
-use Rattle.syn_headline.proofs.Coarse.{World, SideMachine, CoordinatorMachine, side_of, IsOfPlan}
-use Rattle.syn_headline.proofs.Coarse.{RunsOver}
+use Rattle.syn_headline.specs.Picture.{Picture, SidePicture, CoordinatorPicture, side_of, IsOfPlan}
+use Rattle.syn_headline.specs.Picture.{RunsOver}
 use Rattle.syn_headline.specs.Machine.{Up}
 use Rattle.syn_headline.specs.Acknowledged.{IsPreferred}
 use Rattle.std.proofs.Common.{◌⊎◌}
@@ -30,7 +30,7 @@ use Rattle.std.proofs.Common.{◌⊎◌}
 abbrev pub Histories : Type 0
 Histories = Which → History
 
-abbrev pub histories_of : World → Histories
+abbrev pub histories_of : Picture → Histories
 histories_of world side = (side_of world side).side.history
 
 -- the log of the sessions' plans, which the coordinator forgets as it stops
@@ -224,7 +224,7 @@ IsSoundEvent plans histories archive side (Replaced token path since new) =
 
 -- a side that has failed or stopped while it wrote an event adds no other
 pub record IsSoundSide (plans : Plans) (histories : Histories) (archive : Archive) (side : Which)
-    (machine : SideMachine) : Type 0 where
+    (machine : SidePicture) : Type 0 where
   pub staged : IfSome machine.side.staging (IsSoundStaging plans histories side)
   pub writing : IfSome machine.writing
       (λ event. (machine.status ≢ Up) × IsSoundEvent plans histories archive side event)
@@ -250,7 +250,7 @@ pub record IsHarmless (plans : Plans) (histories : Histories) (kept : Kept) : Ty
 
 -- a running session has its plan, and none runs while a record is written
 pub record IsSoundCoordinator (plans : Plans) (histories : Histories) (sent : Sent)
-    (machine : CoordinatorMachine) : Type 0 where
+    (machine : CoordinatorPicture) : Type 0 where
   pub running : IfSome machine.running (λ running. (plan_in plans running.session ≡ running.plan)
       × (running.plan ≡ [] → IsFresh histories running.session))
   pub runs_over : RunsOver sent machine.archive machine.running
@@ -258,7 +258,7 @@ pub record IsSoundCoordinator (plans : Plans) (histories : Histories) (sent : Se
       × CanKeep machine.archive kept × IsHarmless plans histories kept)
 
 -- The invariant of a run
-pub record IsKept (plans : Plans) (world : World) : Type 0 where
+pub record IsKept (plans : Plans) (world : Picture) : Type 0 where
   pub logged : world.log ≡ plans
   pub sound : IsSound plans (histories_of world) world.coordinator.archive world.sent
   pub sides : (side : Which) →

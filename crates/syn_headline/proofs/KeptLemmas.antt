@@ -15,8 +15,8 @@ use Rattle.syn_model.specs.Standing.{place_causes}
 use Rattle.syn_model.specs.Archive.{Archive, Kept, Session, Recorded, RecordedDir, CanKeep}
 use Rattle.syn_model.specs.Archive.{record_causes, after_kept, archive_of}
 use Rattle.syn_model.specs.Plan.{HasDepth, most_names}
-use Rattle.syn_headline.proofs.Coarse.{since_start}
-use Rattle.syn_headline.proofs.Coarse.{AllCanKeep}
+use Rattle.syn_headline.specs.Acknowledged.{since_start}
+use Rattle.syn_headline.specs.Picture.{AllCanKeep}
 use Rattle.syn_model.proofs.HistoryLemmas.{first_cause-none, none-append}
 use Rattle.syn_model.proofs.FitsLemmas.{paths_depth}
 use Rattle.syn_headline.proofs.SoundLemmas.{kept_session, kept_is_tree}

@@ -1,5 +1,4 @@
-pub mod Coarse
-pub mod CoarseRuns
+pub mod PictureRuns
 pub mod Invariant
 mod LogLemmas
 pub mod WorldLemmas

@@ -10,9 +10,11 @@ use Rattle.syn_model.specs.Archive.{Kept}
 use Rattle.syn_headline.specs.Network.{Which}
 use Rattle.syn_headline.specs.Planning.{Planned, Log, IsPlanOf}
 use Rattle.syn_headline.specs.Acknowledged.{Ack, Kept_by, Stores, stores_after}
-use Rattle.syn_headline.proofs.Coarse.{World, Running, IsExpected, HasPlan, CoordinatorGoes}
-use Rattle.syn_headline.proofs.Coarse.{FollowsAll, nothing_more, one_more}
-use Rattle.syn_headline.proofs.CoarseRuns.{stores_of, StandsFor, HadArchive, LogsPlans, OfEachRun}
+use Rattle.syn_headline.specs.Picture.{Picture, SessionPicture, IsExpected, HasPlan}
+use Rattle.syn_headline.specs.Picture.{CoordinatorGoes, FollowsAll, nothing_more, one_more}
+use Rattle.syn_headline.specs.Picture.{stores_of}
+use Rattle.syn_headline.specs.Headline.{HadArchive, LogsPlans, StandsFor}
+use Rattle.syn_headline.proofs.PictureRuns.{OfEachRun}
 use Rattle.syn_headline.proofs.Invariant.{Plans, IsKept}
 use Rattle.syn_headline.proofs.WorldLemmas.{step_stands}
 use Rattle.syn_headline.proofs.AdvanceLemmas.{step_advances}
@@ -20,10 +22,10 @@ use Rattle.syn_headline.proofs.WholeRuns.{no_plans, start_kept, start_stands, ru
 use Rattle.syn_headline.proofs.CourseLemmas.{Course, beside, starts, ticks, takes, course}
 
 -- each plan that was logged is of an archive of the run
-abbrev pub AllFound : Stores → World → Log → Type 0
+abbrev pub AllFound : Stores → Picture → Log → Type 0
 AllFound before world log = All (λ made. HadArchive before world made.archive) log
 
-module _ (before : Stores) (old new : World) (stands : StandsFor before old) where
+module _ (before : Stores) (old new : Picture) (stands : StandsFor before old) where
   had_still : (acks : List Ack) → new.acknowledged ≡ old.acknowledged ++ acks → (marks : Tree) →
       HadArchive before old marks → HadArchive before new marks
   had_still acks e marks (k, within, had) =
@@ -57,7 +59,8 @@ module _ (before : Stores) (old new : World) (stands : StandsFor before old) whe
   none_found : AllFound before old []
   none_found = All-nil (λ made. HadArchive before old made.archive)
 
-  plan_found : (running : Option Running) (from : Which) (session number : ℕ) (plan : List Planned)
+  plan_found : (running : Option SessionPicture) (from : Which) (session number : ℕ)
+      (plan : List Planned)
       (logged : Log) → IsExpected running from session number →
       HasPlan old.sent old.coordinator.archive old.log running plan logged →
       AllFound before old logged
@@ -68,7 +71,7 @@ module _ (before : Stores) (old new : World) (stands : StandsFor before old) whe
       subst (AllFound before old) (sym one) (All-cons (λ made. HadArchive before old made.archive)
       made [] (subst (HadArchive before old) (sym makes.archive_is) had_now) none_found)
 
-  goes_found : (logged : Log) (D : Kept → Type 0) (R : Option Running → Type 0) →
+  goes_found : (logged : Log) (D : Kept → Type 0) (R : Option SessionPicture → Type 0) →
       CoordinatorGoes old logged D R new → AllFound before old logged →
       AllFound before old old.log → AllFound before new new.log
   goes_found logged D R g now found =
@@ -84,7 +87,7 @@ module _ (before : Stores) (old new : World) (stands : StandsFor before old) whe
       goes_found logged _ _ g
       (plan_found old.coordinator.running from session number plan logged expected made) found
 
-run_found : (before : Stores) (plans : Plans) (old new : World) → IsKept plans old →
+run_found : (before : Stores) (plans : Plans) (old new : Picture) → IsKept plans old →
     StandsFor before old → AllFound before old old.log → FollowsAll old new →
     AllFound before new new.log
 run_found before plans old _ k stands found (nothing_more _) = found

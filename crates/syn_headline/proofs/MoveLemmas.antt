@@ -41,8 +41,8 @@ use Rattle.syn_model.specs.Refusal.{Refusal, OldSession}
 use Rattle.syn_headline.specs.Acknowledged.{Stores, history_of, WasListed, IsLegal, MayOverwrite}
 use Rattle.syn_headline.proofs.LogLemmas.{entry_of, scans_of, plan_from}
 use Rattle.syn_headline.proofs.StagedLemmas.{same_token, path_meets_itself, touched_now, put_there}
-use Rattle.syn_headline.proofs.StagedLemmas.{other_twice, first_piece, next_piece}
-use Rattle.syn_headline.proofs.StagedLemmas.{tree_at_is_tree, tree_at_fits}
+use Rattle.syn_headline.proofs.StagedLemmas.{other_twice, first_piece, next_piece, tree_at_is_tree}
+use Rattle.syn_headline.proofs.StagedLemmas.{tree_at_fits}
 use Rattle.std.proofs.lemmas.List.Elements.{All-contains}
 
 -- A request

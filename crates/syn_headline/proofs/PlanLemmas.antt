@@ -28,7 +28,7 @@ use Rattle.syn_headline.specs.Network.{Which, Left, Right, other, Sent, Asks, An
 use Rattle.syn_model.specs.Archive.{Archive}
 use Rattle.syn_headline.specs.Planning.{Planned, seen_on, HasBegun, IsScanOf, SeesBoth, SessionPlan}
 use Rattle.syn_headline.specs.Planning.{IsPlanOf, WritesTo}
-use Rattle.syn_headline.proofs.Coarse.{IsOfPlan}
+use Rattle.syn_headline.specs.Picture.{IsOfPlan}
 use Rattle.syn_headline.proofs.Invariant.{Plans, Scans, IsPlanFrom, Histories, IsSound}
 use Rattle.syn_headline.proofs.Invariant.{IsTrueListing, IsTrueNotDir}
 use Rattle.syn_model.proofs.PathLemmas.{parent-append, same_name, name_itself}

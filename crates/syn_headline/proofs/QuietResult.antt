@@ -15,7 +15,7 @@ use Rattle.syn_model.specs.Decision.{Item, MarkDir, path_of}
 use Rattle.syn_model.specs.Plan.{is_mark_dir, with_directory}
 use Rattle.syn_headline.specs.Network.{Which, other}
 use Rattle.syn_headline.proofs.CountLemmas.{IsRecordOf}
-use Rattle.syn_headline.proofs.Coarse.{AllCanKeep}
+use Rattle.syn_headline.specs.Picture.{AllCanKeep}
 use Rattle.syn_model.proofs.QuietLemmas.{none_touches, nothing_below}
 use Rattle.syn_headline.proofs.SoundLemmas.{only_one, kept_is_tree}
 use Rattle.syn_headline.proofs.HarmlessLemmas.{Meets, meets, one, above, below}

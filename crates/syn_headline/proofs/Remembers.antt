@@ -1,9 +1,8 @@
 -- What the transcript of a session has to do with the messages that were sent, as it takes answers
 -- and asks on.
 use Rattle.std.proofs.Common.{◌≡◌, ◌≤◌, ◌<◌, ◌+◌, ◌⊎◌, ℕ, zero, suc, Bool, true, false, not, ◌==◌}
-use Rattle.std.proofs.Common.{true≢false, if◌then◌else◌, List, [], ◌∷◌, ◌++◌, length}
-use Rattle.std.proofs.Common.{get_or, refl, sym}
-use Rattle.std.proofs.Common.{ap, ◌∙◌, subst, Option, Some, arith, inl, inr}
+use Rattle.std.proofs.Common.{true≢false, if◌then◌else◌, List, [], ◌∷◌, ◌++◌, length, get_or, refl}
+use Rattle.std.proofs.Common.{sym, ap, ◌∙◌, subst, Option, Some, arith, inl, inr}
 use Rattle.std.specs.Prelude.{Contains, All}
 use Rattle.std.specs.List.{count_by}
 use Rattle.std.proofs.lemmas.Bool.{eqb-true}
@@ -20,9 +19,8 @@ use Rattle.syn_headline.specs.Planning.{Planned}
 use Rattle.syn_headline.specs.Coordinator.{Exchange, Outstanding, Running, Walk, outstanding}
 use Rattle.syn_headline.specs.Coordinator.{without, asked_in, asked_of, asked_count, numbered}
 use Rattle.syn_headline.specs.Coordinator.{asking, hearing, advanced, WasAsked, AsksOnce}
-use Rattle.syn_headline.specs.Coordinator.{messages_to, sent_now}
+use Rattle.syn_headline.specs.Coordinator.{messages_to, sent_now, AreRising}
 use Rattle.std.proofs.lemmas.List.Sums.{sum_by-append}
-use Rattle.syn_headline.specs.Coordinator.{AreRising}
 use Rattle.syn_headline.proofs.Rising.{without-rising, one_less, numbered-rising}
 use Rattle.syn_headline.proofs.StagedLemmas.{on_both}
 use Rattle.syn_headline.proofs.Heard.{TakenWas, number_within, same_number, numbered-length}

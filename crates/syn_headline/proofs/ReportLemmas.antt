@@ -19,8 +19,7 @@ use Rattle.syn_model.specs.Plan.{carried_out, after_plan, IsSynchronized, IsReco
 use Rattle.syn_headline.specs.Network.{Which, Left, Right, Sent}
 use Rattle.syn_headline.specs.Planning.{Planned, Log}
 use Rattle.syn_headline.specs.Report.{Report, is_kept, is_carrying, is_marking, conflict_at}
-use Rattle.syn_headline.proofs.Coarse.{Counts, IsSettled}
-use Rattle.syn_headline.proofs.Coarse.{AllCanKeep}
+use Rattle.syn_headline.specs.Picture.{Counts, IsSettled, AllCanKeep}
 use Rattle.syn_headline.specs.Headline.{IsNoEdit, HasCounts}
 use Rattle.syn_headline.proofs.Invariant.{Plans, Histories, IsSound}
 use Rattle.syn_model.proofs.FitsLemmas.{history_fits, replica_depth}

@@ -6,27 +6,27 @@ use Rattle.std.proofs.lemmas.List.{length-append, take-append-le}
 use Rattle.std.proofs.lemmas.List.Elements.{All-push, All-weaker, Contains-append_left}
 use Rattle.syn_headline.specs.Side.{Request}
 use Rattle.syn_headline.specs.Network.{Which, Left, Right, Message, Sent}
-use Rattle.syn_headline.specs.Acknowledged.{Ack, Kept_by}
+use Rattle.syn_headline.specs.Acknowledged.{Ack, Kept_by, kept_in_session}
 use Rattle.syn_headline.specs.Planning.{Log}
 use Rattle.syn_headline.specs.Report.{Report}
 use Rattle.syn_headline.specs.Coordinator.{Running, report_of}
 use Rattle.syn_headline.specs.World as fine
-use Rattle.syn_headline.specs.Reported.{EndsSo, IsReportOf, kept_in_session}
-use Rattle.syn_headline.specs.Reported.{with_answer, in_plan, unanswered, out_of_memory}
-use Rattle.syn_headline.proofs.Coarse.{World, SideMachine, set_side, Follows, same, edits, opens}
-use Rattle.syn_headline.proofs.Coarse.{changes, serves, starts_session, ticks_once, takes_answer}
-use Rattle.syn_headline.proofs.Coarse.{archive_changes, archive_opens, archive_recovers}
-use Rattle.syn_headline.proofs.Coarse.{TakesRequest, answered, request_failed, request_cut}
-use Rattle.syn_headline.proofs.Coarse.{CoordinatorGoes, CoordinatorMachine}
+use Rattle.syn_headline.specs.Reported.{EndsSo, IsReportOf, with_answer, in_plan, unanswered}
+use Rattle.syn_headline.specs.Reported.{out_of_memory}
+use Rattle.syn_headline.specs.Picture.{Picture, SidePicture, set_side, Follows, same, edits, opens}
+use Rattle.syn_headline.specs.Picture.{changes, serves, starts_session, ticks_once, takes_answer}
+use Rattle.syn_headline.specs.Picture.{archive_changes, archive_opens, archive_recovers}
+use Rattle.syn_headline.specs.Picture.{TakesRequest, answered, request_failed, request_cut}
+use Rattle.syn_headline.specs.Picture.{CoordinatorGoes, CoordinatorPicture}
 use Rattle.syn_headline.proofs.Tells.{Tells, more_logged}
-use Rattle.syn_headline.proofs.View.{view}
-use Rattle.syn_headline.proofs.Coarse as coarse
+use Rattle.syn_headline.specs.Runs.{picture_of}
+use Rattle.syn_headline.specs.Picture as picture
 use Rattle.syn_model.specs.Archive.{Kept}
 use Rattle.syn_model.specs.Refusal.{Refusal}
 
 -- Each step adds to what was sent, acknowledged and logged
 
-pub record Grows (old new : World) : Type 0 where
+pub record Grows (old new : Picture) : Type 0 where
   pub messages : List Message
   pub acks : List Ack
   pub plans : Log
@@ -35,14 +35,14 @@ pub record Grows (old new : World) : Type 0 where
   pub logged : new.log ≡ old.log ++ plans
 
 -- a side does, beside what it sends and acknowledges
-side_stays : (old : World) (which : Which) (machine : SideMachine) →
+side_stays : (old : Picture) (which : Which) (machine : SidePicture) →
     ((set_side old which machine).sent ≡ old.sent)
     × ((set_side old which machine).acknowledged ≡ old.acknowledged)
     × ((set_side old which machine).log ≡ old.log)
 side_stays old Left machine = (refl, refl, refl)
 side_stays old Right machine = (refl, refl, refl)
 
-side_grows : (old : World) (which : Which) (machine : SideMachine) (messages : List Message)
+side_grows : (old : Picture) (which : Which) (machine : SidePicture) (messages : List Message)
     (acks : List Ack) → Grows old (record (set_side old which machine) {
       sent = old.sent ++ messages;
       acknowledged = old.acknowledged ++ acks;
@@ -56,7 +56,7 @@ side_grows old which machine messages acks = record {
   logged = (side_stays old which machine).2 ∙ sym (append-nil old.log);
 }
 
-side_alone : (old : World) (which : Which) (machine : SideMachine) →
+side_alone : (old : Picture) (which : Which) (machine : SidePicture) →
     Grows old (set_side old which machine)
 side_alone old which machine =
     let stays = side_stays old which machine in
@@ -69,7 +69,7 @@ side_alone old which machine =
       logged = stays.2 ∙ sym (append-nil old.log);
     }
 
-side_fails : (old : World) (which : Which) (machine : SideMachine) (messages : List Message) →
+side_fails : (old : Picture) (which : Which) (machine : SidePicture) (messages : List Message) →
     Grows old (record (set_side old which machine) { sent = old.sent ++ messages })
 side_fails old which machine messages =
     let stays = side_stays old which machine in
@@ -82,7 +82,7 @@ side_fails old which machine messages =
       logged = stays.2 ∙ sym (append-nil old.log);
     }
 
-archive_alone : (old : World) (machine : CoordinatorMachine) →
+archive_alone : (old : Picture) (machine : CoordinatorPicture) →
     Grows old (record old { coordinator = machine })
 archive_alone old machine = record {
   messages = [];
@@ -93,8 +93,9 @@ archive_alone old machine = record {
   logged = sym (append-nil old.log);
 }
 
-coordinator_grows : (old new : World) (logged : Log) (D : Kept → Type 0)
-    (R : Option coarse.Running → Type 0) → CoordinatorGoes old logged D R new → Grows old new
+coordinator_grows : (old new : Picture) (logged : Log) (D : Kept → Type 0)
+    (R : Option picture.SessionPicture → Type 0) → CoordinatorGoes old logged D R new → Grows old
+    new
 coordinator_grows old new logged D R g = record {
   messages = g.messages;
   acks = map Kept_by g.kept;
@@ -104,8 +105,8 @@ coordinator_grows old new logged D R g = record {
   logged = ap (λ w. w.log) g.result;
 }
 
-takes_grows : (old : World) (which : Which) (session number : ℕ) (request : Request)
-    (new : World) → TakesRequest old which session number request new → Grows old new
+takes_grows : (old : Picture) (which : Which) (session number : ℕ) (request : Request)
+    (new : Picture) → TakesRequest old which session number request new → Grows old new
 takes_grows old which session number request new (answered a) =
     subst (Grows old) (sym a.result) (side_grows old which _ _ _)
 takes_grows old which session number request new (request_failed event would e) =
@@ -113,7 +114,7 @@ takes_grows old which session number request new (request_failed event would e) 
 takes_grows old which session number request new (request_cut event would e) =
     subst (Grows old) (sym e) (side_alone old which _)
 
-pub grows : (old new : World) → Follows old new → Grows old new
+pub grows : (old new : Picture) → Follows old new → Grows old new
 grows old new (same e) = subst (Grows old) (sym e) (archive_alone old old.coordinator)
 grows old new (edits which user edit machine events allowed up w e) =
     subst (Grows old) (sym e) (side_grows old which machine [] _)
@@ -178,7 +179,7 @@ IsTold world told = (told.1 ≤ length world.acknowledged)
 abbrev pub AllTold : fine.World → Type 0
 AllTold world = All (IsTold world) world.reports
 
-module _ (old new : fine.World) (g : Grows (view old) (view new)) where
+module _ (old new : fine.World) (g : Grows (picture_of old) (picture_of new)) where
   told_still : (told : Report × ℕ) → IsTold old told → IsTold new told
   told_still told is =
       let longer : length new.acknowledged ≡ length old.acknowledged + length g.acks =

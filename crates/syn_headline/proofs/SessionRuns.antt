@@ -18,11 +18,13 @@ use Rattle.syn_headline.specs.Network.{Which, Left, Right}
 use Rattle.syn_headline.specs.Acknowledged.{Ack, Kept_by, event_at, kept_in, Stores, history_of}
 use Rattle.syn_headline.specs.Acknowledged.{stores_after}
 use Rattle.syn_headline.specs.Report.{Report}
-use Rattle.syn_headline.proofs.Coarse.{World, AllCanKeep, FollowsAll, nothing_more, one_more}
+use Rattle.syn_headline.specs.Picture.{Picture, AllCanKeep, FollowsAll, nothing_more, one_more}
+use Rattle.syn_headline.specs.Picture.{stores_of}
 use Rattle.syn_headline.specs.Headline.{IsPair, BeganAfter, IsQuietSession, trees_of, HasCounts}
-use Rattle.syn_headline.proofs.CoarseRuns.{stores_of, IsStart, StandsFor}
-use Rattle.syn_headline.proofs.CoarseRuns.{CompleteSessionsSynchronize, CompleteSessionsReconcile}
-use Rattle.syn_headline.proofs.CoarseRuns.{ReportsItsConflicts, CountsItsItems, OfEachRun}
+use Rattle.syn_headline.specs.Headline.{IsStart, StandsFor, CompleteSessionsSynchronize}
+use Rattle.syn_headline.specs.Headline.{CompleteSessionsReconcile, ReportsItsConflicts}
+use Rattle.syn_headline.specs.Headline.{CountsItsItems}
+use Rattle.syn_headline.proofs.PictureRuns.{OfEachRun}
 use Rattle.syn_headline.proofs.Invariant.{Plans, histories_of, IsKept}
 use Rattle.syn_model.proofs.MarkLemmas.{get-mark}
 use Rattle.syn_model.proofs.FitsLemmas.{replica_depth}
@@ -37,13 +39,13 @@ use Rattle.syn_headline.proofs.WatchLemmas.{all_kept, RunsWell, runs_well, all_c
 use Rattle.syn_headline.proofs.ToldLemmas.{IsTold, AllTold, all_told}
 
 -- what was kept could be, and each complete report tells what it should
-pub record IsWatched (before : Stores) (world : World) : Type 0 where
+pub record IsWatched (before : Stores) (world : Picture) : Type 0 where
   pub can : AllCanKeep before.archive (all_kept world)
   pub told : AllTold before world
   pub early : IsEarly before world
 
 run_watched : (before : Stores) → IsTree before.archive.marks →
-    HasDepth most_names before.archive.marks → (plans : Plans) (old new : World) →
+    HasDepth most_names before.archive.marks → (plans : Plans) (old new : Picture) →
     IsKept plans old → StandsFor before old → RunsWell before.archive old old.coordinator.running →
     IsWatched before old → FollowsAll old new → IsWatched before new
 run_watched before whole shallow plans old _ k stands runs w (nothing_more _) = w
@@ -76,7 +78,7 @@ pair_depth stores pair path deep =
           ∙ held.2))
     ] refl
 
-start_watched : (old : World) → IsStart old → IsWatched (stores_of old) old
+start_watched : (old : Picture) → IsStart old → IsWatched (stores_of old) old
 start_watched old s = record {
   can =
       subst (λ acks. AllCanKeep old.coordinator.archive (filter_map kept_in acks))
@@ -98,7 +100,7 @@ start_watched old s = record {
   };
 }
 
-module _ (old new : World) (s : IsStart old) (g : FollowsAll old new) where
+module _ (old new : Picture) (s : IsStart old) (g : FollowsAll old new) where
   abbrev before : Stores
   before = stores_of old
 

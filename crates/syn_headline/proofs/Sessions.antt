@@ -6,10 +6,9 @@ use Rattle.std.proofs.lemmas.List.Elements.{Contains-append_left, Contains-appen
 use Rattle.std.proofs.lemmas.List.Elements.{filter_map-append}
 use Rattle.syn_headline.specs.Side.{Request, Reply}
 use Rattle.syn_headline.specs.Network.{Which, Message, Asks, Answers}
-use Rattle.syn_headline.specs.Acknowledged.{Ack, kept_in}
+use Rattle.syn_headline.specs.Acknowledged.{Ack, kept_in, kept_in_session, since_start}
 use Rattle.syn_headline.specs.Coordinator.{Running, WasAsked, plan_of}
 use Rattle.syn_headline.specs.World.{World}
-use Rattle.syn_headline.proofs.Coarse.{kept_in_session, since_start}
 use Rattle.syn_headline.proofs.Walks.{IsSettledBy}
 use Rattle.syn_headline.specs.Planning.{Planned, Log}
 use Rattle.syn_headline.specs.Reported.{IsRefusedFor}

@@ -13,11 +13,11 @@ use Rattle.syn_headline.specs.Side.{Side, Served, Request, Refused, IsLawfulRequ
 use Rattle.syn_headline.specs.Network.{Which, Left, Right, other, Sent, Asks, Answers}
 use Rattle.syn_headline.specs.Planning.{Log}
 use Rattle.syn_headline.specs.Acknowledged.{Ack, Happened, Kept_by, history_of, IsLegal}
-use Rattle.syn_headline.proofs.Coarse.{World, SideMachine, side_of, set_side, stopped, Writes}
-use Rattle.syn_headline.proofs.Coarse.{written, failed, cut, Opens, opened, recovered, WouldAdd}
-use Rattle.syn_headline.proofs.Coarse.{TakesRequest, answered, request_failed, request_cut}
+use Rattle.syn_headline.specs.Picture.{Picture, SidePicture, side_of, set_side, stopped, Writes}
+use Rattle.syn_headline.specs.Picture.{written, failed, cut, Opens, opened, recovered, WouldAdd}
+use Rattle.syn_headline.specs.Picture.{TakesRequest, answered, request_failed, request_cut}
+use Rattle.syn_headline.specs.Picture.{stores_of}
 use Rattle.syn_headline.specs.Machine.{Status, Up, Halted, Down}
-use Rattle.syn_headline.proofs.CoarseRuns.{stores_of}
 use Rattle.syn_headline.proofs.Invariant.{Plans, plan_in, histories_of, IsSoundStaging}
 use Rattle.syn_headline.proofs.Invariant.{IsSoundEvent, IsKept}
 use Rattle.syn_headline.proofs.OutcomeLemmas.{any_outcome, outcome, unless_up_same}
@@ -28,13 +28,13 @@ use Rattle.syn_headline.proofs.SideSteps.{if_some, Says, nothing, reply, SideSte
 use Rattle.syn_headline.proofs.SideSteps.{side_keeps}
 
 -- each acknowledged replacement of a step is the first of its events, and legal
-abbrev pub IsLegalStep : World → List Ack → Type 0
+abbrev pub IsLegalStep : Picture → List Ack → Type 0
 IsLegalStep old acks =
     (earlier later : List Ack) (side : Which) (token : Token) (path : Path) (since : ℕ) (u : Tree) →
     acks ≡ earlier ++ Happened side (Replaced token path since u) ∷ later →
     (earlier ≡ []) × IsLegal old.sent old.log side (stores_of old) token path since u
 
-pub record Advances (plans : Plans) (old new : World) : Type 0 where
+pub record Advances (plans : Plans) (old new : Picture) : Type 0 where
   pub later : Plans
   pub kept : IsKept later new
   pub which : Which
@@ -51,7 +51,7 @@ pub not_nothing : (earlier later : List Ack) (a : Ack) → [] ≡ earlier ++ a �
 not_nothing [] later a e = cc
 not_nothing (b ∷ earlier) later a e = cc
 
-none_legal : (old : World) → IsLegalStep old []
+none_legal : (old : Picture) → IsLegalStep old []
 none_legal old earlier later side token path since u e = absurd (not_nothing earlier later _ e)
 
 kept_only : (ks : List Kept) (earlier later : List Ack) (side : Which) (event : Event) →
@@ -62,17 +62,18 @@ kept_only (k ∷ ks) (b ∷ earlier) later side event e =
     kept_only ks earlier later side event
     (let t : map (λ k. Kept_by k) ks ≡ earlier ++ Happened side event ∷ later = cc in t)
 
-pub kept_legal : (old : World) (ks : List Kept) → IsLegalStep old (map (λ k. Kept_by k) ks)
+pub kept_legal : (old : Picture) (ks : List Kept) → IsLegalStep old (map (λ k. Kept_by k) ks)
 kept_legal old ks earlier later side token path since u e =
     absurd (kept_only ks earlier later side _ e)
 
 -- neither side goes on
-pub stay_moves : (plans : Plans) (old new : World) → histories_of new Left ≡ histories_of old Left →
+pub stay_moves : (plans : Plans) (old new : Picture) → histories_of new Left ≡ histories_of old
+    Left →
     histories_of new Right ≡ histories_of old Right →
     Moves plans old.coordinator.archive (histories_of old) (histories_of new) Left
 stay_moves plans old new left right = record { here = inl left; there = right }
 
-pub stays : (plans : Plans) (old new : World) → IsKept plans old → new ≡ old →
+pub stays : (plans : Plans) (old new : Picture) → IsKept plans old → new ≡ old →
     Advances plans old new
 stays plans old new k e = record {
   later = plans;
@@ -92,14 +93,15 @@ stays plans old new k e = record {
 -- A side
 
 -- the events that a side adds: none, or one that is allowed and that its session's plan asks for
-pub data Adds (plans : Plans) (old : World) (which : Which) (history : History) : List Event →
+pub data Adds (plans : Plans) (old : Picture) (which : Which) (history : History) : List Event →
     Type 0 where
   no_event : history ≡ histories_of old which → Adds plans old which history []
   one_event : (event : Event) → IsAllowed (histories_of old which) event →
       IsSoundEvent plans (histories_of old) old.coordinator.archive which event →
       history ≡ histories_of old which ++ event ∷ [] → Adds plans old which history (event ∷ [])
 
-moves_of : (plans : Plans) (old : World) (which : Which) (history : History) (events : List Event) →
+moves_of : (plans : Plans) (old : Picture) (which : Which) (history : History)
+    (events : List Event) →
     Adds plans old which history events →
     (history ≡ histories_of old which) ⊎ ((event : Event) × IsAllowed (histories_of old which) event
     × IsSoundEvent plans (histories_of old) old.coordinator.archive which event
@@ -107,11 +109,11 @@ moves_of : (plans : Plans) (old : World) (which : Which) (history : History) (ev
 moves_of plans old which history _ (no_event e) = inl e
 moves_of plans old which history _ (one_event event a s e) = inr (event, a, s, e)
 
-stores_history : (w : World) (s : Which) → history_of (stores_of w) s ≡ histories_of w s
+stores_history : (w : Picture) (s : Which) → history_of (stores_of w) s ≡ histories_of w s
 stores_history w Left = refl
 stores_history w Right = refl
 
-event_legal : (plans : Plans) (old : World) → IsKept plans old → (which : Which) (event : Event) →
+event_legal : (plans : Plans) (old : Picture) → IsKept plans old → (which : Which) (event : Event) →
     IsAllowed (histories_of old which) event →
     IsSoundEvent plans (histories_of old) old.coordinator.archive which event → (side : Which)
     (token : Token) (path : Path) (since : ℕ) (u : Tree) →
@@ -136,7 +138,8 @@ event_legal plans old k which (Replaced token' path' since' u') a s side token p
     (legal plans (histories_of old) old.coordinator.archive old.sent k.sound which token' path'
     since' u' a s (stores_of old) (stores_history old) refl))))))
 
-adds_legal : (plans : Plans) (old : World) → IsKept plans old → (which : Which) (history : History)
+adds_legal : (plans : Plans) (old : Picture) → IsKept plans old → (which : Which)
+    (history : History)
     (events : List Event) → Adds plans old which history events →
     IsLegalStep old (map (λ event. Happened which event) events)
 adds_legal plans old k which history _ (no_event e) earlier later side token path since u same =
@@ -152,48 +155,50 @@ adds_legal plans old k which history _ (one_event event a s e)
     absurd (not_nothing earlier later (Happened side (Replaced token path since u))
     (let x : [] ≡ earlier ++ Happened side (Replaced token path since u) ∷ later = cc in x))
 
-abbrev next : World → Which → SideMachine → Sent → List Ack → World
+abbrev next : Picture → Which → SidePicture → Sent → List Ack → Picture
 next old which machine sent acks =
     record (set_side old which machine) { sent = sent; acknowledged = acks }
 
-next_here : (old : World) (which : Which) (machine : SideMachine) (sent : Sent) (acks : List Ack) →
+next_here : (old : Picture) (which : Which) (machine : SidePicture) (sent : Sent)
+    (acks : List Ack) →
     side_of (next old which machine sent acks) which ≡ machine
 next_here old Left machine sent acks = refl
 next_here old Right machine sent acks = refl
 
-next_there : (old : World) (which : Which) (machine : SideMachine) (sent : Sent) (acks : List Ack) →
+next_there : (old : Picture) (which : Which) (machine : SidePicture) (sent : Sent)
+    (acks : List Ack) →
     side_of (next old which machine sent acks) (other which) ≡ side_of old (other which)
 next_there old Left machine sent acks = refl
 next_there old Right machine sent acks = refl
 
-next_coordinator : (old : World) (which : Which) (machine : SideMachine) (sent : Sent)
+next_coordinator : (old : Picture) (which : Which) (machine : SidePicture) (sent : Sent)
     (acks : List Ack) → (next old which machine sent acks).coordinator ≡ old.coordinator
 next_coordinator old Left machine sent acks = refl
 next_coordinator old Right machine sent acks = refl
 
-next_log : (old : World) (which : Which) (machine : SideMachine) (sent : Sent) (acks : List Ack) →
+next_log : (old : Picture) (which : Which) (machine : SidePicture) (sent : Sent) (acks : List Ack) →
     (next old which machine sent acks).log ≡ old.log
 next_log old Left machine sent acks = refl
 next_log old Right machine sent acks = refl
 
-next_sent : (old : World) (which : Which) (machine : SideMachine) (sent : Sent) →
+next_sent : (old : Picture) (which : Which) (machine : SidePicture) (sent : Sent) →
     record (set_side old which machine) { sent = sent }
     ≡ next old which machine sent old.acknowledged
 next_sent old Left machine sent = refl
 next_sent old Right machine sent = refl
 
-pub next_same : (old : World) (which : Which) (machine : SideMachine) →
+pub next_same : (old : Picture) (which : Which) (machine : SidePicture) →
     set_side old which machine ≡ next old which machine old.sent old.acknowledged
 next_same old Left machine = refl
 next_same old Right machine = refl
 
-abbrev IsWritten : Plans → World → Which → SideMachine → Type 0
+abbrev IsWritten : Plans → Picture → Which → SidePicture → Type 0
 IsWritten plans old which machine =
     IfSome machine.writing (λ event. (machine.status ≢ Up) × IsSoundEvent plans (histories_of old)
     old.coordinator.archive which event × (machine.side.history ≡ histories_of old which))
 
-side_advances : (plans : Plans) (old : World) → IsKept plans old → (which : Which)
-    (machine : SideMachine) (messages : Sent) (events : List Event) (new : World) →
+side_advances : (plans : Plans) (old : Picture) → IsKept plans old → (which : Which)
+    (machine : SidePicture) (messages : Sent) (events : List Event) (new : Picture) →
     Adds plans old which machine.side.history events →
     IfSome machine.side.staging (IsSoundStaging plans (histories_of old) which) →
     IsWritten plans old which machine → Says plans old.sent which machine.side.history messages →
@@ -233,8 +238,8 @@ side_advances plans old k which machine messages events new adds staged writing 
     }
 
 -- with no event and nothing said
-pub side_settles : (plans : Plans) (old : World) → IsKept plans old → (which : Which)
-    (machine : SideMachine) (new : World) → machine.side.history ≡ histories_of old which →
+pub side_settles : (plans : Plans) (old : Picture) → IsKept plans old → (which : Which)
+    (machine : SidePicture) (new : Picture) → machine.side.history ≡ histories_of old which →
     IfSome machine.side.staging (IsSoundStaging plans (histories_of old) which) →
     IsWritten plans old which machine → new ≡ next old which machine old.sent old.acknowledged →
     Advances plans old new
@@ -243,7 +248,7 @@ side_settles plans old k which machine new h staged writing e =
     [] new (no_event h) staged writing nothing (e ∙ ap₂ (λ s a. next old which machine s a)
     (sym (append-nil old.sent)) (sym (append-nil old.acknowledged)))
 
-pub was_written : (plans : Plans) (old : World) → IsKept plans old → (which : Which)
+pub was_written : (plans : Plans) (old : Picture) → IsKept plans old → (which : Which)
     (status : Status) → (((side_of old which).status ≢ Up) → status ≢ Up) → (side : Side) →
     side.history ≡ histories_of old which →
     IsWritten plans old which (record (side_of old which) { status = status; side = side })
@@ -260,10 +265,11 @@ down_not_up e = cc
 pub halted_not_up : Halted ≢ Up
 halted_not_up e = cc
 
-pub writes_advances : (plans : Plans) (old : World) →
+pub writes_advances : (plans : Plans) (old : Picture) →
     IsKept plans old → (which : Which) (event : Event) → IsAllowed (histories_of old which) event →
     IsSoundEvent plans (histories_of old) old.coordinator.archive which event →
-    (machine : SideMachine) (events : List Event) (new : World) → (side_of old which).status ≡ Up →
+    (machine : SidePicture) (events : List Event) (new : Picture) → (side_of old which).status ≡
+    Up →
     Writes (side_of old which) event machine events → new ≡ next old which machine (old.sent ++ [])
     (old.acknowledged ++ map (λ event. Happened which event) events) → Advances plans old new
 writes_advances plans old k which event a s _ _ new up written e =
@@ -278,8 +284,9 @@ writes_advances plans old k which event a s _ _ new up failed e =
 writes_advances plans old k which event a s _ _ new up cut e =
     side_advances plans old k which _ [] [] new (no_event refl) tt (down_not_up, s, refl) nothing e
 
-pub opens_advances : (plans : Plans) (old : World) →
-    IsKept plans old → (which : Which) (machine : SideMachine) (events : List Event) (new : World) →
+pub opens_advances : (plans : Plans) (old : Picture) →
+    IsKept plans old → (which : Which) (machine : SidePicture) (events : List Event)
+    (new : Picture) →
     Opens (side_of old which) machine events → new ≡ next old which machine (old.sent ++ [])
     (old.acknowledged ++ map (λ event. Happened which event) events) → Advances plans old new
 opens_advances plans old k which _ _ new opened e =
@@ -297,7 +304,7 @@ longer h event e =
     let x : [] ≡ event ∷ [] = append_cancel_left h [] (event ∷ []) (append-nil h ∙ e) in
     cc
 
-module _ (plans : Plans) (old : World) (k : IsKept plans old) (which : Which) (session number : ℕ)
+module _ (plans : Plans) (old : Picture) (k : IsKept plans old) (which : Which) (session number : ℕ)
     (request : Request) (asked : Contains old.sent (Asks which session number request)) where
   lawful : IsLawfulRequest session request
   lawful = (k.sound.asked which session number request asked).lawful
@@ -333,7 +340,7 @@ module _ (plans : Plans) (old : World) (k : IsKept plans old) (which : Which) (s
             subst (IsSoundEvent plans (histories_of old) old.coordinator.archive which) same a.2
       ]
 
-  pub request_advances : (new : World) → TakesRequest old which session number request new →
+  pub request_advances : (new : Picture) → TakesRequest old which session number request new →
       Advances plans old new
   request_advances new (answered a) =
       let o = any_outcome (side_of old which).status old.pair a.has_room

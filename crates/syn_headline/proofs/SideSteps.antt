@@ -15,8 +15,8 @@ use Rattle.syn_headline.specs.Laws.{AddsAllowed}
 use Rattle.syn_headline.specs.Side.{Request, Reply}
 use Rattle.syn_headline.specs.Network.{Which, other, Sent, Message, Asks, Answers}
 use Rattle.syn_headline.specs.Planning.{seen_on}
-use Rattle.syn_headline.proofs.Coarse.{World, SideMachine, Running, outstanding, side_of, RunsOver}
-use Rattle.syn_headline.proofs.Coarse.{WasSent}
+use Rattle.syn_headline.specs.Picture.{Picture, SidePicture, SessionPicture, outstanding, side_of}
+use Rattle.syn_headline.specs.Picture.{RunsOver, WasSent}
 use Rattle.syn_headline.specs.Machine.{Up}
 use Rattle.syn_headline.specs.Coordinator.{Outstanding, asked_in}
 use Rattle.syn_headline.proofs.Invariant.{Plans, plan_in, Histories, histories_of, IsSound, IsTrue}
@@ -95,7 +95,7 @@ pub if_some : {X : Type 0} (o : Option X) (P Q : X → Type 0) →
 if_some None P Q h f = tt
 if_some (Some x) P Q h f = f x refl h
 
-pub was_sent-more : (sent more : Sent) (running : Running) → WasSent sent running →
+pub was_sent-more : (sent more : Sent) (running : SessionPicture) → WasSent sent running →
     WasSent (sent ++ more) running
 was_sent-more sent more running w side =
     All-weaker (λ waiting. Contains sent (Asks side running.session waiting.number waiting.request))
@@ -124,7 +124,7 @@ asked_was_sent sent side session number (first ∷ more) all request e =
           (All-tail P first more all) request is
     ] refl e
 
-pub runs_over-more : (sent more : Sent) (archive : Archive) (running : Option Running) →
+pub runs_over-more : (sent more : Sent) (archive : Archive) (running : Option SessionPicture) →
     RunsOver sent archive running → RunsOver (sent ++ more) archive running
 runs_over-more sent more archive None r = tt
 runs_over-more sent more archive (Some running) r = (r.0, was_sent-more sent more running r.1, r.2)
@@ -149,7 +149,7 @@ says_sound plans histories archive sent sound which _
     sound-answer plans histories archive sent sound which session number request said asked t b
 
 -- a side goes on
-pub record SideStep (plans : Plans) (old new : World) (which : Which) (machine : SideMachine)
+pub record SideStep (plans : Plans) (old new : Picture) (which : Which) (machine : SidePicture)
     (messages : List Message) : Type 0 where
   pub here : side_of new which ≡ machine
   pub there : side_of new (other which) ≡ side_of old (other which)
@@ -165,8 +165,8 @@ pub record SideStep (plans : Plans) (old new : World) (which : Which) (machine :
       old.coordinator.archive which event × (machine.side.history ≡ histories_of old which))
   pub says : Says plans old.sent which machine.side.history messages
 
-module _ (plans : Plans) (old new : World) (k : IsKept plans old) (which : Which)
-    (machine : SideMachine) (messages : List Message)
+module _ (plans : Plans) (old new : Picture) (k : IsKept plans old) (which : Which)
+    (machine : SidePicture) (messages : List Message)
     (s : SideStep plans old new which machine messages) where
   machine_is : histories_of new which ≡ machine.side.history
   machine_is = ap (λ m. m.side.history) s.here

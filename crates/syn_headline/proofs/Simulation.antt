@@ -19,22 +19,22 @@ use Rattle.syn_headline.specs.Coordinator.{Running, running_after, CoordinatorMa
 use Rattle.syn_headline.specs.Coordinator.{archive_layout, with_archive, Call, start_causes, takes}
 use Rattle.syn_headline.specs.Coordinator.{ignores, CoordinatorTakes}
 use Rattle.syn_headline.specs.World.{World, Machine, At, Coordinator, side_of, says, set_device}
-use Rattle.syn_headline.specs.World.{side_goes}
-use Rattle.syn_headline.specs.World.{Step, Edits, Start, Deliver, Tick, Checkpoint, Fail, Stop}
-use Rattle.syn_headline.specs.World.{Open, Reopen, status_of, coordinator_goes, archive_writes}
-use Rattle.syn_headline.specs.World.{refuses_with, is_halted, answered_by, UnlessDown, Calls}
-use Rattle.syn_headline.specs.World.{EditsSide, edits, Starts, CompactsMachine, compacts_side}
-use Rattle.syn_headline.specs.World.{compacts_archive, Delivers, no_message, to_no_side, to_side}
-use Rattle.syn_headline.specs.World.{to_coordinator, Ticks, ticks, OpensMachine, opens_side}
-use Rattle.syn_headline.specs.World.{opens_archive, FailsDevice, fails_device, OpensDown, opens}
-use Rattle.syn_headline.specs.World.{open_fails, no_memory_to_open, Reopens, reopens, reopen_fails}
-use Rattle.syn_headline.specs.World.{reopen_is_cut, no_memory_to_reopen, full_generation}
-use Rattle.syn_headline.specs.World.{generation_of, Steps, Runs}
-use Rattle.syn_headline.proofs.Coarse.{Follows, FollowsAll, nothing_more, one_more}
+use Rattle.syn_headline.specs.World.{side_goes, Step, Edits, Start, Deliver, Tick, Checkpoint, Fail}
+use Rattle.syn_headline.specs.World.{Stop, Open, Reopen, status_of, coordinator_goes}
+use Rattle.syn_headline.specs.World.{archive_writes, refuses_with, is_halted, answered_by}
+use Rattle.syn_headline.specs.World.{UnlessDown, Calls, EditsSide, edits, Starts, CompactsMachine}
+use Rattle.syn_headline.specs.World.{compacts_side, compacts_archive, Delivers, no_message}
+use Rattle.syn_headline.specs.World.{to_no_side, to_side, to_coordinator, Ticks, ticks}
+use Rattle.syn_headline.specs.World.{OpensMachine, opens_side, opens_archive, FailsDevice}
+use Rattle.syn_headline.specs.World.{fails_device, OpensDown, opens, open_fails, no_memory_to_open}
+use Rattle.syn_headline.specs.World.{Reopens, reopens, reopen_fails, reopen_is_cut}
+use Rattle.syn_headline.specs.World.{no_memory_to_reopen, full_generation, generation_of, Steps}
+use Rattle.syn_headline.specs.World.{Runs}
+use Rattle.syn_headline.specs.Picture.{Follows, FollowsAll, nothing_more, one_more}
 use Rattle.syn_headline.proofs.Invariant.{Plans, histories_of, IsKept, IsHarmless}
-use Rattle.syn_headline.proofs.View.{view, view_running, view_coordinator, not_up, halted_not_up}
-use Rattle.syn_headline.proofs.View.{down_not_up, neither, edits_follow, opens_follow}
-use Rattle.syn_headline.proofs.View.{compacts_follow, request_follows, device_follows}
+use Rattle.syn_headline.specs.Runs.{picture_of, session_picture, coordinator_picture}
+use Rattle.syn_headline.proofs.View.{not_up, halted_not_up, down_not_up, neither, edits_follow}
+use Rattle.syn_headline.proofs.View.{opens_follow, compacts_follow, request_follows, device_follows}
 use Rattle.syn_headline.proofs.Heard.{sent_at}
 use Rattle.syn_headline.proofs.Sessions.{IsHeard, GoesBeside}
 use Rattle.syn_model.specs.Refusal.{Refusal, Device, Memory, Cause, first_cause}
@@ -44,7 +44,7 @@ use Rattle.syn_model.proofs.HistoryLemmas.{first_cause-none}
 use Rattle.syn_headline.specs.Planning.{Log}
 use Rattle.syn_headline.specs.Report.{Report}
 use Rattle.syn_headline.specs.World as world
-use Rattle.syn_headline.proofs.Coarse as coarse
+use Rattle.syn_headline.specs.Picture as picture
 use Rattle.syn_headline.proofs.AdvanceLemmas.{step_advances}
 use Rattle.syn_headline.proofs.CallLemmas.{takes_follow}
 use Rattle.syn_headline.proofs.StartLemmas.{nothing_given, heard_still, starts_follow}
@@ -57,29 +57,32 @@ use Rattle.syn_headline.proofs.ReportedRuns.{AllTold, grows, step_told}
 -- The archive's journal
 
 view_archive : (old : World) (journal : Journaled Archive Kept) (kept : List Kept) →
-    view (archive_writes old journal kept) ≡ record (view old) {
-      coordinator = view_coordinator
+    picture_of (archive_writes old journal kept) ≡ record (picture_of old) {
+      coordinator = coordinator_picture
           (with_archive old.coordinator journal);
       acknowledged = old.acknowledged ++ map Kept_by kept;
     }
 view_archive old journal kept =
-    let with_kept : coarse.World =
-    record (view old) {
-      coordinator = view_coordinator (with_archive old.coordinator journal);
+    let with_kept : picture.Picture =
+    record (picture_of old) {
+      coordinator = coordinator_picture (with_archive old.coordinator journal);
       acknowledged = old.acknowledged ++ map Kept_by kept;
     } in
-    let one : Sent → List (Report × ℕ) → coarse.World =
+    let one : Sent → List (Report × ℕ) → picture.Picture =
     λ sent reports. record with_kept { sent = sent; reports = reports; log = old.log ++ [] } in
-    let two : Log → coarse.World = λ log. record with_kept { log = log } in
+    let two : Log → picture.Picture = λ log. record with_kept { log = log } in
     ap₂ one (append-nil old.sent) (append-nil old.reports) ∙ ap two (append-nil old.log)
 
 view_archive_alone : (old : World) (journal : Journaled Archive Kept) →
-    view (archive_writes old journal [])
-    ≡ record (view old) { coordinator = view_coordinator (with_archive old.coordinator journal) }
+    picture_of (archive_writes old journal [])
+    ≡ record (picture_of old) {
+      coordinator = coordinator_picture
+          (with_archive old.coordinator journal);
+    }
 view_archive_alone old journal =
-    let with_acks : List Ack → coarse.World = λ acks. record (view old) {
+    let with_acks : List Ack → picture.Picture = λ acks. record (picture_of old) {
       coordinator =
-          view_coordinator (with_archive old.coordinator journal);
+          coordinator_picture (with_archive old.coordinator journal);
       acknowledged = acks;
     } in
     view_archive old journal [] ∙ ap with_acks (append-nil old.acknowledged)
@@ -91,49 +94,49 @@ archive_beside old journal =
     (append-nil old.acknowledged)
 
 still_running : (status : Status) (running : Option Running) →
-    (option_map view_running (running_after status running) ≡ option_map view_running running)
-    ⊎ (option_map view_running (running_after status running) ≡ None)
+    (option_map session_picture (running_after status running) ≡ option_map session_picture running)
+    ⊎ (option_map session_picture (running_after status running) ≡ None)
 still_running Up running = inl refl
 still_running Halted running = inl refl
 still_running Down running = inr refl
 
 compacts_archive_follow : (old : World) (journal : Journaled Archive Kept) →
     Compacts (archive_layout old.pair) old.coordinator.journal journal →
-    Follows (view old) (view (archive_writes old journal []))
+    Follows (picture_of old) (picture_of (archive_writes old journal []))
 compacts_archive_follow old _ (compacted arms meets) =
-    coarse.archive_changes old.coordinator.journal.status (option_map view_running
+    picture.archive_changes old.coordinator.journal.status (option_map session_picture
     (running_after old.coordinator.journal.status old.coordinator.running)) (λ h. h)
     (still_running old.coordinator.journal.status old.coordinator.running)
     (view_archive_alone old (with_image (archive_layout old.pair) old.coordinator.journal arms))
 compacts_archive_follow old _ (not_compacted status arms failed down meets) =
-    coarse.archive_changes status
-    (option_map view_running (running_after status old.coordinator.running))
+    picture.archive_changes status
+    (option_map session_picture (running_after status old.coordinator.running))
     (λ _. not_up status down) (still_running status old.coordinator.running)
     (view_archive_alone old
     (after_device (record old.coordinator.journal { compacting = true }) status arms failed))
 
-none_runs : (plans : Plans) (old : World) → IsKept plans (view old) → (kept : Kept) →
+none_runs : (plans : Plans) (old : World) → IsKept plans (picture_of old) → (kept : Kept) →
     old.coordinator.journal.writing ≡ Some kept → (running : Option Running) →
     old.coordinator.running ≡ running → running ≡ None
 none_runs plans old k kept is None at = refl
 none_runs plans old k kept is (Some r) at =
     let pending = subst (λ o. IfSome o (λ kept. (old.coordinator.journal.status ≢ Up)
-    × ((view old).coordinator.running ≡ None) × CanKeep old.coordinator.journal.value kept
-    × IsHarmless plans (histories_of (view old)) kept)) is k.coordinator.writing in
-    absurd (none-some _ (sym (sym (ap (option_map view_running) at) ∙ pending.1)))
+    × ((picture_of old).coordinator.running ≡ None) × CanKeep old.coordinator.journal.value kept
+    × IsHarmless plans (histories_of (picture_of old)) kept)) is k.coordinator.writing in
+    absurd (none-some _ (sym (sym (ap (option_map session_picture) at) ∙ pending.1)))
 
 none_heard : (running : Option Running) (w : World) → running ≡ None → IfSome running (IsHeard w)
 none_heard None w at = tt
 none_heard (Some r) w at = absurd (none-some _ (sym at))
 
-opens_archive_follow : (plans : Plans) (old : World) → IsKept plans (view old) →
+opens_archive_follow : (plans : Plans) (old : World) → IsKept plans (picture_of old) →
     IfSome old.coordinator.running (IsHeard old) → (calls : ℕ)
     (journal : Journaled Archive Kept) (kept : List Kept) →
     Opens (archive_layout old.pair) CanKeep old.coordinator.journal calls journal kept →
     IsFollowed old (archive_writes old journal kept)
 opens_archive_follow plans old k h calls _ _ (opened room generation arms meets left) =
     let journal = reopened old.coordinator.journal room generation arms in (
-      coarse.archive_opens (view_archive_alone old journal),
+      picture.archive_opens (view_archive_alone old journal),
       beside_heard old
           (archive_writes old journal []) (archive_beside old journal) old.coordinator.running h,
       inl (append-nil old.reports),
@@ -141,7 +144,7 @@ opens_archive_follow plans old k h calls _ _ (opened room generation arms meets 
 opens_archive_follow plans old k h calls _ _ (recovered arms kept meets is can) =
     let journal = with_record (archive_layout old.pair) (reopened old.coordinator.journal
     old.coordinator.journal.room old.coordinator.journal.generation arms) kept arms in (
-      coarse.archive_recovers kept is can (view_archive old journal (kept ∷ [])),
+      picture.archive_recovers kept is can (view_archive old journal (kept ∷ [])),
       none_heard old.coordinator.running (archive_writes old journal (kept ∷ []))
           (none_runs plans old k kept is old.coordinator.running refl),
       inl (append-nil old.reports),
@@ -161,10 +164,10 @@ device_reports old Coordinator status arms failed = refl
 
 -- The steps
 
-module _ (plans : Plans) (old : World) (k : IsKept plans (view old))
+module _ (plans : Plans) (old : World) (k : IsKept plans (picture_of old))
     (h : IfSome old.coordinator.running (IsHeard old)) where
   stays_so : (new : World) → new ≡ old → IsFollowed old new
-  stays_so new e = subst (IsFollowed old) (sym e) (coarse.same refl, h, inl refl)
+  stays_so new e = subst (IsFollowed old) (sym e) (picture.same refl, h, inl refl)
 
   -- what a call was refused with is seen nowhere
   told_so : (made : World) (reason : Refusal) → IsFollowed old made →
@@ -283,7 +286,7 @@ module _ (plans : Plans) (old : World) (k : IsKept plans (view old))
       CoordinatorTakes old.pair old.coordinator from session number reply machine call →
       IsFollowed old (coordinator_goes old machine call)
   answer_so from session number reply c _ _ (ignores none) =
-      (coarse.same (nothing_given old), heard_still old h, inl (append-nil old.reports))
+      (picture.same (nothing_given old), heard_still old h, inl (append-nil old.reports))
   answer_so from session number reply c _ _ (takes r request new call expected t) =
       takes_follow plans old k r expected.runs
       (subst (λ o. IfSome o (IsHeard old)) expected.runs h) from number reply
@@ -354,19 +357,21 @@ module _ (plans : Plans) (old : World) (k : IsKept plans (view old))
       unless_down_so machine _ new (λ up r. reopens_so machine new r) g
 
 -- a whole run
-pub runs_follow : (steps : List Step) (plans : Plans) (old new : World) → IsKept plans (view old) →
+pub runs_follow : (steps : List Step) (plans : Plans) (old new : World) → IsKept plans
+    (picture_of old) →
     IfSome old.coordinator.running (IsHeard old) → Runs old steps new →
-    FollowsAll (view old) (view new) × IfSome new.coordinator.running (IsHeard new)
+    FollowsAll (picture_of old) (picture_of new) × IfSome new.coordinator.running (IsHeard new)
     × (AllTold old → AllTold new)
 runs_follow [] plans old new k h e =
-    subst (λ w. FollowsAll (view old) (view w) × IfSome w.coordinator.running (IsHeard w)
+    subst (λ w. FollowsAll (picture_of old) (picture_of w) × IfSome w.coordinator.running
+    (IsHeard w)
     × (AllTold old → AllTold w)) (sym e)
-    (nothing_more (view old), h, λ told. told)
+    (nothing_more (picture_of old), h, λ told. told)
 runs_follow (step ∷ steps) plans old new k h g =
     let f = step_follows plans old k h step g.0 g.1 in
-    let a = step_advances plans (view old) k (view g.0) f.0 in
+    let a = step_advances plans (picture_of old) k (picture_of g.0) f.0 in
     let more = runs_follow steps a.later g.0 new a.kept f.1 g.2 in (
-      one_more (view old) (view g.0) (view new) f.0 more.0,
+      one_more (picture_of old) (picture_of g.0) (picture_of new) f.0 more.0,
       more.1,
-      λ told. more.2 (step_told old g.0 (grows (view old) (view g.0) f.0) f.2 told),
+      λ told. more.2 (step_told old g.0 (grows (picture_of old) (picture_of g.0) f.0) f.2 told),
     )

@@ -30,7 +30,7 @@ use Rattle.std.specs.Prelude.{Contains, All}
 use Rattle.std.specs.Option.{option_map_or}
 use Rattle.std.proofs.lemmas.Bool.Decides.{nat_tests}
 use Rattle.std.proofs.lemmas.List.Quantifiers.{all_pairs_push}
-use Rattle.syn_headline.proofs.Coarse.{IsOfPlan}
+use Rattle.syn_headline.specs.Picture.{IsOfPlan}
 use Rattle.syn_model.proofs.PathLemmas.{strip_prefix-is}
 use Rattle.syn_model.proofs.TreeLemmas.{get-replace}
 use Rattle.syn_headline.proofs.GrownLemmas.{some_in_nothing}

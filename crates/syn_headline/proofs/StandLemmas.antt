@@ -34,9 +34,9 @@ use Rattle.syn_headline.specs.World.{no_memory_to_open, Reopens, reopens, reopen
 use Rattle.syn_headline.specs.World.{reopen_is_cut, no_memory_to_reopen, full_generation}
 use Rattle.syn_headline.specs.World.{generation_of, Steps, Runs}
 use Rattle.syn_headline.specs.World as world
-use Rattle.syn_headline.specs.Headline.{StandsFor, RunsStand, stores_of}
-use Rattle.syn_headline.proofs.CoarseRuns as picture
-use Rattle.syn_headline.proofs.View.{view, view_goes}
+use Rattle.syn_headline.specs.Runs.{RunsStand, stores_of, picture_of}
+use Rattle.syn_headline.specs.Headline as promised
+use Rattle.syn_headline.proofs.View.{view_goes}
 use Rattle.syn_headline.proofs.WorldLemmas.{side_goes as view_side_goes}
 use Rattle.syn_headline.proofs.WorldLemmas.{coordinator_goes as view_coordinator_goes}
 
@@ -146,13 +146,8 @@ opens_value pair old calls _ _ (recovered arms kept meets is can) = refl
 
 -- The world
 
-to_view : (before : Stores) (world : World) → StandsFor before world →
-    picture.StandsFor before (view world)
-to_view before world s = record { left = s.left; right = s.right; archive = s.archive }
-
-from_view : (before : Stores) (world : World) → picture.StandsFor before (view world) →
-    StandsFor before world
-from_view before world s = record { left = s.left; right = s.right; archive = s.archive }
+abbrev StandsFor : Stores → World → Type 0
+StandsFor before world = promised.StandsFor before (picture_of world)
 
 -- a side goes on by what it acknowledges
 side_stands : (before : Stores) (old : World) (side : Which) (machine : SideMachine)
@@ -160,13 +155,13 @@ side_stands : (before : Stores) (old : World) (side : Which) (machine : SideMach
     machine.journal.value ≡ (side_of old side).journal.value ++ events →
     StandsFor before (side_goes old side machine messages events)
 side_stands before old Left machine messages events s e =
-    from_view before (side_goes old Left machine messages events) (view_side_goes before
-    (view old) Left _ events messages (view (side_goes old Left machine messages events))
-    (to_view before old s) e (view_goes old Left machine messages events))
+    view_side_goes before (picture_of old) Left _ events messages
+    (picture_of (side_goes old Left machine messages events)) s e
+    (view_goes old Left machine messages events)
 side_stands before old Right machine messages events s e =
-    from_view before (side_goes old Right machine messages events) (view_side_goes before
-    (view old) Right _ events messages (view (side_goes old Right machine messages events))
-    (to_view before old s) e (view_goes old Right machine messages events))
+    view_side_goes before (picture_of old) Right _ events messages
+    (picture_of (side_goes old Right machine messages events)) s e
+    (view_goes old Right machine messages events)
 
 -- and so does the coordinator
 coordinator_stands : (before : Stores) (old : World) (machine : CoordinatorMachine)
@@ -174,10 +169,9 @@ coordinator_stands : (before : Stores) (old : World) (machine : CoordinatorMachi
     machine.journal.value ≡ archive_of old.coordinator.journal.value call.kept →
     StandsFor before (coordinator_goes old machine call)
 coordinator_stands before old machine call s e =
-    from_view before (coordinator_goes old machine call)
-    (view_coordinator_goes before (view old) _ call.kept (old.sent ++ call.messages)
+    view_coordinator_goes before (picture_of old) _ call.kept (old.sent ++ call.messages)
     (coordinator_goes old machine call).reports (old.log ++ call.logged)
-    (view (coordinator_goes old machine call)) (to_view before old s) e refl)
+    (picture_of (coordinator_goes old machine call)) s e refl
 
 device_stands : (before : Stores) (old : World) (machine : Machine) (status : Status) (arms : Arms)
     (failed : ℕ) → StandsFor before old →
@@ -315,7 +309,8 @@ runs_stand before old new (step ∷ steps) g s =
     runs_stand before g.0 new steps g.2 (step_stands before old s step g.0 g.1)
 
 -- nothing is acknowledged yet, so that each machine stands for what was there
-pub at_start : (world : World) → world.acknowledged ≡ [] → StandsFor (stores_of world) world
+pub at_start : (world : World) → world.acknowledged ≡ [] →
+    promised.StandsFor (stores_of world) (picture_of world)
 at_start world none =
     let before = stores_of world in
     record {

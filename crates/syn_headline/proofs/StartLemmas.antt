@@ -17,7 +17,7 @@ use Rattle.syn_headline.specs.Side.{Request, Begin, ListAt, IsLawfulRequest}
 use Rattle.syn_model.specs.Path.{Path}
 use Rattle.syn_headline.specs.Network.{Which, Left, Right, Message, Asks, Sent, NumbersTell}
 use Rattle.syn_headline.specs.Network.{AsksNothingTwice}
-use Rattle.syn_headline.specs.Acknowledged.{Ack, Kept_by, kept_in}
+use Rattle.syn_headline.specs.Acknowledged.{Ack, Kept_by, kept_in, since_start}
 use Rattle.syn_headline.specs.Planning.{Log}
 use Rattle.syn_headline.specs.Report.{Report}
 use Rattle.syn_headline.specs.Coordinator.{IsShown, Outstanding, Running, CoordinatorMachine, Call}
@@ -26,13 +26,12 @@ use Rattle.syn_headline.specs.Coordinator.{sent_now, asked_count, CoordinatorSta
 use Rattle.syn_headline.specs.Coordinator as fine
 use Rattle.syn_headline.specs.World as fine_world
 use Rattle.syn_headline.specs.World.{coordinator_goes}
-use Rattle.syn_headline.proofs.Coarse.{World, Follows, since_start, RunsOver, IsNext, StartsFrom}
-use Rattle.syn_headline.proofs.Coarse.{IsOfSession}
-use Rattle.syn_headline.proofs.Coarse as coarse
+use Rattle.syn_headline.specs.Picture.{Picture, Follows, RunsOver, IsNext, StartsFrom, IsOfSession}
+use Rattle.syn_headline.specs.Picture as picture
 use Rattle.syn_headline.proofs.Invariant.{Plans, histories_of, IsHarmless, IsKept}
 use Rattle.syn_headline.proofs.SideSteps.{if_some}
 use Rattle.syn_headline.proofs.StepLemmas.{next_fresh}
-use Rattle.syn_headline.proofs.View.{view, view_running, view_coordinator}
+use Rattle.syn_headline.specs.Runs.{picture_of, session_picture, coordinator_picture}
 use Rattle.syn_headline.proofs.Walks.{IsLeft, writes_left, keeps_due, IsSettledBy}
 use Rattle.syn_headline.proofs.Remembers.{Remembers, asking_remembers, asking_tells, asking_once}
 use Rattle.syn_headline.proofs.InOrder.{asking_in_order, nothing_in_order, for_side}
@@ -42,12 +41,12 @@ use Rattle.syn_headline.proofs.Sessions.{IsHeard, GoesBeside, heard_beside}
 
 -- a call that gives nothing
 pub nothing_given : (old : fine_world.World) →
-    view (coordinator_goes old old.coordinator fine.no_call) ≡ view old
+    picture_of (coordinator_goes old old.coordinator fine.no_call) ≡ picture_of old
 nothing_given old =
-    let one : Sent → List Ack → World = λ sent acks. record (view old)
+    let one : Sent → List Ack → Picture = λ sent acks. record (picture_of old)
     { sent = sent; acknowledged = acks; reports = old.reports ++ []; log = old.log ++ [] } in
     let two : List (Report × ℕ) → Log →
-    World = λ reports log. record (view old) { reports = reports; log = log } in
+    Picture = λ reports log. record (picture_of old) { reports = reports; log = log } in
     ap₂ one (append-nil old.sent) (append-nil old.acknowledged)
     ∙ ap₂ two (append-nil old.reports) (append-nil old.log)
 
@@ -74,7 +73,7 @@ heard_still old h =
     (coordinator_goes old old.coordinator fine.no_call) r (given_beside old) h)
 
 -- nothing is being written where a machine is up
-up_unwritten : (plans : Plans) (old : fine_world.World) → IsKept plans (view old) →
+up_unwritten : (plans : Plans) (old : fine_world.World) → IsKept plans (picture_of old) →
     old.coordinator.journal.status ≡ Up → old.coordinator.journal.writing ≡ None
 up_unwritten plans old k up = by old.coordinator.journal.writing refl
   where
@@ -82,8 +81,8 @@ up_unwritten plans old k up = by old.coordinator.journal.writing refl
     by None at = refl
     by (Some what) at =
         let h = subst (λ o. IfSome o (λ kept. (old.coordinator.journal.status ≢ Up)
-        × ((view old).coordinator.running ≡ None) × CanKeep old.coordinator.journal.value kept
-        × IsHarmless plans (histories_of (view old)) kept)) at k.coordinator.writing in
+        × ((picture_of old).coordinator.running ≡ None) × CanKeep old.coordinator.journal.value kept
+        × IsHarmless plans (histories_of (picture_of old)) kept)) at k.coordinator.writing in
         absurd (h.0 up)
 
 -- A start
@@ -112,7 +111,7 @@ next_can archive session smaller next =
     by false false e f = absurd (true≢false (sym f))
 
 module _ (preference : Option Which) (plans : Plans) (old : fine_world.World)
-    (k : IsKept plans (view old)) (up : old.coordinator.journal.status ≡ Up)
+    (k : IsKept plans (picture_of old)) (up : old.coordinator.journal.status ≡ Up)
     (smaller : nat_le greatest old.coordinator.journal.value.last_session ≡ false) where
   new_remembers : (session : ℕ) → session ≡ old.coordinator.journal.value.last_session + 1 →
       Remembers old.sent (new_session preference session)
@@ -175,19 +174,19 @@ module _ (preference : Option Which) (plans : Plans) (old : fine_world.World)
     begins_goes : (journal : Journaled Archive Kept) (kept : List Kept) (running : Option Running)
         (messages : List Message) →
         Keeps old.pair old.coordinator.journal (Session session) journal kept →
-        StartsFrom old.coordinator.journal.value (option_map view_running running) →
-        RunsOver (old.sent ++ messages) journal.value (option_map view_running running) →
+        StartsFrom old.coordinator.journal.value (option_map session_picture running) →
+        RunsOver (old.sent ++ messages) journal.value (option_map session_picture running) →
         NumbersTell (old.sent ++ messages) → AsksNothingTwice (old.sent ++ messages) →
-        coarse.AllOfSession old.pair old.sent (option_map view_running running) messages →
-        (IsSome journal.writing → (messages ≡ []) × (option_map view_running running ≡ None)) →
-        Follows (view old) (view (coordinator_goes old (record {
+        picture.AllOfSession old.pair old.sent (option_map session_picture running) messages →
+        (IsSome journal.writing → (messages ≡ []) × (option_map session_picture running ≡ None)) →
+        Follows (picture_of old) (picture_of (coordinator_goes old (record {
           journal = journal;
           running = running;
         }) (record fine.no_call { kept = kept; messages = messages })))
     begins_goes journal kept running messages keeps on over numbers repeats of_session silent =
         let left = left_so journal kept keeps in
-        coarse.starts_session (record {
-          machine = view_coordinator (record { journal = journal; running = running });
+        picture.starts_session (record {
+          machine = coordinator_picture (record { journal = journal; running = running });
           kept = kept;
           messages = messages;
           reports = [];
@@ -211,7 +210,7 @@ module _ (preference : Option Which) (plans : Plans) (old : fine_world.World)
 
     breaks_so : (journal : Journaled Archive Kept) (kept : List Kept) →
         Keeps old.pair old.coordinator.journal (Session session) journal kept →
-        Follows (view old) (view (coordinator_goes old
+        Follows (picture_of old) (picture_of (coordinator_goes old
         (record { journal = journal; running = None }) (record fine.no_call { kept = kept })))
     breaks_so journal kept keeps =
         begins_goes journal kept None
@@ -232,7 +231,7 @@ module _ (preference : Option Which) (plans : Plans) (old : fine_world.World)
           asking_remembers old.sent (new_session preference session) k.sound.numbers
           (new_remembers session next) (begins old.pair) (begins old.pair)
 
-      begins_so : Follows (view old) (view (coordinator_goes old (record
+      begins_so : Follows (picture_of old) (picture_of (coordinator_goes old (record
           { journal = journal; running = Some on }) (record fine.no_call {
             kept = Session session
                 ∷ [];
@@ -254,16 +253,16 @@ module _ (preference : Option Which) (plans : Plans) (old : fine_world.World)
           (asking_once old.sent (new_session preference session) k.sound.numbers
           (new_remembers session next)
           (begins old.pair) (begins old.pair) k.sound.repeats (begins_once session))
-          (All-cons (IsOfSession old.pair old.sent (view_running on)) (Asks Left session 0
+          (All-cons (IsOfSession old.pair old.sent (session_picture on)) (Asks Left session 0
           (Begin old.pair)) (Asks Right session 0 (Begin old.pair) ∷ []) (refl, lawful, tt)
-          (All-cons (IsOfSession old.pair old.sent (view_running on))
+          (All-cons (IsOfSession old.pair old.sent (session_picture on))
           (Asks Right session 0 (Begin old.pair))
-          [] (refl, lawful, tt) (All-nil (IsOfSession old.pair old.sent (view_running on)))))
+          [] (refl, lawful, tt) (All-nil (IsOfSession old.pair old.sent (session_picture on)))))
           (λ some. absurd (true≢false (sym some ∙ ap is_some (left.up then_up))))
         where
-          all_sent : coarse.WasSent (old.sent ++ sent_now (new_session preference session)
+          all_sent : picture.WasSent (old.sent ++ sent_now (new_session preference session)
               (begins old.pair)
-              (begins old.pair)) (view_running on)
+              (begins old.pair)) (session_picture on)
           all_sent Left i d within =
               remembers_on.waiting Left _ (All-contains_itself on.left i d within)
           all_sent Right i d within =
@@ -291,7 +290,8 @@ module _ (preference : Option Which) (plans : Plans) (old : fine_world.World)
         unplanned =
             λ _. (
               subst (All (λ made. made.session ≢ session)) (sym (append-nil old.log ∙ k.logged))
-                  (next_fresh plans (histories_of (view old)) old.coordinator.journal.value old.sent
+                  (next_fresh plans (histories_of (picture_of old)) old.coordinator.journal.value
+                  old.sent
                   k.sound session next).0,
               refl,
             );
@@ -308,7 +308,7 @@ module _ (preference : Option Which) (plans : Plans) (old : fine_world.World)
 
   pub starts_follow : (new : CoordinatorMachine) (call : Call) →
       CoordinatorStarts old.pair preference old.coordinator new call →
-      Follows (view old) (view (coordinator_goes old new call))
+      Follows (picture_of old) (picture_of (coordinator_goes old new call))
       × IfSome new.running (IsHeard (coordinator_goes old new call))
       × Tells old (coordinator_goes old new call)
   starts_follow _ _ (fine.starts session journal next lawful keeps then_up) = (

@@ -11,8 +11,9 @@ use Rattle.syn_model.specs.Archive.{Archive, Kept, CanKeep, after_kept, archive_
 use Rattle.syn_headline.specs.Side.{Request, Reply}
 use Rattle.syn_headline.specs.Network.{Which, other, Sent, Message, Asks, Answers, Left}
 use Rattle.syn_headline.specs.Planning.{Log, IsPlanOf}
-use Rattle.syn_headline.proofs.Coarse.{World, SideMachine, Running, side_of, RunsOver, IsOfPlan}
-use Rattle.syn_headline.proofs.Coarse.{IsOfSession, AllOfSession, AllCanKeep, CoordinatorGoes}
+use Rattle.syn_headline.specs.Picture.{Picture, SidePicture, SessionPicture, side_of, RunsOver}
+use Rattle.syn_headline.specs.Picture.{IsOfPlan, IsOfSession, AllOfSession, AllCanKeep}
+use Rattle.syn_headline.specs.Picture.{CoordinatorGoes}
 use Rattle.syn_headline.specs.Machine.{Up}
 use Rattle.syn_headline.proofs.Invariant.{Plans, plan_in, Histories, histories_of, IsSound, IsFresh}
 use Rattle.syn_headline.proofs.Invariant.{IsSoundStaging, IsSoundEvent, IsSoundSide, IsHarmless}
@@ -100,7 +101,7 @@ nothing_in : {m : Message} → Contains [] m → ⊥
 nothing_in c = omega (arith, c.1)
 
 asks_sound : (pair : ℕ) (plans : Plans) (histories : Histories) (archive : Archive) (sent : Sent)
-    (running : Option Running) (messages : List Message) →
+    (running : Option SessionPicture) (messages : List Message) →
     IfSome running (λ r. plan_in plans r.session ≡ r.plan) →
     RunsOver (sent ++ messages) archive running →
     AllOfSession pair sent running messages → (m : Message) → Contains messages m →
@@ -113,7 +114,8 @@ asks_sound pair plans histories archive sent (Some r) messages has over all m c 
   λ e. none-some _ (sym e),
 )
 
-request_of : (pair : ℕ) (plans : Plans) (archive : Archive) (sent : Sent) (running : Option Running)
+request_of : (pair : ℕ) (plans : Plans) (archive : Archive) (sent : Sent)
+    (running : Option SessionPicture)
     (to : Which) (session number : ℕ) (request : Request) →
     IfSome running (λ r. IsOfSession pair sent r (Asks to session number request)
     × (r.session ≡ archive.last_session) × (plan_in plans r.session ≡ r.plan)) →
@@ -131,7 +133,8 @@ request_of pair plans archive sent (Some r) to session number request h some =
           (subst (λ plan. IsOfPlan pair sent r.session plan to request) (sym h.2) h.0.2);
     }
 
-no_answer : (pair : ℕ) (sent : Sent) (archive : Archive) (plans : Plans) (running : Option Running)
+no_answer : (pair : ℕ) (sent : Sent) (archive : Archive) (plans : Plans)
+    (running : Option SessionPicture)
     (from : Which) (session number : ℕ) (said : Reply) →
     IfSome running (λ r. IsOfSession pair sent r (Answers from session number said)
     × (r.session ≡ archive.last_session) × (plan_in plans r.session ≡ r.plan)) →
@@ -147,7 +150,7 @@ event-later plans histories old new side (Began session) later h = omega (arith,
 event-later plans histories old new side (Replaced token path since u) later h = h
 
 pub sides-later : (plans : Plans) (histories : Histories) (old new : Archive) (side : Which)
-    (machine : SideMachine) → old.last_session ≤ new.last_session →
+    (machine : SidePicture) → old.last_session ≤ new.last_session →
     IsSoundSide plans histories old side machine → IsSoundSide plans histories new side machine
 sides-later plans histories old new side machine later h = record {
   staged = h.staged;
@@ -177,7 +180,7 @@ event-plan old new grows histories archive side (Replaced token path since u) h 
 }
 
 pub sides-plan : (old new : Plans) → PlansGrow old new → (histories : Histories) (archive : Archive)
-    (side : Which) (machine : SideMachine) → IsSoundSide old histories archive side machine →
+    (side : Which) (machine : SidePicture) → IsSoundSide old histories archive side machine →
     IsSoundSide new histories archive side machine
 sides-plan old new grows histories archive side machine h = record {
   staged =
@@ -199,8 +202,8 @@ sides-plan old new grows histories archive side machine h = record {
 
 -- a call of the coordinator keeps the invariant, where what is due is harmless and what runs has
 -- its plan
-pub coordinator_keeps : (plans : Plans) (old : World) (logged : Log) (D : Kept → Type 0)
-    (R : Option Running → Type 0) (new : World) → old.log ++ logged ≡ plans →
+pub coordinator_keeps : (plans : Plans) (old : Picture) (logged : Log) (D : Kept → Type 0)
+    (R : Option SessionPicture → Type 0) (new : Picture) → old.log ++ logged ≡ plans →
     IsSound plans (histories_of old) old.coordinator.archive old.sent → ((side : Which) →
     IsSoundSide plans (histories_of old) old.coordinator.archive side (side_of old side)) →
     ((kept : Kept) → D kept → IsHarmless plans (histories_of old) kept) →

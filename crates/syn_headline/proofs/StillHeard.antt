@@ -19,18 +19,19 @@ use Rattle.syn_headline.specs.Acknowledged.{Happened}
 use Rattle.syn_headline.specs.Coordinator.{Running, running_after}
 use Rattle.syn_headline.specs.World.{World, Machine, At, Coordinator, side_of, side_goes, says}
 use Rattle.syn_headline.specs.World.{set_device}
-use Rattle.syn_headline.proofs.Coarse.{Follows}
+use Rattle.syn_headline.specs.Picture.{Follows}
 use Rattle.syn_headline.proofs.Invariant.{Plans, histories_of, IsTrueListing, IsKept}
 use Rattle.syn_headline.proofs.SideSteps.{if_some}
 use Rattle.syn_headline.proofs.WorldLemmas.{kept_events}
-use Rattle.syn_headline.proofs.View.{view}
+use Rattle.syn_headline.specs.Runs.{picture_of}
 use Rattle.syn_headline.proofs.InOrder.{SaysAfter, position_of}
 use Rattle.syn_headline.proofs.Sessions.{IsHeard, GoesBeside, heard_beside, no_asks}
 use Rattle.syn_headline.proofs.Tells.{Tells}
 
 -- what a step leaves
 abbrev pub IsFollowed : World → World → Type 0
-IsFollowed old new = Follows (view old) (view new) × IfSome new.coordinator.running (IsHeard new)
+IsFollowed old new = Follows (picture_of old) (picture_of new) × IfSome new.coordinator.running
+    (IsHeard new)
     × Tells old new
 
 -- The session is heard still where the coordinator does nothing
@@ -157,12 +158,12 @@ says_listing pair machine session path _ _ _
     by Down e = absurd (none-some _ e)
 
 value_of : (world : World) (side : Which) →
-    histories_of (view world) side ≡ (side_of world side).journal.value
+    histories_of (picture_of world) side ≡ (side_of world side).journal.value
 value_of world Left = refl
 value_of world Right = refl
 
 -- so it comes after each listing that the side answered before
-pub says_after : (plans : Plans) (old : World) → IsKept plans (view old) → (side : Which)
+pub says_after : (plans : Plans) (old : World) → IsKept plans (picture_of old) → (side : Which)
     (session number : ℕ) (request : Request) (machine : SideMachine) (reply : Option Reply)
     (events : List Event) → Contains old.sent (Asks side session number request) →
     SideTakes old.pair (side_of old side) session request machine reply events →
@@ -190,12 +191,13 @@ says_after plans old k side session number request machine
     says_listing old.pair (side_of old side) session path machine (Some reply) events
     (subst (λ q. SideTakes old.pair (side_of old side) session q machine (Some reply) events)
     request_is t) reply later refl (ap position_of is_reply ∙ is) in
-    let listing : IsTrueListing (histories_of (view old) at) s above position entries =
+    let listing : IsTrueListing (histories_of (picture_of old) at) s above position entries =
     k.sound.answered at s was.number (Listed position entries)
     (ListAt above) was.answered was.asked in
     let reached : position ≤ length (side_of old side).journal.value =
     subst (λ h. position ≤ length h) (value_of old side)
-    (subst (λ a. position ≤ length (histories_of (view old) a)) (sym is_side) listing.reached) in
+    (subst (λ a. position ≤ length (histories_of (picture_of old) a)) (sym is_side) listing.reached)
+    in
     subst (λ x. position ≤ x) (sym here) reached
 
 pub says_no_request : (side : Which) (session n : ℕ) (reply : Option Reply) (at : Which) (s m : ℕ)

@@ -1,6 +1,6 @@
 -- A request whose answer was taken waits no more.
-use Rattle.std.proofs.Common.{◌≡◌, ◌<◌, ℕ, suc, Bool, true, false, not, ◌==◌, List, []}
-use Rattle.std.proofs.Common.{◌∷◌, ◌++◌, refl, sym, ap, ◌∙◌, subst, Option, Some, None, slice_get}
+use Rattle.std.proofs.Common.{◌≡◌, ◌<◌, ℕ, suc, Bool, true, false, not, ◌==◌, List, [], ◌∷◌, ◌++◌}
+use Rattle.std.proofs.Common.{refl, sym, ap, ◌∙◌, subst, Option, Some, None, slice_get}
 use Rattle.std.proofs.Common.{if◌then◌else◌, arith, inl}
 use Rattle.std.specs.Prelude.{IfSome}
 use Rattle.std.proofs.lemmas.Bool.Decides.{nat_tests}
@@ -9,16 +9,14 @@ use Rattle.std.proofs.lemmas.Option.{none-some, same_Some}
 use Rattle.syn_headline.specs.Side.{Request, Reply}
 use Rattle.syn_headline.specs.Network.{Which, Left, Right, Message, Answers}
 use Rattle.syn_headline.specs.Coordinator.{Outstanding, Running, Exchange, asked_in, asked_of}
-use Rattle.syn_headline.specs.Coordinator.{asked_count, asking, hearing, numbered}
-use Rattle.syn_headline.specs.Coordinator.{without, behind, CoordinatorMachine, Call}
-use Rattle.syn_headline.specs.Coordinator.{CoordinatorTakes, Takes, takes, ignores}
-use Rattle.syn_headline.specs.Coordinator.{ends_at_once, stops, ends, goes_on}
-use Rattle.syn_headline.specs.World.{World, Delivers}
-use Rattle.syn_headline.specs.World.{to_coordinator}
+use Rattle.syn_headline.specs.Coordinator.{asked_count, asking, hearing, numbered, without, behind}
+use Rattle.syn_headline.specs.Coordinator.{CoordinatorMachine, Call, CoordinatorTakes, Takes, takes}
+use Rattle.syn_headline.specs.Coordinator.{ignores, ends_at_once, stops, ends, goes_on}
+use Rattle.syn_headline.specs.World.{World, Delivers, to_coordinator}
 use Rattle.syn_headline.specs.Reported.{TakesExpected}
 use Rattle.syn_headline.proofs.Heard.{sent_at}
 use Rattle.syn_headline.proofs.FineRuns.{follows, start_view}
-use Rattle.syn_headline.proofs.View.{view}
+use Rattle.syn_headline.specs.Runs.{picture_of}
 use Rattle.syn_headline.proofs.Invariant.{IsKept, Plans}
 use Rattle.syn_headline.proofs.Remembers.{Remembers, hearing_remembers}
 use Rattle.syn_headline.proofs.Sessions.{IsHeard}
@@ -121,8 +119,8 @@ pub take_expected : TakesExpected
 take_expected start old new steps message from number reply running request s g runs asked at d =
     by (slice_get old.sent message) at d
   where
-    kept : (plans : Plans) × IsKept plans (view old)
-    kept = run_kept no_plans (view start) (view old) (start_kept (view start)
+    kept : (plans : Plans) × IsKept plans (picture_of old)
+    kept = run_kept no_plans (picture_of start) (picture_of old) (start_kept (picture_of start)
         (start_view start s)) (follows start old steps s g).0
 
     heard : IsHeard old running

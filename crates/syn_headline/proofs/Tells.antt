@@ -1,6 +1,6 @@
 -- What a step reports.
-use Rattle.std.proofs.Common.{◌≡◌, ◌⊎◌, ℕ, List, [], ◌∷◌, ◌++◌, length, take, sym, ap, ◌∙◌}
-use Rattle.std.proofs.Common.{Option, Some, None, append-nil, inr, refl}
+use Rattle.std.proofs.Common.{◌≡◌, ◌⊎◌, ℕ, List, [], ◌∷◌, ◌++◌, length, take, sym, ap, ◌∙◌, Option}
+use Rattle.std.proofs.Common.{Some, None, append-nil, inr, refl}
 use Rattle.std.specs.Prelude.{IfSome, Any}
 use Rattle.std.proofs.lemmas.List.Elements.{Contains-append_left}
 use Rattle.std.proofs.lemmas.Option.{none-some}
@@ -9,7 +9,8 @@ use Rattle.syn_model.specs.Refusal.{Refusal}
 use Rattle.syn_headline.specs.Planning.{Planned, Log}
 use Rattle.syn_headline.specs.Coordinator.{Running, CoordinatorMachine, no_call, report_of}
 use Rattle.syn_headline.specs.World.{World, coordinator_goes}
-use Rattle.syn_headline.specs.Reported.{EndsSo, IsReportOf, kept_in_session}
+use Rattle.syn_headline.specs.Acknowledged.{kept_in_session}
+use Rattle.syn_headline.specs.Reported.{EndsSo, IsReportOf}
 use Rattle.syn_headline.proofs.HeardLemmas.{any_left}
 use Rattle.syn_headline.proofs.Sessions.{IsHeard, still_logged}
 

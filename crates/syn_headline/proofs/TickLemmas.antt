@@ -1,8 +1,8 @@
 -- A tick of the coordinator in the coarser picture, and what its session then remembers.
 use Rattle.std.proofs.Common.{◌≡◌, ◌≢◌, ◌<◌, ◌+◌, ℕ, zero, suc, Bool, true≢false, List, ◌∷◌, ◌++◌}
-use Rattle.std.proofs.Common.{◌⊎◌, true, false}
-use Rattle.std.proofs.Common.{refl, sym, ap, ◌∙◌, subst, Option, Some, None, option_map, is_some}
-use Rattle.std.proofs.Common.{append-nil, arith, inl, inr, ◌&&◌, map, length, []}
+use Rattle.std.proofs.Common.{◌⊎◌, true, false, refl, sym, ap, ◌∙◌, subst, Option, Some, None}
+use Rattle.std.proofs.Common.{option_map, is_some, append-nil, arith, inl, inr, ◌&&◌, map, length}
+use Rattle.std.proofs.Common.{[]}
 use Rattle.std.specs.Prelude.{Contains, IfSome, All, Any}
 use Rattle.std.proofs.lemmas.List.Elements.{All-nil, All-cons, All-contains_itself, All-append}
 use Rattle.std.proofs.lemmas.List.Elements.{Contains-append_left, Contains-append_right}
@@ -20,11 +20,12 @@ use Rattle.syn_headline.specs.Coordinator.{CoordinatorTicks, AreRising}
 use Rattle.syn_headline.specs.Coordinator as fine
 use Rattle.syn_headline.specs.World as fine_world
 use Rattle.syn_headline.specs.World.{coordinator_goes}
-use Rattle.syn_headline.proofs.Coarse.{World, Follows, RunsOver, IsOfSession, kept_in_session}
-use Rattle.syn_headline.proofs.Coarse.{GoesOnFrom, IsNothing, IsOfPlan}
-use Rattle.syn_headline.proofs.Coarse as coarse
+use Rattle.syn_headline.specs.Acknowledged.{kept_in_session}
+use Rattle.syn_headline.specs.Picture.{Picture, Follows, RunsOver, IsOfSession, GoesOnFrom}
+use Rattle.syn_headline.specs.Picture.{IsNothing, IsOfPlan}
+use Rattle.syn_headline.specs.Picture as picture
 use Rattle.syn_headline.proofs.Invariant.{Plans, histories_of, IsHarmless, IsKept, plan_in, IsFresh}
-use Rattle.syn_headline.proofs.View.{view, view_running, view_coordinator}
+use Rattle.syn_headline.specs.Runs.{picture_of, session_picture, coordinator_picture}
 use Rattle.syn_headline.proofs.InOrder.{IsSaid, no_answer, after_less}
 use Rattle.syn_headline.proofs.Sessions.{IsHeard, still_logged}
 use Rattle.syn_headline.specs.Reported.{EndsSo, unanswered, out_of_memory}
@@ -81,12 +82,12 @@ was_more (first ∷ waiting) n q resent (suc i, h, e) =
     Contains-append_right (record first { resent = suc first.resent } ∷ []) (once_more waiting) _
     (was_more waiting n q resent (i, omega (arith, h), e))
 
-module _ (plans : Plans) (old : fine_world.World) (k : IsKept plans (view old)) (r : Running)
+module _ (plans : Plans) (old : fine_world.World) (k : IsKept plans (picture_of old)) (r : Running)
     (e : old.coordinator.running ≡ Some r) (h : IsHeard old r) where
-  runs : (view old).coordinator.running ≡ Some (view_running r)
-  runs = ap (option_map view_running) e
+  runs : (picture_of old).coordinator.running ≡ Some (session_picture r)
+  runs = ap (option_map session_picture) e
 
-  over : RunsOver old.sent old.coordinator.journal.value (Some (view_running r))
+  over : RunsOver old.sent old.coordinator.journal.value (Some (session_picture r))
   over = subst (RunsOver old.sent old.coordinator.journal.value) runs k.coordinator.runs_over
 
   abbrev again : Running
@@ -113,17 +114,18 @@ module _ (plans : Plans) (old : fine_world.World) (k : IsKept plans (view old)) 
   has : plan_in plans r.session ≡ plan_of r
   has =
       (subst (λ o. IfSome o (λ running. (plan_in plans running.session ≡ running.plan)
-      × (running.plan ≡ [] → IsFresh (histories_of (view old)) running.session))) runs
+      × (running.plan ≡ [] → IsFresh (histories_of (picture_of old)) running.session))) runs
       k.coordinator.running).0
 
   all_of : (side : Which) (waiting : List Outstanding) → ((one : Outstanding) →
       Contains waiting one → Contains old.sent (Asks side r.session one.number one.request)) →
-      All (IsOfSession old.pair old.sent (view_running again)) (messages_to r.session side waiting)
-  all_of side [] was = All-nil (IsOfSession old.pair old.sent (view_running again))
+      All (IsOfSession old.pair old.sent (session_picture again))
+      (messages_to r.session side waiting)
+  all_of side [] was = All-nil (IsOfSession old.pair old.sent (session_picture again))
   all_of side (one ∷ waiting) was =
       let asked = k.sound.asked side r.session one.number one.request
       (was one (0, omega arith, refl)) in
-      All-cons (IsOfSession old.pair old.sent (view_running again))
+      All-cons (IsOfSession old.pair old.sent (session_picture again))
       (Asks side r.session one.number one.request) (messages_to r.session side waiting) (
         refl,
         asked.lawful,
@@ -260,23 +262,26 @@ module _ (plans : Plans) (old : fine_world.World) (k : IsKept plans (view old)) 
       by None at = refl
       by (Some what) at =
           let h = subst (λ o. IfSome o (λ kept. (old.coordinator.journal.status ≢ Up)
-          × ((view old).coordinator.running ≡ None) × CanKeep old.coordinator.journal.value kept
-          × IsHarmless plans (histories_of (view old)) kept)) at k.coordinator.writing in
+          × ((picture_of old).coordinator.running ≡ None) × CanKeep old.coordinator.journal.value
+          kept
+          × IsHarmless plans (histories_of (picture_of old)) kept)) at k.coordinator.writing in
           absurd (none-some _ (sym (sym runs ∙ h.1)))
 
   tick_goes : (running : Option Running) (messages : List Message) (reports : List Report) →
-      GoesOnFrom (Some (view_running r)) (plan_of r) (option_map view_running running) → RunsOver
-      (old.sent ++ messages) old.coordinator.journal.value (option_map view_running running) →
+      GoesOnFrom (Some (session_picture r)) (plan_of r) (option_map session_picture running) →
+      RunsOver
+      (old.sent ++ messages) old.coordinator.journal.value (option_map session_picture running) →
       NumbersTell (old.sent ++ messages) → AsksNothingTwice (old.sent ++ messages) →
-      coarse.AllOfSession old.pair old.sent (option_map view_running running) messages →
-      coarse.Reports (view old) (view (coordinator_goes old (record old.coordinator
+      picture.AllOfSession old.pair old.sent (option_map session_picture running) messages →
+      picture.Reports (picture_of old) (picture_of (coordinator_goes old (record old.coordinator
       { running = running }) (record fine.no_call { messages = messages; reports = reports })))
-      (plan_of r) coarse.EndsUnanswered →
-      Follows (view old) (view (coordinator_goes old (record old.coordinator { running = running })
+      (plan_of r) picture.EndsUnanswered →
+      Follows (picture_of old) (picture_of (coordinator_goes old
+      (record old.coordinator { running = running })
       (record fine.no_call { messages = messages; reports = reports })))
   tick_goes running messages reports on runs_over numbers repeats of_session reported =
-      coarse.ticks_once (record {
-        machine = view_coordinator (record old.coordinator { running = running });
+      picture.ticks_once (record {
+        machine = coordinator_picture (record old.coordinator { running = running });
         kept = [];
         messages = messages;
         reports = map (λ report. (report, length (old.acknowledged ++ []))) reports;
@@ -292,7 +297,7 @@ module _ (plans : Plans) (old : fine_world.World) (k : IsKept plans (view old)) 
             };
         unless_up = λ _. unwritten;
         runs_on =
-            subst (λ o. GoesOnFrom o (coarse.plan_of o) (option_map view_running running))
+            subst (λ o. GoesOnFrom o (picture.plan_of o) (option_map session_picture running))
             (sym runs) on;
         runs_over = runs_over;
         numbers = numbers;
@@ -300,22 +305,23 @@ module _ (plans : Plans) (old : fine_world.World) (k : IsKept plans (view old)) 
         of_session = of_session;
         silent_when_writing = λ some. absurd (true≢false (sym some ∙ ap is_some unwritten));
         result = refl;
-      }) (subst (λ o. coarse.Reports (view old) (view (coordinator_goes old (record old.coordinator
+      }) (subst (λ o. picture.Reports (picture_of old) (picture_of
+      (coordinator_goes old (record old.coordinator
       { running = running }) (record fine.no_call { messages = messages; reports = reports })))
-      (coarse.plan_of o) coarse.EndsUnanswered) (sym runs) reported)
+      (picture.plan_of o) picture.EndsUnanswered) (sym runs) reported)
 
-  resends_so : Follows (view old) (view after)
+  resends_so : Follows (picture_of old) (picture_of after)
   resends_so =
       tick_goes (Some again) more
-      [] (coarse.goes_on (view_running again) refl refl) (over.0, all_sent, waits_still)
+      [] (picture.goes_on (session_picture again) refl refl) (over.0, all_sent, waits_still)
       (tells_again old.sent more k.sound.numbers was_sent)
       (once_again old.sent more k.sound.repeats was_sent)
-      (All-append (IsOfSession old.pair old.sent (view_running again))
+      (All-append (IsOfSession old.pair old.sent (session_picture again))
       (messages_to r.session Left r.left) (messages_to r.session Right r.right) (all_of Left
       r.left (h.remembers.waiting Left)) (all_of Right r.right (h.remembers.waiting Right)))
       (inl (append-nil old.reports))
     where
-      all_sent : coarse.WasSent (old.sent ++ more) (view_running again)
+      all_sent : picture.WasSent (old.sent ++ more) (session_picture again)
       all_sent Left i d within =
           Contains-append_left old.sent more _
           (sent_again Left _ (All-contains_itself again.left i d within))
@@ -323,7 +329,7 @@ module _ (plans : Plans) (old : fine_world.World) (k : IsKept plans (view old)) 
           Contains-append_left old.sent more _
           (sent_again Right _ (All-contains_itself again.right i d within))
 
-      waits_still : coarse.Waits (view_running again)
+      waits_still : picture.Waits (session_picture again)
       waits_still =
           let l = once_more-length r.left in
           let q = once_more-length r.right in
@@ -335,17 +341,18 @@ module _ (plans : Plans) (old : fine_world.World) (k : IsKept plans (view old)) 
           )
 
   gives_up_so : (why : Refusal) →
-      Follows (view old) (view (coordinator_goes old (record old.coordinator { running = None })
+      Follows (picture_of old) (picture_of (coordinator_goes old
+      (record old.coordinator { running = None })
       (record fine.no_call { reports = report_of r (Some why) ∷ [] })))
   gives_up_so why =
       let kept_is = ap kept_in_session (append-nil old.acknowledged) ∙ h.kept in
       let count : (Item → Bool) → List Kept → ℕ = λ of_kind kept. count_by
       (λ planned. of_kind planned.item && is_kept kept planned.item) (plan_of r) in
-      tick_goes None [] (report_of r (Some why) ∷ []) coarse.ended tt
+      tick_goes None [] (report_of r (Some why) ∷ []) picture.ended tt
       (subst NumbersTell (sym (append-nil old.sent)) k.sound.numbers)
       (subst AsksNothingTwice (sym (append-nil old.sent)) k.sound.repeats) refl
       (inr (
-        view_running r,
+        session_picture r,
         report_of r (Some why),
         runs,
         refl,
@@ -358,14 +365,14 @@ module _ (plans : Plans) (old : fine_world.World) (k : IsKept plans (view old)) 
       ))
 
 -- a tick
-pub ticks_follow : (plans : Plans) (old : fine_world.World) (k : IsKept plans (view old)) →
+pub ticks_follow : (plans : Plans) (old : fine_world.World) (k : IsKept plans (picture_of old)) →
     IfSome old.coordinator.running (IsHeard old) → (new : CoordinatorMachine) (call : Call) →
     CoordinatorTicks old.coordinator new call →
-    Follows (view old) (view (coordinator_goes old new call))
+    Follows (picture_of old) (picture_of (coordinator_goes old new call))
     × IfSome new.running (IsHeard (coordinator_goes old new call))
     × Tells old (coordinator_goes old new call)
 ticks_follow plans old k h _ _ (fine.no_session none) =
-    (coarse.same (nothing_given old), heard_still old h, inl (append-nil old.reports))
+    (picture.same (nothing_given old), heard_still old h, inl (append-nil old.reports))
 ticks_follow plans old k h _ _ (fine.resends r e few) =
     let heard = subst (λ o. IfSome o (IsHeard old)) e h in (
       resends_so plans old k r e heard,

@@ -18,13 +18,13 @@ use Rattle.syn_headline.specs.Side.{Reply}
 use Rattle.syn_headline.specs.Network.{Which, Left, Right, Answers}
 use Rattle.syn_headline.specs.Planning.{Planned, Log}
 use Rattle.syn_headline.specs.Acknowledged.{Ack, kept_in, Stores, history_of, stores_after}
+use Rattle.syn_headline.specs.Acknowledged.{kept_in_session, since_start}
 use Rattle.syn_headline.specs.Report.{Report, Complete, Incomplete}
-use Rattle.syn_headline.proofs.Coarse.{Counts, IsSettled, kept_in_session, since_start}
-use Rattle.syn_headline.proofs.Coarse.{World, Running, IsExpected, IsDueAfter, HasPlan, GoesOnFrom}
-use Rattle.syn_headline.proofs.Coarse.{plan_of, AllCanKeep, CoordinatorGoes, Reports, Ends}
-use Rattle.syn_headline.proofs.Coarse.{EndsUnanswered}
+use Rattle.syn_headline.specs.Picture.{Counts, IsSettled, Picture, SessionPicture, IsExpected}
+use Rattle.syn_headline.specs.Picture.{IsDueAfter, HasPlan, GoesOnFrom, plan_of, AllCanKeep}
+use Rattle.syn_headline.specs.Picture.{CoordinatorGoes, Reports, Ends, EndsUnanswered}
 use Rattle.syn_headline.specs.Headline.{IsNoEdit, BeganAfter, trees_of, HasCounts, PlansWith}
-use Rattle.syn_headline.proofs.CoarseRuns.{StandsFor}
+use Rattle.syn_headline.specs.Headline.{StandsFor}
 use Rattle.syn_headline.proofs.Invariant.{Plans, histories_of, IsKept}
 use Rattle.syn_headline.proofs.SideRuns.{Advances}
 use Rattle.syn_headline.proofs.CourseLemmas.{Course, beside, starts, ticks, takes}
@@ -65,18 +65,19 @@ not_any : (log : Log) (session : ℕ) → All (λ made. made.session ≢ session
 not_any log session none (k, made, within, at, is) =
     none k made within (ap (λ found. found.session) at ∙ is)
 
-no_session : (plan : List Planned) (w : World) (kept : Kept) →
+no_session : (plan : List Planned) (w : Picture) (kept : Kept) →
     IsRecordDue plan (histories_of w) kept → IsNoSession kept
 no_session plan w _ (carried side item planned path at writes reached touched) = tt
 no_session plan w _ (alike item planned path at kind) = tt
 no_session plan w _ (marked item planned path at kind) = tt
 
 module _ (before : Stores) (whole : IsTree before.archive.marks)
-    (shallow : HasDepth most_names before.archive.marks) (plans : Plans) (old new : World)
+    (shallow : HasDepth most_names before.archive.marks) (plans : Plans) (old new : Picture)
     (k : IsKept plans old) (stands : StandsFor before old) (stands_then : StandsFor before new)
     (runs : RunsWell before.archive old old.coordinator.running)
     (can : AllCanKeep before.archive (all_kept new)) where
-  module _ (r : Running) (e : old.coordinator.running ≡ Some r) (from : Which) (session number : ℕ)
+  module _ (r : SessionPicture) (e : old.coordinator.running ≡ Some r) (from : Which)
+      (session number : ℕ)
       (reply : Reply) (plan : List Planned) (logged : Log)
       (heard : Contains old.sent (Answers from session number reply))
       (expected : IsExpected (Some r) from session number)
@@ -298,7 +299,7 @@ told_more before log more new is acks report told = record {
 }
 
 -- each complete report tells this
-abbrev pub AllTold : Stores → World → Type 0
+abbrev pub AllTold : Stores → Picture → Type 0
 AllTold before world =
     (report : Report) (acks : ℕ) → Contains world.reports (report, acks) → report.end ≡ Complete →
     (acks ≤ length world.acknowledged) × IsTold before world.log (take acks world.acknowledged)
@@ -308,7 +309,7 @@ not_complete : Complete ≡ Incomplete → ⊥
 not_complete e = cc
 
 module _ (before : Stores) (whole : IsTree before.archive.marks)
-    (shallow : HasDepth most_names before.archive.marks) (plans : Plans) (old new : World)
+    (shallow : HasDepth most_names before.archive.marks) (plans : Plans) (old new : Picture)
     (k : IsKept plans old) (stands : StandsFor before old) (stands_then : StandsFor before new)
     (runs : RunsWell before.archive old old.coordinator.running)
     (can : AllCanKeep before.archive (all_kept new)) (a : Advances plans old new)

@@ -24,59 +24,22 @@ use Rattle.syn_headline.specs.Coordinator as fine
 use Rattle.syn_headline.specs.World as fine_world
 use Rattle.syn_headline.specs.World.{At, Coordinator, Machine, side_writes, set_device, status_of}
 use Rattle.syn_headline.specs.World.{refuses_with, answered_by, is_halted, EditsSide, says}
-use Rattle.syn_headline.proofs.Coarse.{Running, World, side_of, set_side, Follows}
-use Rattle.syn_headline.proofs.Coarse as coarse
+use Rattle.syn_headline.specs.Runs.{picture_of, side_picture, session_picture}
+use Rattle.syn_headline.specs.Picture.{SessionPicture, Picture, side_of, set_side, Follows}
+use Rattle.syn_headline.specs.Picture as picture
 use Rattle.syn_headline.proofs.OutcomeLemmas.{Outcome, refuses, begins_again, begins, lists}
 use Rattle.syn_headline.proofs.OutcomeLemmas.{lists_none, fetches, stages_first, stages_more}
 use Rattle.syn_headline.proofs.OutcomeLemmas.{stages_again, done_again, replaces, outcome}
 
-abbrev pub view_side : SideMachine → coarse.SideMachine
-view_side machine =
-    record {
-      status = machine.journal.status;
-      side = side_now machine;
-      writing = machine.journal.writing;
-    }
-
-abbrev pub view_running : fine.Running → Running
-view_running running =
-    record {
-      session = running.session;
-      left = running.left;
-      right = running.right;
-      plan = plan_of running;
-    }
-
-abbrev pub view_coordinator : CoordinatorMachine → coarse.CoordinatorMachine
-view_coordinator machine = record {
-  status = machine.journal.status;
-  archive = machine.journal.value;
-  writing = machine.journal.writing;
-  running = option_map view_running machine.running;
-}
-
--- the world without its rooms, generations, arms and transcripts
-abbrev pub view : fine_world.World → World
-view world = record {
-  pair = world.pair;
-  left = view_side world.left;
-  right = view_side world.right;
-  coordinator = view_coordinator world.coordinator;
-  sent = world.sent;
-  acknowledged = world.acknowledged;
-  reports = world.reports;
-  log = world.log;
-}
-
 pub view_of : (world : fine_world.World) (side : Which) →
-    side_of (view world) side ≡ view_side (fine_world.side_of world side)
+    side_of (picture_of world) side ≡ side_picture (fine_world.side_of world side)
 view_of world Left = refl
 view_of world Right = refl
 
 pub view_goes : (old : fine_world.World) (side : Which) (machine : SideMachine)
     (messages : List Message) (events : List Event) →
-    view (fine_world.side_goes old side machine messages events)
-    ≡ record (set_side (view old) side (view_side machine)) {
+    picture_of (fine_world.side_goes old side machine messages events)
+    ≡ record (set_side (picture_of old) side (side_picture machine)) {
       sent = old.sent ++ messages;
       acknowledged = old.acknowledged ++ map (λ event. Happened side event) events;
     }
@@ -84,7 +47,8 @@ view_goes old Left machine messages events = refl
 view_goes old Right machine messages events = refl
 
 pub view_set : (old : fine_world.World) (side : Which) (machine : SideMachine) →
-    view (fine_world.set_side old side machine) ≡ set_side (view old) side (view_side machine)
+    picture_of (fine_world.set_side old side machine) ≡ set_side (picture_of old) side
+    (side_picture machine)
 view_set old Left machine = refl
 view_set old Right machine = refl
 
@@ -120,10 +84,10 @@ not_up status (inr e) up = down_not_up (sym e ∙ up)
 view_writes : (pair : ℕ) (machine : SideMachine) (event : Event) (journal : Journaled History Event)
     (events : List Event) → machine.journal.status ≡ Up →
     Writes (side_layout pair) machine.journal event journal events →
-    coarse.Writes (view_side machine) event (view_side (with_journal machine journal)) events
+    picture.Writes (side_picture machine) event (side_picture (with_journal machine journal)) events
 view_writes pair machine event _ _ up (idle is) = absurd (true≢false (sym is))
 view_writes pair machine event _ _ up (written arms is meets) =
-    subst (λ staging. coarse.Writes (view_side machine) event
+    subst (λ staging. picture.Writes (side_picture machine) event
     (record {
       status = machine.journal.status;
       side = record {
@@ -133,92 +97,96 @@ view_writes pair machine event _ _ up (written arms is meets) =
       };
       writing = machine.journal.writing;
     }) (event ∷ []))
-    (sym (staged_up machine.journal.status machine.staging up)) coarse.written
+    (sym (staged_up machine.journal.status machine.staging up)) picture.written
 view_writes pair machine event _ _ up (unwritten Up arms failed is (inl e) meets) =
     absurd (up_not_halted e)
 view_writes pair machine event _ _ up (unwritten Up arms failed is (inr e) meets) =
     absurd (up_not_down e)
-view_writes pair machine event _ _ up (unwritten Halted arms failed is down meets) = coarse.failed
-view_writes pair machine event _ _ up (unwritten Down arms failed is down meets) = coarse.cut
+view_writes pair machine event _ _ up (unwritten Halted arms failed is down meets) = picture.failed
+view_writes pair machine event _ _ up (unwritten Down arms failed is down meets) = picture.cut
 
 view_opens : (pair : ℕ) (machine : SideMachine) (calls : ℕ)
     (journal : Journaled History Event) (events : List Event) →
     Opens (side_layout pair) IsAllowed machine.journal calls journal events →
-    coarse.Opens (view_side machine) (view_side (with_journal machine journal)) events
-view_opens pair machine calls _ _ (opened room generation arms meets left) = coarse.opened
+    picture.Opens (side_picture machine) (side_picture (with_journal machine journal)) events
+view_opens pair machine calls _ _ (opened room generation arms meets left) = picture.opened
 view_opens pair machine calls _ _ (recovered arms event meets is allowed) =
-    coarse.recovered event is allowed
+    picture.recovered event is allowed
 
 -- what is seen of a world where one side's machine is replaced by this
-on_side : (old : fine_world.World) (side : Which) (P : coarse.SideMachine → Type 0) →
-    P (view_side (fine_world.side_of old side)) → P (side_of (view old) side)
+on_side : (old : fine_world.World) (side : Which) (P : picture.SidePicture → Type 0) →
+    P (side_picture (fine_world.side_of old side)) → P (side_of (picture_of old) side)
 on_side old side P h = subst P (sym (view_of old side)) h
 
 -- a side's journal has another status, and what it stands for and was writing stay
 pub side_changes : (old new : fine_world.World) (side : Which) (journal : Journaled History Event) →
     journal.value ≡ (fine_world.side_of old side).journal.value →
     journal.writing ≡ (fine_world.side_of old side).journal.writing →
-    ((fine_world.side_of old side).journal.status ≢ Up → journal.status ≢ Up) → view new
-    ≡ set_side (view old) side (view_side (with_journal (fine_world.side_of old side) journal)) →
-    Follows (view old) (view new)
+    ((fine_world.side_of old side).journal.status ≢ Up → journal.status ≢ Up) → picture_of new
+    ≡ set_side (picture_of old) side (side_picture (with_journal (fine_world.side_of old side)
+    journal)) →
+    Follows (picture_of old) (picture_of new)
 side_changes old new side journal value writing up e =
     let machine = fine_world.side_of old side in
     let staging = staging_after journal.status machine.staging in
-    let build : History → Option Event → coarse.SideMachine = λ history writing. record {
+    let build : History → Option Event → picture.SidePicture = λ history writing. record {
       status =
           journal.status;
       side = record { history = history; staging = staging };
       writing = writing;
     } in
-    let with_status : coarse.SideMachine → coarse.SideMachine = λ m. record m
+    let with_status : picture.SidePicture → picture.SidePicture = λ m. record m
     { status = journal.status; side = record { history = m.side.history; staging = staging } } in
-    coarse.changes side journal.status staging
+    picture.changes side journal.status staging
     (on_side old side (λ m. m.status ≢ Up → journal.status ≢ Up) up)
     (on_side old side (λ m. (staging ≡ m.side.staging) ⊎ (staging ≡ None))
     (staged_or_none journal.status machine.staging))
-    (e ∙ ap (set_side (view old) side)
+    (e ∙ ap (set_side (picture_of old) side)
     (ap₂ build value writing ∙ sym (ap with_status (view_of old side))))
 
 -- What is refused changes nothing that is seen
 pub view_refused : (world : fine_world.World) (reason : Refusal) →
-    view (refuses_with world reason) ≡ view world
+    picture_of (refuses_with world reason) ≡ picture_of world
 view_refused world reason = refl
 
 pub view_answered : (machine : Machine) (world : fine_world.World) →
-    view (answered_by machine world) ≡ view world
+    picture_of (answered_by machine world) ≡ picture_of world
 view_answered machine world = by (is_halted (status_of world machine))
   where
-    by : (b : Bool) → view (if b then refuses_with world Device else world) ≡ view world
+    by : (b : Bool) → picture_of (if b then refuses_with world Device else world) ≡ picture_of world
     by true = refl
     by false = refl
 
 -- Events that are acknowledged by a side, with nothing said
 pub side_acknowledges : (old : fine_world.World) (side : Which) (journal : Journaled History Event)
-    (events : List Event) → view (side_writes old side journal events) ≡ record (set_side (view old)
-    side (view_side (with_journal (fine_world.side_of old side) journal))) {
-      sent = (view old).sent
+    (events : List Event) → picture_of (side_writes old side journal events) ≡ record
+    (set_side (picture_of old)
+    side (side_picture (with_journal (fine_world.side_of old side) journal))) {
+      sent = (picture_of old).sent
           ++ [];
-      acknowledged = (view old).acknowledged ++ map (λ event. Happened side event) events;
+      acknowledged = (picture_of old).acknowledged ++ map (λ event. Happened side event) events;
     }
 side_acknowledges old side journal events =
     view_goes old side (with_journal (fine_world.side_of old side) journal) [] events
 
 -- with none it is as if its machine were set
 pub side_settled : (old : fine_world.World) (side : Which) (journal : Journaled History Event) →
-    view (side_writes old side journal [])
-    ≡ set_side (view old) side (view_side (with_journal (fine_world.side_of old side) journal))
+    picture_of (side_writes old side journal [])
+    ≡ set_side (picture_of old) side (side_picture (with_journal (fine_world.side_of old side)
+    journal))
 side_settled old side journal = side_acknowledges old side journal [] ∙ settled side
   where
-    settled : (which : Which) → record (set_side (view old) which
-        (view_side (with_journal (fine_world.side_of old side) journal)))
+    settled : (which : Which) → record (set_side (picture_of old) which
+        (side_picture (with_journal (fine_world.side_of old side) journal)))
         { sent = old.sent ++ []; acknowledged = old.acknowledged ++ [] }
-        ≡ set_side (view old) which (view_side (with_journal (fine_world.side_of old side) journal))
+        ≡ set_side (picture_of old) which (side_picture
+        (with_journal (fine_world.side_of old side) journal))
     settled Left =
-        ap₂ (λ s a. record (set_side (view old) Left (view_side
+        ap₂ (λ s a. record (set_side (picture_of old) Left (side_picture
         (with_journal (fine_world.side_of old side) journal))) { sent = s; acknowledged = a })
         (append-nil old.sent) (append-nil old.acknowledged)
     settled Right =
-        ap₂ (λ s a. record (set_side (view old) Right (view_side
+        ap₂ (λ s a. record (set_side (picture_of old) Right (side_picture
         (with_journal (fine_world.side_of old side) journal))) { sent = s; acknowledged = a })
         (append-nil old.sent) (append-nil old.acknowledged)
 
@@ -232,7 +200,7 @@ pub edits_follow : (old : fine_world.World) (side : Which) (user : ℕ) (edit : 
     (new : fine_world.World) → first_cause ((is_halted (status_of old (At side)), why.Halted)
     ∷ causes_of old.pair (fine_world.side_of old side) (Edited user edit)) ≡ None →
     status_of old (At side) ≢ Down → EditsSide old side (Edited user edit) new →
-    Follows (view old) (view new)
+    Follows (picture_of old) (picture_of new)
 edits_follow old side user edit _ none down (fine_world.edits journal events lawful writes) =
     let machine = fine_world.side_of old side in
     let event = Edited user edit in
@@ -244,27 +212,28 @@ edits_follow old side user edit _ none down (fine_world.edits journal events law
       not_refused = (none-append (event_causes machine.journal.value event)
           (room_causes (has_room_for old.pair machine) event) first.1).0;
     } in
-    coarse.edits side user edit (view_side (with_journal machine journal)) events
+    picture.edits side user edit (side_picture (with_journal machine journal)) events
     (on_side old side (λ m. IsAllowed m.side.history event) allowed)
     (on_side old side (λ m. m.status ≡ Up) up)
-    (on_side old side (λ m. coarse.Writes m event (view_side (with_journal machine journal)) events)
+    (on_side old side (λ m. picture.Writes m event (side_picture (with_journal machine journal))
+    events)
     (view_writes old.pair machine event journal events up writes))
     (side_acknowledges old side journal events)
 
 pub opens_follow : (old : fine_world.World) (side : Which) (calls : ℕ)
     (journal : Journaled History Event) (events : List Event) → Opens
     (side_layout old.pair) IsAllowed (fine_world.side_of old side).journal calls journal events →
-    Follows (view old) (view (side_writes old side journal events))
+    Follows (picture_of old) (picture_of (side_writes old side journal events))
 opens_follow old side calls journal events opens =
     let machine = fine_world.side_of old side in
-    coarse.opens side (view_side (with_journal machine journal)) events
-    (on_side old side (λ m. coarse.Opens m (view_side (with_journal machine journal)) events)
+    picture.opens side (side_picture (with_journal machine journal)) events
+    (on_side old side (λ m. picture.Opens m (side_picture (with_journal machine journal)) events)
     (view_opens old.pair machine calls journal events opens))
     (side_acknowledges old side journal events)
 
 pub compacts_follow : (old : fine_world.World) (side : Which) (journal : Journaled History Event) →
     Compacts (side_layout old.pair) (fine_world.side_of old side).journal journal →
-    Follows (view old) (view (side_writes old side journal []))
+    Follows (picture_of old) (picture_of (side_writes old side journal []))
 compacts_follow old side _ (compacted arms meets) =
     let journal = with_image (side_layout old.pair) (fine_world.side_of old side).journal arms in
     side_changes old (side_writes old side journal []) side journal refl refl (λ h. h)
@@ -314,18 +283,19 @@ answered_so : (old : fine_world.World) (side : Which) (session number : ℕ) (re
     ServesAs (fine_world.side_of old side).journal.status old.pair (has_room_for old.pair
     (fine_world.side_of old side)) (side_now (fine_world.side_of old side)) session request served →
     served.side.history ≡ (fine_world.side_of old side).journal.value ++ events →
-    view_side machine ≡ record (view_side (fine_world.side_of old side)) { side = served.side } →
-    Follows (view old) (view
+    side_picture machine ≡ record (side_picture (fine_world.side_of old side))
+    { side = served.side } →
+    Follows (picture_of old) (picture_of
     (fine_world.side_goes old side machine (Answers side session number served.reply ∷ []) events))
 answered_so old side session number request machine served events asked serves added is =
     let was = fine_world.side_of old side in
-    let with_side : coarse.SideMachine →
-    coarse.SideMachine = λ m. record m { side = served.side } in
-    let after : coarse.SideMachine → World = λ m. record (set_side (view old) side m) {
+    let with_side : picture.SidePicture →
+    picture.SidePicture = λ m. record m { side = served.side } in
+    let after : picture.SidePicture → Picture = λ m. record (set_side (picture_of old) side m) {
       sent = old.sent ++ Answers side session number served.reply ∷ [];
       acknowledged = old.acknowledged ++ map (λ event. Happened side event) events;
     } in
-    coarse.serves side session number request asked (coarse.answered (record {
+    picture.serves side session number request asked (picture.answered (record {
       served = served;
       has_room = has_room_for old.pair was;
       events = events;
@@ -344,9 +314,9 @@ would : (old : fine_world.World) (side : Which) (session : ℕ) (request : Reque
     Serves old.pair (has_room_for old.pair (fine_world.side_of old side))
     (side_now (fine_world.side_of old side)) session request served →
     served.side.history ≡ (fine_world.side_of old side).journal.value ++ event ∷ [] →
-    coarse.WouldAdd old.pair (side_of (view old) side) session request event
+    picture.WouldAdd old.pair (side_of (picture_of old) side) session request event
 would old side session request served event up serves more =
-    on_side old side (λ m. coarse.WouldAdd old.pair m session request event)
+    on_side old side (λ m. picture.WouldAdd old.pair m session request event)
     (record {
       served = served;
       has_room = has_room_for old.pair (fine_world.side_of old side);
@@ -355,29 +325,32 @@ would old side session request served event up serves more =
       adds = more;
     })
 
-nothing_added : (old : fine_world.World) (side : Which) (m : coarse.SideMachine)
+nothing_added : (old : fine_world.World) (side : Which) (m : picture.SidePicture)
     (messages : List Message) →
-    record (set_side (view old) side m) {
+    record (set_side (picture_of old) side m) {
       sent = old.sent ++ messages;
       acknowledged =
           old.acknowledged ++ [];
-    } ≡ record (set_side (view old) side m) { sent = old.sent ++ messages }
+    } ≡ record (set_side (picture_of old) side m) { sent = old.sent ++ messages }
 nothing_added old Left m messages =
-    let with_acks : List Ack → World = λ a. record (set_side (view old) Left m)
+    let with_acks : List Ack → Picture = λ a. record (set_side (picture_of old) Left m)
     { sent = old.sent ++ messages; acknowledged = a } in
     ap with_acks (append-nil old.acknowledged)
 nothing_added old Right m messages =
-    let with_acks : List Ack → World = λ a. record (set_side (view old) Right m)
+    let with_acks : List Ack → Picture = λ a. record (set_side (picture_of old) Right m)
     { sent = old.sent ++ messages; acknowledged = a } in
     ap with_acks (append-nil old.acknowledged)
 
-nothing_said : (old : fine_world.World) (side : Which) (m : coarse.SideMachine) →
-    record (set_side (view old) side m) { sent = old.sent ++ [] } ≡ set_side (view old) side m
+nothing_said : (old : fine_world.World) (side : Which) (m : picture.SidePicture) →
+    record (set_side (picture_of old) side m) { sent = old.sent ++ [] } ≡ set_side (picture_of old)
+    side m
 nothing_said old Left m =
-    let with_sent : Sent → World = λ sent. record (set_side (view old) Left m) { sent = sent } in
+    let with_sent : Sent → Picture = λ sent. record (set_side (picture_of old) Left m)
+    { sent = sent } in
     ap with_sent (append-nil old.sent)
 nothing_said old Right m =
-    let with_sent : Sent → World = λ sent. record (set_side (view old) Right m) { sent = sent } in
+    let with_sent : Sent → Picture = λ sent. record (set_side (picture_of old) Right m)
+    { sent = sent } in
     ap with_sent (append-nil old.sent)
 
 -- a side takes a request
@@ -385,11 +358,11 @@ pub request_follows : (old : fine_world.World) (side : Which) (session number : 
     (request : Request) (machine : SideMachine) (reply : Option Reply) (events : List Event) →
     Contains old.sent (Asks side session number request) → IsLawfulRequest session request →
     SideTakes old.pair (fine_world.side_of old side) session request machine reply events →
-    Follows (view old)
-    (view (fine_world.side_goes old side machine (says side session number reply) events))
+    Follows (picture_of old)
+    (picture_of (fine_world.side_goes old side machine (says side session number reply) events))
 request_follows old side session number request _ _ _ asked lawful (answers served serves same) =
     let was = fine_world.side_of old side in
-    let with_history : History → coarse.SideMachine = λ history. record {
+    let with_history : History → picture.SidePicture = λ history. record {
       status =
           was.journal.status;
       side = record { history = history; staging = served.side.staging };
@@ -407,14 +380,14 @@ request_follows old side session number request _ _ _ asked lawful
     let keeps = adding_keeps (side_now was) session request served event (outcome old.pair
     (has_room_for old.pair was) (side_now was) session request served lawful serves) more in
     let build : History → Option Staging →
-    coarse.SideMachine = λ history staging. record {
+    picture.SidePicture = λ history staging. record {
       status = was.journal.status;
       side = record { history = history; staging = staging };
       writing = was.journal.writing;
     } in
     let as_up : (status : Status) → status ≡ Up →
     said status served.reply ≡ Some served.reply = said_up served.reply in
-    subst (λ reply. Follows (view old) (view (fine_world.side_goes old side
+    subst (λ reply. Follows (picture_of old) (picture_of (fine_world.side_goes old side
     (with_journal was (with_record (side_layout old.pair) was.journal event arms))
     (says side session number reply) (event ∷ [])))) (sym (as_up was.journal.status up))
     (answered_so old side session number request (with_journal was
@@ -432,25 +405,27 @@ request_follows old side session number request _ _ _ asked lawful
     (adds served event _ _ up serves more (unwritten Halted arms failed is down meets)) =
     let was = fine_world.side_of old side in
     let journal = after_device (record was.journal { writing = Some event }) Halted arms failed in
-    let halting : coarse.SideMachine → World =
-    λ m. record (set_side (view old) side (record m { status = Halted; writing = Some event }))
+    let halting : picture.SidePicture → Picture =
+    λ m. record (set_side (picture_of old) side (record m
+    { status = Halted; writing = Some event }))
     { sent = old.sent ++ Answers side session number (Refused Device) ∷ [] } in
-    coarse.serves side session number request asked
-    (coarse.request_failed event (would old side session request served event up serves more)
+    picture.serves side session number request asked
+    (picture.request_failed event (would old side session request served event up serves more)
     (view_goes old side (with_journal was journal)
     (Answers side session number (Refused Device) ∷ []) [] ∙ (nothing_added old side
-    (view_side (with_journal was journal)) (Answers side session number (Refused Device) ∷ [])
+    (side_picture (with_journal was journal)) (Answers side session number (Refused Device) ∷ [])
     ∙ sym (ap halting (view_of old side)))))
 request_follows old side session number request _ _ _ asked lawful
     (adds served event _ _ up serves more (unwritten Down arms failed is down meets)) =
     let was = fine_world.side_of old side in
     let journal = after_device (record was.journal { writing = Some event }) Down arms failed in
-    let stopping : coarse.SideMachine →
-    World = λ m. set_side (view old) side (coarse.stopped m (Some event)) in
-    coarse.serves side session number request asked
-    (coarse.request_cut event (would old side session request served event up serves more)
-    (view_goes old side (with_journal was journal) [] [] ∙ (nothing_added old side (view_side
-    (with_journal was journal)) [] ∙ (nothing_said old side (view_side (with_journal was journal))
+    let stopping : picture.SidePicture →
+    Picture = λ m. set_side (picture_of old) side (picture.stopped m (Some event)) in
+    picture.serves side session number request asked
+    (picture.request_cut event (would old side session request served event up serves more)
+    (view_goes old side (with_journal was journal) [] [] ∙ (nothing_added old side (side_picture
+    (with_journal was journal)) [] ∙ (nothing_said old side
+    (side_picture (with_journal was journal))
     ∙ sym (ap stopping (view_of old side))))))
 
 -- The devices
@@ -458,19 +433,20 @@ request_follows old side session number request _ _ _ asked lawful
 -- a device is left so, and what the machine stands for stays
 pub device_follows : (old : fine_world.World) (machine : Machine) (status : Status) (arms : Arms)
     (failed : ℕ) → (status_of old machine ≢ Up → status ≢ Up) →
-    Follows (view old) (view (set_device old machine status arms failed))
+    Follows (picture_of old) (picture_of (set_device old machine status arms failed))
 device_follows old (At side) status arms failed up =
     let journal = after_device (fine_world.side_of old side).journal status arms failed in
     side_changes old (set_device old (At side) status arms failed) side journal refl refl up
     (view_set old side (with_journal (fine_world.side_of old side) journal))
 device_follows old Coordinator status arms failed up =
-    coarse.archive_changes status
-    (option_map view_running (running_after status old.coordinator.running)) up
+    picture.archive_changes status
+    (option_map session_picture (running_after status old.coordinator.running)) up
     (still status old.coordinator.running) refl
   where
     still : (status : Status) (running : Option fine.Running) →
-        (option_map view_running (running_after status running) ≡ option_map view_running running)
-        ⊎ (option_map view_running (running_after status running) ≡ None)
+        (option_map session_picture (running_after status running) ≡ option_map session_picture
+        running)
+        ⊎ (option_map session_picture (running_after status running) ≡ None)
     still Up running = inl refl
     still Halted running = inl refl
     still Down running = inr refl

@@ -24,11 +24,10 @@ use Rattle.syn_headline.specs.Planning.{Planned, WritesTo}
 use Rattle.syn_headline.specs.Report.{is_kept, is_record_of}
 use Rattle.syn_headline.specs.Coordinator.{Exchange, Walk, past, refusing, making_room}
 use Rattle.syn_headline.specs.Coordinator.{archive_layout, IsDue, done, same, directory, Keeps}
-use Rattle.syn_headline.specs.Coordinator.{writes, cut_behind}
-use Rattle.syn_headline.specs.Coordinator.{Advances, stands, conflicts, side_refuses}
-use Rattle.syn_headline.specs.Coordinator.{archive_refuses, no_checkpoint, checkpoints}
-use Rattle.syn_headline.specs.Coordinator.{checkpoint_breaks, keeps, record_breaks}
-use Rattle.syn_headline.proofs.Coarse.{AllCanKeep}
+use Rattle.syn_headline.specs.Coordinator.{writes, cut_behind, Advances, stands, conflicts}
+use Rattle.syn_headline.specs.Coordinator.{side_refuses, archive_refuses, no_checkpoint}
+use Rattle.syn_headline.specs.Coordinator.{checkpoints, checkpoint_breaks, keeps, record_breaks}
+use Rattle.syn_headline.specs.Picture.{AllCanKeep}
 use Rattle.syn_headline.proofs.View.{not_up}
 pub use Rattle.syn_headline.specs.Reported.{IsSettledBy, as_conflict, as_kept, as_refused}
 

@@ -4,6 +4,7 @@ use Rattle.std.proofs.Common.{sym, ap, ◌∙◌, subst, Option, Some, None, app
 use Rattle.std.proofs.Common.{slice_get}
 use Rattle.std.specs.Prelude.{Contains, All, IfSome}
 use Rattle.std.proofs.lemmas.List.Elements.{All-head, All-tail, All-weaker, filter_map-append}
+use Rattle.std.proofs.lemmas.List.Elements.{Contains-append_right}
 use Rattle.std.proofs.lemmas.Option.{none-some, same_Some}
 use Rattle.syn_model.specs.Path.{Path}
 use Rattle.syn_model.specs.History.{is_quiet}
@@ -12,11 +13,11 @@ use Rattle.syn_headline.specs.Side.{Request, Reply, Done, Replace}
 use Rattle.syn_headline.specs.Network.{Which, other, Sent, Asks, Answers}
 use Rattle.syn_headline.specs.Planning.{Planned, Log, seen_on, WritesTo}
 use Rattle.syn_headline.specs.Acknowledged.{Ack, Kept_by, kept_in, Stores}
-use Rattle.syn_headline.proofs.Coarse.{World, Running, asked_of, IsExpected, IsDue, done, same}
-use Rattle.syn_headline.proofs.Coarse.{directory, IsDueAfter, HasPlan, GoesOnAs, goes_on, ended}
-use Rattle.syn_headline.proofs.Coarse.{GoesOnFrom, plan_of, StartsFrom, RunsOver, IsNext, IsNothing}
-use Rattle.syn_headline.proofs.Coarse.{AllCanKeep, CoordinatorGoes}
-use Rattle.syn_headline.proofs.CoarseRuns.{StandsFor}
+use Rattle.syn_headline.specs.Picture.{Picture, SessionPicture, asked_of, IsExpected, IsDue, done}
+use Rattle.syn_headline.specs.Picture.{same, directory, IsDueAfter, HasPlan, GoesOnAs, goes_on}
+use Rattle.syn_headline.specs.Picture.{ended, GoesOnFrom, plan_of, StartsFrom, RunsOver, IsNext}
+use Rattle.syn_headline.specs.Picture.{IsNothing, AllCanKeep, CoordinatorGoes}
+use Rattle.syn_headline.specs.Headline.{StandsFor}
 use Rattle.syn_headline.proofs.Invariant.{Plans, plan_in, IsPlanFrom, Histories, histories_of}
 use Rattle.syn_headline.proofs.Invariant.{IsSound, IsKept}
 use Rattle.syn_headline.proofs.LogLemmas.{no_plan, scans_of, plan_from}
@@ -28,21 +29,20 @@ use Rattle.syn_headline.proofs.CompleteLemmas.{IsRecordDue, carried, alike, mark
 use Rattle.syn_headline.proofs.UnderwayLemmas.{IsUnderway, underway_moves, underway_says}
 use Rattle.syn_headline.proofs.UnderwayLemmas.{underway_records, underway_plans, underway_starts}
 use Rattle.syn_headline.proofs.KeptLemmas.{can-append, not_again}
-use Rattle.std.proofs.lemmas.List.Elements.{Contains-append_right}
 
 -- what the coordinator kept since before the run
-abbrev pub all_kept : World → List Kept
+abbrev pub all_kept : Picture → List Kept
 all_kept world = filter_map kept_in world.acknowledged
 
 -- the session that runs has done what it should
-abbrev pub RunsWell : Archive → World → Option Running → Type 0
+abbrev pub RunsWell : Archive → Picture → Option SessionPicture → Type 0
 RunsWell before world running =
     IfSome running (λ r. IsUnderway world.log before (histories_of world) world.sent
     (all_kept world) r.session r.plan)
 
 -- what is due was done, was alike or is a directory
 module _ (plans : Plans) (histories : Histories) (archive : Archive) (sent : Sent)
-    (sound : IsSound plans histories archive sent) (r : Running) (plan : List Planned)
+    (sound : IsSound plans histories archive sent) (r : SessionPicture) (plan : List Planned)
     (from : Which)
     (number : ℕ) (reply : Reply)
     (heard : Contains sent (Answers from r.session number reply))
@@ -97,7 +97,7 @@ module _ (plans : Plans) (histories : Histories) (archive : Archive) (sent : Sen
 module _ (before : Archive) (plans : Plans) (histories : Histories) (archive : Archive)
     (sent : Sent) (sound : IsSound plans histories archive sent) (kept : List Kept)
     (archive_is : archive ≡ archive_of before kept)
-    (r : Running) (has : plan_in plans r.session ≡ r.plan)
+    (r : SessionPicture) (has : plan_in plans r.session ≡ r.plan)
     (h : IsUnderway plans before histories sent kept r.session r.plan) (plan : List Planned)
     (logged : Log) where
   pub planned_then : HasPlan sent archive plans (Some r) plan logged →
@@ -133,9 +133,9 @@ module _ (before : Archive) (plans : Plans) (histories : Histories) (archive : A
 
 -- a session goes on
 goes_on_well : (log : Log) (before : Archive) (histories : Histories) (sent more : Sent)
-    (kept : List Kept) (r : Running) (plan : List Planned) →
+    (kept : List Kept) (r : SessionPicture) (plan : List Planned) →
     IsUnderway log before histories sent kept r.session plan →
-    (o : Option Running) → GoesOnAs r plan o →
+    (o : Option SessionPicture) → GoesOnAs r plan o →
     IfSome o (λ next. IsUnderway log before histories (sent ++ more) kept next.session next.plan)
 goes_on_well log before histories sent more kept r plan h _ ended = tt
 goes_on_well log before histories sent more kept r plan h _ (goes_on next session_is plan_is) =
@@ -161,7 +161,7 @@ one_number a (x ∷ y ∷ kept) session all can next last =
     [] kept (subst (λ z. AllCanKeep a (z ∷ (Session (a.last_session + 1) ∷ kept))) first
     (subst (λ z. AllCanKeep a (x ∷ (z ∷ kept))) second can)))
 
-module _ (before : Stores) (plans : Plans) (old new : World) (k : IsKept plans old)
+module _ (before : Stores) (plans : Plans) (old new : Picture) (k : IsKept plans old)
     (stands : StandsFor before old)
     (runs : RunsWell before.archive old old.coordinator.running) where
   kept_more : (acks : List Ack) → new.acknowledged ≡ old.acknowledged ++ acks →
@@ -176,13 +176,13 @@ module _ (before : Stores) (plans : Plans) (old new : World) (k : IsKept plans o
       (can-append before.archive (all_kept old) (filter_map kept_in acks) can
       (subst (λ a. AllCanKeep a (filter_map kept_in acks)) stands.archive more))
 
-  pub running_well : (r : Running) → old.coordinator.running ≡ Some r →
+  pub running_well : (r : SessionPicture) → old.coordinator.running ≡ Some r →
       IsUnderway old.log before.archive (histories_of old) old.sent (all_kept old) r.session r.plan
   running_well r e = subst (RunsWell before.archive old) e runs
 
   -- beside the session
   beside_well : Advances plans old new → new.log ≡ old.log → all_kept new ≡ all_kept old →
-      (o : Option Running) → old.coordinator.running ≡ o → RunsWell before.archive new o
+      (o : Option SessionPicture) → old.coordinator.running ≡ o → RunsWell before.archive new o
   beside_well a logs stays None e = tt
   beside_well a logs stays (Some r) e =
       subst (λ log. IsUnderway log before.archive (histories_of new) new.sent (all_kept new)
@@ -195,7 +195,7 @@ module _ (before : Stores) (plans : Plans) (old new : World) (k : IsKept plans o
       (running_over plans old k new r e).0 r.plan (running_has plans old k new r e).0
       old.log before.archive (all_kept old) a.messages (running_well r e))))
 
-  module _ (logged : Log) (D : Kept → Type 0) (R : Option Running → Type 0)
+  module _ (logged : Log) (D : Kept → Type 0) (R : Option SessionPicture → Type 0)
       (g : CoordinatorGoes old logged D R new) where
     kept_then : filter_map kept_in (old.acknowledged ++ map Kept_by g.kept) ≡ all_kept old ++ g.kept
     kept_then =
@@ -225,7 +225,7 @@ module _ (before : Stores) (plans : Plans) (old new : World) (k : IsKept plans o
       goes_well [] (IsNext old.coordinator.archive) (StartsFrom old.coordinator.archive) g
       (well g.machine.running g.runs_on g.runs_over)
     where
-      well : (o : Option Running) → StartsFrom old.coordinator.archive o →
+      well : (o : Option SessionPicture) → StartsFrom old.coordinator.archive o →
           RunsOver (old.sent ++ g.messages) g.machine.archive o →
           IfSome o (λ r. IsUnderway (old.log ++ []) before.archive (histories_of old)
           (old.sent ++ g.messages) (all_kept old ++ g.kept) r.session r.plan)
@@ -244,7 +244,7 @@ module _ (before : Stores) (plans : Plans) (old new : World) (k : IsKept plans o
           (underway_starts before.archive plans (histories_of old) old.coordinator.archive old.sent
           k.sound (all_kept old) r.session s.0))))
 
-  ticks_well : (o : Option Running) → old.coordinator.running ≡ o →
+  ticks_well : (o : Option SessionPicture) → old.coordinator.running ≡ o →
       CoordinatorGoes old [] IsNothing (GoesOnFrom o (plan_of o)) new →
       RunsWell before.archive new new.coordinator.running
   ticks_well None e g =
@@ -262,7 +262,8 @@ module _ (before : Stores) (plans : Plans) (old new : World) (k : IsKept plans o
       (all_kept old) r.session r.plan) (sym (append-nil old.log)) (running_well r e)))
       g.machine.running g.runs_on)
 
-  module _ (r : Running) (e : old.coordinator.running ≡ Some r) (from : Which) (session number : ℕ)
+  module _ (r : SessionPicture) (e : old.coordinator.running ≡ Some r) (from : Which)
+      (session number : ℕ)
       (reply : Reply) (plan : List Planned) (logged : Log)
       (heard : Contains old.sent (Answers from session number reply))
       (expected : IsExpected (Some r) from session number)
@@ -307,7 +308,7 @@ module _ (before : Stores) (plans : Plans) (old new : World) (k : IsKept plans o
         (all_kept old) g.kept r.session plan (due_then g.kept g.keeps.due) plan_then)
         g.machine.running g.runs_on)
 
-  takes_well : (o : Option Running) → old.coordinator.running ≡ o → (from : Which)
+  takes_well : (o : Option SessionPicture) → old.coordinator.running ≡ o → (from : Which)
       (session number : ℕ) (reply : Reply) (plan : List Planned) (logged : Log) →
       Contains old.sent (Answers from session number reply) → IsExpected o from session number →
       HasPlan old.sent old.coordinator.archive old.log o plan logged →

@@ -12,11 +12,12 @@ use Rattle.syn_model.specs.Archive.{CanKeep, Held}
 use Rattle.syn_headline.specs.Network.{Which, Left, Right, Sent, Message}
 use Rattle.syn_headline.specs.Acknowledged.{Happened, Stores, stores_after, IsLegal}
 use Rattle.syn_headline.specs.Planning.{Log, IsPlanOf}
-use Rattle.syn_headline.proofs.Coarse.{World, Running, side_of, Waits, RunsOver, FollowsAll}
-use Rattle.syn_headline.proofs.Coarse.{nothing_more, one_more}
+use Rattle.syn_headline.specs.Picture.{Picture, SessionPicture, side_of, Waits, RunsOver}
+use Rattle.syn_headline.specs.Picture.{FollowsAll, nothing_more, one_more, stores_of}
 use Rattle.syn_headline.specs.Machine.{Up}
-use Rattle.syn_headline.proofs.CoarseRuns.{stores_of, IsStart, EachReplacementIsLegal}
-use Rattle.syn_headline.proofs.CoarseRuns.{EachTokenOnce, StandsFor, OfEachRun, Owes}
+use Rattle.syn_headline.specs.Headline.{EachReplacementIsLegal, IsStart, EachTokenOnce, Owes}
+use Rattle.syn_headline.specs.Headline.{StandsFor}
+use Rattle.syn_headline.proofs.PictureRuns.{OfEachRun}
 use Rattle.syn_headline.proofs.Invariant.{Plans, histories_of, IsHarmless, IsSoundStaging}
 use Rattle.syn_headline.proofs.Invariant.{IsSoundEvent, IsSoundSide, IsKept}
 use Rattle.syn_headline.proofs.PlanLemmas.{answered-more}
@@ -53,7 +54,7 @@ stores_same a b l r o =
     ap₂ (λ x y. record { left = x; right = y; archive = a.archive }) l r
     ∙ ap (λ x. record { left = b.left; right = b.right; archive = x }) o
 
-legal_extends : (before : Stores) (plans : Plans) (old new : World) → StandsFor before old →
+legal_extends : (before : Stores) (plans : Plans) (old new : Picture) → StandsFor before old →
     Advances plans old new → EachReplacementIsLegal before old → EachReplacementIsLegal before new
 legal_extends before plans old new stands a all earlier later side token path since u e =
     subst (λ sent. IsLegal sent new.log side (stores_after before earlier) token path since u)
@@ -75,7 +76,7 @@ legal_extends before plans old new stands a all earlier later side token path si
           subst (λ s. IsLegal old.sent old.log side s token path since u) at first.1
     ])))
 
-runs_legally : (before : Stores) (plans : Plans) (old new : World) → IsKept plans old →
+runs_legally : (before : Stores) (plans : Plans) (old new : Picture) → IsKept plans old →
     StandsFor before old → EachReplacementIsLegal before old → FollowsAll old new →
     EachReplacementIsLegal before new
 runs_legally before plans old _ k stands all (nothing_more _) = all
@@ -92,7 +93,7 @@ nothing_sent sent m e c =
 abbrev pub no_plans : Plans
 no_plans = []
 
-pub start_kept : (old : World) → IsStart old → IsKept no_plans old
+pub start_kept : (old : Picture) → IsStart old → IsKept no_plans old
 start_kept old s =
     let p = s.pair in
     let empty = s.nothing_yet.0 in
@@ -152,7 +153,7 @@ start_kept old s =
       };
     }
 
-pub start_stands : (old : World) → old.acknowledged ≡ [] → StandsFor (stores_of old) old
+pub start_stands : (old : Picture) → old.acknowledged ≡ [] → StandsFor (stores_of old) old
 start_stands old e =
     subst (λ acks. StandsFor (stores_of old) (record old { acknowledged = acks })) (sym e) (record {
       left = sym (append-nil old.left.side.history);
@@ -169,7 +170,7 @@ runs_replace_legally old new s g =
     (not_nothing earlier later _ (sym s.nothing_yet.1 ∙ e))) g
 
 -- the invariant after a whole run
-pub run_kept : (plans : Plans) (old new : World) → IsKept plans old →
+pub run_kept : (plans : Plans) (old new : Picture) → IsKept plans old →
     FollowsAll old new → (later : Plans) × IsKept later new
 run_kept plans old _ k (nothing_more _) = (plans, k)
 run_kept plans old _ k (one_more _ between new g more) =
@@ -187,6 +188,7 @@ runs_owe old new s g =
     let k = (run_kept no_plans old new (start_kept old s) g).1 in
     (waits new.coordinator.running k.coordinator.runs_over, k.sound.numbers, k.sound.repeats)
   where
-    waits : (o : Option Running) → RunsOver new.sent new.coordinator.archive o → IfSome o Waits
+    waits : (o : Option SessionPicture) → RunsOver new.sent new.coordinator.archive o → IfSome o
+        Waits
     waits None r = tt
     waits (Some running) r = r.2

@@ -11,15 +11,16 @@ use Rattle.syn_headline.specs.Report.{Report}
 use Rattle.syn_headline.specs.Side.{Request, Refused}
 use Rattle.syn_model.specs.Refusal.{Device}
 use Rattle.syn_headline.specs.Planning.{Log}
-use Rattle.syn_headline.proofs.Coarse.{Running, World, SideMachine, CoordinatorMachine, side_of}
-use Rattle.syn_headline.proofs.Coarse.{set_side, Writes, written, failed, cut, Opens, opened}
-use Rattle.syn_headline.proofs.Coarse.{recovered, TakesRequest, answered, request_failed}
-use Rattle.syn_headline.proofs.Coarse.{request_cut, CoordinatorGoes, Follows, same, edits, opens}
-use Rattle.syn_headline.proofs.Coarse.{changes, serves, starts_session, ticks_once, takes_answer}
-use Rattle.syn_headline.proofs.Coarse.{archive_changes, archive_opens, archive_recovers}
-use Rattle.syn_headline.proofs.Coarse.{nothing_more, one_more}
+use Rattle.syn_headline.specs.Picture.{SessionPicture, Picture, SidePicture, CoordinatorPicture}
+use Rattle.syn_headline.specs.Picture.{side_of, set_side, Writes, written, failed, cut, Opens}
+use Rattle.syn_headline.specs.Picture.{opened, recovered, TakesRequest, answered, request_failed}
+use Rattle.syn_headline.specs.Picture.{request_cut, CoordinatorGoes, Follows, same, edits, opens}
+use Rattle.syn_headline.specs.Picture.{changes, serves, starts_session, ticks_once, takes_answer}
+use Rattle.syn_headline.specs.Picture.{archive_changes, archive_opens, archive_recovers}
+use Rattle.syn_headline.specs.Picture.{nothing_more, one_more}
 use Rattle.syn_headline.specs.Machine.{Up}
-use Rattle.syn_headline.proofs.CoarseRuns.{StandsFor, RunsStand}
+use Rattle.syn_headline.specs.Headline.{StandsFor}
+use Rattle.syn_headline.proofs.PictureRuns.{RunsStand}
 
 left_left : (es : List Event) → filter_map (event_at Left) (map (λ e. Happened Left e) es) ≡ es
 left_left [] = refl
@@ -83,8 +84,8 @@ archive_goes before acks more old new ks o m n =
     ∙ ap (archive_of before) (sym (filter_map-append kept_in acks more))))
 
 -- a side that goes on by the events that are acknowledged
-pub side_goes : (before : Stores) (old : World) (which : Which) (machine : SideMachine)
-    (es : List Event) (messages : List Message) (new : World) → StandsFor before old →
+pub side_goes : (before : Stores) (old : Picture) (which : Which) (machine : SidePicture)
+    (es : List Event) (messages : List Message) (new : Picture) → StandsFor before old →
     machine.side.history ≡ (side_of old which).side.history ++ es →
     new ≡ record (set_side old which machine) {
       sent = old.sent ++ messages;
@@ -116,8 +117,8 @@ side_goes before old Right machine es messages new s h e =
     })
 
 -- a side whose history stays
-side_stays : (before : Stores) (old : World) (which : Which) (machine : SideMachine)
-    (sent : List Message) (new : World) → StandsFor before old →
+side_stays : (before : Stores) (old : Picture) (which : Which) (machine : SidePicture)
+    (sent : List Message) (new : Picture) → StandsFor before old →
     machine.side.history ≡ (side_of old which).side.history →
     new ≡ record (set_side old which machine) { sent = sent } → StandsFor before new
 side_stays before old Left machine sent new s h e =
@@ -127,20 +128,21 @@ side_stays before old Right machine sent new s h e =
     subst (StandsFor before) (sym e)
     (record { left = s.left; right = h ∙ s.right; archive = s.archive })
 
-writes_history : (m : SideMachine) (event : Event) (new : SideMachine) (es : List Event) →
+writes_history : (m : SidePicture) (event : Event) (new : SidePicture) (es : List Event) →
     Writes m event new es → new.side.history ≡ m.side.history ++ es
 writes_history m event _ _ written = refl
 writes_history m event _ _ failed = sym (append-nil m.side.history)
 writes_history m event _ _ cut = sym (append-nil m.side.history)
 
-opens_history : (m : SideMachine) (new : SideMachine) (es : List Event) → Opens m new es →
+opens_history : (m : SidePicture) (new : SidePicture) (es : List Event) → Opens m new es →
     new.side.history ≡ m.side.history ++ es
 opens_history m _ _ opened = sym (append-nil m.side.history)
 opens_history m _ _ (recovered event is allowed) = refl
 
 -- the coordinator goes on by what it keeps
-pub coordinator_goes : (before : Stores) (old : World) (machine : CoordinatorMachine)
-    (ks : List Kept) (sent : List Message) (reports : List (Report × ℕ)) (log : Log) (new : World) →
+pub coordinator_goes : (before : Stores) (old : Picture) (machine : CoordinatorPicture)
+    (ks : List Kept) (sent : List Message) (reports : List (Report × ℕ)) (log : Log)
+    (new : Picture) →
     StandsFor before old → machine.archive ≡ archive_of old.coordinator.archive ks →
     new ≡ record old {
       coordinator = machine;
@@ -163,25 +165,25 @@ coordinator_goes before old machine ks sent reports log new s h e =
           (map Kept_by ks) old.coordinator.archive machine.archive ks s.archive (kept_kept ks) h;
     })
 
-coordinator_steps : (before : Stores) (old : World) (logged : Log) (IsDue_now : Kept → Type 0)
-    (RunsOn : Option Running → Type 0) (new : World) → StandsFor before old →
+coordinator_steps : (before : Stores) (old : Picture) (logged : Log) (IsDue_now : Kept → Type 0)
+    (RunsOn : Option SessionPicture → Type 0) (new : Picture) → StandsFor before old →
     CoordinatorGoes old logged IsDue_now RunsOn new → StandsFor before new
 coordinator_steps before old logged IsDue_now RunsOn new s g =
     coordinator_goes before old g.machine g.kept (old.sent ++ g.messages) (old.reports ++ g.reports)
     (old.log ++ logged) new s g.keeps.archive g.result
 
-same_world : (before : Stores) (old new : World) → StandsFor before old → new ≡ old →
+same_world : (before : Stores) (old new : Picture) → StandsFor before old → new ≡ old →
     StandsFor before new
 same_world before old new s e = subst (StandsFor before) (sym e) s
 
 -- a world whose machine is set has the messages that it had
-sent_stays : (old : World) (which : Which) (machine : SideMachine) →
+sent_stays : (old : Picture) (which : Which) (machine : SidePicture) →
     set_side old which machine ≡ record (set_side old which machine) { sent = old.sent }
 sent_stays old Left machine = refl
 sent_stays old Right machine = refl
 
-takes_request : (before : Stores) (old : World) (which : Which) (session number : ℕ)
-    (request : Request) (new : World) → StandsFor before old →
+takes_request : (before : Stores) (old : Picture) (which : Which) (session number : ℕ)
+    (request : Request) (new : Picture) → StandsFor before old →
     TakesRequest old which session number request new → StandsFor before new
 takes_request before old which session number request new s (answered a) =
     side_goes before old which (record (side_of old which) { side = a.served.side }) a.events
@@ -192,7 +194,7 @@ takes_request before old which session number request new s (request_failed even
 takes_request before old which session number request new s (request_cut event would e) =
     side_stays before old which _ old.sent new s refl (e ∙ sent_stays old which _)
 
-pub step_stands : (before : Stores) (old new : World) → StandsFor before old → Follows old new →
+pub step_stands : (before : Stores) (old new : Picture) → StandsFor before old → Follows old new →
     StandsFor before new
 step_stands before old new s (same e) = same_world before old new s e
 step_stands before old new s (edits which user edit machine events allowed up g e) =

@@ -1,13 +1,14 @@
 -- What a run's calls answered, in order of time, and what may come of one more.
 use Rattle.std.specs.Prelude.{ℕ, ◌≡◌, ◌≤◌, ◌⊎◌, List, [], ◌∷◌, ◌++◌, length, true, slice_get}
-use Rattle.std.specs.Prelude.{filter_map, Option, Some, None, Contains}
+use Rattle.std.specs.Prelude.{filter_map, fold, Option, Some, None, Contains}
 use Rattle.syn_model.specs.Path.{Path, Name, parent}
 use Rattle.syn_model.specs.Tree.{Tree, Content, subtree, is_directory}
 use Rattle.syn_model.specs.Event.{Token, Event}
 use Rattle.syn_model.specs.History.{History, tree_of, tree_at, is_quiet, IsAllowed}
 use Rattle.syn_model.specs.Mark.{mark}
 use Rattle.syn_model.specs.Plan.{IsContested}
-use Rattle.syn_model.specs.Archive.{Archive, Kept, archive_of, CanKeep, after_kept}
+use Rattle.syn_model.specs.Archive.{Archive, Kept, Session, Recorded, RecordedDir, archive_of}
+use Rattle.syn_model.specs.Archive.{CanKeep, after_kept}
 use Rattle.syn_headline.specs.Side.{ListAt, Listed}
 use Rattle.syn_headline.specs.Network.{Which, Left, Right, other, Sent, WasAnswered}
 use Rattle.syn_headline.specs.Planning.{Planned, seen_on, WritesTo, SessionPlan, Log}
@@ -25,6 +26,15 @@ event_at _ _ = None
 abbrev pub kept_in : Ack → Option Kept
 kept_in (Happened side event) = None
 kept_in (Kept_by kept) = Some kept
+
+-- what the archive kept since the last session's number
+abbrev pub since_start : List Kept → Kept → List Kept
+since_start kept (Session session) = []
+since_start kept (Recorded path marks) = kept ++ Recorded path marks ∷ []
+since_start kept (RecordedDir path) = kept ++ RecordedDir path ∷ []
+
+abbrev pub kept_in_session : List Ack → List Kept
+kept_in_session acks = fold since_start [] (filter_map kept_in acks)
 
 -- what three disks stand for
 pub record Stores : Type 0 where

@@ -15,8 +15,8 @@ use Rattle.syn_model.specs.Archive.{kept_refusal}
 use Rattle.syn_model.specs.Decision.{MarkSame, MarkDir, Conflict, path_of}
 use Rattle.syn_headline.specs.Machine.{Status, Up, Halted, Down, Journaled, IsBefore, unarmed}
 use Rattle.syn_headline.specs.Machine.{has_room, cut, with_record, Writes, Compacts}
-use Rattle.syn_headline.specs.Side.{Request, Begin, Fetch, Stage, Replace, IsLawfulRequest}
-use Rattle.syn_headline.specs.Side.{Reply, Done, Refused}
+use Rattle.syn_headline.specs.Side.{Request, Begin, Fetch, Stage, Replace, IsLawfulRequest, Reply}
+use Rattle.syn_headline.specs.Side.{Done, Refused}
 use Rattle.syn_headline.specs.Network.{Which, Left, Right, other, is_side, Message}
 use Rattle.syn_headline.specs.Planning.{Planned, seen_on, Log, WritesTo}
 use Rattle.syn_headline.specs.Report.{Report, Complete, Incomplete, is_kept, is_carrying}

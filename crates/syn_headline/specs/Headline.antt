@@ -1,4 +1,4 @@
--- What is proved of whole runs.
+-- What holds after every run, of the picture of its world.
 use Rattle.std.specs.Prelude.{ℕ, ◌≡◌, ◌≢◌, ◌≤◌, ◌↔◌, ◌+◌, drop, true, false, List, [], ◌∷◌, ◌++◌}
 use Rattle.std.specs.Prelude.{length, take, Option, Some, None, All, AllPairs, Contains, IfSome}
 use Rattle.syn_model.specs.Path.{Bytes, Path, parent}
@@ -17,16 +17,7 @@ use Rattle.syn_headline.specs.Acknowledged.{Ack, Happened, Kept_by, Stores, hist
 use Rattle.syn_headline.specs.Acknowledged.{stores_after, Grown, ArchiveGrown, IsLegal}
 use Rattle.syn_headline.specs.Planning.{SessionPlan, Log, IsPlanOf}
 use Rattle.syn_headline.specs.Report.{Report, Complete, is_carrying, is_marking}
-use Rattle.syn_headline.specs.Machine.{Up, Journaled, unarmed}
-use Rattle.syn_headline.specs.Coordinator.{Waits}
-use Rattle.syn_headline.specs.World.{World, Step, Runs, side_of}
-
-abbrev pub stores_of : World → Stores
-stores_of world = record {
-  left = world.left.journal.value;
-  right = world.right.journal.value;
-  archive = world.coordinator.journal.value;
-}
+use Rattle.syn_headline.specs.Picture.{Picture, FollowsAll, Waits, side_of, stores_of}
 
 -- a pair of sides and their archive, as three formatted disks are, and as every run leaves them
 pub record IsPair (stores : Stores) : Type 0 where
@@ -37,24 +28,25 @@ pub record IsPair (stores : Stores) : Type 0 where
   pub left_begun : last_session stores.left ≤ stores.archive.last_session
   pub right_begun : last_session stores.right ≤ stores.archive.last_session
 
--- a journal that has just been opened, with nothing armed at its device, and no failure counted
-abbrev pub IsJustOpened : {V W : Type 0} → Journaled V W → Type 0
-IsJustOpened machine =
-    (machine.status ≡ Up) × (machine.writing ≡ None) × (machine.compacting ≡ false)
-    × (machine.arms ≡ unarmed) × (machine.failures ≡ 0)
-
 -- a world that has just been opened
-pub record IsStart (world : World) : Type 0 where
+pub record IsStart (world : Picture) : Type 0 where
   pub pair : IsPair (stores_of world)
-  pub left : IsJustOpened world.left.journal × (world.left.staging ≡ None)
-  pub right : IsJustOpened world.right.journal × (world.right.staging ≡ None)
-  pub coordinator : IsJustOpened world.coordinator.journal × (world.coordinator.running ≡ None)
+  pub left : (world.left.side.staging ≡ None) × (world.left.writing ≡ None)
+  pub right : (world.right.side.staging ≡ None) × (world.right.writing ≡ None)
+  pub coordinator : (world.coordinator.running ≡ None) × (world.coordinator.writing ≡ None)
   pub nothing_yet : (world.sent ≡ []) × (world.acknowledged ≡ []) × (world.reports ≡ [])
-      × (world.log ≡ []) × (world.refusals ≡ [])
+      × (world.log ≡ [])
+
+-- it is the end of a run of the picture, from such a world with what three disks stand for
+pub record IsRunFrom (before : Stores) (world : Picture) : Type 0 where
+  pub start : Picture
+  pub is_start : IsStart start
+  pub stands : stores_of start ≡ before
+  pub follows : FollowsAll start world
 
 -- Each replacement of the run is of its session's plan, and puts what the other side held over what
 -- the archive recorded, untouched since its listing
-abbrev pub EachReplacementIsLegal : Stores → World → Type 0
+abbrev pub EachReplacementIsLegal : Stores → Picture → Type 0
 EachReplacementIsLegal before world =
     (earlier later : List Ack) (side : Which) (token : Token) (path : Path) (since : ℕ)
     (new : Tree) →
@@ -63,21 +55,21 @@ EachReplacementIsLegal before world =
 
 -- And so is one that was being written as its machine stopped or its device failed, where an
 -- opening then gives it
-abbrev pub RecoveredIsLegal : Stores → World → Type 0
+abbrev pub RecoveredIsLegal : Stores → Picture → Type 0
 RecoveredIsLegal before world =
     let now = stores_after before world.acknowledged in
     (side : Which) (history : History) (token : Token) (path : Path) (since : ℕ) (new : Tree) →
-    Grown (side_of world side).journal.writing (history_of now side) history →
+    Grown (side_of world side).writing (history_of now side) history →
     history ≡ history_of now side ++ Replaced token path since new ∷ [] →
     IsLegal world.sent world.log side now token path since new
 
 -- Each archive entry was held by both sides, whatever an opening then gives
-abbrev pub EachEntryWasHeld : Stores → World → Type 0
+abbrev pub EachEntryWasHeld : Stores → Picture → Type 0
 EachEntryWasHeld before world =
     let now = stores_after before world.acknowledged in
-    (left right : History) (archive : Archive) → Grown world.left.journal.writing now.left left →
-    Grown world.right.journal.writing now.right right →
-    ArchiveGrown world.coordinator.journal.writing now.archive archive →
+    (left right : History) (archive : Archive) → Grown world.left.writing now.left left →
+    Grown world.right.writing now.right right →
+    ArchiveGrown world.coordinator.writing now.archive archive →
     BothHeld left right archive.marks
 
 abbrev pub IsNoEdit : Event → Type 0
@@ -121,7 +113,7 @@ pub record PlansWith (log : Log) (session : ℕ) (preference : Option Which) : T
 
 -- A complete session without edits leaves on both sides the synchronization of what it found, with
 -- what it prefers, if no two files that it found at one path differ with one digest
-abbrev pub CompleteSessionsSynchronize : Stores → World → Type 0
+abbrev pub CompleteSessionsSynchronize : Stores → Picture → Type 0
 CompleteSessionsSynchronize before world = (report : Report) (found left : Stores) →
     IsQuietSession before world.acknowledged world.reports report found left →
     AreApart (tree_of found.left) (tree_of found.right) →
@@ -129,7 +121,7 @@ CompleteSessionsSynchronize before world = (report : Report) (found left : Store
     × IsSynchronized preference (trees_of found) (trees_of left)
 
 -- And it leaves the archive of that, without this premise
-abbrev pub CompleteSessionsReconcile : Stores → World → Type 0
+abbrev pub CompleteSessionsReconcile : Stores → Picture → Type 0
 CompleteSessionsReconcile before world = (report : Report) (found left : Stores) →
     IsQuietSession before world.acknowledged world.reports report found left →
     (preference : Option Which) × PlansWith world.log report.session preference
@@ -137,7 +129,7 @@ CompleteSessionsReconcile before world = (report : Report) (found left : Stores)
 
 -- Its conflicts are the relevant paths that are dirty on both sides, no directory on both and
 -- unequal; with a preference there are none
-abbrev pub ReportsItsConflicts : Stores → World → Type 0
+abbrev pub ReportsItsConflicts : Stores → Picture → Type 0
 ReportsItsConflicts before world = (report : Report) (found left : Stores) →
     IsQuietSession before world.acknowledged world.reports report found left →
     (preference : Option Which) × PlansWith world.log report.session preference
@@ -152,14 +144,14 @@ HasCounts preference found report =
     (report.done ≡ count_by is_carrying items) × (report.marked ≡ count_by is_marking items)
 
 -- Where it prefers a side, both sides are equal after it, and the archive has their marks
-abbrev pub PreferenceLeavesOne : Stores → World → Type 0
+abbrev pub PreferenceLeavesOne : Stores → Picture → Type 0
 PreferenceLeavesOne before world = (report : Report) (found left : Stores) (side : Which) →
     IsQuietSession before world.acknowledged world.reports report found left →
     PlansWith world.log report.session (Some side) →
     AreApart (tree_of found.left) (tree_of found.right) → AreEqual (trees_of left)
 
 -- Its counts are those
-abbrev pub CountsItsItems : Stores → World → Type 0
+abbrev pub CountsItsItems : Stores → Picture → Type 0
 CountsItsItems before world = (report : Report) (found left : Stores) →
     IsQuietSession before world.acknowledged world.reports report found left →
     (preference : Option Which) × PlansWith world.log report.session preference
@@ -170,11 +162,11 @@ IsOtherToken token (Replaced used path since new) = is_same_token used token ≡
 IsOtherToken token _ = Unit {0}
 
 -- Each token has one replacement at most
-abbrev pub EachTokenOnce : Stores → World → Type 0
+abbrev pub EachTokenOnce : Stores → Picture → Type 0
 EachTokenOnce before world =
     (side : Which) (earlier later : History) (token : Token) (path : Path) (since : ℕ)
     (new : Tree) →
-    (side_of world side).journal.value ≡ earlier ++ Replaced token path since new ∷ later →
+    (side_of world side).side.history ≡ earlier ++ Replaced token path since new ∷ later →
     All (IsOtherToken token) later
 
 -- no event of a history after a position touches the path
@@ -196,7 +188,7 @@ pub record IsFetched (sent : Sent) (source : Which) (history : History) (session
 -- What was carried is marked by the next complete session without edits, recorded or not, where
 -- nothing touched it since: on the source since it was fetched, and on the target since it was
 -- replaced
-abbrev pub CarriedIsMarked : Stores → World → Type 0
+abbrev pub CarriedIsMarked : Stores → Picture → Type 0
 CarriedIsMarked before world =
     (side : Which) (first rest : History) (token : Token) (path : Path) (since : ℕ) (new : Tree)
     (report : Report) (found left : Stores) →
@@ -208,7 +200,7 @@ CarriedIsMarked before world =
 
 -- It is marked too where the source had it at a position, in a directory, and nothing touched it
 -- there since: so also what an earlier run carried, of whose messages nothing is left
-abbrev pub HeldIsMarked : Stores → World → Type 0
+abbrev pub HeldIsMarked : Stores → Picture → Type 0
 HeldIsMarked before world =
     (side : Which) (first rest : History) (token : Token) (path : Path) (since fetched : ℕ)
     (new : Tree) (report : Report) (found left : Stores) →
@@ -221,47 +213,36 @@ HeldIsMarked before world =
     subtree left.archive.marks path ≡ mark new
 
 -- The machines stand for what was there before and then what was acknowledged, in order
-pub record StandsFor (before : Stores) (world : World) : Type 0 where
-  pub left : world.left.journal.value ≡ history_of (stores_after before world.acknowledged) Left
-  pub right : world.right.journal.value ≡ history_of (stores_after before world.acknowledged) Right
-  pub archive : world.coordinator.journal.value ≡ (stores_after before world.acknowledged).archive
-
--- as every run leaves them
-abbrev pub RunsStand : Type 0
-RunsStand = (before : Stores) (old new : World) (steps : List Step) → Runs old steps new →
-    StandsFor before old → StandsFor before new
+pub record StandsFor (before : Stores) (world : Picture) : Type 0 where
+  pub left : world.left.side.history ≡ history_of (stores_after before world.acknowledged) Left
+  pub right : world.right.side.history ≡ history_of (stores_after before world.acknowledged) Right
+  pub archive : world.coordinator.archive ≡ (stores_after before world.acknowledged).archive
 
 -- three disks that were just formatted
 abbrev pub formatted : Stores
 formatted = record { left = []; right = []; archive = new_archive }
 
 -- the archive had these marks at some moment of the run
-abbrev pub HadArchive : Stores → World → Tree → Type 0
+abbrev pub HadArchive : Stores → Picture → Tree → Type 0
 HadArchive before world marks = (acks : ℕ) × (acks ≤ length world.acknowledged)
     × (marks ≡ (stores_after before (take acks world.acknowledged)).archive.marks)
 
 -- Each session makes one plan at most, and that is of its scans and the archive at some moment
-abbrev pub LogsPlans : Stores → World → Type 0
+abbrev pub LogsPlans : Stores → Picture → Type 0
 LogsPlans before world = AllPairs (λ earlier later. earlier.session ≢ later.session) world.log
     × All (λ made. IsPlanOf world.sent made × HadArchive before world made.archive) world.log
 
--- what holds of every run from a world that has just been opened, with stops of any machine and
--- failing devices
-abbrev pub OfEachRun : (Stores → World → Type 0) → Type 0
-OfEachRun Holds = (old new : World) (steps : List Step) → IsStart old → Runs old steps new →
-    Holds (stores_of old) new
-
 -- what an opening then gives is a pair again
-abbrev pub LeavesPair : Stores → World → Type 0
+abbrev pub LeavesPair : Stores → Picture → Type 0
 LeavesPair before new =
     let now = stores_after before new.acknowledged in
-    (left right : History) (archive : Archive) → Grown new.left.journal.writing now.left left →
-    Grown new.right.journal.writing now.right right →
-    ArchiveGrown new.coordinator.journal.writing now.archive archive →
+    (left right : History) (archive : Archive) → Grown new.left.writing now.left left →
+    Grown new.right.writing now.right right →
+    ArchiveGrown new.coordinator.writing now.archive archive →
     IsPair (record { left = left; right = right; archive = archive })
 
 -- a session that runs waits for an answer; a number tells its request, and nothing was asked twice
 -- in one session
-abbrev pub Owes : Stores → World → Type 0
+abbrev pub Owes : Stores → Picture → Type 0
 Owes before new = IfSome new.coordinator.running Waits × NumbersTell new.sent
     × AsksNothingTwice new.sent

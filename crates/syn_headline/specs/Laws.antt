@@ -8,8 +8,8 @@ use Rattle.syn_model.specs.Tree.{Tree}
 use Rattle.syn_model.specs.Refusal.{OldSession}
 use Rattle.syn_model.specs.Event.{Token, is_same_token, Event, Replaced}
 use Rattle.syn_headline.specs.Side.{Side, Served, Request, Fetch, Replace, Piece, Done, Refused}
-use Rattle.syn_headline.specs.Side.{Serves, IsOutOfMemory, IsLawfulRequest, answer, token_of}
-use Rattle.syn_headline.specs.Side.{Reads, is_dead_token, serve, staged_bytes}
+use Rattle.syn_headline.specs.Side.{Serves, IsOutOfMemory, IsLawfulRequest, answer, token_of, Reads}
+use Rattle.syn_headline.specs.Side.{is_dead_token, serve, staged_bytes}
 
 -- a step of a side leaves its history, or adds one event that is allowed after it
 abbrev pub AddsAllowed : History → History → Type 0

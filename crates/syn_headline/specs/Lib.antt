@@ -7,7 +7,9 @@ pub mod Report
 pub mod Session
 pub mod Coordinator
 pub mod Acknowledged
+pub mod Picture
 pub mod World
 pub mod Headline
+pub mod Runs
 pub mod Reported
 pub mod Laws

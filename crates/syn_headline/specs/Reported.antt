@@ -1,30 +1,22 @@
 -- What each report of a run says: which session it is of, why that ended, and why its items were
 -- refused.
-use Rattle.std.specs.Prelude.{ℕ, ◌≡◌, true, List, [], ◌∷◌, ◌++◌, fold, filter_map, take, slice_get}
-use Rattle.std.specs.Prelude.{Option, Some, None, IsSome, IfSome, All, Any, Contains}
+use Rattle.std.specs.Prelude.{ℕ, ◌≡◌, true, List, take, slice_get, Option, Some, None, IsSome}
+use Rattle.std.specs.Prelude.{IfSome, All, Any, Contains}
 use Rattle.syn_model.specs.Path.{Path}
 use Rattle.syn_model.specs.Refusal.{Refusal, Memory, Full, NoAnswer}
-use Rattle.syn_model.specs.Archive.{Archive, Kept, Session, Recorded, RecordedDir, kept_refusal}
+use Rattle.syn_model.specs.Archive.{Archive, Kept, kept_refusal}
 use Rattle.syn_model.specs.Decision.{Conflict, path_of}
 use Rattle.syn_headline.specs.Side.{Request, Reply, Refused}
 use Rattle.syn_headline.specs.Network.{Which, Sent, Asks, Answers}
-use Rattle.syn_headline.specs.Acknowledged.{Ack, Stores, kept_in}
+use Rattle.syn_headline.specs.Acknowledged.{Stores, kept_in_session}
 use Rattle.syn_headline.specs.Planning.{Planned, Log}
 use Rattle.syn_headline.specs.Report.{is_kept}
 use Rattle.syn_headline.specs.Coordinator.{Exchange, Running, Walk, IsFor, Advances, EndsFor}
-use Rattle.syn_headline.specs.Coordinator.{fault_of}
-use Rattle.syn_headline.specs.Coordinator.{asked_of, plan_of, record_for, report_of, is_resent}
+use Rattle.syn_headline.specs.Coordinator.{fault_of, asked_of, plan_of, record_for, report_of}
+use Rattle.syn_headline.specs.Coordinator.{is_resent}
 use Rattle.syn_headline.specs.World.{World, Step, Deliver, Steps, Runs}
-use Rattle.syn_headline.specs.Headline.{IsStart}
-
--- what the archive kept since the last session's number
-abbrev pub since_start : List Kept → Kept → List Kept
-since_start kept (Session session) = []
-since_start kept (Recorded path marks) = kept ++ Recorded path marks ∷ []
-since_start kept (RecordedDir path) = kept ++ RecordedDir path ∷ []
-
-abbrev pub kept_in_session : List Ack → List Kept
-kept_in_session acks = fold since_start [] (filter_map kept_in acks)
+use Rattle.syn_headline.specs.Picture.{Picture}
+use Rattle.syn_headline.specs.Runs.{IsStart}
 
 -- an item of a plan is settled: it is a conflict, or it was recorded, or refused
 pub data IsSettledBy (kept : List Kept) (refused : List (Refusal × Path)) (planned : Planned) :
@@ -88,7 +80,7 @@ pub record IsReportOf (sent : Sent) (log : Log) (kept : List Kept) (running : Ru
 
 -- Each report is that of such a session: its number, its counts, its conflicts in the plan's order,
 -- what was refused, and whether it is complete
-abbrev pub EachReportTells : Stores → World → Type 0
+abbrev pub EachReportTells : Stores → Picture → Type 0
 EachReportTells before world =
     All (λ told. (running : Running) × (ended : Option Refusal)
     × (told.0 ≡ report_of running ended)

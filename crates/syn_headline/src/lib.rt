@@ -1,9 +1,78 @@
 //! The definitions from a side's step to the headline, and what holds of every run.
+//!
+//! # What a layer owes the world
+//!
+//! `syn_headline` proves its sentences of every run of the world's steps (`Runs`). So the code of a
+//! layer owes that what it does is such a step, and nothing about runs. What a machine does is said
+//! over the machine alone, with no world; the world's steps lift it.
+//!
+//! - A **machine** keeps a value in a journal (`Journaled`): a side its history, the coordinator
+//!   its archive. What a record makes of the value, and the bytes of records and images, are its
+//!   `Layout`. A record is written by four device calls (`Writes`), a checkpoint by six
+//!   (`Compacts`), an opening makes at least one where the machine is up (`Opens`). Each call
+//!   counts towards what `Fail` and `Stop` armed there (`Meets`), also one that fails unmade, and
+//!   `failures` grows by one exactly where a call fails. After the call that a `Stop` names the
+//!   machine is down: the step answers and sends nothing, and nothing is armed any more. Where both
+//!   fall on one call, it counts and the stop wins. `room` is what the journal has left, in bytes;
+//!   a record takes its own and a checkpoint leaves all but the image.
+//! - A machine that stopped, or whose device failed, says what was being written (`writing`) or
+//!   that a checkpoint was under way (`compacting`). The next opening gives the value, with the one
+//!   record or without it, and the journal as it was or as the checkpoint leaves it.
+//! - A **side** takes a request (`SideTakes`). It answers as `serve` says, or 11 where memory is
+//!   refused, and adds nothing. Or it adds the one event that the answer speaks of, and writes it.
+//!   A halted side stages, or has no memory to, and refuses all else 10.
+//! - A **coordinator** keeps the state of the session that runs (`Running`): the transcript
+//!   (`taken`), what waits on each side, its plan, and the item that it has come to. It also keeps
+//!   what it recorded and refused so far. What it may ask next is said over the transcript
+//!   (`MayAsk`). Before it has its plan, once both sides have begun, that is a listing, of the root
+//!   or of a path that a listing showed as a directory. Then, for the item that it has come to, it
+//!   is the next piece of its source, or a piece that was taken. Once the whole is staged, it is
+//!   the replacement. After the last answer to an item it is past that item. Requests are numbered
+//!   from 0 on each side, and nothing is asked of a side twice but by a resend (`AsksOnce`).
+//! - An answer is taken where it has the session and number of a request that waits (`IsExpected`).
+//!   That waits no more then, what is sent waits with no resend yet, and nothing else changes
+//!   (`hearing`, `asking`). It ends the session at once exactly where `fault_of` says so. A begin
+//!   or a listing was refused. Or, with 22, the scan with this listing passes 4,096 nodes. Or, with
+//!   23, a child would break the limits of paths, a piece has another total or length than it
+//!   should, or the answer is of another kind.
+//! - Else the call goes on through the plan from item to item (`Advances`). It passes a conflict,
+//!   refuses an item as its side or the archive refuses it, and keeps a record that is due
+//!   (`IsDue`). Due is a replacement that this very answer says is done, marks that both scans
+//!   agree on, and a directory of both. For a record that does not fit it makes one checkpoint, and
+//!   then does nothing but write that record (`made_room`). Where no checkpoint can be made, at the
+//!   greatest generation, the item is refused 7. It stops at an item that carries, or at the end of
+//!   the plan, or where its device fails or it is cut off.
+//! - A session **ends** where each item is settled, or early (`EndsFor`). It ends with 9 or 10 as
+//!   its archive's device failed now or before. It ends with 8 where the checkpoint that was just
+//!   made for a record left no room for it, and with 11. A tick ends it with 25 once a request was
+//!   resent eight times (`CoordinatorTicks`).
+//! - What it **reports** is a function of where it stands (`report_of`). It is Complete exactly
+//!   where nothing ended it early, no item was refused and no path was unstable. It has the
+//!   conflicts that the session came to, in order, and how many items of each kind it recorded.
+//! - The **plan** of two scans and an archive is the plan's definition, item by item, with what the
+//!   two scans have at each. A session makes it once, of the archive as it is in that call
+//!   (`MakesPlan`), and there the world logs it with its scans. A scan lists what a side held
+//!   (`IsScanBy` in `syn_model`): each directory that it shows was listed so at its position, or is
+//!   unstable. That no directory was listed before the one above it is asked of nobody. It follows,
+//!   as a child is asked for only once its parent's listing was taken (`ordered` of `IsPlanOf`).
+//! - A user's edit, a start, a checkpoint and a reopening are lost on a machine that is down. Else
+//!   each is made, or is refused with the first of its causes, which the world keeps (`Calls`,
+//!   `refusals`). It is 9 where it leaves the machine halted (`answered_by`).
+//!
+//! From these steps follows what is proved of runs (`run_laws`, `session_laws`). Each replacement
+//! is legal, each archive entry was held, nothing was asked twice, and each plan is logged. Each
+//! report is that of a session of the run, with the causes of its end and of its refusals
+//! (`EachReportTells`). An answer that a session waits for is taken (`TakesExpected`). So does what
+//! a complete session leaves, reports, counts and marks. A layer owes nothing more for it. What it
+//! leaves on the two sides (`synchronized`) has one premise. No two files that the session found at
+//! one path, one on each side, may have one digest and different bytes. What it leaves in the
+//! archive (`reconciled`), and all the others, have none.
 #![tactic(auto)]
 
 ghost use Rattle.syn_headline.specs.Laws.{ServesAllowed, PiecesAreUntouched, RepeatsAreDone};
 ghost use Rattle.syn_headline.specs.Laws.{LaterAreOld, DeadAreOld, ServesByReading};
-ghost use Rattle.syn_headline.specs.Headline.{formatted, IsPair, RunsStand, OfEachRun};
+ghost use Rattle.syn_headline.specs.Headline.{formatted, IsPair, IsRunFrom};
+ghost use Rattle.syn_headline.specs.Runs.{OfEachRun, RunsStand};
 ghost use Rattle.syn_headline.specs.Headline.{EachReplacementIsLegal, EachTokenOnce};
 ghost use Rattle.syn_headline.specs.Headline.{RecoveredIsLegal};
 ghost use Rattle.syn_headline.specs.Headline.{EachEntryWasHeld, LeavesPair, LogsPlans, Owes};
@@ -25,10 +94,12 @@ pub fn side_laws()
     ensures dead { DeadAreOld }
 {}
 
-/// In every run, with stops and failing devices, the machines stand for what was acknowledged, each
-/// replacement is legal, each plan is logged, and each report tells of its session.
+/// Every run, with stops and failing devices, is one of the picture. In it the machines stand for
+/// what was acknowledged, each replacement is legal, each plan is logged, and each report tells of
+/// its session.
 pub fn run_laws()
     ensures formatted { IsPair formatted }
+    ensures pictured { OfEachRun IsRunFrom }
     ensures stands { RunsStand }
     ensures legal { OfEachRun EachReplacementIsLegal }
     ensures recovered { OfEachRun RecoveredIsLegal }

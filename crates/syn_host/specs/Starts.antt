@@ -6,7 +6,7 @@ use Rattle.syn_archive.specs.Refusals as archives
 use Rattle.syn_archive.specs.declared.error.ArchiveError.{ArchiveError}
 use Rattle.syn_disk.specs.Arms.{Arms, is_stopped}
 use Rattle.syn_disk.specs.declared.disk.Disk.{Ghosts}
-use Rattle.syn_headline.specs.Headline.{IsJustOpened}
+use Rattle.syn_headline.specs.Runs.{IsJustOpened}
 use Rattle.syn_headline.specs.Machine.{unarmed}
 use Rattle.syn_headline.specs.SideMachine.{SideMachine}
 use Rattle.syn_host.specs.Sides.{RunsAs}

@@ -10,14 +10,15 @@ use Rattle.syn_headline.specs.Machine.{Journaled, Up, unarmed}
 use Rattle.syn_headline.specs.Network.{Which, Left, Right}
 use Rattle.syn_headline.specs.Acknowledged.{Stores, history_of, stores_after, Grown, ArchiveGrown}
 use Rattle.syn_headline.specs.World.{World, side_of}
-use Rattle.syn_headline.specs.Headline.{stores_of, OfEachRun, EachReplacementIsLegal}
-use Rattle.syn_headline.specs.Headline.{EachEntryWasHeld, LeavesPair, LogsPlans, Owes}
-use Rattle.syn_headline.specs.Headline.{CompleteSessionsSynchronize, CompleteSessionsReconcile}
-use Rattle.syn_headline.specs.Headline.{PreferenceLeavesOne}
+use Rattle.syn_headline.specs.Runs.{stores_of, picture_of, OfEachRun, RunsStand}
+use Rattle.syn_headline.specs.Headline.{EachReplacementIsLegal, EachEntryWasHeld, LeavesPair}
+use Rattle.syn_headline.specs.Headline.{LogsPlans, Owes, CompleteSessionsSynchronize}
+use Rattle.syn_headline.specs.Headline.{CompleteSessionsReconcile, PreferenceLeavesOne}
 use Rattle.syn_headline.specs.Headline.{RecoveredIsLegal, EachTokenOnce, ReportsItsConflicts}
-use Rattle.syn_headline.specs.Headline.{CountsItsItems, CarriedIsMarked, HeldIsMarked}
+use Rattle.syn_headline.specs.Headline.{CountsItsItems, CarriedIsMarked, HeldIsMarked, IsRunFrom}
+use Rattle.syn_headline.specs.Headline.{StandsFor}
 use Rattle.syn_headline.specs.Reported.{EachReportTells}
-use Rattle.syn_headline.specs.Headline.{RunsStand, StandsFor}
+use Rattle.syn_headline.specs.Picture as picture
 use Rattle.syn_recovery.specs.Meaning.{Keeping, IsDiskOf, IsOf, MayBeOf, as_kept, with_record}
 use Rattle.syn_recovery.specs.Meaning.{compacted}
 use Rattle.syn_recovery.specs.Machines.{of_side, of_archive}
@@ -174,6 +175,7 @@ archive_grown pair machine old new is (inr (added, writing, can, more)) =
 
 -- what holds of every run, law by law
 pub record Laws : Type 0 where
+  pub pictured : OfEachRun IsRunFrom
   pub stand : RunsStand
   pub legal : OfEachRun EachReplacementIsLegal
   pub recovered : OfEachRun RecoveredIsLegal
@@ -224,13 +226,15 @@ module _ (laws : Laws) where
                 right_grown grown;
           };
           side =
-              λ which. elim which as (λ which. Grown (side_of new which).journal.writing
+              λ which. elim which as (λ which. Grown (picture.side_of (picture_of new)
+              which).writing
               (history_of after which) (history_of now which)) [
                 | Left ↦ left_grown
                 | Right ↦ right_grown
               ];
           archive = grown;
         };
+        pictured = laws.pictured old new steps opened.start runs;
         replaced = laws.legal old new steps opened.start runs;
         given_back = laws.recovered old new steps opened.start runs;
         once = laws.tokens old new steps opened.start runs;

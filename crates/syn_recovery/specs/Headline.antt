@@ -3,10 +3,12 @@ use Rattle.std.specs.Prelude.{ℕ, ◌≡◌, List}
 use Rattle.syn_model.specs.Path.{Bytes}
 use Rattle.syn_headline.specs.Network.{Which, Left, Right}
 use Rattle.syn_headline.specs.Acknowledged.{Stores, history_of, stores_after, Grown, ArchiveGrown}
-use Rattle.syn_headline.specs.World.{World, Step, Runs, side_of}
-use Rattle.syn_headline.specs.Headline.{stores_of, IsPair, IsStart}
-use Rattle.syn_headline.specs.Headline.{EachReplacementIsLegal, RecoveredIsLegal, EachTokenOnce}
-use Rattle.syn_headline.specs.Headline.{EachEntryWasHeld, LogsPlans, Owes}
+use Rattle.syn_headline.specs.World.{World, Step, Runs}
+use Rattle.syn_headline.specs.World as model
+use Rattle.syn_headline.specs.Picture.{Picture, side_of}
+use Rattle.syn_headline.specs.Runs.{stores_of, picture_of, IsStart}
+use Rattle.syn_headline.specs.Headline.{IsPair, IsRunFrom, EachReplacementIsLegal, RecoveredIsLegal}
+use Rattle.syn_headline.specs.Headline.{EachTokenOnce, EachEntryWasHeld, LogsPlans, Owes}
 use Rattle.syn_headline.specs.Headline.{CompleteSessionsSynchronize, CompleteSessionsReconcile}
 use Rattle.syn_headline.specs.Headline.{ReportsItsConflicts, CountsItsItems, CarriedIsMarked}
 use Rattle.syn_headline.specs.Headline.{HeldIsMarked, PreferenceLeavesOne}
@@ -38,7 +40,7 @@ pub record IsOpenedFrom (pair : ℕ) (disks : Disks) (world : World) : Type 0 wh
   pub pair_is : world.pair ≡ pair
   pub start : IsStart world
   pub side : (which : Which) → IsOf (of_side pair)
-      (side_of world which).journal (disk_of disks which)
+      (model.side_of world which).journal (disk_of disks which)
   pub archive : IsOf (of_archive pair) world.coordinator.journal disks.archive
 
 -- three such disks are a start of a run
@@ -52,22 +54,23 @@ DisksAreStart = (pair : ℕ) (disks : Disks) (stores : Stores) → DisksStand pa
 -- beside its steps: at each moment it holds of whatever a stop may then leave on the three disks
 pub record MayBeLeft (disks : Disks) (world : World) : Type 0 where
   pub side : (which : Which) → MayBeOf (of_side world.pair)
-      (side_of world which).journal (disk_of disks which)
+      (model.side_of world which).journal (disk_of disks which)
   pub archive : MayBeOf (of_archive world.pair) world.coordinator.journal disks.archive
 
 -- What the disks then stand for: on each side the acknowledged events in order, with at most the
 -- one that was being written; in the archive its records so; and all three are a pair again
-pub record IsRecovered (before : Stores) (world : World) (disks : Disks)
+pub record IsRecovered (before : Stores) (world : Picture) (disks : Disks)
     (now : Stores) : Type 0 where
   pub stand : DisksStand world.pair disks now
-  pub side : (which : Which) → Grown (side_of world which).journal.writing
+  pub side : (which : Which) → Grown (side_of world which).writing
       (history_of (stores_after before world.acknowledged) which) (history_of now which)
-  pub archive : ArchiveGrown world.coordinator.journal.writing
+  pub archive : ArchiveGrown world.coordinator.writing
       (stores_after before world.acknowledged).archive now.archive
 
--- The headline of a run, whatever the disks hold after it
-pub record IsCrashSafe (before : Stores) (world : World) (disks : Disks) : Type 0 where
+-- The headline of a run, by the picture of its world, whatever the disks hold after it
+pub record IsCrashSafe (before : Stores) (world : Picture) (disks : Disks) : Type 0 where
   pub now : Stores
+  pub pictured : IsRunFrom before world
   pub recovered : IsRecovered before world disks now
   pub replaced : EachReplacementIsLegal before world
   pub given_back : RecoveredIsLegal before world
@@ -89,4 +92,4 @@ pub record IsCrashSafe (before : Stores) (world : World) (disks : Disks) : Type 
 abbrev pub Headline : Type 0
 Headline = (pair : ℕ) (disks later : Disks) (old new : World) (steps : List Step) →
     IsOpenedFrom pair disks old → Runs old steps new → MayBeLeft later new →
-    IsCrashSafe (stores_of old) new later
+    IsCrashSafe (stores_of old) (picture_of new) later

@@ -1,5 +1,27 @@
 //! From the bytes of three disks to a run of the world, and back: what a disk may mean, and the
 //! headline.
+//!
+//! # What it promises
+//!
+//! - `MayMean` says what a machine's disk may mean: what the machine keeps; that with the record
+//!   that was being written; or the image alone that an unfinished checkpoint leaves. Each case has
+//!   its room and its generation.
+//! - `opening_laws`: whatever the disk of a side or of an archive means, the world's opening allows
+//!   just that, and the machine then knows the journal's room and generation.
+//! - `image_laws`: the image of any history and of any archive within its limits fits a half, so a
+//!   checkpoint of one is refused 7 at the greatest generation alone.
+//! - `device_laws`: what a journal's `calls` clause says of a disk's arms is what the world says
+//!   that the machine met (`Meets`). A call that succeeds met all its device calls (`made`), one
+//!   that is refused 9 met a failure (`broken`), and an opening as many as it makes (`reads`). In
+//!   each the machine is down exactly where the disk is stopped behind the call.
+//! - `headline`: three disks of a pair are a start of a run (`start`), and a run from them is crash
+//!   safe (`crash_safe`).
+//! - What the code of a world owes beside its steps is one invariant, `MayBeLeft`: whatever a stop
+//!   may leave on the three disks may be of their machines then. `syn_world` keeps it, for each
+//!   disk by itself (`AreLeft`): each step of its world carries it on. So whatever a stop may leave
+//!   behind its `run` is crash safe (`AreSafe`), and `recover` opens that. It rests on the
+//!   `any_moment` of a replica and of an archive, which tells what is kept, the bytes that are left
+//!   and the generation.
 #![tactic(auto)]
 
 ghost use Rattle.syn_recovery.specs.Calls.{MadeCallsMeet, StopsBehind, BrokenCallsMeet};

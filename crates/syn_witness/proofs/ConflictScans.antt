@@ -8,27 +8,26 @@ use Rattle.std.specs.FinMap.{entries, find, get, empty, from_entries, put, entri
 use Rattle.std.proofs.lemmas.Option.{none-some, same_Some}
 use Rattle.std.proofs.lemmas.List.Elements.{All-nil, All-cons}
 use Rattle.syn_model.specs.Path.{Bytes, Path, Name, IsName, IsPath, root, child, name_cmp, path_cmp}
-use Rattle.syn_model.specs.Tree.{Tree, Content, Contents, Directory, File, Pair, IsTree}
-use Rattle.syn_model.specs.Tree.{empty_directory, file, replace, subtree, is_directory}
-use Rattle.syn_model.specs.Tree.{is_directory_content}
+use Rattle.syn_model.specs.Contents.{Contents}
+use Rattle.syn_model.specs.Tree.{Tree, Content, Directory, File, Pair, IsTree, empty_directory}
+use Rattle.syn_model.specs.Tree.{file, replace, subtree, is_directory, is_directory_content}
 use Rattle.syn_model.specs.Limits.{children}
 use Rattle.syn_model.specs.Event.{AreBytes, Edited, Began}
 use Rattle.syn_model.specs.History.{History, IsHistory, IsAllowed, tree_of}
 use Rattle.syn_model.specs.Mark.{mark, mark_of}
 use Rattle.syn_model.specs.Dirty.{Scan, is_same_tree}
 use Rattle.syn_model.specs.Decision.{Item, Do, DoAndGoOn, GoOn, MarkDir, Conflict, decision}
-use Rattle.syn_model.specs.Plan.{items_from, names_below, with_items_below}
-use Rattle.syn_model.specs.Plan.{plan as items_of}
+use Rattle.syn_model.specs.Plan.{items_from, names_below, with_items_below, plan as items_of}
 use Rattle.syn_model.specs.Rows.{a_name}
 use Rattle.syn_model.proofs.PathLemmas.{name_total, same_path}
-use Rattle.syn_model.proofs.MarkLemmas.{get-mark}
+use Rattle.syn_model.proofs.MarkLemmas.{get-mark, mark-is_part}
 use Rattle.syn_model.proofs.HistoryLemmas.{history-is_tree}
 use Rattle.syn_witness.specs.Conflict.{d_name, d_path, below_path, make_d, put_below, make_below}
 use Rattle.syn_witness.proofs.WitnessTrees.{replace-entries, mark-entries, same_by, part-entries}
 use Rattle.syn_witness.proofs.WitnessTrees.{directory_by, children_in, get_by, fits_by}
 use Rattle.syn_witness.proofs.WitnessFiles.{IsLetter, name_of_letter, path_of_letter, content}
-use Rattle.syn_witness.proofs.WitnessFiles.{digest, digest_is_bytes, one_byte, alone, alone-entries}
-use Rattle.syn_witness.proofs.WitnessFiles.{file-entries, put-entries}
+use Rattle.syn_witness.proofs.WitnessFiles.{digest, one_byte, alone, alone-entries, file-entries}
+use Rattle.syn_witness.proofs.WitnessFiles.{put-entries}
 use Rattle.syn_witness.proofs.WitnessScans.{names_of, no_names}
 use Rattle.syn_witness.proofs.WitnessLemmas.{letter_a}
 
@@ -160,31 +159,8 @@ right_marks-entries = mark-entries (tree_of right_history) (with_below Directory
 pub marked_tree : (t : Tree) → IsTree t → IsTree (mark t)
 marked_tree t is = record {
   rooted = get-mark t root ∙ ap (option_map mark_of) is.rooted;
-  part = record {
-    parents =
-        λ path name rest some. get-mark t path ∙ ap (option_map mark_of)
-        (is.part.parents path name rest (was_some (get t (path ++ name ∷ rest))
-        (ap is_some (sym (get-mark t (path ++ name ∷ rest))) ∙ some)));
-    names =
-        λ path some. is.part.names path
-        (was_some (get t path) (ap is_some (sym (get-mark t path)) ∙ some));
-    bytes = λ path contents e. by (get t path) contents (sym (get-mark t path) ∙ e);
-  };
+  part = mark-is_part t is.part;
 }
-  where
-    was_some : (o : Option Content) → is_some (option_map mark_of o) ≡ true → IsSome o
-    was_some None e = absurd (true≢false (sym e))
-    was_some (Some c) e = refl
-
-    by : (o : Option Content) (contents : Contents) → option_map mark_of o ≡ Some (File contents) →
-        AreBytes contents.bytes
-    by None contents e = absurd (none-some _ e)
-    by (Some Directory) contents e =
-        absurd (let x : Directory ≡ File contents = same_Some _ _ e in cc)
-    by (Some (File was)) contents e =
-        let x : mark_of (File was) ≡ File contents = same_Some _ _ e in
-        let same : (record was { bytes = _ }) ≡ contents = cc in
-        subst (λ c. AreBytes c.bytes) same (digest_is_bytes was.bytes)
 
 pub left_whole : IsTree left_scan.marks
 left_whole = marked_tree (tree_of left_history) (history-is_tree left_history left_lawful)

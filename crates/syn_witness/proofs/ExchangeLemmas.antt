@@ -23,7 +23,8 @@ use Rattle.syn_headline.specs.Coordinator.{MakesPlan, WasTaken, BothBegun, fault
 use Rattle.syn_headline.specs.Coordinator.{start_of, makes, stands, done}
 use Rattle.syn_headline.specs.Coordinator as coordinator
 use Rattle.syn_headline.specs.World.{Edits, Runs, Start, Deliver, Steps}
-use Rattle.syn_headline.specs.Headline.{IsQuietSession, IsNoEdit, formatted, stores_of}
+use Rattle.syn_headline.specs.Runs.{stores_of}
+use Rattle.syn_headline.specs.Headline.{IsQuietSession, IsNoEdit, formatted}
 use Rattle.syn_model.specs.MarkSpelling.{kept_spelling}
 use Rattle.syn_witness.specs.Witness.{opened_world, a_path, b_path, put_one, put_two, one, two}
 use Rattle.syn_witness.specs.Witness.{complete, HasBoth, FilesAreExchanged}

@@ -32,7 +32,7 @@ use Rattle.syn_headline.specs.World.{reopens, reopen_fails, reopen_is_cut, no_me
 use Rattle.syn_headline.specs.World.{full_generation, generation_of, Steps, Runs, failures_of}
 use Rattle.syn_headline.specs.World.{OpensDown, opens, open_fails, no_memory_to_open}
 use Rattle.syn_headline.specs.World as world
-use Rattle.syn_headline.specs.Headline.{IsStart}
+use Rattle.syn_headline.specs.Runs.{IsStart}
 use Rattle.syn_witness.specs.Forbidden.{HaltedAfterFailure}
 
 -- a machine has counted at least so many failures, and more where it is halted

@@ -24,7 +24,8 @@ use Rattle.syn_headline.specs.Coordinator.{fault_of, hearing, start_of, makes, s
 use Rattle.syn_headline.specs.Coordinator as coordinator
 use Rattle.syn_headline.specs.World.{World, Coordinator, Edits, Start, Deliver, Stop, Open, Steps}
 use Rattle.syn_headline.specs.World.{Runs, opens, opens_archive}
-use Rattle.syn_headline.specs.Headline.{IsQuietSession, IsNoEdit, formatted, stores_of}
+use Rattle.syn_headline.specs.Runs.{stores_of}
+use Rattle.syn_headline.specs.Headline.{IsQuietSession, IsNoEdit, formatted}
 use Rattle.syn_witness.specs.Witness.{opened_world, a_path, put_one, one, marked_later, found_later}
 use Rattle.syn_witness.specs.Witness.{IsMarkedLater, CarriedIsMarkedLater}
 use Rattle.syn_witness.proofs.WitnessTrees.{get_by, fits_archive_by, children_by}
@@ -39,8 +40,8 @@ use Rattle.syn_witness.proofs.WitnessSteps.{asks_so, goes_on_so, not_last, ends_
 use Rattle.syn_witness.proofs.WitnessSteps.{recorded, runs_on_from, up_not_down}
 use Rattle.syn_witness.proofs.WitnessLemmas.{letter_a}
 use Rattle.syn_witness.proofs.WitnessPlan.{replaced, begun_archive, left_side, right_done}
-use Rattle.syn_witness.proofs.WitnessSession.{root_lawful, none_there, run_to_done}
 use Rattle.syn_witness.proofs.WitnessPlan.{messages as first_messages, made as first_made}
+use Rattle.syn_witness.proofs.WitnessSession.{root_lawful, none_there, run_to_done}
 use Rattle.syn_witness.proofs.MarkedScans.{left_history, right_history, left_scan, right_scan}
 use Rattle.syn_witness.proofs.MarkedScans.{left-entries, right-entries, left_marks-entries}
 use Rattle.syn_witness.proofs.MarkedScans.{right_marks-entries, left_root, right_root, left_part}

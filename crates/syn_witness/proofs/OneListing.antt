@@ -17,8 +17,7 @@ use Rattle.syn_model.specs.Spelling.{event_spelling}
 use Rattle.syn_model.specs.MarkSpelling.{kept_spelling}
 use Rattle.syn_model.specs.Decision.{Item, Do, GoOn, decision}
 use Rattle.syn_model.specs.Dirty.{Scan, IsScanBy}
-use Rattle.syn_model.specs.Plan.{items_from, names_below, with_items_below}
-use Rattle.syn_model.specs.Plan.{plan as items_of}
+use Rattle.syn_model.specs.Plan.{items_from, names_below, with_items_below, plan as items_of}
 use Rattle.syn_model.specs.Rows.{a_name}
 use Rattle.syn_headline.specs.Machine.{record_size}
 use Rattle.syn_headline.specs.Side.{Side, Begin, ListAt, Begun, Listed, NotDir, answer, serve}

@@ -22,11 +22,9 @@ use Rattle.syn_witness.proofs.WitnessFiles.{file_spelling, file_fits_part, file_
 use Rattle.syn_witness.proofs.WitnessSteps.{machine_of, meets_unarmed, edits_so, says_so, ends_so}
 use Rattle.syn_witness.proofs.WitnessSteps.{runs_on_from, up_not_down}
 use Rattle.syn_witness.proofs.WitnessLemmas.{letter_a}
-use Rattle.syn_witness.proofs.WitnessPlan.{replacing, replaced, right_done}
-use Rattle.syn_witness.proofs.WitnessSession.{replaces}
-use Rattle.syn_witness.proofs.WitnessPlan.{right_staged, right_replaces, planned, plan}
-use Rattle.syn_witness.proofs.WitnessSession.{done_is}
-use Rattle.syn_witness.proofs.WitnessSession.{run_to_replacement}
+use Rattle.syn_witness.proofs.WitnessPlan.{replacing, replaced, right_done, right_staged}
+use Rattle.syn_witness.proofs.WitnessPlan.{right_replaces, planned, plan}
+use Rattle.syn_witness.proofs.WitnessSession.{replaces, done_is, run_to_replacement}
 use Rattle.syn_witness.specs.Rows.{file_bytes}
 
 pub reads_one : Reads file_bytes (Some one)

@@ -13,7 +13,7 @@ use Rattle.syn_model.specs.Rows.{a_name}
 use Rattle.syn_model.specs.Event.{Edited, Began}
 use Rattle.syn_model.specs.History.{History, IsAllowed, tree_of}
 use Rattle.syn_model.proofs.DirtyLemmas.{bytes_itself}
-use Rattle.syn_headline.specs.Headline.{IsStart}
+use Rattle.syn_headline.specs.Runs.{IsStart}
 use Rattle.syn_witness.specs.Witness.{a_path, put_one, one}
 use Rattle.syn_witness.specs.Removal.{left_before, archive_before, kept_world, remove_a}
 use Rattle.syn_witness.proofs.WitnessTrees.{absent-entries, replace-entries, mark-entries, same_by}

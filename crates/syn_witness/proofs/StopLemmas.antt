@@ -35,7 +35,7 @@ use Rattle.syn_headline.specs.World.{opens_archive, set_device, FailsDevice, fai
 use Rattle.syn_headline.specs.World.{reopens, reopen_fails, reopen_is_cut, no_memory_to_reopen}
 use Rattle.syn_headline.specs.World.{full_generation, generation_of, Steps, Runs}
 use Rattle.syn_headline.specs.World as world
-use Rattle.syn_headline.specs.Headline.{IsStart}
+use Rattle.syn_headline.specs.Runs.{IsStart}
 use Rattle.syn_witness.specs.Forbidden.{StaysWithoutStop, StopsAsArmed, ArmedCallsCome}
 
 -- a machine that is not down and has no stop to come

@@ -1,7 +1,6 @@
 -- Two listings that wait at once, and are answered the other way round.
-use Rattle.std.proofs.Common.{◌≡◌, ◌∙◌, ℕ, inl, inr, List, [], ◌∷◌, ◌++◌, take, drop, refl}
-use Rattle.std.proofs.Common.{sym, ap, subst, Some, None, Option, arith, true, nat_le}
-use Rattle.std.proofs.Common.{if◌then◌else◌}
+use Rattle.std.proofs.Common.{◌≡◌, ◌∙◌, ℕ, inl, inr, List, [], ◌∷◌, ◌++◌, take, drop, refl, sym, ap}
+use Rattle.std.proofs.Common.{subst, Some, None, Option, arith, true, nat_le, if◌then◌else◌}
 use Rattle.std.specs.Prelude.{All, Contains, slice_index}
 use Rattle.std.proofs.lemmas.List.Elements.{All-from_recursion}
 use Rattle.std.specs.FinMap.{entries, find}
@@ -24,8 +23,8 @@ use Rattle.syn_headline.specs.World.{World, Edits, Start, Deliver, Steps}
 use Rattle.syn_witness.specs.Witness.{a_path, opened_world}
 use Rattle.syn_witness.specs.Conflict.{d_name, d_path, make_d}
 use Rattle.syn_witness.specs.Turned.{make_a, ListingsAreTurned}
-use Rattle.syn_witness.proofs.WitnessTrees.{directory_by, fits_by, get_by}
-use Rattle.syn_witness.proofs.WitnessTrees.{mark-entries, replace-entries}
+use Rattle.syn_witness.proofs.WitnessTrees.{directory_by, fits_by, get_by, mark-entries}
+use Rattle.syn_witness.proofs.WitnessTrees.{replace-entries}
 use Rattle.syn_witness.proofs.WitnessFiles.{alone, alone-entries, path_of_letter, put-entries}
 use Rattle.syn_witness.proofs.WitnessFiles.{with_file}
 use Rattle.syn_witness.proofs.WitnessLemmas.{letter_a}

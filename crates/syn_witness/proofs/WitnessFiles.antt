@@ -13,8 +13,8 @@ use Rattle.std.proofs.lemmas.Str.{IsUtf8-from_ascii}
 use Rattle.sha2.specs.Sha256.{sha256, digest_bytes}
 use Rattle.syn_model.specs.Path.{Bytes, Path, IsName, IsPath, root, path_cmp}
 use Rattle.syn_model.specs.Tree.{subtree, Tree, Pair, Content, IsPart, IsTree, Directory, File}
-use Rattle.syn_model.specs.Tree.{Contents, contents_of, file, empty_directory, replace}
-use Rattle.syn_model.specs.Tree.{is_directory, is_directory_content}
+use Rattle.syn_model.specs.Tree.{file, empty_directory, replace, is_directory, is_directory_content}
+use Rattle.syn_model.specs.Contents.{Contents, AreLawfulContents, contents_of}
 use Rattle.syn_model.specs.Limits.{fits_replica, fits_part, fits_paths, fits_content, fits_path}
 use Rattle.syn_model.specs.Event.{AreBytes, Edited, Put}
 use Rattle.syn_model.specs.History.{tree_of, IsAllowed}
@@ -28,6 +28,7 @@ use Rattle.syn_model.specs.Spelling.{spelling, spelling_within, content_spelling
 use Rattle.syn_model.proofs.PathLemmas.{same_path}
 use Rattle.syn_model.proofs.HistoryLemmas.{empty-is_tree, at_root-is_part, replace-is_tree}
 use Rattle.syn_model.proofs.HistoryLemmas.{same_file}
+use Rattle.syn_model.proofs.ContentsLemmas.{digest_is_bytes, new_are_lawful}
 use Rattle.syn_witness.proofs.WitnessTrees.{children_by, root-entries, replace-entries}
 use Rattle.syn_witness.proofs.WitnessTrees.{mark-entries, get_by, children_in}
 
@@ -70,28 +71,6 @@ path_of_letter n letter = record {
 pub one_byte : (b : ℕ) → b < 256 → AreBytes (b ∷ [])
 one_byte b h = All-cons (λ byte. byte < 256) b [] h (All-nil (λ byte. byte < 256))
 
--- digests are bytes
-byte_below : (k n : ℕ) → byte_at k n < 256
-byte_below zero n = omega arith
-byte_below (suc k) n = omega arith
-
-high_bytes : (k n : ℕ) → AreBytes (bytes_high_first k n)
-high_bytes zero n = All-nil (λ byte. byte < 256)
-high_bytes (suc k) n =
-    All-cons (λ byte. byte < 256) (byte_at k n) (bytes_high_first k n) (byte_below k n)
-    (high_bytes k n)
-
-words_bytes : (h : List ℕ) (n : ℕ) → AreBytes (digest_bytes h n)
-unfolding digest_bytes
-words_bytes h zero = All-nil (λ byte. byte < 256)
-words_bytes h (suc n) =
-    All-append (λ byte. byte < 256) (digest_bytes h n) (to_be_bytes w32 _) (words_bytes h n)
-    (high_bytes 4 _)
-
-pub digest_is_bytes : (bytes : List ℕ) → AreBytes (sha256 bytes)
-unfolding sha256
-digest_is_bytes bytes = words_bytes _ 8
-
 -- A file, and its mark
 abbrev pub content : Bytes → Content
 content bytes = File (contents_of bytes)
@@ -102,7 +81,8 @@ digest bytes = content (sha256 bytes)
 pub file_is_part : (bytes : Bytes) → AreBytes bytes → IsPart (file bytes)
 file_is_part bytes lawful =
     at_root-is_part (content bytes)
-    (λ contents e. subst AreBytes (same_file (contents_of bytes) contents e) lawful)
+    (λ contents e. subst AreLawfulContents (same_file (contents_of bytes) contents e)
+    (new_are_lawful bytes lawful))
 
 pub file-entries : (bytes : Bytes) → entries (file bytes) ≡ (root, content bytes) ∷ []
 file-entries bytes = root-entries (content bytes)

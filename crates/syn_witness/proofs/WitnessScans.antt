@@ -10,8 +10,7 @@ use Rattle.syn_model.specs.History.{History, tree_of}
 use Rattle.syn_model.specs.Mark.{mark}
 use Rattle.syn_model.specs.Dirty.{Scan, is_same_tree}
 use Rattle.syn_model.specs.Decision.{Item, Do, GoOn, ToRight, decision}
-use Rattle.syn_model.specs.Plan.{items_from, names_below, with_items_below}
-use Rattle.syn_model.specs.Plan.{plan as items_of}
+use Rattle.syn_model.specs.Plan.{items_from, names_below, with_items_below, plan as items_of}
 use Rattle.syn_model.specs.Rows.{a_name}
 use Rattle.syn_model.proofs.PathLemmas.{name_total}
 use Rattle.syn_witness.specs.Witness.{a_path, put_one, one}

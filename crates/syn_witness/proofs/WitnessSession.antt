@@ -33,7 +33,8 @@ use Rattle.syn_model.specs.History.{tree_of}
 use Rattle.syn_model.proofs.TreeLemmas.{subtree-replace}
 use Rattle.syn_headline.specs.Machine.{unarmed, written}
 use Rattle.syn_headline.specs.SideMachine.{has_room_for}
-use Rattle.syn_headline.specs.Headline.{IsQuietSession, IsNoEdit, formatted, stores_of}
+use Rattle.syn_headline.specs.Runs.{stores_of}
+use Rattle.syn_headline.specs.Headline.{IsQuietSession, IsNoEdit, formatted}
 use Rattle.syn_witness.proofs.WitnessTrees.{get_by, fits_by, fits_archive_by, children_by}
 use Rattle.syn_witness.proofs.WitnessFiles.{letter_size, alone, with_file, content, digest}
 use Rattle.syn_witness.proofs.WitnessFiles.{alone-entries, file-entries, file_mark-entries}

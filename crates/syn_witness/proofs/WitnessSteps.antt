@@ -30,13 +30,11 @@ use Rattle.syn_headline.specs.Acknowledged.{Ack, kept_in}
 use Rattle.syn_headline.specs.Planning.{Planned, Log}
 use Rattle.syn_headline.specs.Coordinator.{Exchange, Outstanding, Running, CoordinatorMachine, Call}
 use Rattle.syn_headline.specs.Coordinator.{no_call, Walk, Waits, MayAsk, AsksNext, AsksOnce}
-use Rattle.syn_headline.specs.Coordinator.{HasPlan}
-use Rattle.syn_headline.specs.Coordinator.{IsDue}
-use Rattle.syn_headline.specs.Coordinator.{Keeps, writes, Advances, stands, keeps, past, settled}
-use Rattle.syn_headline.specs.Coordinator.{is_recorded, archive_layout, asked_of, asked_count}
-use Rattle.syn_headline.specs.Coordinator.{asking, hearing, advanced, start_of, sent_now, fault_of}
-use Rattle.syn_headline.specs.Coordinator.{is_last, report_of, new_session, begins, start_causes}
-use Rattle.syn_headline.specs.Coordinator.{takes, ends, goes_on}
+use Rattle.syn_headline.specs.Coordinator.{HasPlan, IsDue, Keeps, writes, Advances, stands, keeps}
+use Rattle.syn_headline.specs.Coordinator.{past, settled, is_recorded, archive_layout, asked_of}
+use Rattle.syn_headline.specs.Coordinator.{asked_count, asking, hearing, advanced, start_of}
+use Rattle.syn_headline.specs.Coordinator.{sent_now, fault_of, is_last, report_of, new_session}
+use Rattle.syn_headline.specs.Coordinator.{begins, start_causes, takes, ends, goes_on}
 use Rattle.syn_headline.specs.Coordinator.{starts as session_starts}
 use Rattle.syn_headline.specs.World.{World, At, Step, Edits, Start, Steps, Runs, side_of, side_goes}
 use Rattle.syn_headline.specs.World.{side_writes, coordinator_goes, says, is_halted, answered_by}

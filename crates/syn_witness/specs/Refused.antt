@@ -9,7 +9,7 @@ use Rattle.syn_headline.specs.Network.{Left}
 use Rattle.syn_headline.specs.Acknowledged.{Happened, Kept_by}
 use Rattle.syn_headline.specs.World.{World, At, Coordinator, Edits, Start, Checkpoint, Fail, Reopen}
 use Rattle.syn_headline.specs.World.{failures_of}
-use Rattle.syn_headline.specs.Headline.{IsStart}
+use Rattle.syn_headline.specs.Runs.{IsStart}
 use Rattle.syn_witness.specs.Witness.{IsWitness, IsWitnessFrom, opened_world, new_machine}
 use Rattle.syn_witness.specs.Witness.{new_journal, put_one}
 

@@ -13,7 +13,7 @@ use Rattle.syn_headline.specs.Network.{Left, Right}
 use Rattle.syn_headline.specs.Acknowledged.{Happened, Kept_by}
 use Rattle.syn_headline.specs.SideMachine.{SideMachine}
 use Rattle.syn_headline.specs.World.{World, Edits, Start, Deliver}
-use Rattle.syn_headline.specs.Headline.{IsStart}
+use Rattle.syn_headline.specs.Runs.{IsStart}
 use Rattle.syn_witness.specs.Witness.{IsWitnessFrom, opened_world, new_journal, new_room}
 use Rattle.syn_witness.specs.Witness.{new_archive_room, a_path, put_one, complete}
 

@@ -9,9 +9,10 @@ use Rattle.syn_headline.specs.Network.{Left, Right}
 use Rattle.syn_headline.specs.Acknowledged.{Happened, Kept_by}
 use Rattle.syn_headline.specs.Report.{Report, Complete}
 use Rattle.syn_headline.specs.World.{World, Step, Edits, Start, Deliver}
-use Rattle.syn_headline.specs.Headline.{IsStart, formatted}
-use Rattle.syn_witness.specs.Witness.{IsWitness, IsWitnessFrom, opened_world, new_journal}
-use Rattle.syn_witness.specs.Witness.{a_path, put_one, put_other, one}
+use Rattle.syn_headline.specs.Runs.{IsStart}
+use Rattle.syn_headline.specs.Headline.{formatted}
+use Rattle.syn_witness.specs.Witness.{IsWitness, IsWitnessFrom, opened_world, new_journal, a_path}
+use Rattle.syn_witness.specs.Witness.{put_one, put_other, one}
 use Rattle.syn_witness.specs.Removal.{kept_world, remove_a}
 
 -- a session begins on both sides, lists the root of each, and is over

@@ -21,8 +21,8 @@ use Rattle.syn_headline.specs.Machine as status
 use Rattle.syn_headline.specs.SideMachine.{SideMachine}
 use Rattle.syn_headline.specs.World.{World, At, Step, Edits, Start, Deliver, Stop, Coordinator}
 use Rattle.syn_headline.specs.World.{Tick, Open, Fail, Checkpoint, Reopen, Runs, failures_of}
-use Rattle.syn_headline.specs.Headline.{IsStart, formatted, stores_of, IsQuietSession}
-use Rattle.syn_headline.specs.Headline.{UntouchedSince, IsFetched}
+use Rattle.syn_headline.specs.Runs.{IsStart, stores_of}
+use Rattle.syn_headline.specs.Headline.{formatted, IsQuietSession, UntouchedSince, IsFetched}
 use Rattle.syn_headline.specs.Side.{token_of}
 
 -- what the image of no events leaves of a half of the disk

@@ -1,5 +1,45 @@
 //! Runs of the world that the definitions allow, step by step: what no run meets proves nothing.
 //! And what they do not allow.
+//!
+//! # What it promises
+//!
+//! Its functions do nothing. What they promise are sentences on the definitions of the world.
+//!
+//! - `forbidden` says what no run does. Each sentence refutes a wrong body.
+//!   - Without a stop among the steps no machine goes down (`up`). An edit takes its side down only
+//!     where a stop is armed at one of its four calls (`stops`). It is not acknowledged where one
+//!     of them is armed to fail or to be the last (`armed`).
+//!   - A session that has just started is not given up at its first tick (`fresh`), and no side is
+//!     asked twice to begin it but by a resend (`begins`). No side is asked for a listing before
+//!     both have answered that they have begun (`lists`).
+//!   - An answer without a fault ends no session 22 or 23 (`faults`). One with an unstable path is
+//!     not called Complete (`unstable`), and one whose archive's device failed in a call does not
+//!     go on (`fails`).
+//!   - Within an answer the session never goes back in its plan. What it reports refused are items
+//!     that it passed (`refuses`), and what it records is due for an item that it came to
+//!     (`keeps`).
+//!   - A checkpoint within an answer is for a record that is due and does not fit (`needed`). That
+//!     record follows, or nothing more of the answer (`room`), so that there is at most one
+//!     checkpoint more than records (`checkpoints`). An answer without a fault ends no session 8
+//!     without such a checkpoint (`full`).
+//!   - A machine is halted only after one of its device calls failed (`halted`). A step is refused
+//!     9, and a session ends 9 for an answer without a fault, only where a device call failed in it
+//!     (`refused`, `ended`).
+//! - `witnesses` and `short_witnesses` are runs that the definitions allow, step by step, each with
+//!   what it sends, acknowledges, reports and leaves.
+//! - `examples` are answers of a side, one by one; the last three are of a halted side.
+//!
+//! The runs show these:
+//!
+//! - A stop cuts off an edit, a start, a replacement, a record of the archive and a checkpoint, and
+//!   the opening behind it gives it back. Of an edit that failed and of a checkpoint, that an
+//!   opening gives it back or not is shown both ways.
+//! - A device call fails in an edit, a replacement, a start and a reopening.
+//! - Sessions carry a file, one each way and a removal. They mark what an earlier one carried, a
+//!   directory of both sides and a removal that both made. They report conflicts, find a directory
+//!   gone, and are never answered.
+//! - Requests repeat and come late. A start is refused while a session runs, and an edit that has
+//!   no room before a checkpoint. A checkpoint is made alone, and within an answer.
 #![tactic(auto)]
 
 ghost use Rattle.syn_witness.specs.Rows.{SideRows};

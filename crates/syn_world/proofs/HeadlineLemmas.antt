@@ -6,7 +6,7 @@ use Rattle.syn_disk.specs.Arms.{Arms, no_arms}
 use Rattle.syn_disk.specs.declared.disk.Disk.{Ghosts}
 use Rattle.syn_headline.specs.Acknowledged.{Stores}
 use Rattle.syn_headline.specs.Coordinator.{CoordinatorMachine}
-use Rattle.syn_headline.specs.Headline.{stores_of}
+use Rattle.syn_headline.specs.Runs.{picture_of, stores_of}
 use Rattle.syn_headline.specs.Network.{Left, Right, Which}
 use Rattle.syn_headline.specs.SideMachine.{SideMachine}
 use Rattle.syn_headline.specs.World.{World as ModelWorld, Runs, Step, side_of}
@@ -79,7 +79,7 @@ safe_run disk pair disks later stores steps old new headline opened same runs le
   stores_are = same;
   runs = runs;
   pair_is = run_keeps_pair old steps new runs ∙ opened.pair_is;
-  safe = λ shown holds. subst (λ s. IsCrashSafe s new shown) same
+  safe = λ shown holds. subst (λ s. IsCrashSafe s (picture_of new) shown) same
       (headline pair (shown_on disk.seen disks) shown old new steps opened runs
       (may_be_left disk.may_leave later new left shown holds));
 }
@@ -115,7 +115,7 @@ module _ {D : Type 0} (disk : Ghosts D) (disks stopped : Disks D)
   abbrev holds : MayHold disk.may_leave disks shown
   holds = might_hold disk disks stopped is stays
 
-  abbrev pub found : IsCrashSafe before run shown
+  abbrev pub found : IsCrashSafe before (picture_of run) shown
   found = safe shown holds
 
   -- it stands for the stores of the run

@@ -3,7 +3,8 @@ use Rattle.std.proofs.Common.{◌≡◌, ◌∙◌, ◌<◌, ℕ, [], None, ap, 
 use Rattle.std.specs.Prelude.{map}
 use Rattle.syn_disk.specs.declared.disk.Disk.{Ghosts}
 use Rattle.syn_headline.specs.Acknowledged.{Stores}
-use Rattle.syn_headline.specs.Headline.{IsPair, stores_of}
+use Rattle.syn_headline.specs.Runs.{stores_of}
+use Rattle.syn_headline.specs.Headline.{IsPair}
 use Rattle.syn_headline.specs.Network.{Which, Left, Right}
 use Rattle.syn_headline.specs.World.{World as ModelWorld, side_of}
 use Rattle.syn_host.specs.Starts.{CanStart, StartsCoordinator, StartsSide}

@@ -2,7 +2,7 @@
 use Rattle.std.specs.Prelude.{◌≡◌, ◌⊎◌, ◌++◌, ℕ, List, Result, Ok, Err}
 use Rattle.syn_disk.specs.declared.disk.Disk.{Ghosts}
 use Rattle.syn_headline.specs.Acknowledged.{Stores}
-use Rattle.syn_headline.specs.Headline.{stores_of}
+use Rattle.syn_headline.specs.Runs.{picture_of, stores_of}
 use Rattle.syn_headline.specs.World.{World as ModelWorld, Step, Runs}
 use Rattle.syn_host.specs.Coordinators.{archive_disk}
 use Rattle.syn_host.specs.Sides.{side_disk}
@@ -36,7 +36,8 @@ pub record MayHold {D : Type 0} (may_leave : D → Bytes → Type 0) (disks : Di
 -- whatever a stop may now leave on the disks, the world is crash safe with it
 abbrev pub AreSafe : {D : Type 0} → (D → Bytes → Type 0) → Stores → Disks D → ModelWorld → Type 0
 AreSafe may_leave before disks world =
-    (shown : Shown) → MayHold may_leave disks shown → IsCrashSafe before world shown
+    (shown : Shown) → MayHold may_leave disks shown →
+    IsCrashSafe before (picture_of world) shown
 
 -- A world that was opened from the disks went by these steps to this one, and whatever a stop may
 -- then leave on the later disks is safe
@@ -103,7 +104,7 @@ pub record Recovers {D : Type 0} {disk : Ghosts D} (disks : Disks D) (before : S
     (run : ModelWorld) (world : World D disk) : Type 0 where
   pub shown : Shown
   pub might_hold : MayHold disk.may_leave disks shown
-  pub safe : IsCrashSafe before run shown
+  pub safe : IsCrashSafe before (picture_of run) shown
   pub opens : OpensFrom run.pair shown safe.now world
 
 -- A world that was opened again after a run of these steps and a stop of all machines: the run was

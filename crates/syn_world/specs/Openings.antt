@@ -4,7 +4,7 @@ use Rattle.syn_disk.specs.Arms.{Arms}
 use Rattle.syn_disk.specs.Disk.{NothingNew}
 use Rattle.syn_disk.specs.declared.disk.Disk.{Ghosts}
 use Rattle.syn_headline.specs.Acknowledged.{Stores}
-use Rattle.syn_headline.specs.Headline.{stores_of}
+use Rattle.syn_headline.specs.Runs.{stores_of}
 use Rattle.syn_headline.specs.World.{World as ModelWorld}
 use Rattle.syn_host.specs.Starts.{HoldsArchive, HoldsReplica, IsFree, RefusesArchive}
 use Rattle.syn_host.specs.Starts.{RefusesSide}

@@ -1,10 +1,12 @@
 use Rattle.syn_headline.proofs.StandLemmas.{runs_stand}
 use Rattle.syn_headline.proofs.FormattedLemmas.{formatted_is_pair}
 use Rattle.syn_headline.proofs.FineRuns.{replace_legally, use_tokens_once, hold_archive, leave_pair}
-use Rattle.syn_headline.proofs.FineRuns.{log_plans, owe, tell_reports}
+use Rattle.syn_headline.proofs.FineRuns.{is_pictured, log_plans, owe, recover_legally, tell_reports}
 use Rattle.syn_headline.proofs.TakenAnswers.{take_expected}
-use Rattle.syn_headline.proofs.RecoveredLemmas.{recover_legally}
 use Rattle.syn_headline.proofs.run_laws.Goals as goal
+
+pub returns-clause-pictured : goal.returns-clause-pictured
+returns-clause-pictured c = is_pictured
 
 pub returns-clause-stands : goal.returns-clause-stands
 returns-clause-stands c = runs_stand
@@ -16,7 +18,7 @@ pub returns-clause-legal : goal.returns-clause-legal
 returns-clause-legal c = replace_legally
 
 pub returns-clause-recovered : goal.returns-clause-recovered
-returns-clause-recovered c = recover_legally replace_legally runs_stand
+returns-clause-recovered c = recover_legally
 
 pub returns-clause-tokens : goal.returns-clause-tokens
 returns-clause-tokens c = use_tokens_once

@@ -6,6 +6,7 @@ returns-clause-start c = disks_are_start
 
 pub returns-clause-crash_safe : goal.returns-clause-crash_safe
 returns-clause-crash_safe c = headline (record {
+  pictured = c.run_laws.ensures.pictured;
   stand = c.run_laws.ensures.stands;
   legal = c.run_laws.ensures.legal;
   recovered = c.run_laws.ensures.recovered;

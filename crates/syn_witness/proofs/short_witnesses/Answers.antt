@@ -1,7 +1,7 @@
 use Rattle.syn_witness.proofs.CutOffLemmas.{start_is_recovered, replacement_is_recovered}
 use Rattle.syn_witness.proofs.CutOffLemmas.{record_is_recovered}
-use Rattle.syn_witness.proofs.ShortLemmas.{checkpoint_is_made}
-use Rattle.syn_witness.proofs.ShortLemmas.{archive_is_reopened, resend_is_answered, late_is_old}
+use Rattle.syn_witness.proofs.ShortLemmas.{checkpoint_is_made, archive_is_reopened}
+use Rattle.syn_witness.proofs.ShortLemmas.{resend_is_answered, late_is_old}
 use Rattle.syn_witness.proofs.RefusedCalls.{second_start_is_busy, full_is_compacted, start_fails}
 use Rattle.syn_witness.proofs.RefusedCalls.{reopening_fails}
 use Rattle.syn_witness.proofs.TwoFilesLemmas.{files_conflict, room_is_made}

@@ -1,9 +1,9 @@
--- A coarser picture of the world, by which the proofs go: no rooms, generations, arms and
--- transcripts.
+-- What a run may do: a picture of the world without rooms, generations, arms and transcripts. Each
+-- step of the world is one of it.
 use Rattle.std.specs.Option.{option_map_or}
 use Rattle.std.specs.List.{count_by}
-use Rattle.std.specs.Prelude.{ℕ, true, ◌≤◌, ◌+◌, filter_map, ◌≡◌, ◌≢◌, ◌⊎◌, ◌&&◌, Bool, List}
-use Rattle.std.specs.Prelude.{[], ◌∷◌, ◌++◌, slice_get, map, Option, Some, None, Contains, IfSome}
+use Rattle.std.specs.Prelude.{ℕ, true, ◌≤◌, ◌+◌, filter_map, ◌≡◌, ◌≢◌, ◌⊎◌, ◌&&◌, Bool, List, []}
+use Rattle.std.specs.Prelude.{◌∷◌, ◌++◌, slice_get, map, Option, Some, None, Contains, IfSome}
 use Rattle.std.specs.Prelude.{IsSome, IsSomeAnd, All, Any, length}
 use Rattle.syn_model.specs.Path.{Path}
 use Rattle.syn_model.specs.Refusal.{Device}
@@ -18,61 +18,68 @@ use Rattle.syn_headline.specs.SideMachine.{ServesAs}
 use Rattle.syn_headline.specs.Network.{Which, Left, Right, other, WasAnswered, Message, Asks}
 use Rattle.syn_headline.specs.Network.{Answers, Sent, NumbersTell, AsksNothingTwice}
 use Rattle.syn_headline.specs.Machine.{Status, Up, Halted, Down}
-use Rattle.syn_headline.specs.Acknowledged.{Ack, Happened, Kept_by}
+use Rattle.syn_headline.specs.Acknowledged.{Ack, Happened, Kept_by, Stores, kept_in_session}
 use Rattle.syn_headline.specs.Planning.{Planned, seen_on, HasBegun, SessionPlan, Log, IsPlanOf}
 use Rattle.syn_headline.specs.Planning.{WritesTo}
 use Rattle.syn_model.specs.Decision.{Item, Conflict, MarkSame, MarkDir, path_of}
 use Rattle.syn_headline.specs.Report.{Report, Complete, Incomplete, is_kept, is_carrying}
 use Rattle.syn_headline.specs.Report.{is_marking, conflict_at}
 use Rattle.syn_headline.specs.Coordinator.{Outstanding, asked_in, MayWait}
-pub use Rattle.syn_headline.specs.Reported.{kept_in_session, since_start}
 
 -- a side: what it stands for, and which event was being written when it stopped or a device failed
-pub record SideMachine : Type 0 where
+pub record SidePicture : Type 0 where
   pub status : Status
   pub side : Side
   pub writing : Option Event
 
 -- a session that runs, with its plan once it is made
-pub record Running : Type 0 where
+pub record SessionPicture : Type 0 where
   pub session : ℕ
   pub left : List Outstanding
   pub right : List Outstanding
   pub plan : List Planned
 
-pub record CoordinatorMachine : Type 0 where
+pub record CoordinatorPicture : Type 0 where
   pub status : Status
   pub archive : Archive
   pub writing : Option Kept
-  pub running : Option Running
+  pub running : Option SessionPicture
 
-pub record World : Type 0 where
+pub record Picture : Type 0 where
   pub pair : ℕ
-  pub left : SideMachine
-  pub right : SideMachine
-  pub coordinator : CoordinatorMachine
+  pub left : SidePicture
+  pub right : SidePicture
+  pub coordinator : CoordinatorPicture
   pub sent : Sent
   pub acknowledged : List Ack
   pub reports : List (Report × ℕ)
   pub log : Log
 
-abbrev pub side_of : World → Which → SideMachine
+-- what its disks stand for
+abbrev pub stores_of : Picture → Stores
+stores_of world = record {
+  left = world.left.side.history;
+  right = world.right.side.history;
+  archive = world.coordinator.archive;
+}
+
+abbrev pub side_of : Picture → Which → SidePicture
 side_of world Left = world.left
 side_of world Right = world.right
 
-abbrev pub set_side : World → Which → SideMachine → World
+abbrev pub set_side : Picture → Which → SidePicture → Picture
 set_side world Left machine = record world { left = machine }
 set_side world Right machine = record world { right = machine }
 
-abbrev pub outstanding : Running → Which → List Outstanding
+abbrev pub outstanding : SessionPicture → Which → List Outstanding
 outstanding running Left = running.left
 outstanding running Right = running.right
 
-abbrev pub asked_of : Running → Which → ℕ → Option Request
+abbrev pub asked_of : SessionPicture → Which → ℕ → Option Request
 asked_of running side number = asked_in (outstanding running side) number
 
 -- a machine that stops forgets all but its disk
-abbrev pub stopped : SideMachine → Option Event → SideMachine
+abbrev pub stopped : SidePicture → Option Event → SidePicture
 stopped machine writing =
     record {
       status = Down;
@@ -81,21 +88,21 @@ stopped machine writing =
     }
 
 -- an event is written and acknowledged, or the device fails, or it is cut off
-pub data Writes (machine : SideMachine) (event : Event) : SideMachine → List Event → Type 0 where
+pub data Writes (machine : SidePicture) (event : Event) : SidePicture → List Event → Type 0 where
   written : Writes machine event (record machine { side = add_event machine.side event })
       (event ∷ [])
   failed : Writes machine event (record machine { status = Halted; writing = Some event }) []
   cut : Writes machine event (stopped machine (Some event)) []
 
 -- an opening gives the history; or the event too that was being written
-pub data Opens (machine : SideMachine) : SideMachine → List Event → Type 0 where
+pub data Opens (machine : SidePicture) : SidePicture → List Event → Type 0 where
   opened : Opens machine (record machine { status = Up; writing = None }) []
   recovered : (event : Event) → machine.writing ≡ Some event →
       IsAllowed machine.side.history event → Opens machine
       (record { status = Up; side = add_event machine.side event; writing = None }) (event ∷ [])
 
-pub record AnswersRequest (old : World) (which : Which) (session number : ℕ) (request : Request)
-    (new : World) : Type 0 where
+pub record AnswersRequest (old : Picture) (which : Which) (session number : ℕ) (request : Request)
+    (new : Picture) : Type 0 where
   pub served : Served
   pub has_room : Event → Bool
   pub events : List Event
@@ -110,7 +117,7 @@ pub record AnswersRequest (old : World) (which : Which) (session number : ℕ) (
 
 -- the event that a request adds to a side that is up, where no device fails and the side does not
 -- stop
-pub record WouldAdd (pair : ℕ) (machine : SideMachine) (session : ℕ) (request : Request)
+pub record WouldAdd (pair : ℕ) (machine : SidePicture) (session : ℕ) (request : Request)
     (event : Event) : Type 0 where
   pub served : Served
   pub has_room : Event → Bool
@@ -118,8 +125,8 @@ pub record WouldAdd (pair : ℕ) (machine : SideMachine) (session : ℕ) (reques
   pub serves : Serves pair has_room machine.side session request served
   pub adds : served.side.history ≡ machine.side.history ++ event ∷ []
 
-pub data TakesRequest (old : World) (which : Which) (session number : ℕ) (request : Request)
-    (new : World) : Type 0 where
+pub data TakesRequest (old : Picture) (which : Which) (session number : ℕ) (request : Request)
+    (new : Picture) : Type 0 where
   answered : AnswersRequest old which session number request new →
       TakesRequest old which session number request new
   request_failed : (event : Event) → WouldAdd old.pair (side_of old which) session request event →
@@ -167,7 +174,7 @@ IsOfPlan pair sent session plan to (Replace item path since size) =
     × (since ≡ (seen_on planned to).since) × IsTotal sent to session planned size
 
 -- a request of the running session
-abbrev pub IsOfSession : ℕ → Sent → Running → Message → Type 0
+abbrev pub IsOfSession : ℕ → Sent → SessionPicture → Message → Type 0
 IsOfSession pair sent running (Asks to session number request) =
     (session ≡ running.session) × IsLawfulRequest session request
     × IsOfPlan pair sent running.session running.plan to request
@@ -175,7 +182,7 @@ IsOfSession pair sent running (Answers from session number reply) = ⊥
 
 -- what may be recorded when an answer is taken: the item whose replacement is done, with the mark
 -- of its source, or where both scans agree
-pub data IsDue (running : Running) (plan : List Planned) (from : Which) (number : ℕ)
+pub data IsDue (running : SessionPicture) (plan : List Planned) (from : Which) (number : ℕ)
     (reply : Reply) : Kept → Type 0 where
   done : (item : ℕ) (path : Path) (since size : ℕ) (planned : Planned) → reply ≡ Done →
       asked_of running from number ≡ Some (Replace item path since size) →
@@ -187,7 +194,7 @@ pub data IsDue (running : Running) (plan : List Planned) (from : Which) (number 
   directory : (item : ℕ) (path : Path) (planned : Planned) → slice_get plan item ≡ Some planned →
       planned.item ≡ MarkDir path → IsDue running plan from number reply (RecordedDir path)
 
-abbrev pub AllOfSession : ℕ → Sent → Option Running → List Message → Type 0
+abbrev pub AllOfSession : ℕ → Sent → Option SessionPicture → List Message → Type 0
 AllOfSession pair sent None messages = messages ≡ []
 AllOfSession pair sent (Some running) messages = All (IsOfSession pair sent running) messages
 
@@ -200,46 +207,47 @@ pub record MakesPlan (sent : Sent) (archive : Archive) (log : Log) (session : �
   pub is : IsPlanOf sent made
 
 -- the plan stays, or it is made, and logged
-abbrev pub HasPlan : Sent → Archive → Log → Option Running → List Planned → Log → Type 0
+abbrev pub HasPlan : Sent → Archive → Log → Option SessionPicture → List Planned → Log → Type 0
 HasPlan sent archive log running plan logged =
     IfSome running (λ running. ((plan ≡ running.plan) × (logged ≡ []))
     ⊎ ((made : SessionPlan) × MakesPlan sent archive log running.session made × (plan ≡ made.plan)
     × (logged ≡ made ∷ [])))
 
 -- a session ends, or goes on with its plan
-pub data GoesOnAs (old : Running) (plan : List Planned) : Option Running → Type 0 where
-  ended : GoesOnAs old plan None
-  goes_on : (new : Running) → new.session ≡ old.session → new.plan ≡ plan →
-      GoesOnAs old plan (Some new)
+pub data GoesOnAs (old : SessionPicture) (plan : List Planned) : Option SessionPicture → Type 0
+  where
+    ended : GoesOnAs old plan None
+    goes_on : (new : SessionPicture) → new.session ≡ old.session → new.plan ≡ plan →
+        GoesOnAs old plan (Some new)
 
-abbrev pub GoesOnFrom : Option Running → List Planned → Option Running → Type 0
+abbrev pub GoesOnFrom : Option SessionPicture → List Planned → Option SessionPicture → Type 0
 GoesOnFrom None plan new = new ≡ None
 GoesOnFrom (Some old) plan new = GoesOnAs old plan new
 
-abbrev pub plan_of : Option Running → List Planned
+abbrev pub plan_of : Option SessionPicture → List Planned
 plan_of running = option_map_or (λ running. running.plan) running []
 
 -- a session starts with the next number
-abbrev pub StartsFrom : Archive → Option Running → Type 0
+abbrev pub StartsFrom : Archive → Option SessionPicture → Type 0
 StartsFrom archive running =
     IfSome running (λ new. (new.session ≡ archive.last_session + 1) × (new.plan ≡ []))
 
 -- a request that waits was sent
-abbrev pub WasSent : Sent → Running → Type 0
+abbrev pub WasSent : Sent → SessionPicture → Type 0
 WasSent sent running =
     (side : Which) →
     All (λ waiting. Contains sent (Asks side running.session waiting.number waiting.request))
     (outstanding running side)
 
 -- it waits for an answer, and on each side for no more than it may at a time
-abbrev pub Waits : Running → Type 0
+abbrev pub Waits : SessionPicture → Type 0
 Waits running =
     (1 ≤ length running.left + length running.right)
     × MayWait running.left × MayWait running.right
 
 -- a running session has the number that the archive kept last, waits for an answer, and what waits
 -- was sent
-abbrev pub RunsOver : Sent → Archive → Option Running → Type 0
+abbrev pub RunsOver : Sent → Archive → Option SessionPicture → Type 0
 RunsOver sent archive running =
     IfSome running
     (λ running. (running.session ≡ archive.last_session) × WasSent sent running × Waits running)
@@ -251,7 +259,7 @@ AllCanKeep archive (kept ∷ more) = CanKeep archive kept × AllCanKeep (after_k
 
 -- what a call of the coordinator keeps, and how it ends: with one more record that the device
 -- failed on, or that a stop cut off
-pub record Keeps (old : CoordinatorMachine) (IsDue_now : Kept → Type 0) (new : CoordinatorMachine)
+pub record Keeps (old : CoordinatorPicture) (IsDue_now : Kept → Type 0) (new : CoordinatorPicture)
     (kept : List Kept) : Type 0 where
   pub due : All IsDue_now kept
   pub can : AllCanKeep old.archive kept
@@ -260,9 +268,9 @@ pub record Keeps (old : CoordinatorMachine) (IsDue_now : Kept → Type 0) (new :
 
 -- a call of the coordinator: what it sends is of its session, what it keeps is due, and this is
 -- logged
-pub record CoordinatorGoes (old : World) (logged : Log) (IsDue_now : Kept → Type 0)
-    (RunsOn : Option Running → Type 0) (new : World) : Type 0 where
-  pub machine : CoordinatorMachine
+pub record CoordinatorGoes (old : Picture) (logged : Log) (IsDue_now : Kept → Type 0)
+    (RunsOn : Option SessionPicture → Type 0) (new : Picture) : Type 0 where
+  pub machine : CoordinatorPicture
   pub kept : List Kept
   pub messages : List Message
   pub reports : List (Report × ℕ)
@@ -284,12 +292,12 @@ pub record CoordinatorGoes (old : World) (logged : Log) (IsDue_now : Kept → Ty
   }
 
 -- the answer has the session and number of a request that is outstanding
-abbrev pub IsExpected : Option Running → Which → ℕ → ℕ → Type 0
+abbrev pub IsExpected : Option SessionPicture → Which → ℕ → ℕ → Type 0
 IsExpected running from session number =
     IsSomeAnd running
     (λ running. (session ≡ running.session) × IsSome (asked_of running from number))
 
-abbrev pub IsDueAfter : Option Running → List Planned → Which → ℕ → Reply → Kept → Type 0
+abbrev pub IsDueAfter : Option SessionPicture → List Planned → Which → ℕ → Reply → Kept → Type 0
 IsDueAfter running plan from number reply kept =
     IsSomeAnd running (λ running. IsDue running plan from number reply kept)
 
@@ -323,26 +331,26 @@ pub record EndsAs (session : ℕ) (log : Log) (plan : List Planned) (kept : List
   pub conflicts : report.ended ≡ None →
       report.conflicts ≡ filter_map (λ planned. conflict_at planned.item) plan
 
-abbrev pub Ends : World → List Planned → Running → Report → Type 0
+abbrev pub Ends : Picture → List Planned → SessionPicture → Report → Type 0
 Ends new plan running report =
     EndsAs running.session new.log plan (kept_in_session new.acknowledged) report
 
-abbrev pub EndsUnanswered : Running → Report → Type 0
+abbrev pub EndsUnanswered : SessionPicture → Report → Type 0
 EndsUnanswered running report = report.end ≡ Incomplete
 
 -- the session goes on without a report, or is forgotten as the machine stops; or it is over, and
 -- reports how it ended
-abbrev pub Reports : World → World → List Planned → (Running → Report → Type 0) → Type 0
+abbrev pub Reports : Picture → Picture → List Planned → (SessionPicture → Report → Type 0) → Type 0
 Reports old new plan Ends_so =
     (new.reports ≡ old.reports)
-    ⊎ ((running : Running) × (report : Report) × (old.coordinator.running ≡ Some running)
+    ⊎ ((running : SessionPicture) × (report : Report) × (old.coordinator.running ≡ Some running)
     × (new.reports ≡ old.reports ++ (report, length new.acknowledged) ∷ []) × Ends_so running report
     × Counts plan (kept_in_session new.acknowledged) report)
 
 -- One step: what the machines do in it
-pub data Follows (old new : World) : Type 0 where
+pub data Follows (old new : Picture) : Type 0 where
   same : new ≡ old → Follows old new
-  edits : (which : Which) (user : ℕ) (edit : Edit) (machine : SideMachine) (events : List Event) →
+  edits : (which : Which) (user : ℕ) (edit : Edit) (machine : SidePicture) (events : List Event) →
       IsAllowed (side_of old which).side.history (Edited user edit) →
       (side_of old which).status ≡ Up →
       Writes (side_of old which) (Edited user edit) machine events →
@@ -351,7 +359,7 @@ pub data Follows (old new : World) : Type 0 where
         acknowledged =
             old.acknowledged ++ map (λ event. Happened which event) events;
       } → Follows old new
-  opens : (which : Which) (machine : SideMachine) (events : List Event) →
+  opens : (which : Which) (machine : SidePicture) (events : List Event) →
       Opens (side_of old which) machine events →
       new ≡ record (set_side old which machine) {
         sent = old.sent ++ [];
@@ -381,7 +389,7 @@ pub data Follows (old new : World) : Type 0 where
       CoordinatorGoes old logged (IsDueAfter old.coordinator.running plan from number reply)
       (GoesOnFrom old.coordinator.running plan) new → Reports old new plan (Ends new plan) →
       Follows old new
-  archive_changes : (status : Status) (running : Option Running) →
+  archive_changes : (status : Status) (running : Option SessionPicture) →
       (old.coordinator.status ≢ Up → status ≢ Up) →
       (running ≡ old.coordinator.running) ⊎ (running ≡ None) → new
       ≡ record old { coordinator = record old.coordinator { status = status; running = running } } →
@@ -396,7 +404,7 @@ pub data Follows (old new : World) : Type 0 where
       } → Follows old new
 
 -- steps, one after another
-pub data FollowsAll : World → World → Type 0 where
-  nothing_more : (world : World) → FollowsAll world world
-  one_more : (old between new : World) → Follows old between → FollowsAll between new →
+pub data FollowsAll : Picture → Picture → Type 0 where
+  nothing_more : (world : Picture) → FollowsAll world world
+  one_more : (old between new : Picture) → Follows old between → FollowsAll between new →
       FollowsAll old new
