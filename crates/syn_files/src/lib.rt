@@ -4,6 +4,15 @@
 //! open: the program's are files of the system. An image is shown, checked and edited, a replica is
 //! served to others, written into a folder and made what one is, and a session runs between two
 //! replicas, or is planned.
+//!
+//! # What it promises
+//!
+//! - A text that names no path is refused 1, or 11, whatever the disk or the server is (`edit`,
+//!   `show`).
+//! - `NamedDisks` opens a disk by its name, to change it or only to read it, and the lock for that
+//!   is held on it then (`held`). Nothing else is asked of the disk but that it is one, so all here
+//!   holds of any disks that have names.
+//! - That the disk of the line is the one that is opened is shown by tests alone.
 #![tactic(auto)]
 
 mod folders;
@@ -12,6 +21,7 @@ mod named;
 mod network;
 mod plans;
 mod sessions;
+mod upkeep;
 
 pub use folders::{export, import};
 pub use images::{edit, print_image, print_log, print_numbers, show};

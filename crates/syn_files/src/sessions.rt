@@ -1,6 +1,7 @@
 //! Sessions of images that have names, and of served replicas.
 
 use crate::named::{NamedDisks, archive_in, replica_in};
+use crate::upkeep::{shorten, shorten_archive};
 use log::sink::Discard;
 use log::{LevelFilter, Logged};
 use std::alloc::Global;
@@ -150,6 +151,7 @@ where
     let mut coordinator = Coordinator::new(alloc, archive);
     let went = sync(rt, alloc, &mut coordinator, left, right, preference, watch);
     let told = print_session(alloc, went, &coordinator, watch, output);
+    shorten_archive(alloc, &mut coordinator);
     drop(coordinator);
     told
 }
@@ -207,7 +209,7 @@ where
     let quiet = Logged::new(*rt, LevelFilter::Off, Discard);
     let gates = OpenGates;
     let coordinator = Coordinator::new(alloc, archive);
-    let (coordinator, went) = run(
+    let (mut coordinator, went) = run(
         &quiet,
         alloc,
         left,
@@ -219,6 +221,9 @@ where
         watch,
     );
     let told = print_session(alloc, went, &coordinator, watch, output);
+    shorten(alloc, left);
+    shorten(alloc, right);
+    shorten_archive(alloc, &mut coordinator);
     drop(coordinator);
     told
 }
