@@ -15,6 +15,21 @@
 //! The exit status is 0 where the command was done, 1 where it was refused, 2 where the words are
 //! no command, 3 where a session is incomplete and 4 where it is complete with conflicts. It is 5
 //! where the session that is planned has something to do.
+//!
+//! # What it promises
+//!
+//! - Status 0 only where the words ask for a command, the help or the version; status 2 only where
+//!   they ask for none.
+//! - `read_words` gives a line only where `clap` finds no fault and the values are the line's
+//!   (`ok`). A refusal by `clap` has a kind that `clap` states of the words (`usage`). The only
+//!   other mistakes, with all values given, are three. A KIND is neither `replica` nor `archive`, a
+//!   PAIR is no number below 2^64, or a USER is none below 2^32. The one that is told is the wrong
+//!   one (`wrong`).
+//! - The disks of its lines are disks in files, and the lock of each is the system's on its file
+//!   (`is_held` of `DisksInFiles`). `format` changes the length of no file to a disk's before it
+//!   has the lock to write (`lock`, `format_file`: `held`).
+//! - That the file of the line is the one that is opened, and that a refusal is one line on
+//!   standard error, is shown by tests alone.
 #![tactic(auto)]
 
 mod command;

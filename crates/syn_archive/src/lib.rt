@@ -1,4 +1,45 @@
 //! The archive: the marks that both sides last agreed on, on a disk.
+//!
+//! # What it promises
+//!
+//! `Stands archive kept`: the disk stands for what the model's archive keeps, a stop would leave
+//! just that, and the archive shows its marks and its last session.
+//!
+//! - `next_session`, `record` and `record_dir`, where they succeed, leave the archive with what was
+//!   kept (`acknowledged`: `after_kept`). At any moment of the call the disk stands for the archive
+//!   without it or with it (`any_moment`).
+//! - What a read gives after the call is among that, also where the call was refused 9 (`seen`).
+//! - `fits` answers exactly why the definition refuses a record, without memory (`kept_refusal`).
+//!   `record`, `record_dir` and `next_session` are refused with just that cause where there is one
+//!   (`refused`).
+//! - Else a refusal is 8, 9, 10 or 11 (`cause`). 10 comes exactly where the archive is halted
+//!   (`halted`). 8 comes where nothing before it is a cause and the record does not fit, and only
+//!   where it does not fit (`full`, `no_room`). So 11 comes where no cause stands before it.
+//! - Where a directory is recorded, `record_dir` is Ok (`done`), changes nothing and makes no
+//!   device call (`recorded`).
+//! - `checkpoint` leaves the same archive standing, in one image, whatever stop comes
+//!   (`acknowledged`, `any_moment`, `seen`). An archive that stands is refused 7 exactly at the
+//!   greatest generation (`greatest`).
+//! - After a failed device call it is halted (`halts`) and shows what it had (`readings`,
+//!   `memory`). After any other refusal its journal is as it was (`unchanged`).
+//! - `open` shows what the disk stands for (`given`), and stands for each archive that the disk
+//!   stands for, whatever its pair (`stands`, `each`). It changes nothing (`untouched`). It is
+//!   refused 18 only where no half is open, and 19 only where the layout is broken or the disk's
+//!   value stands for no archive of any pair. It is refused 20 only where it stands for one of
+//!   another pair than the wanted one (`refusals`, `wanted`). No two of these hold of one disk. A
+//!   disk of the wanted pair's archive is refused 9 and 11 alone (`lawful`).
+//! - `reopen` does the same with the archive's own disk (`given`, `each`), also where it was
+//!   halted. Where a call was refused 9, it leaves the archive before that call, or with what was
+//!   being kept (`before_or_after`, of what `seen` says). A disk that stands for no archive of its
+//!   pair is 19. After 9 it is halted (`halts`), and after any other refusal it is as it was
+//!   (`memory`, `halted`, `unchanged`).
+//! - Device calls are counted as the `syn_journal` counts them (`calls`). `arm` and `is_cut` are
+//!   the disk's.
+//! - After Ok a call of those that keep leaves as many bytes less as its record takes, and after
+//!   any refusal as many as were there (`record`, `readings`). After a reopening that is refused,
+//!   room and generation are as they were, or they are those of its disk (`readings` of `reopen`).
+//!   An archive that stood for what it kept has them as they were (`room`), and so has one that was
+//!   halted (`remembers`).
 #![tactic(auto)]
 
 mod archive;

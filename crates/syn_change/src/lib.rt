@@ -1,4 +1,12 @@
 //! The edits that make one tree another, planned on a copy before any of them is made.
+//!
+//! # What it promises
+//!
+//! `changes` plans the edits that make one tree another: made one after the other, they do. `puts`
+//! plans those that add to a tree what another has: then each path of that one has what it has
+//! there, and every other path what it had (`IsOverlaid`). `changes_at` plans those that put a tree
+//! in the place of what is at and below a path. All plan on a copy (`copy_part`), and make nothing.
+//! Where the old tree has what is wanted, no edit is planned (`none`).
 #![tactic(auto)]
 
 mod additions;

@@ -3,6 +3,33 @@
 //! An image on a disk is opened, made, shown and checked, and an edit of a replica is made as a
 //! line asks for it. How a command came out is told on standard error, and is the exit status.
 //! Which disk it is, is the caller's to say: nothing here opens a file or a connection.
+//!
+//! # What it promises
+//!
+//! - `make_edit`, over any disk and any reader, makes the edit that the line asks for at the path
+//!   that the line names. Where it answers, the history has one more event, by the line's user, and
+//!   a put is of all that was left of the input (`acknowledged`). At any moment the disk stands for
+//!   the history, or for it with that event (`any_moment`). An edit that the history refuses is
+//!   refused so (`refused`); after a refusal other than 9 the replica stands as it did
+//!   (`unchanged`).
+//! - `open_image`, over any disk, answers an archive where the disk has one (`archive`), and a
+//!   replica where it has one (`replica`). What it answers is what the disk gives (`given`), and
+//!   begins with the letters of its kind (`letters`). A refusal has its cause: 19 says that the
+//!   disk has neither (`refusals`).
+//! - `format_image` makes a new replica or a new archive of the pair.
+//! - `show_image` and `show_path` work over any disk and any writer (`printed`, `content_shown`).
+//!   They add the image's first line and a line for each path, in path order. Or they add the bytes
+//!   of the file, or the lines of what is strictly below the directory. They are refused 5 exactly
+//!   where nothing is there.
+//! - `check_image` adds the line of numbers of the image (`printed`).
+//! - The status of an answer is exact: 0 for one that was done, 1 for one that was refused
+//!   (`report`).
+//! - `import_part` makes what is at a path of a replica a given tree (`part`). The replica then
+//!   stands for the history with edits of the user behind it (`imported`), and for the same history
+//!   where the tree was there already (`none`). A stop at any moment leaves the history with a
+//!   beginning of these edits (`any_moment`). `send_edits` asks a server for such edits. Where it
+//!   succeeds, they were asked for one after another, and each was answered with the position
+//!   behind the one before (`made`).
 #![tactic(auto)]
 
 mod check;

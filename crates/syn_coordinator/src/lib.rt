@@ -1,4 +1,39 @@
 //! The coordinator of a pair: it runs sessions between the two replicas, over its archive.
+//!
+//! # What it promises
+//!
+//! `Stands coordinator pair machine`: it is this machine of the model. Its archive is the machine's
+//! (`IsMachine` of `syn_keep`), and the session that runs is the machine's (`IsSession` of
+//! `syn_session`).
+//!
+//! - A call does a step of the machine (`Does`): the coordinator is the machine after it, with what
+//!   was kept, sent and reported. Or the machine went down in it, with what was kept so far; the
+//!   coordinator is of no use then.
+//! - `start` keeps the next number and asks both sides to begin, with the preference that it is
+//!   given (`step`: `CoordinatorStarts`), only where no cause stands (`allowed`): no session runs
+//!   then. It is refused with the first cause that stands, and changes nothing then (`refused`).
+//!   After 9 `kept` has what was being written (`breaks`), and no report stands once it succeeds
+//!   (`report`).
+//! - `on_tick` sends again what waits, or ends the session 25 or 11 (`step`: `CoordinatorTicks`).
+//!   It makes no device call and leaves the archive.
+//! - `checkpoint` and `reopen` are the machine's (`Checkpoints`, `Reopens`), whatever session runs,
+//!   and leave what `report` and `kept` answer (`same`). An archive that a failed call left is
+//!   never 18, 19 or 20: `reopen` is refused 9 or 11 alone (`memory`).
+//! - `arm` sets what is armed at the machine (`stands`), and `is_cut` says whether it is down.
+//! - `on_reply` takes the answer of a side under the session and number of its request (`step`:
+//!   `CoordinatorTakes`). It answers what is to be sent next, and `kept` and `report` have what it
+//!   wrote and how the session ended. The reply has to be one that can be sent (`lawful`), as the
+//!   decoder gives it.
+//! - Where a device call failed in `on_reply`, or the machine stopped after a checkpoint, `kept`
+//!   has what was answered 9, which is what `tried` has. Else it has none, and no call failed
+//!   (`breaks`).
+//! - `tried` is the record that could not be kept, until an opening. `reopen` answers it where the
+//!   disk has it (`ok`), and `open` makes a coordinator of the disk of a machine that was down
+//!   (`opens`), refused 9 or 11 alone (`rests`).
+//! - No record is cut off under a session that runs (`quiet`, `untried`), so another opening leaves
+//!   its archive's marks as they were.
+//! - `planned` answers how many items the plan of the running session has; none before it is made.
+//!   `waits_on` says whether a request of that session waits on a side.
 #![tactic(auto)]
 
 mod coordinator;

@@ -2,6 +2,19 @@
 //!
 //! Each connection has a thread of its own, and one thread more keeps room in the replica's
 //! journal. What a thread does is proved in the crates below. Here they are started and joined.
+//!
+//! # What it promises
+//!
+//! - `serve` shares a replica among a thread for each connection and one for the checkpointer. It
+//!   is refused 24 where the lock has not as many passes, or 11 for want of memory, and then served
+//!   nobody. That it serves at all is tested: no clause of a thread's caller can say that a thread
+//!   ran.
+//! - `sync` and `run` drive one session of the coordinator over two connections, as `Driver::run`
+//!   of `syn_sync` does (`drives`). Ok says that a session was started, with the preference that
+//!   was asked for, and that none runs now (`ended`). Refused 9 where a side is not reached, and
+//!   `run` also 11 where a server has no thread: then the coordinator is as it was (`refused`).
+//! - Within, each connection is served to its end by exchanges with a pass of the replica's lock,
+//!   with nothing staged at its start (`serve_over`: `WasServedWhole`).
 #![tactic(auto)]
 
 mod bell;

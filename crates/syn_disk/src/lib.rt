@@ -9,6 +9,30 @@
 //!
 //! The disk of the product is in a file of the system, and stands in a crate above. The disks for
 //! tests and for simulated machines stand in `simulated`.
+//!
+//! # What it promises
+//!
+//! Contracts see a `Disk` by four things: `seen` is what a read would give, and `may_leave` what a
+//! stop now may leave. `left_since` is what a stop at a moment since may have left, and `failures`
+//! how many calls failed.
+//!
+//! - `read` gives the bytes seen, and leaves nothing new.
+//! - `write` puts the bytes where it succeeds. Where it fails, or a stop comes before the next
+//!   sync, the places written may hold any bytes, and every other place is as it was.
+//! - `sync`, where it succeeds, leaves exactly what is seen (`durable`). Where it fails, nothing is
+//!   promised of it.
+//! - Every call says which moments it spans (`time`), so that a promise "at any moment of the call"
+//!   can be made above.
+//! - Every call goes on with the disk's arms, what it was told to refuse (`arms`), and succeeds
+//!   only where they let it (`allowed`). A disk that nobody can tell has no arms.
+//!
+//! For tests and simulated machines: `MemDisk` is memory whose stops lose, keep or spoil what was
+//! not synced. `Restart` gives one of the contents that a stop may leave, and that alone from then
+//! on. `Limit` is a disk that can be armed; `Cut` makes one of any disk, and counts one failure for
+//! each call that it refuses.
+//!
+//! A disk that keeps its bytes in memory may use what these stand on: parts of bytes in memory
+//! (`syn_disk::bytes`), and what only clauses read of earlier calls (`History`, `Tally`).
 #![tactic(auto)]
 
 pub mod bytes;

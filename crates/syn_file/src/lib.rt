@@ -2,6 +2,22 @@
 //!
 //! `FileDisk` is the disk of the product, over any `DiskFile`. `MirroredFile` is such a file: a
 //! file of the operating system, with its bytes in memory.
+//!
+//! # What it promises
+//!
+//! The disk of the product is `FileDisk`, over any `DiskFile`. That trait says what each call on a
+//! file leaves of its bytes, and that no call may follow a write or a sync that failed. `FileDisk`
+//! keeps the contract of `Disk` over each such file. It syncs the file as it is opened (`settled`,
+//! of each way to open one), and fails each call once a write or a sync failed. `MirroredFile` is a
+//! `DiskFile` over a file of the system, with its bytes in memory.
+//!
+//! Where a disk is opened, the system's lock on its file was taken and is held (`held`): to write
+//! by `open`, to read by `open_to_read`, for the access that is named by `of_file`. `lock` takes it
+//! alone, and reads nothing. A read, a write and a sync of a `DiskFile` let no lock go (`lock` of
+//! each). `HostFile` says of a file which lock is held on it (`is_held`). An opening beside a
+//! writer is refused 12, and so is one to write beside readers. Two things are taken as given: what
+//! the system's lock keeps out, and that the system's file follows the memory. Which file a path
+//! opens no clause says, since the standard library's say nothing of it.
 #![tactic(auto)]
 
 mod error;

@@ -1,6 +1,16 @@
 //! Folders outside of any replica: what a tree has is written into one, and read from one.
 //!
 //! `Folder` is a folder by the tree that stands in it, and `SystemFolder` one of the system.
+//!
+//! # What it promises
+//!
+//! A `Folder` shows the tree of the files and directories that stand in it. `make` makes an edit of
+//! that tree. `fill` and `mirror` leave the wanted tree in the folder (`done`), and `update` adds
+//! it. Each of the three is refused before anything is written, with the folder as it was, or since
+//! a call of the system failed, and then a part may be written (`refused`). Such a failure is
+//! refused 9, or 11 where it is for want of memory (`FolderError::refusal`). `SystemFolder` is a
+//! folder of the system with its tree in memory. What the standard library's calls do to a folder
+//! no clause says: that the system's folder follows the memory is taken as given.
 #![tactic(auto)]
 
 mod error;

@@ -2,6 +2,19 @@
 //! archive.
 //!
 //! Each has one spelling, made of those of single values, and no spelling of one begins another.
+//!
+//! # What it promises
+//!
+//! - `encode_image` writes the image of a replica from its tree and its trail, and `decode_image`
+//!   reads exactly what an image may hold.
+//! - `encode_kept` with `encode_session`, `encode_record` and `encode_dir`, and `encode_archive`
+//!   write the spelling of what an archive keeps, and of an archive's image. `decode_kept` and
+//!   `decode_archive` read them, exactly as trees are read. The marks of an image have a directory
+//!   as their root.
+//! - `record_length` and `dir_length` are how many bytes spell a record, before it is spelled and
+//!   without memory. `Kept::copy` is equal.
+//! - No spelling of an image, a record or an archive's image begins that of another (`image_laws`:
+//!   `image`, `kept`, `archive`).
 #![tactic(auto)]
 
 ghost use Rattle.syn_image.specs.Images.{NoImageBeginsAnother};

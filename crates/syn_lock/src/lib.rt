@@ -1,4 +1,17 @@
 //! A lock over a state that only grows, with a ghost history of its holds.
+//!
+//! # What it promises
+//!
+//! - `enter` and `try_enter` lend the state, which is the one that the last holder left (`entered`,
+//!   `later`). The view of the pass becomes a longer history of holds. Each of these found what the
+//!   one before left, and let it grow by the state's own relation.
+//! - A pass's own holds in that history are those that it made, each of them (`own`). A refusal 12
+//!   is in its view as well, so it cannot be forged.
+//! - `leave` adds the hold to the history. `position` reads how far the last published state is,
+//!   with no lock taken.
+//! - `meet` gives two passes one common history.
+//! - A `PassPool` that is refused memory gives the same pass back (`put`).
+//! - `close` gives the last state back; `pass` refuses 24 where all passes are out.
 #![tactic(auto)]
 
 mod error;

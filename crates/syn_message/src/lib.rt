@@ -2,6 +2,22 @@
 //!
 //! A body is a kind, the session, the number of the request in it, and what the message has.
 //! Numbers are big-endian, and nothing follows the last field. Each message has one body.
+//!
+//! # What it promises
+//!
+//! - `decode_request` gives the request that a whole body spells, and none exactly where the body
+//!   spells no request (`IsWholeReading`). In a request nothing follows the last field, the session
+//!   is not 0, and what is staged has 1 to 32,768 bytes. `encode_request` writes that one body.
+//! - `decode_reply` and `encode_reply` are the same for what a side answers. A listing has at most
+//!   256 names in strict byte order, a piece at most 32,768 bytes, and a refusal one of the
+//!   product's numbers.
+//! - `decode_user_request` and `encode_user_request` are the same for what a user asks of a served
+//!   replica, and `decode_user_reply` and `encode_user_reply` for what a user is told. Their
+//!   session is 0.
+//! - No two messages of one kind of these four have one body (`message_laws`), so what was written
+//!   is read again.
+//! - `Request::copy` and `Reply::copy` give an equal message. `Side` is one of the two sides, and
+//!   `other` the one across.
 #![tactic(auto)]
 
 ghost use Rattle.syn_message.specs.Laws.{RequestsTell, RepliesTell, WishesTell, TellingsTell};

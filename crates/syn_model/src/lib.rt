@@ -1,4 +1,16 @@
 //! The definitions from path to plan that the other crates cite, and the laws that hold of them.
+//!
+//! # What it promises
+//!
+//! - There is one synchronization that the definition asks for, and the plan gives it (`one`,
+//!   `synchronizes`). This holds unless two files at one path, one on each side, have one digest
+//!   and different bytes. In any case the plan gives its archive (`reconciles`).
+//! - What a history leaves is a tree within the limits (`tree`, `fits`).
+//! - No spelling of a part of a tree begins that of another, nor one of marks (`tells`).
+//! - Each lawful image of a replica or an archive fits a half of a journal's disk (`image_fits`).
+//! - A formatted disk stands for no events, and a payload goes on from there (`formatted`,
+//!   `payload`).
+//! - From the floor on the touches that an image keeps tell what was touched (`touches`).
 #![tactic(auto)]
 
 ghost use Rattle.syn_model.specs.Laws.{SameAtEachPath, SubtreeHas, ReplacedHas, ReplacedIsThere};

@@ -3,6 +3,19 @@
 //! `Placed` is a path with what stands there, and `list` looks up, cuts and joins lists of such
 //! entries. `Keyed` is the same with a key in place of the path, and `ranges` does so with lists of
 //! these.
+//!
+//! # What it promises
+//!
+//! - An entry is a path with what stands there (`Placed`): a tree's content, a mark, or something
+//!   else that is a file or a directory (`Standing`). Contracts see it as the model's pair.
+//! - `syn_placed::list` looks up, cuts and joins lists of such entries in path order.
+//! - `Keyed` is an entry with a key in place of its path, in memory of its own.
+//!   `syn_placed::ranges` does with lists of these what `list` does with the others (`part_at`,
+//!   `entry_at`, `replace_part`).
+//! - A `KeyMap` is a finite map from paths to values, with room for a fixed number. `get`, `insert`
+//!   and `remove` are those of the map that contracts see, and `within` gives its entries at and
+//!   below a path, in path order. A `Slot` is one entry with its memory: once it is made, no call
+//!   is refused.
 #![tactic(auto)]
 
 mod key_map;

@@ -3,6 +3,13 @@
 //!
 //! It is the reconciler of Balasubramaniam and Pierce ("What is a File Synchronizer?", 1998), for
 //! whole files by their marks.
+//!
+//! # What it promises
+//!
+//! - The items of `plan` are the model's `plan` of the preference, the two scans and the marks,
+//!   each and in that order (`ok`), and it is refused only 11 (`memory`). So each law of the plan
+//!   is one of what the code gives. It synchronizes; a directory is recorded before what is below
+//!   it; and nothing dirty on its own side is carried over, but where the other side is preferred.
 #![tactic(auto)]
 
 mod decided;

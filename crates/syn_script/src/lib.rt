@@ -12,6 +12,12 @@
 //! - `fail M J`: the J-th device call of M from now on fails; with 0 none does
 //! - `stop M J MODE`: M makes J device calls more, and is then down. What it had not synced is lost
 //!   on its disk (`lose`), is there (`keep`), or is bytes of no meaning (`noise`)
+//!
+//! # What it promises
+//!
+//! - `Script::parse` answers the steps that the lines of a text say, in their order (`ok`). A line
+//!   is a step by `Say`, a table of its words.
+//! - Else it answers the number of the first line that is none, from 1 (`bad`), or 11 (`memory`).
 #![tactic(auto)]
 
 mod error;

@@ -2,6 +2,48 @@
 //!
 //! A request is a session's or a user's, in a frame. Each is answered by one hold of the replica's
 //! lock, and the reply goes back in a frame. The reader and the writer may be any.
+//!
+//! # What it promises
+//!
+//! It answers what comes over one connection, to any reader and writer, from a shared replica. A
+//! body is a session's request or a user's.
+//!
+//! - `decode_any_request` gives the message that a body spells, and none exactly where it spells
+//!   none of either. `encode_any_reply` gives the body of a reply.
+//! - A connection is a `Line` to its contracts: what the reader is to give, what came and was not
+//!   handed out, what is staged, and what was written. A `Moment` is a line with the pass.
+//! - `serve_next` is one exchange, which is one of four things (`exchanges`: `Exchanges`).
+//!   - A message came and its reply was written (`answers`). Its body was in the first frame of
+//!     what came, and its one hold answered it (`IsAnswered`); the reply's frame is all that was
+//!     written.
+//!   - The other side closed before a whole frame came (`ends`). The pass, what is staged and what
+//!     was written stay.
+//!   - The connection is to be closed, and nothing was answered (`closes`). This comes for 21 and
+//!     22 as the bytes claim, for 23 as no message has this body, for 9 of a read and for 11
+//!     (`ClosesFor`). The pass, what is staged and what was written stay.
+//!   - A message was answered, and the reply was not written whole (`breaks`). After 9 a beginning
+//!     of its frame was written, and after 11 nothing (`BreaksOff`). No reply is too long for a
+//!     frame.
+//! - A hold finds the replica at the end of a lock history that begins with what the pass had seen,
+//!   maybe after the lock was found taken (`Responds`). The reply has the session and number of its
+//!   request.
+//!   - A session's request is answered as the agent's call of one thread answers it there, and the
+//!     replica is left so (`AnswersAlone`: the clauses of `answer` of `syn_agent`).
+//!   - A user is told what the edit of one thread answers, or what stands at the path (`Grants`:
+//!     `Edits` and `Gets` of `syn_shared`). What is staged stays.
+//! - `serve` is any number of exchanges that answered, and the one that did not (`serves`:
+//!   `Serves`). Nothing is read behind a refusal.
+//! - What the pass saw last is grown further by each of these calls (`later`).
+//! - A `Gate` is passed before each hold and after it, outside the lock, with the request's kind.
+//!   No clause speaks of it.
+//! - `Serving` is the `Work` of one worker. With its pass it serves its connection to the end, and
+//!   keeps how that ended (`does`: `WasServed`).
+//! - `look_at` is one hold that shows room and halt, and changes nothing (`held`: `Shows`).
+//!   `keep_up` is a checkpointer's step (`keeps`: `KeepsUp`).
+//!   - It looks. A halted replica it opens again, and where there is less room than the caller
+//!     wants it makes a checkpoint, in a hold of its own. Else it rests.
+//!   - Where the lock is taken nothing was looked at; where it is taken between the two holds, the
+//!     second is refused 12.
 #![tactic(auto)]
 
 mod answering;

@@ -1,5 +1,42 @@
 //! One session between two replicas: its requests and scans, and its way through its plan. It has
 //! no archive and no disk.
+//!
+//! # What it promises
+//!
+//! A session has no archive and no disk. `IsSession archive session running`: it is the running
+//! session of a machine that has this archive. What waits on its two lines is the same, and so are
+//! its scans, or its way through its plan.
+//!
+//! - `Session::new` has both sides begin the session (`begun`, `sends`). `waiting` is what waits on
+//!   both lines, left first and in rising number, and `count_resend` counts that each is sent
+//!   again. `is_worn` says whether one may be sent again no more. `waits_on` says whether a request
+//!   waits on a side.
+//! - What waits on a line may wait there, and its numbers rise (`IsLine`: `may`, `rising`).
+//! - `answered` gives the request that waits for the answer of that number, which waits no more
+//!   (`some`: `HasTaken`). Where none does, nothing changes (`none`).
+//! - `hear` takes the answer to a begin or to a listing (`step`: `Hears`). It gives the listings
+//!   that are next, or nothing where each directory of both sides was answered. Or the session
+//!   ends, for what the answer is or 11.
+//! - What is asked next is `Asks`: listings of both sides, or one request for the item that is
+//!   carried. Each may be asked, for the first time, and may wait beside what waits (`MayGoOn`).
+//! - `ask` asks the sides for what comes next (`left`, `right`), and gives just these messages
+//!   (`sends`). `into_report` is what the session reports (`report_of`).
+//! - `Course::new` is the plan of both scans and the archive's marks (`items`), at its first item
+//!   (`begun`). `doing` is what is to be done for the item at the cursor (`ok`).
+//! - `pass_conflict`, `refuse` and `pass_kept` go past that item (`passes`). Where memory is
+//!   refused the course stays where it is (`stays`).
+//! - `take_answer` takes the answer for the item that is carried (`step`: `TakesAnswer`). A side is
+//!   asked on, or the item's record is due, or a side refused what it was asked. Or the session
+//!   ends with the answer, or 11.
+//! - `SideScan` is the scan of one side, told over the exchanges of the session (`IsFoundIn`). Each
+//!   listing that it found was answered so, and it has as many nodes as these show. Each listing
+//!   that was asked for was taken.
+//!   - `next` gives the root or a directory that a listing shows (`shown`), of which nothing was
+//!     answered yet (`new`) and whose listing does not wait (`unasked`); none where there is no
+//!     such directory (`none`).
+//!   - `take` keeps that with one answer more, or is refused with just what ends the session, or 11
+//!     (`step`), for a path whose listing waits, and that waits no more (`out`). Of any other path
+//!     nothing is said. `found` shows the scan so far (`scan`).
 #![tactic(auto)]
 
 mod answering;

@@ -2,6 +2,23 @@
 //!
 //! An event is checked here and made here, with no disk. How it is read from an image and from the
 //! payloads behind it stands here too.
+//!
+//! # What it promises
+//!
+//! A `Standing` is what is kept of a history: its tree and its trail. Contracts see it as the
+//! model's standing.
+//!
+//! - `check` tells the first cause that is seen without memory: of a replacement the token alone,
+//!   and of each other event every cause.
+//! - `prepare` makes the event ready where `check` does not refuse it, and changes nothing. It is
+//!   refused for a cause that stands, or for want of memory (`refused`). Where it succeeds, no
+//!   cause stands (`allowed`). `make` takes the standing one step on, and takes no memory.
+//! - `check_untouched` tells whether an event touched a path since a position, of each history that
+//!   the standing is of (`cause`).
+//! - `read_replica` gives the pair and the standing that an image and the payloads behind it give
+//!   (`gives`), and no other could be given (`one`). It is refused 19 only where they give none
+//!   (`damaged`), and 20 only where they give another pair than the wanted one (`other`). The index
+//!   of its trail is built once, after the last payload (`build_index`).
 #![tactic(auto)]
 
 mod error;

@@ -3,6 +3,29 @@
 //! All numbers are big-endian. Each value has one spelling, and no spelling of a value begins
 //! another. A `Node` is a file, or a directory with all that is below it. A replica's tree is
 //! spelled as one that is a directory, and what a session carries as one, or as nothing.
+//!
+//! # What it promises
+//!
+//! - `decode_path`, `decode_tree`, `decode_node` and `decode_event`: what is read is the spelling
+//!   of a lawful value, and the rest follows it. Nothing is read exactly where no front of the
+//!   bytes is such a spelling (`IsReading`). What is written is the spelling. Of the part that a
+//!   replacement puts, the limits of each file and directory and of its paths are part of the
+//!   spelling. Its number of nodes and its size are not.
+//! - `write_path`, `write_node`, `write_tree` and `write_marks` add the spelling behind the bytes
+//!   that are there. After a refusal those still begin what is there (`kept`).
+//! - `encode_marks` writes the spelling of marks, and `decode_marks` and `decode_mark_tree` read
+//!   it, exactly as trees are read. Of marks the limits of an archive are part of the spelling:
+//!   4,096 nodes, and those of each path.
+//! - `read_token` and `write_token` read and write a token of twelve bytes.
+//! - `encode_piece` gives a piece of the spelling of what stands at a path in a tree, and
+//!   `part_length` how many bytes the whole has. The piece is written from the tree's own pairs.
+//!   The bytes of files beside it are passed over, and no `Node` is made.
+//! - `edit_length`, `path_length` and `optional_marks_length` are how many bytes the event of an
+//!   edit, a path, and marks or nothing are spelled with, before they are spelled and without
+//!   memory.
+//! - No spelling of a number, a path, a part of a tree, an event or marks begins that of another
+//!   (`spelling_laws`). So what comes after it is read without a length before it, and no bytes are
+//!   read in two ways. A tree is spelled in one walk over its entries in path order (`walk`).
 #![tactic(auto)]
 
 ghost use Rattle.syn_wire.specs.Laws.{NoU16BeginsAnother, NoU32BeginsAnother, NoU64BeginsAnother};
