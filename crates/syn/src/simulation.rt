@@ -12,6 +12,7 @@ use syn_disk::{Cut, MemDisk};
 use syn_file::HostFile;
 use syn_host::SimulatedDisk;
 use syn_play::{Moment, Player};
+use syn_refusal::Refusal;
 use syn_script::Script;
 use syn_simulate::{SimulateError, play, show_world, simulate};
 use syn_trace::draw;
@@ -114,7 +115,8 @@ fn print_script<O: Write>(
     }
 }
 
-/// Prints the world, which it answers.
+/// Prints the world, which it answers. Where one of its steps was refused for want of memory, which
+/// no script asks for, the run is not the script's, and it is refused 11.
 fn print_world<D: SimulatedDisk + Drop, O: Write>(
     alloc: Global,
     world: World<D>,
@@ -123,6 +125,10 @@ fn print_world<D: SimulatedDisk + Drop, O: Write>(
     ensures { (script : Text) → RunsScript script world
         → IfOk result (PrintsRun (O.contents output.old) (O.contents output.new)) }
 {
+    if was_short_of_memory(&world) {
+        let_go(world);
+        return Err(Failure::Refused(CommandError::Memory));
+    }
     match show_world(alloc, &world, output) {
         Ok(()) => Ok(world),
         Err(why) => {
@@ -130,6 +136,15 @@ fn print_world<D: SimulatedDisk + Drop, O: Write>(
             Err(Failure::from(why))
         }
     }
+}
+
+/// A step of the world was refused for want of memory.
+fn was_short_of_memory<D: SimulatedDisk>(world: &World<D>) -> bool {
+    world
+        .lists
+        .refusals
+        .iter()
+        .any(|why| matches!(why, Refusal::Memory))
 }
 
 /// The bytes of the file.
