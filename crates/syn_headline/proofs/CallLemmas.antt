@@ -1,4 +1,4 @@
--- What a call of the coordinator is in the coarser picture, and what its session then remembers.
+-- What a call of the coordinator is in the picture, and what its session then remembers.
 use Rattle.std.proofs.Common.{◌≡◌, ◌≢◌, ℕ, Bool, ◌&&◌, true≢false, List, ◌∷◌, ◌++◌, map, filter_map}
 use Rattle.std.proofs.Common.{length, refl, sym, ap, ◌∙◌, subst, Option, Some, None, is_some}
 use Rattle.std.proofs.Common.{append-nil, inl, inr, slice_get, take, option_map, [], ◌⊎◌}
@@ -86,8 +86,8 @@ module _ (plans : Plans) (old : fine_world.World) (k : IsKept plans (picture_of 
       hearing_in_order old.sent r h.in_order k.sound.numbers h.remembers from number request reply
       asked heard
 
-  coarse_asked : picture.asked_of (session_picture r) from number ≡ Some request
-  coarse_asked = same_asked from ∙ asked
+  asked_there : picture.asked_of (session_picture r) from number ≡ Some request
+  asked_there = same_asked from ∙ asked
     where
       same_asked : (side : Which) →
           picture.asked_of (session_picture r) side number ≡ asked_of r side number
@@ -97,7 +97,7 @@ module _ (plans : Plans) (old : fine_world.World) (k : IsKept plans (picture_of 
   expected : picture.IsExpected (picture_of old).coordinator.running from r.session number
   expected =
       subst (λ o. picture.IsExpected o from r.session number) (sym runs)
-      (refl, subst (λ o. IsSome o) (sym coarse_asked) refl)
+      (refl, subst (λ o. IsSome o) (sym asked_there) refl)
 
   module _ (plan : Option (List Planned)) (logged : Log)
       (has : fine.HasPlan old.coordinator.journal.value (hearing r exchange) plan logged)
@@ -109,7 +109,7 @@ module _ (plans : Plans) (old : fine_world.World) (k : IsKept plans (picture_of 
     abbrev pub after : fine_world.World
     after = coordinator_goes old new call
 
-    -- a call is one of the coarser picture
+    -- a call is one of the picture
     pub follows : All (IsItems (list_of plan) exchange) kept →
         IsLeft old.coordinator.journal new.journal kept (IsItems (list_of plan) exchange) →
         GoesOnAs (session_picture r) (list_of plan) (option_map session_picture new.running) →
@@ -125,7 +125,7 @@ module _ (plans : Plans) (old : fine_world.World) (k : IsKept plans (picture_of 
         let D = IsDueAfter (picture_of old).coordinator.running (list_of plan) from number reply in
         let to_due : (what : Kept) → IsItems (list_of plan) exchange what → D what = λ what d.
         subst (λ o. IsDueAfter o (list_of plan) from number reply what) (sym runs)
-        (due_of r (list_of plan) from number request reply coarse_asked what d) in
+        (due_of r (list_of plan) from number request reply asked_there what d) in
         picture.takes_answer from r.session number reply (list_of plan) logged heard expected
         (subst (λ o. HasPlan old.sent old.coordinator.journal.value old.log o (list_of plan) logged)
         (sym runs) (has_plan old.sent old.coordinator.journal.value old.log

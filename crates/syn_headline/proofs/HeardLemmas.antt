@@ -1,5 +1,5 @@
 -- What a session has been answered, and what its plan, its requests and its report are then in the
--- coarser picture.
+-- picture.
 use Rattle.std.proofs.Common.{◌≡◌, ◌≢◌, ℕ, zero, suc, Bool, true, false, not, ◌&&◌, nat_lt}
 use Rattle.std.proofs.Common.{true≢false, if◌then◌else◌, List, ◌∷◌, ◌++◌, map, filter_map, length}
 use Rattle.std.proofs.Common.{fold, refl, sym, ap, ◌∙◌, subst, Option, Some, None, is_some}
@@ -80,7 +80,7 @@ plan_of_sent sent running archive made m in_order repeats makes =
 abbrev pub list_of : Option (List Planned) → List Planned
 list_of plan = option_map_or (λ plan. plan) plan []
 
--- the plan stays or is made, in the coarser picture too
+-- the plan stays or is made, in the picture too
 pub has_plan : (sent : Sent) (archive : Archive) (log : Log) (running : Running)
     (plan : Option (List Planned)) (logged : Log) → Remembers sent running →
     ListsInOrder sent running → AsksNothingTwice sent →

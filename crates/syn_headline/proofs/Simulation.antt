@@ -1,4 +1,4 @@
--- Each step of the world is one of the coarser picture, and a session that runs remembers what it
+-- Each step of the world is one of the picture, and a session that runs remembers what it
 -- should.
 use Rattle.std.proofs.Common.{◌≡◌, ℕ, zero, suc, Bool, true, false, if◌then◌else◌, List, map, refl}
 use Rattle.std.proofs.Common.{sym, ap, ◌∙◌, subst, Option, Some, None, append-nil, inl, inr, ◌≢◌}

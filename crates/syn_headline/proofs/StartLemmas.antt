@@ -1,4 +1,4 @@
--- A start and an opening of the coordinator in the coarser picture, and what its session then
+-- A start and an opening of the coordinator in the picture, and what its session then
 -- remembers.
 use Rattle.std.proofs.Common.{◌≡◌, ◌≢◌, ◌<◌, ◌+◌, ℕ, zero, suc, Bool, true, false, not, ◌==◌}
 use Rattle.std.proofs.Common.{nat_le, true≢false, List, ◌∷◌, ◌++◌, filter_map, fold, refl, sym, ap}

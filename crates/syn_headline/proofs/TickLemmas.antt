@@ -1,4 +1,4 @@
--- A tick of the coordinator in the coarser picture, and what its session then remembers.
+-- A tick of the coordinator in the picture, and what its session then remembers.
 use Rattle.std.proofs.Common.{◌≡◌, ◌≢◌, ◌<◌, ◌+◌, ℕ, zero, suc, Bool, true≢false, List, ◌∷◌, ◌++◌}
 use Rattle.std.proofs.Common.{◌⊎◌, true, false, refl, sym, ap, ◌∙◌, subst, Option, Some, None}
 use Rattle.std.proofs.Common.{option_map, is_some, append-nil, arith, inl, inr, ◌&&◌, map, length}

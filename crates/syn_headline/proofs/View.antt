@@ -1,4 +1,4 @@
--- The coarser picture of a world, and what each step of the sides and of the devices is in it.
+-- The picture of a world, and what each step of the sides and of the devices is in it.
 use Rattle.std.proofs.Common.{◌≡◌, ◌≢◌, ◌⊎◌, ℕ, Bool, true, false, true≢false, if◌then◌else◌, List}
 use Rattle.std.proofs.Common.{[], ◌∷◌, ◌++◌, map, refl, sym, ap, ap₂, ◌∙◌, subst, Option, Some}
 use Rattle.std.proofs.Common.{None, option_map, append-nil, inl, inr}

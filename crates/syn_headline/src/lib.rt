@@ -1,5 +1,13 @@
 //! The definitions from a side's step to the headline, and what holds of every run.
 //!
+//! # What is promised of runs
+//!
+//! Each sentence over runs speaks of a picture of the world (`Picture`): what each machine stands
+//! for and was writing, and what was sent, acknowledged and reported. It has no rooms, generations,
+//! arms and transcripts. `Follows` says what one step may do to it. That each run of the exact
+//! world is one of the picture is a law (`pictured` of `run_laws`). So the exact machines, of which
+//! the rest speaks, are read for what a session owes alone.
+//!
 //! # What a layer owes the world
 //!
 //! `syn_headline` proves its sentences of every run of the world's steps (`Runs`). So the code of a

@@ -15,10 +15,6 @@ pub same_lawful : (a b : Contents) → AreLawfulContents a → AreLawfulContents
     a.bytes ≡ b.bytes → a ≡ b
 same_lawful a b x y e = same_contents a b (x.mode ∙ sym y.mode) e
 
-pub as_new : (contents : Contents) → AreLawfulContents contents →
-    contents ≡ contents_of contents.bytes
-as_new contents h = same_contents contents (contents_of contents.bytes) h.mode refl
-
 pub new_are_lawful : (bytes : Bytes) → All (λ byte. byte < 256) bytes →
     AreLawfulContents (contents_of bytes)
 new_are_lawful bytes h = record { mode = refl; bytes = h }
