@@ -1,21 +1,21 @@
 -- What is put into a tree stands there, and the rest stays.
 use Rattle.std.proofs.Common.{◌≡◌, ◌≢◌, ◌∙◌, Bool, true, false, cond, not, List, [], ◌∷◌, ◌++◌}
-use Rattle.std.proofs.Common.{fold, refl, sym, ap}
-use Rattle.std.proofs.Common.{subst, Option, Some, None, is_some, append-nil, true≢false}
+use Rattle.std.proofs.Common.{fold, refl, sym, ap, subst, Option, Some, None, is_some, append-nil}
+use Rattle.std.proofs.Common.{true≢false}
 use Rattle.std.specs.Ordering.{eq_by_cmp}
 use Rattle.std.proofs.lemmas.Option.{none-some}
 use Rattle.std.specs.FinMap.{get, find, entries, get-entries}
 use Rattle.syn_model.specs.Path.{Path, Name, path_cmp, root, strip_prefix, is_root, parent}
-use Rattle.syn_model.specs.Contents.{contents_of}
-use Rattle.syn_model.specs.Tree.{Tree, Content, Directory, File, Pair, HasParents, at_root, file}
-use Rattle.syn_model.specs.Tree.{is_directory, is_directory_content, is_present}
-use Rattle.syn_model.specs.Event.{Edit, after_edit}
+use Rattle.syn_model.specs.Contents.{Contents, contents_with}
+use Rattle.syn_model.specs.Tree.{Tree, Content, Directory, File, Pair, HasParents, at_root}
+use Rattle.syn_model.specs.Tree.{is_directory, is_directory_content, is_present, IsTree}
+use Rattle.syn_model.specs.Event.{Edit, after_edit, put_contents}
 use Rattle.syn_model.specs.Refusal.{Refusal, Cause, first_cause, Root, NoParent, IsDirectory}
 use Rattle.syn_model.specs.Refusal.{Exists}
 use Rattle.syn_model.specs.Standing.{edit_refusal, full_causes}
 use Rattle.syn_model.proofs.PathLemmas.{same_path, path_itself, strip_prefix-is}
 use Rattle.syn_model.proofs.PathLemmas.{strip_prefix-append}
-use Rattle.syn_model.proofs.HistoryLemmas.{get-at_root, get-below_root}
+use Rattle.syn_model.proofs.HistoryLemmas.{get-at_root, get-below_root, put_mode-is_mode}
 use Rattle.syn_model.proofs.TreeLemmas.{within, beside}
 use Rattle.syn_placed.specs.Pairs.{Pairs, rooted}
 use Rattle.syn_placed.proofs.RisingLemmas.{Rising}
@@ -25,6 +25,7 @@ use Rattle.syn_change.specs.Changes.{IsOverlaid, IsPlaced, entry_edit}
 use Rattle.syn_tree.specs.Contents.{found_content}
 use Rattle.syn_tree.specs.declared.content.Found.{Found}
 use Rattle.syn_tree.specs.declared.content.Found.TheVariants as found
+use Rattle.syn_tree.specs.declared.mode.Mode.TheVariants.{NewFile}
 
 -- ---- one edit
 
@@ -38,6 +39,9 @@ third false false false u v w rest none = refl
 -- what is put where no directory is, changes nothing elsewhere
 module _ (t : Tree) (p : Path) (c : Content) (parents : HasParents t)
     (free : is_directory t p ≡ false) where
+  abbrev put : Contents → Contents
+  put contents = put_contents (get t p) contents.bytes
+
   nothing_below : (n : Name) (r : Path) → get t (p ++ n ∷ r) ≡ None
   nothing_below n r = go (get t (p ++ n ∷ r)) refl
     where
@@ -61,35 +65,37 @@ module _ (t : Tree) (p : Path) (c : Content) (parents : HasParents t)
         where
           by_kind : (c : Content) → get (after_edit t (entry_edit (p, c))) q ≡ get t q
           by_kind Directory = beside t p (at_root Directory) q is
-          by_kind (File contents) = beside t p (file contents.bytes) q is
+          by_kind (File contents) = beside t p (at_root (File (put contents))) q is
       replaced (Some r) is = by_kind c
         where
           by_kind : (c : Content) → get (after_edit t (entry_edit (p, c))) q ≡ get t q
           by_kind Directory = within t p (at_root Directory) q r is ∙ below Directory r is
           by_kind (File contents) =
-              within t p (file contents.bytes) q r is
-              ∙ below (File (contents_of contents.bytes)) r is
+              within t p (at_root (File (put contents))) q r is ∙ below (File (put contents)) r is
 
--- a directory, or what a new file holds
-abbrev pub IsNew : Content → Type 0
-IsNew Directory = Unit {0}
-IsNew (File contents) = contents ≡ contents_of contents.bytes
+-- a directory, or what its bytes alone give where they are put
+abbrev pub IsPut : Option Content → Content → Type 0
+IsPut before Directory = Unit {0}
+IsPut before (File contents) = contents ≡ put_contents before contents.bytes
 
--- each file that a tree of the code has is new
-pub is_new : (f : Found) → IsNew (found_content f)
-is_new (found.File bytes) = refl
-is_new found.Dir = tt
+-- as long as nothing changes a mode, each file is so
+pub is_put : (t : Tree) (p : Path) (f : Found) → IsTree t → IsPut (get t p) (found_content f)
+is_put t p (found.File NewFile bytes) h =
+    ap (λ mode. contents_with mode bytes.now)
+    (sym (put_mode-is_mode (get t p) (λ before is. h.part.lawful p before is)))
+is_put t p found.Dir h = tt
 
-stands_there : (t : Tree) (p : Path) (c : Content) → IsNew c →
+stands_there : (t : Tree) (p : Path) (c : Content) → IsPut (get t p) c →
     get (after_edit t (entry_edit (p, c))) p ≡ Some c
-stands_there t p Directory new =
+stands_there t p Directory same =
     within t p (at_root Directory) p [] (whole p) ∙ get-at_root Directory []
   where
     whole : (p : Path) → strip_prefix p p ≡ Some []
     whole p = ap (strip_prefix p) (sym (append-nil p)) ∙ strip_prefix-append p []
-stands_there t p (File contents) new =
-    within t p (file contents.bytes) p [] (whole p)
-    ∙ (get-at_root (File (contents_of contents.bytes)) [] ∙ ap (λ c. Some (File c)) (sym new))
+stands_there t p (File contents) same =
+    let put = put_contents (get t p) contents.bytes in
+    within t p (at_root (File put)) p [] (whole p)
+    ∙ (get-at_root (File put) [] ∙ ap (λ c. Some (File c)) (sym same))
   where
     whole : (p : Path) → strip_prefix p p ≡ Some []
     whole p = ap (strip_prefix p) (sym (append-nil p)) ∙ strip_prefix-append p []
@@ -109,7 +115,7 @@ is_free t p Directory none =
 
 -- an edit of an entry that is not refused places it
 pub placed_by : (t : Tree) (pair : Pair) (edit : Edit) (new : Tree) → HasParents t →
-    IsNew pair.1 → edit ≡ entry_edit pair → edit_refusal t edit ≡ None → new ≡ after_edit t edit →
+    IsPut (get t pair.0) pair.1 → edit ≡ entry_edit pair → edit_refusal t edit ≡ None → new ≡ after_edit t edit →
     IsPlaced t pair new
 placed_by t pair edit new parents fresh same none is =
     let P : Edit → Type 0 = λ e. edit_refusal t e ≡ None in

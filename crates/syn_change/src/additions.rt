@@ -61,7 +61,9 @@ fn stands(tree: &Tree, path: &Path, wanted: &Found<'_>) -> bool
     ensures other { get tree.now path.now ≡ Some (found_content wanted.now) → result ≡ true }
 {
     match (tree.get(path), wanted) {
-        (Some(Found::File(bytes)), Found::File(wanted)) => bytes == *wanted,
+        (Some(Found::File(mode, bytes)), Found::File(wanted_mode, wanted)) => {
+            mode.is_same(*wanted_mode) && bytes == *wanted
+        }
         (Some(Found::Dir), Found::Dir) => true,
         _ => false,
     }
@@ -73,7 +75,7 @@ fn edit_for(alloc: Global, pair: &Pair<'_>) -> Result<Edit, TreeError>
 {
     let path = pair.path(alloc)?;
     match pair.found() {
-        Found::File(bytes) => Ok(Edit::Put(path, Vec::from_slice(alloc, bytes)?)),
+        Found::File(_, bytes) => Ok(Edit::Put(path, Vec::from_slice(alloc, bytes)?)),
         Found::Dir => Ok(Edit::MakeDir(path)),
     }
 }

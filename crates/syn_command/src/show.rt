@@ -55,7 +55,7 @@ pub fn show_path<W: Write>(
         ((refusal_of e ≡ Absent) × (get tree.now path.now ≡ None)) ⊎ IsOfStream e) }
 {
     match tree.get(path) {
-        Some(Found::File(bytes)) => Ok(output.write_all(bytes)?),
+        Some(Found::File(_, bytes)) => Ok(output.write_all(bytes)?),
         Some(Found::Dir) => Ok(show_below(alloc, tree, path, output)?),
         None => Err(CommandError::Network(Refusal::Absent)),
     }

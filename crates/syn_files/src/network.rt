@@ -116,7 +116,7 @@ pub fn show_path_served<H: Net<Stream = TcpStream>, O: Write>(
     let stream = reach(rt, address)?;
     let mut connection = UserConnection::new(alloc, &stream, &stream);
     match connection.get(alloc, path)? {
-        Some(Content::File(bytes)) => Ok(output.write_all(&bytes)?),
+        Some(Content::File(_, bytes)) => Ok(output.write_all(&bytes)?),
         Some(Content::Dir) => {
             let (_, tree) = tree_over(alloc, &stream)?;
             show_path(alloc, &tree, path, output)

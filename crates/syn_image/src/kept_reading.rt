@@ -107,7 +107,7 @@ pub fn decode_archive(
         return Ok(None);
     };
     match marks.root() {
-        Mark::File(_) => Ok(None),
+        Mark::File(..) => Ok(None),
         Mark::Dir => {
             let image = ArchiveImage {
                 pair,

@@ -103,7 +103,7 @@ fn node_shown(alloc: Global, new: &Option<Node>) -> Result<String, AllocError>
     match new {
         None => String::from_str(alloc, "-"),
         Some(Node::Dir(_)) => String::from_str(alloc, "d"),
-        Some(Node::File(bytes)) => {
+        Some(Node::File(_, bytes)) => {
             let length = bytes.len();
             format!(in alloc; "f {length}")
         }

@@ -3,17 +3,18 @@ use Rattle.std.specs.Prelude.{◌≡◌, true, List, map, Option, Some, None}
 use Rattle.std.specs.List.{AllByRecursion}
 use Rattle.std.specs.FinMap.{from_sorted}
 use Rattle.syn_model.specs.Path.{Name, root, path_cmp, IsPath}
-use Rattle.syn_model.specs.Contents.{contents_of, IsDigest}
+use Rattle.syn_model.specs.Contents.{contents_with, IsDigest}
 use Rattle.syn_model.specs.Tree.{Tree, Pair, Directory, File, absent, is_present}
 use Rattle.syn_model.specs.Tree as model
 use Rattle.syn_model.specs.Mark.{IsMarks}
 use Rattle.syn_model.specs.Limits.{fits_archive}
 use Rattle.syn_placed.specs.Pairs.{Pairs, AreRising}
+use Rattle.syn_tree.specs.Modes.{mode_of}
 use Rattle.syn_mark.specs.declared.mark.Mark.{Mark}
 use Rattle.syn_mark.specs.declared.mark.Mark.TheVariants as mark
 
 abbrev pub content_of : Mark → model.Content
-content_of (mark.File digest) = File (contents_of digest)
+content_of (mark.File mode digest) = File (contents_with (mode_of mode) digest)
 content_of mark.Dir = Directory
 
 -- names with marks, as the model has them
@@ -25,7 +26,7 @@ abbrev pub or_absent : Option Tree → Tree
 or_absent None = absent
 or_absent (Some marks) = marks
 
--- a directory, or a file with a digest of 32 bytes
+-- a directory, or a file with a mode and a digest of 32 bytes
 abbrev pub IsDigestOrDirectory : model.Content → Type 0
 IsDigestOrDirectory Directory = Unit {0}
 IsDigestOrDirectory (File digest) = IsDigest digest

@@ -1,28 +1,31 @@
 //! What the types of paths and marks say of them.
-ghost use Rattle.syn_model.specs.Contents.{AreLawfulContents, HasDigest, contents_of};
+ghost use Rattle.syn_model.specs.Contents.{AreLawfulContents, HasDigest, contents_with};
 ghost use Rattle.syn_model.specs.Event.{AreBytes};
 ghost use Rattle.syn_model.specs.Path.{IsPath};
 ghost use Rattle.syn_mark.specs.Marks.{content_of, IsMarkPair, IsDigestOrDirectory};
+ghost use Rattle.syn_tree.specs.Modes.{mode_of};
 
 use crate::mark::Mark;
 use crate::tree::MarkEntry;
 use syn_path::Path;
+use syn_tree::Mode;
 
-/// What the type of a mark says: it is a directory, or a digest of 32 bytes.
+/// What the type of a mark says: it is a directory, or a mode with a digest of 32 bytes.
 pub fn is_mark(mark: Mark)
     ensures { IsDigestOrDirectory (content_of mark) }
 {
     match mark {
-        Mark::File(digest) => is_digest(digest),
+        Mark::File(mode, digest) => is_digest(mode, digest),
         Mark::Dir => {}
     }
 }
 
-/// It is 32 bytes.
-fn is_digest(digest: [u8; 32])
-    ensures lawful { AreLawfulContents (contents_of digest) }
-    ensures length { HasDigest (contents_of digest) }
+/// It is a mode with 32 bytes.
+fn is_digest(mode: Mode, digest: [u8; 32])
+    ensures lawful { AreLawfulContents (contents_with (mode_of mode) digest) }
+    ensures length { HasDigest (contents_with (mode_of mode) digest) }
 {
+    mode.is_lawful();
     are_bytes(digest.as_slice());
 }
 

@@ -45,7 +45,7 @@ pub(crate) fn mark_found(found: &Found<'_>) -> Mark
     ensures { content_of result ≡ mark_of (found_content found.now) }
 {
     match found {
-        Found::File(bytes) => Mark::of_file(bytes),
+        Found::File(mode, bytes) => Mark::of_file(*mode, bytes),
         Found::Dir => Mark::Dir,
     }
 }

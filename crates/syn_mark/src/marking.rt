@@ -24,7 +24,7 @@ pub fn mark_of(alloc: Global, node: &Node) -> Result<MarkTree, TreeError>
         × (most_nodes < len (node_tree node.now))) }
 {
     match node {
-        Node::File(bytes) => MarkTree::of_mark(alloc, Mark::of_file(bytes)),
+        Node::File(mode, bytes) => MarkTree::of_mark(alloc, Mark::of_file(*mode, bytes)),
         Node::Dir(entries) => mark_of_directory(alloc, entries),
     }
 }

@@ -29,14 +29,16 @@ fn same_entry(left: &MarkEntry, right: &MarkEntry) -> bool
     place == Ordering::Equal && same_mark(*left.standing(), *right.standing())
 }
 
-/// Both are directories, or files with equal digests.
+/// Both are directories, or files with one mode and equal digests.
 fn same_mark(left: Mark, right: Mark) -> bool
     ensures { IsTrue result ↔ (content_of left ≡ content_of right) }
 {
     match (left, right) {
-        (Mark::File(left), Mark::File(right)) => left.as_slice() == right.as_slice(),
+        (Mark::File(mode, digest), Mark::File(other, right)) => {
+            mode.is_same(other) && digest.as_slice() == right.as_slice()
+        }
         (Mark::Dir, Mark::Dir) => true,
-        (Mark::File(_), Mark::Dir) => false,
-        (Mark::Dir, Mark::File(_)) => false,
+        (Mark::File(..), Mark::Dir) => false,
+        (Mark::Dir, Mark::File(..)) => false,
     }
 }

@@ -13,7 +13,7 @@ use std::alloc::Global;
 use std::str;
 use syn_mark::Mark;
 use syn_path::{Name, PathError};
-use syn_tree::MOST_CHILDREN;
+use syn_tree::{MOST_CHILDREN, Mode};
 use syn_wire::{WireError, read_u16, spelling_laws, write_u16};
 
 /// The kind of a file's mark.
@@ -47,7 +47,7 @@ fn write_entry(body: &mut Vec<u8>, name: &Name, mark: Mark) -> Result<(), WireEr
     body.push(text.len() as u8)?;
     body.extend_from_slice(text.as_bytes())?;
     match mark {
-        Mark::File(digest) => {
+        Mark::File(_, digest) => {
             body.push(FILE)?;
             body.extend_from_slice(digest.as_slice())?;
         }
@@ -155,7 +155,7 @@ fn read_mark(bytes: &[u8]) -> Option<(Mark, &[u8])>
     match *kind {
         FILE => {
             let (digest, rest) = read_digest(after)?;
-            Some((Mark::File(digest), rest))
+            Some((Mark::File(Mode::NewFile, digest), rest))
         }
         DIRECTORY => Some((Mark::Dir, after)),
         _ => None,

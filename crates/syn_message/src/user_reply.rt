@@ -74,7 +74,7 @@ fn write_found(body: &mut Vec<u8>, found: Option<&Content>) -> Result<(), WireEr
             body.push(ABSENT)?;
             Ok(())
         }
-        Some(Content::File(bytes)) => {
+        Some(Content::File(_, bytes)) => {
             body.push(FILE)?;
             write_file(body, bytes)
         }

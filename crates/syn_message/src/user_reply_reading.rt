@@ -12,7 +12,7 @@ use crate::kind::{EDITED, GOT, REFUSED};
 use crate::reply_reading::read_refusal;
 use crate::user_reply::{ABSENT, AnsweredToUser, DIRECTORY, FILE, UserReply};
 use std::alloc::Global;
-use syn_tree::{Content, LONGEST_FILE};
+use syn_tree::{Content, LONGEST_FILE, Mode};
 use syn_wire::{WireError, read_file, read_u64, spelling_laws};
 
 /// The reply to a user that the body spells; none where it spells none.
@@ -81,7 +81,7 @@ fn read_found(alloc: Global, fields: &[u8]) -> Result<Option<Option<Content>>, W
     match fields {
         [ABSENT] => Ok(Some(None)),
         [FILE, file @ ..] => match read_whole_file(alloc, file)? {
-            Some(bytes) => Ok(Some(Some(Content::File(bytes)))),
+            Some(bytes) => Ok(Some(Some(Content::File(Mode::NewFile, bytes)))),
             None => Ok(None),
         },
         [DIRECTORY] => Ok(Some(Some(Content::Dir))),

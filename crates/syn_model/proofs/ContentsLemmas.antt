@@ -4,20 +4,25 @@ use Rattle.std.specs.Int.{w32, to_be_bytes, byte_at, bytes_high_first}
 use Rattle.std.proofs.lemmas.List.Elements.{All-nil, All-cons, All-append}
 use Rattle.sha2.specs.Sha256.{sha256, digest_bytes}
 use Rattle.syn_model.specs.Path.{Bytes}
-use Rattle.syn_model.specs.Contents.{Contents, AreLawfulContents, contents_of}
+use Rattle.syn_model.specs.Contents.{Contents, AreLawfulContents, IsMode, contents_of}
+use Rattle.syn_model.specs.Contents.{contents_with}
 use Rattle.syn_model.specs.Event.{AreBytes}
 
 pub same_contents : (a b : Contents) → a.mode ≡ b.mode → a.bytes ≡ b.bytes → a ≡ b
-same_contents a b m e = ap₂ (λ mode bytes. record { mode = mode; bytes = bytes }) m e
+same_contents a b m e = ap₂ contents_with m e
 
 -- where both are lawful, the bytes tell them
 pub same_lawful : (a b : Contents) → AreLawfulContents a → AreLawfulContents b →
     a.bytes ≡ b.bytes → a ≡ b
 same_lawful a b x y e = same_contents a b (x.mode ∙ sym y.mode) e
 
+pub with_are_lawful : (mode : ℕ) (bytes : Bytes) → IsMode mode → All (λ byte. byte < 256) bytes →
+    AreLawfulContents (contents_with mode bytes)
+with_are_lawful mode bytes is h = record { mode = is; bytes = h }
+
 pub new_are_lawful : (bytes : Bytes) → All (λ byte. byte < 256) bytes →
     AreLawfulContents (contents_of bytes)
-new_are_lawful bytes h = record { mode = refl; bytes = h }
+new_are_lawful bytes h = with_are_lawful _ bytes refl h
 
 -- digests are bytes
 byte_below : (k n : ℕ) → byte_at k n < 256

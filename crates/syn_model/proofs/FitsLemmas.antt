@@ -7,12 +7,13 @@ use Rattle.std.specs.List.{list_all}
 use Rattle.std.specs.FinMap.{find, entries, get, get-entries, len}
 use Rattle.std.proofs.lemmas.Bool.{leb-true, and_parts, not-false}
 use Rattle.syn_model.specs.Path.{Path, path_cmp, path_spelling, root}
-use Rattle.syn_model.specs.Contents.{Contents, contents_of}
-use Rattle.syn_model.specs.Tree.{Tree, Content, Pair, File, file, replace}
+use Rattle.syn_model.specs.Contents.{Contents}
+use Rattle.syn_model.specs.Tree.{Tree, Content, Pair, File, replace, at_root}
 use Rattle.syn_model.specs.Limits.{children, fits_path, fits_content, fits_part, fits_paths}
 use Rattle.syn_model.specs.Limits.{fits_replica, tree_spelling_length, greatest_spelling}
 use Rattle.syn_model.specs.Refusal.{Cause, first_cause, OldSession}
 use Rattle.syn_model.specs.Event.{Event, Edited, Began, Replaced, after_edit, after_event}
+use Rattle.syn_model.specs.Event.{put_contents}
 use Rattle.syn_model.specs.History.{History, tree_of, position_causes, is_old_token, IsAllowed}
 use Rattle.syn_model.specs.History.{AllAllowed}
 use Rattle.syn_model.specs.Standing.{place_causes, edit_causes, full_causes}
@@ -91,11 +92,11 @@ files_fit tree path contents fits has =
 -- and so no longer file was put into it
 pub put_fits : PutFits
 put_fits tree path bytes fits =
-    files_fit (replace tree path (file bytes)) path (contents_of bytes) fits
-    (ap (λ p. get (replace tree path (file bytes)) p) (sym (append-nil path))
-    ∙ (sym (get-subtree (replace tree path (file bytes)) path root)
-    ∙ (ap (λ t. get t root) (subtree-replace tree path (file bytes))
-    ∙ get-at_root (File (contents_of bytes)) root)))
+    let put = put_contents (get tree path) bytes in
+    let new = replace tree path (at_root (File put)) in
+    files_fit new path put fits (ap (λ p. get new p) (sym (append-nil path))
+    ∙ (sym (get-subtree new path root) ∙ (ap (λ t. get t root)
+    (subtree-replace tree path (at_root (File put))) ∙ get-at_root (File put) root)))
 
 -- nor has what fits a path that is longer than a path may be
 pub paths_depth : (tree : Tree) → fits_paths tree ≡ true → HasDepth most_names tree

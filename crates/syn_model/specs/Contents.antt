@@ -15,19 +15,25 @@ pub record Contents : Type 0 where
 abbrev pub new_file_mode : ℕ
 new_file_mode = 420
 
+-- as long as nothing changes a mode, each file has that of a new one
+abbrev pub IsMode : ℕ → Type 0
+IsMode mode = mode ≡ new_file_mode
+
+abbrev pub contents_with : ℕ → Bytes → Contents
+contents_with mode bytes = record { mode = mode; bytes = bytes }
+
 -- what a new file with these bytes holds
 abbrev pub contents_of : Bytes → Contents
-contents_of bytes = record { mode = new_file_mode; bytes = bytes }
+contents_of bytes = contents_with new_file_mode bytes
 
 -- they are stored as both
 abbrev pub coded_contents : Coded Contents
 coded_contents = code_by (ℕ × Bytes) (coded× coded_ℕ (coded_list coded_ℕ))
     (λ contents. (contents.mode, contents.bytes))
-    (λ both. record { mode = both.0; bytes = both.1 }) (λ contents. refl)
+    (λ both. contents_with both.0 both.1) (λ contents. refl)
 
--- as long as nothing changes a mode, each file has that of a new one
 pub record AreLawfulContents (contents : Contents) : Type 0 where
-  pub mode : contents.mode ≡ new_file_mode
+  pub mode : IsMode contents.mode
   pub bytes : All (λ byte. byte < 256) contents.bytes
 
 abbrev pub are_same_contents : Contents → Contents → Bool

@@ -42,12 +42,12 @@ pub(crate) fn with_keys(alloc: Global, list: &[Entry]) -> Result<Vec<syn_tree::E
     Ok(entries)
 }
 
-/// What stands at the entry's path, with a file's bytes.
+/// What stands at the entry's path, with a file's mode and bytes.
 fn found_at(entry: &Entry) -> Found<'_>
     ensures { found_content result ≡ entry.now.1 }
 {
     match entry.standing() {
-        Content::File(bytes) => Found::File(bytes),
+        Content::File(mode, bytes) => Found::File(*mode, bytes),
         Content::Dir => Found::Dir,
     }
 }

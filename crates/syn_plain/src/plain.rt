@@ -21,7 +21,7 @@ use std::alloc::Global;
 use std::marker::Model;
 use syn_path::{Name, Path};
 use syn_placed::list::{count_children, is_directory, parent_names, part_at, replace_part};
-use syn_tree::checking::{Limited, check};
+use syn_tree::checking::{Limited, check, mode_after_put};
 use syn_tree::measures::{MOST_BELOW, MOST_CHILDREN, is_within_limits, measured};
 use syn_tree::parts::{below, children, kinds};
 use syn_tree::placing::placed;
@@ -103,7 +103,10 @@ impl PlainTree {
     {
         self.check(&edit)?;
         match edit {
-            Edit::Put(path, bytes) => self.replace(alloc, &path, Some(Node::File(bytes))),
+            Edit::Put(path, bytes) => {
+                let mode = mode_after_put(self, &path);
+                self.replace(alloc, &path, Some(Node::File(mode, bytes)))
+            }
             Edit::MakeDir(path) => self.replace(alloc, &path, Some(Node::Dir(Entries::new(alloc)))),
             Edit::Remove(path) => self.replace(alloc, &path, None),
         }
@@ -179,9 +182,9 @@ impl PlainTree {
     {
         match self.get(path) {
             None => Ok(None),
-            Some(Found::File(bytes)) => {
+            Some(Found::File(mode, bytes)) => {
                 let bytes = Vec::from_slice(alloc, bytes)?;
-                Ok(Some(Node::File(bytes)))
+                Ok(Some(Node::File(mode, bytes)))
             }
             Some(Found::Dir) => {
                 let part = with_keys(alloc, part_at(&self.list, path.names()))?;

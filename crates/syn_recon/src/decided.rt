@@ -105,7 +105,7 @@ fn has_directory(marks: &MarkTree, path: &Path) -> bool
 {
     match marks.get(path) {
         Some(Mark::Dir) => true,
-        Some(Mark::File(_)) => false,
+        Some(Mark::File(..)) => false,
         None => false,
     }
 }

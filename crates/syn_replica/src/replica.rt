@@ -254,7 +254,7 @@ impl<D: Disk> Replica<D> {
             return Err(ReplicaError::Journal(JournalError::Halted));
         }
         match self.standing.tree().get(path) {
-            Some(Found::File(bytes)) => Ok(Content::File(bytes.to_vec(alloc)?)),
+            Some(Found::File(mode, bytes)) => Ok(Content::File(mode, bytes.to_vec(alloc)?)),
             Some(Found::Dir) => Ok(Content::Dir),
             None => Err(ReplicaError::Tree(TreeError::Absent)),
         }

@@ -158,11 +158,12 @@ fn answer_get<H: Wait, D: Disk>(
     }
 }
 
-/// The bytes of a file are bytes, which their type says.
+/// A file has a mode and bytes, which their types say.
 fn has_bytes(content: &Content)
     ensures { IsLawful (content_of content.now) }
 {
-    if let Content::File(bytes) = content {
+    if let Content::File(mode, bytes) = content {
+        mode.is_lawful();
         are_bytes(bytes);
     }
 }

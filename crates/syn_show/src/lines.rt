@@ -129,7 +129,7 @@ fn pair_line(alloc: Global, pair: &Pair<'_>) -> Result<String, AllocError>
 {
     let path = pair.path(alloc)?;
     match pair.found() {
-        Found::File(bytes) => file_line(alloc, &path, bytes),
+        Found::File(_, bytes) => file_line(alloc, &path, bytes),
         Found::Dir => directory_line(alloc, &path),
     }
 }
@@ -139,7 +139,7 @@ fn mark_line(alloc: Global, entry: &MarkEntry) -> Result<String, AllocError>
     ensures { IfOk result (λ line. string_bytes line ≡ mark_line entry.now.0 entry.now.1) }
 {
     match entry.standing() {
-        Mark::File(digest) => digest_line(alloc, entry.path(), digest),
+        Mark::File(_, digest) => digest_line(alloc, entry.path(), digest),
         Mark::Dir => directory_line(alloc, entry.path()),
     }
 }

@@ -9,9 +9,9 @@ use Rattle.std.proofs.lemmas.Bool.{and_parts}
 use Rattle.std.proofs.lemmas.Bool.Decides.{nat_tests}
 use Rattle.syn_model.specs.Path.{Bytes, Path, IsPath, root, is_root, parent, path_cmp}
 use Rattle.syn_model.specs.Path.{path_spelling, strip_prefix}
-use Rattle.syn_model.specs.Tree.{Tree, Content, Directory, HasParents, at_root, file, absent}
+use Rattle.syn_model.specs.Tree.{Tree, Content, Directory, HasParents, at_root, absent}
 use Rattle.syn_model.specs.Tree.{replace, is_directory, is_present}
-use Rattle.syn_model.specs.Event.{Put, MakeDir, Remove}
+use Rattle.syn_model.specs.Event.{Put, MakeDir, Remove, part_after}
 use Rattle.syn_model.specs.Limits.{fits_replica, fits_part, fits_paths, fits_path, fits_content}
 use Rattle.syn_model.specs.Limits.{tree_spelling_length, greatest_spelling}
 use Rattle.syn_model.specs.Limits.{last_name_spelling_length, content_spelling_length}
@@ -46,11 +46,12 @@ causes why a b c d e f g =
 
 pub put_answer : (t : Tree) (p : Path) (b : Bytes) → first_cause (place_causes t p) ≡ None →
     is_directory t p ≡ false →
-    edit_refusal t (Put p b) ≡ (if fits_replica (replace t p (file b)) then None else Some Full)
+    edit_refusal t (Put p b) ≡ (if fits_replica (replace t p (part_after t (Put p b))) then None
+    else Some Full)
 put_answer t p b place other =
     let free = place_free t p place in
     causes IsDirectory (is_root p) (is_directory t (parent p)) (is_directory t p)
-    (fits_replica (replace t p (file b))) free.0 free.1 other
+    (fits_replica (replace t p (part_after t (Put p b)))) free.0 free.1 other
 
 pub make_answer : (t : Tree) (p : Path) → first_cause (place_causes t p) ≡ None →
     is_present t p ≡ false → edit_refusal t (MakeDir p)

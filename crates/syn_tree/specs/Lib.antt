@@ -1,3 +1,4 @@
+pub mod Modes
 pub mod Contents
 pub mod Entries
 pub mod Nodes

@@ -1,20 +1,22 @@
-//! Why an edit is refused, whatever form the tree has.
+//! Why an edit is refused, and what mode a put leaves, whatever form the tree has.
 ghost use Rattle.std.specs.Prelude.{◌≡◌, ◌<◌, ◌^◌, ℕ, List, None, true, length, option_map};
 ghost use Rattle.std.specs.FinMap.{get};
 ghost use Rattle.syn_model.specs.Tree.{Tree as Pairs, is_directory, replace};
-ghost use Rattle.syn_model.specs.Event.{Put, MakeDir, Remove};
+ghost use Rattle.syn_model.specs.Event.{Put, MakeDir, Remove, put_mode};
 ghost use Rattle.syn_model.specs.Limits.{fits_replica};
 ghost use Rattle.syn_model.specs.Refusal.{first_cause};
 ghost use Rattle.syn_model.specs.Standing.{edit_refusal, place_causes};
 ghost use Rattle.syn_tree.specs.Contents.{found_content};
 ghost use Rattle.syn_tree.specs.Edits.{edit_of};
 ghost use Rattle.syn_tree.specs.Lists.{IsMeasured};
+ghost use Rattle.syn_tree.specs.Modes.{mode_of};
 ghost use Rattle.syn_tree.specs.Refusals.{refusal_in};
 
 use crate::content::Found;
 use crate::edit::Edit;
 use crate::error::TreeError;
 use crate::measures::{LONGEST_FILE, name_spelled};
+use crate::mode::Mode;
 use syn_path::Path;
 
 /// A form of a tree within the limits of a replica, as far as it decides which edits are refused.
@@ -56,6 +58,16 @@ pub fn check<T: Limited>(tree: &T, edit: &Edit) -> Result<(), TreeError>
         Edit::Put(path, bytes) => check_put(tree, path, bytes.len()),
         Edit::MakeDir(path) => check_make_dir(tree, path),
         Edit::Remove(path) => check_remove(tree, path),
+    }
+}
+
+/// The mode of a file that is put at the path: that of the file there, or a new one's.
+pub fn mode_after_put<T: Limited>(tree: &T, path: &Path) -> Mode
+    ensures { mode_of result ≡ put_mode (get (T.tree tree.now) path.now) }
+{
+    match tree.get(path) {
+        Some(Found::File(mode, _)) => mode,
+        _ => Mode::NewFile,
     }
 }
 

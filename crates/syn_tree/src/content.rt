@@ -3,11 +3,13 @@ ghost use Rattle.std.specs.Prelude.{◌≡◌, Some};
 ghost use Rattle.syn_model.specs.Tree.{is_directory_content};
 ghost use Rattle.syn_tree.specs.Contents.{found_content};
 
+use crate::mode::Mode;
+
 /// What stands at a path.
 #[derive(Debug, Drop)]
 pub enum Content {
-    /// A file, with its bytes.
-    File(Vec<u8>),
+    /// A file, with its mode and its bytes.
+    File(Mode, Vec<u8>),
     /// A directory.
     Dir,
 }
@@ -15,8 +17,8 @@ pub enum Content {
 /// What was found at a path.
 #[derive(Debug, Drop)]
 pub enum Found<'a> {
-    /// A file, with its bytes.
-    File(&'a [u8]),
+    /// A file, with its mode and its bytes.
+    File(Mode, &'a [u8]),
     /// A directory.
     Dir,
 }
@@ -27,7 +29,7 @@ impl Found<'_> {
         ensures { result ≡ is_directory_content (Some (found_content self.now)) }
     {
         match self {
-            Found::File(_) => false,
+            Found::File(..) => false,
             Found::Dir => true,
         }
     }

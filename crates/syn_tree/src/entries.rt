@@ -12,7 +12,7 @@ ghost use Rattle.syn_tree.specs.Entries.{AreEntries, has_few, stands_in, IsLawfu
 use crate::content::Found;
 use crate::cursor::Cursor;
 use crate::entry::{Entry, found_at};
-use crate::lawful::{are_bytes, is_path};
+use crate::lawful::{are_contents, is_path};
 use crate::measures::{LONGEST_FILE, MOST_CHILDREN};
 use crate::pair::Pair;
 use std::alloc::Global;
@@ -162,8 +162,8 @@ fn is_brief(entry: &Entry) -> bool
     ensures lawful { IsLawful entry.now.1 }
 {
     match found_at(entry) {
-        Found::File(bytes) => {
-            are_bytes(bytes);
+        Found::File(mode, bytes) => {
+            are_contents(mode, bytes);
             bytes.len() <= LONGEST_FILE
         }
         Found::Dir => true,

@@ -14,25 +14,25 @@ impl Standing for Content {
 
     fn is_directory(&self) -> bool {
         match self {
-            Content::File(_) => false,
+            Content::File(..) => false,
             Content::Dir => true,
         }
     }
 
     fn copy(&self, alloc: Global) -> Result<Content, AllocError> {
         match self {
-            Content::File(bytes) => Ok(Content::File(Vec::from_slice(alloc, bytes)?)),
+            Content::File(mode, bytes) => Ok(Content::File(*mode, Vec::from_slice(alloc, bytes)?)),
             Content::Dir => Ok(Content::Dir),
         }
     }
 }
 
-/// What stands at the entry's path, with a file's bytes.
+/// What stands at the entry's path, with a file's mode and bytes.
 pub(crate) fn found_at(entry: &Entry) -> Found<'_>
     ensures { found_content result ≡ entry.now.1 }
 {
     match entry.standing() {
-        Content::File(bytes) => Found::File(bytes),
+        Content::File(mode, bytes) => Found::File(*mode, bytes),
         Content::Dir => Found::Dir,
     }
 }

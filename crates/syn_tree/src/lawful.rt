@@ -1,13 +1,16 @@
-//! What the types of bytes and paths say of them.
-ghost use Rattle.syn_model.specs.Contents.{AreLawfulContents, contents_of};
+//! What the types of modes, bytes and paths say of them.
+ghost use Rattle.syn_model.specs.Contents.{AreLawfulContents, contents_with};
 ghost use Rattle.syn_model.specs.Path.{IsPath};
+ghost use Rattle.syn_tree.specs.Modes.{mode_of};
 
+use crate::mode::Mode;
 use syn_path::Key;
 
-/// Each byte is below 256.
-pub(crate) fn are_bytes(bytes: &[u8])
-    ensures { AreLawfulContents (contents_of bytes.now) }
+/// A mode and bytes are what a file may hold.
+pub(crate) fn are_contents(mode: Mode, bytes: &[u8])
+    ensures { AreLawfulContents (contents_with (mode_of mode) bytes.now) }
 {
+    mode.is_lawful();
     let _ = bytes;
 }
 

@@ -67,7 +67,7 @@ pub fn found_spelled(found: &Found<'_>) -> usize
     ensures fits { result < 2 ^ 63 + 8 }
 {
     match found {
-        Found::File(bytes) => 5 + bytes.len(),
+        Found::File(_, bytes) => 5 + bytes.len(),
         Found::Dir => 3,
     }
 }

@@ -7,12 +7,13 @@ ghost use Rattle.syn_tree.specs.Nodes.{node_tree};
 
 use crate::entries::Entries;
 use crate::measures::LONGEST_FILE;
+use crate::mode::Mode;
 
 /// What can stand at a path: a file, or a directory with what is below it.
 #[derive(Debug, Drop)]
 pub enum Node {
-    /// A file, with its bytes.
-    File(Vec<u8>),
+    /// A file, with its mode and its bytes.
+    File(Mode, Vec<u8>),
     /// A directory, with what is below it.
     Dir(Entries),
 }
@@ -25,7 +26,7 @@ impl Node {
         ensures paths { fits_paths (node_tree self.now) ≡ true }
     {
         match self {
-            Node::File(bytes) => bytes.len() <= LONGEST_FILE,
+            Node::File(_, bytes) => bytes.len() <= LONGEST_FILE,
             Node::Dir(entries) => {
                 let _ = entries.iter();
                 true

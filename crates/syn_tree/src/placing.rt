@@ -1,6 +1,7 @@
 //! A part of a tree with the path before its own, where it is to stand.
 ghost use Rattle.std.specs.Prelude.{◌≡◌, ◌≢◌, IfOk, IfErr};
-ghost use Rattle.syn_model.specs.Tree.{file};
+ghost use Rattle.syn_model.specs.Tree.{file_with};
+ghost use Rattle.syn_tree.specs.Modes.{mode_of};
 ghost use Rattle.syn_tree.specs.Nodes.{part_of};
 ghost use Rattle.syn_tree.specs.Lists.{IsPlaceable, FitsNowhere};
 
@@ -8,8 +9,9 @@ use crate::content::Content;
 use crate::entries::Entries;
 use crate::entry::Entry;
 use crate::error::TreeError;
-use crate::lawful::{are_bytes, is_path};
+use crate::lawful::{are_contents, is_path};
 use crate::measures::LONGEST_FILE;
+use crate::mode::Mode;
 use crate::node::Node;
 use crate::parts::push_under;
 use std::alloc::Global;
@@ -26,24 +28,24 @@ pub fn placed(alloc: Global, at: &Key, new: Option<Node>) -> Result<Vec<Entry>, 
     is_path(at);
     match new {
         None => Ok(Vec::new(alloc)),
-        Some(Node::File(bytes)) => placed_file(alloc, at, bytes),
+        Some(Node::File(mode, bytes)) => placed_file(alloc, at, mode, bytes),
         Some(Node::Dir(entries)) => placed_directory(alloc, at, entries),
     }
 }
 
 /// A file at the path.
-fn placed_file(alloc: Global, at: &Key, bytes: Vec<u8>) -> Result<Vec<Entry>, TreeError>
-    ensures ok { IfOk result (λ list. IsPlaceable at.now (file bytes.items) list.items) }
+fn placed_file(alloc: Global, at: &Key, mode: Mode, bytes: Vec<u8>) -> Result<Vec<Entry>, TreeError>
+    ensures ok { IfOk result (λ list. IsPlaceable at.now (file_with (mode_of mode) bytes.items) list.items) }
     ensures full { IfErr result (λ e. e ≢ TreeError.Memory → (e ≡ TreeError.Full)
-        × FitsNowhere at.now (file bytes.items)) }
+        × FitsNowhere at.now (file_with (mode_of mode) bytes.items)) }
 {
-    are_bytes(&bytes);
+    are_contents(mode, &bytes);
     is_path(at);
     if bytes.len() > LONGEST_FILE {
         return Err(TreeError::Full);
     }
     let mut list = Vec::new(alloc);
-    list.push(Entry::new(alloc, at, Content::File(bytes))?)?;
+    list.push(Entry::new(alloc, at, Content::File(mode, bytes))?)?;
     Ok(list)
 }
 

@@ -16,13 +16,13 @@ ghost use Rattle.syn_tree.specs.Nodes.{part_of};
 ghost use Rattle.syn_tree.specs.Refusals.{refusal_of, refusal_in};
 
 use crate::change::Change;
-use crate::checking::{Limited, check};
+use crate::checking::{Limited, check, mode_after_put};
 use crate::content::{Content, Found};
 use crate::edit::Edit;
 use crate::entries::Entries;
 use crate::entry::Entry;
 use crate::error::TreeError;
-use crate::lawful::are_bytes;
+use crate::lawful::are_contents;
 use crate::measures::{
     LONGEST_SPELLING, MOST_BELOW, MOST_CHILDREN, is_within_limits, measured, spelled,
 };
@@ -111,8 +111,9 @@ impl Tree {
     {
         match edit {
             Edit::Put(path, bytes) => {
-                are_bytes(&bytes);
-                Change::one(alloc, &path.key(), Content::File(bytes))
+                let mode = mode_after_put(self, &path);
+                are_contents(mode, &bytes);
+                Change::one(alloc, &path.key(), Content::File(mode, bytes))
             }
             Edit::MakeDir(path) => Change::one(alloc, &path.key(), Content::Dir),
             Edit::Remove(path) => Ok(Change::none(alloc, &path.key())),
@@ -256,9 +257,9 @@ impl Tree {
     {
         match self.get(path) {
             None => Ok(None),
-            Some(Found::File(bytes)) => {
+            Some(Found::File(mode, bytes)) => {
                 let bytes = Vec::from_slice(alloc, bytes)?;
-                Ok(Some(Node::File(bytes)))
+                Ok(Some(Node::File(mode, bytes)))
             }
             Some(Found::Dir) => {
                 let at = path.key();

@@ -203,7 +203,7 @@ file_read fields bytes after found short = record {
     fits = one_fits (File (contents_of bytes)) (le-leb (length bytes) 16384 short);
     paths = ap (list_all (λ pair. fits_path pair.0)) (entries-one (File (contents_of bytes)));
   };
-  spelled = ap (λ b. 1 ∷ b) found.spelled ∙ ap (λ b. b ++ after) (sym (file_spelled bytes));
+  spelled = ap (λ b. 1 ∷ b) found.spelled ∙ ap (λ b. b ++ after) (sym (file_spelled (contents_of bytes)));
 }
 
 -- ---- kinds

@@ -3,30 +3,32 @@ use Rattle.std.proofs.Common.{◌≡◌, ◌≤◌, true, ◌&&◌, nat_le, [], 
 use Rattle.std.specs.List.{list_all}
 use Rattle.std.specs.FinMap.{get-empty}
 use Rattle.std.proofs.lemmas.Bool.{and_parts, leb-true}
-use Rattle.syn_model.specs.Path.{Bytes, root, path_cmp}
-use Rattle.syn_model.specs.Contents.{contents_of}
-use Rattle.syn_model.specs.Tree.{File, absent, file}
+use Rattle.syn_model.specs.Path.{root, path_cmp}
+use Rattle.syn_model.specs.Contents.{Contents, contents_spelling}
+use Rattle.syn_model.specs.Tree.{File, absent, at_root}
 use Rattle.syn_model.specs.Limits.{children, fits_content, fits_part}
 use Rattle.syn_model.specs.Spelling.{spelling, content_spelling}
 use Rattle.syn_model.proofs.HistoryLemmas.{get-at_root}
 use Rattle.syn_model.proofs.SpellingLemmas.{spelling_unfolds}
 use Rattle.syn_placed.proofs.TreeLemmas.{entries-one}
-use Rattle.syn_wire.specs.Events.{file_spelling}
 
 pub absent_spelled : spelling absent ≡ 0 ∷ []
 absent_spelled =
     spelling_unfolds absent ∙ ap (content_spelling spelling absent) (get-empty path_cmp root)
 
-pub file_spelled : (bytes : Bytes) → spelling (file bytes) ≡ 1 ∷ file_spelling bytes
-file_spelled bytes =
-    spelling_unfolds (file bytes)
-    ∙ ap (content_spelling spelling (file bytes)) (get-at_root (File (contents_of bytes)) root)
+pub file_spelled : (contents : Contents) →
+    spelling (at_root (File contents)) ≡ 1 ∷ contents_spelling contents
+file_spelled contents =
+    spelling_unfolds (at_root (File contents))
+    ∙ ap (content_spelling spelling (at_root (File contents))) (get-at_root (File contents) root)
 
-pub file_brief : (bytes : Bytes) → fits_part (file bytes) ≡ true → length bytes ≤ 16384
-file_brief bytes h =
-    let t = file bytes in
+pub file_brief : (contents : Contents) → fits_part (at_root (File contents)) ≡ true →
+    length contents.bytes ≤ 16384
+file_brief contents h =
+    let bytes = contents.bytes in
+    let t = at_root (File contents) in
     let one = ap (list_all (λ pair. fits_content pair.1 && nat_le (length (children t pair.0)) 256))
-    (sym (entries-one (File (contents_of bytes)))) ∙ h in
+    (sym (entries-one (File contents))) ∙ h in
     leb-true (length bytes) 16384
     (and_parts (nat_le (length bytes) 16384) (nat_le (length (children t root)) 256) (and_parts
     (nat_le (length bytes) 16384 && nat_le (length (children t root)) 256) true one).0).0

@@ -85,7 +85,7 @@ fn entry_length(entry: &MarkEntry) -> usize
     ensures brief { result ≤ 98 }
 {
     let mark = match entry.standing() {
-        Mark::File(digest) => 1 + digest_length(*digest),
+        Mark::File(_, digest) => 1 + digest_length(*digest),
         Mark::Dir => 3,
     };
     last_name_length(entry.path()) + mark
@@ -106,7 +106,7 @@ fn count_in_marks(marks: &MarkTree, entry: &MarkEntry) -> usize
     ensures few { result ≤ length (children marks.now entry.now.0) }
 {
     match entry.standing() {
-        Mark::File(_) => 0,
+        Mark::File(..) => 0,
         Mark::Dir => marks.child_count(entry.path()),
     }
 }
@@ -120,7 +120,7 @@ fn write_mark(out: &mut Vec<u8>, entry: &MarkEntry, count: usize) -> Result<(), 
 {
     write_last_name(out, entry.path())?;
     match entry.standing() {
-        Mark::File(digest) => {
+        Mark::File(_, digest) => {
             out.push(FILE)?;
             out.extend_from_slice(digest.as_slice())?;
             Ok(())

@@ -111,7 +111,7 @@ fn push_found(
     write_kind(head, found, count)?;
     window.push(head)?;
     match found {
-        Found::File(bytes) => window.push(bytes),
+        Found::File(_, bytes) => window.push(bytes),
         Found::Dir => Ok(()),
     }
 }

@@ -8,7 +8,7 @@ use crate::error::WireError;
 use std::alloc::Global;
 use syn_mark::Mark;
 use syn_placed::Standing;
-use syn_tree::Content;
+use syn_tree::{Content, Mode};
 
 // How many bytes a digest has.
 const DIGEST_LENGTH: usize = 32;
@@ -41,7 +41,7 @@ impl Readable for Content {
 
     fn read_file(alloc: Global, fields: &[u8]) -> Result<Option<(Content, &[u8])>, WireError> {
         match read_file(alloc, fields)? {
-            Some((bytes, rest)) => Ok(Some((Content::File(bytes), rest))),
+            Some((bytes, rest)) => Ok(Some((Content::File(Mode::NewFile, bytes), rest))),
             None => Ok(None),
         }
     }
@@ -63,6 +63,6 @@ impl Readable for Mark {
         let (front, rest) = fields.split_at(DIGEST_LENGTH);
         let mut digest = [0; DIGEST_LENGTH];
         digest.copy_from_slice(front);
-        Ok(Some((Mark::File(digest), rest)))
+        Ok(Some((Mark::File(Mode::NewFile, digest), rest)))
     }
 }

@@ -89,7 +89,8 @@ fn write_present(out: &mut Vec<u8>, node: &Node) -> Result<(), WireError>
     ensures lawful { OnOk result (IsPart (node_tree node.now)) }
 {
     match node {
-        Node::File(bytes) => {
+        Node::File(mode, bytes) => {
+            mode.is_lawful();
             out.push(FILE)?;
             write_file(out, bytes)
         }
@@ -119,7 +120,7 @@ pub(crate) fn count_in_tree(tree: &Tree, pair: &Pair<'_>) -> usize
     ensures few { result ≤ length (children tree.now pair.now.0) }
 {
     match pair.found() {
-        Found::File(_) => 0,
+        Found::File(..) => 0,
         Found::Dir => tree.child_count_of(pair),
     }
 }
@@ -131,7 +132,7 @@ fn count_in_entries(entries: &Entries, pair: &Pair<'_>) -> usize
     ensures few { result ≤ length (children entries.now pair.now.0) }
 {
     match pair.found() {
-        Found::File(_) => 0,
+        Found::File(..) => 0,
         Found::Dir => entries.child_count_of(pair),
     }
 }
@@ -146,7 +147,7 @@ fn write_pair(out: &mut Vec<u8>, pair: &Pair<'_>, count: usize) -> Result<(), Wi
 {
     write_name_of(out, pair)?;
     write_kind(out, &pair.found(), count)?;
-    if let Found::File(bytes) = pair.found() {
+    if let Found::File(_, bytes) = pair.found() {
         out.extend_from_slice(bytes)?;
     }
     Ok(())
@@ -165,7 +166,7 @@ pub(crate) fn write_kind(
     ensures kept { IsBeginning out.old.items out.new.items }
 {
     match found {
-        Found::File(bytes) => {
+        Found::File(_, bytes) => {
             out.push(FILE)?;
             write_u32(out, bytes.len() as u32)
         }

@@ -14,7 +14,7 @@ use crate::tree::{ABSENT, DIRECTORY, FILE};
 use std::alloc::Global;
 use syn_path::Path;
 use syn_placed::Placed;
-use syn_tree::{Content, Entries, Entry, LONGEST_FILE, Node, Tree, TreeError};
+use syn_tree::{Content, Entries, Entry, LONGEST_FILE, Mode, Node, Tree, TreeError};
 
 /// The tree that the bytes begin with, and the rest; none where no front of them is the spelling of
 /// a tree within all limits of a replica.
@@ -64,7 +64,7 @@ fn read_file_node(alloc: Global, fields: &[u8]) -> Result<Option<(Option<Node>, 
     if bytes.len() > LONGEST_FILE {
         return Ok(None);
     }
-    Ok(Some((Some(Node::File(bytes)), rest)))
+    Ok(Some((Some(Node::File(Mode::NewFile, bytes)), rest)))
 }
 
 // What follows the kind of a directory.

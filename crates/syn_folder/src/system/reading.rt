@@ -6,7 +6,7 @@ use std::alloc::{AllocError, Global};
 use std::fs::{Files, OpenOptions};
 use std::io::{self, Read};
 use syn_path::{Name, Path, PathError};
-use syn_tree::{Content, Entries, Entry, LONGEST_FILE, Tree, TreeError};
+use syn_tree::{Content, Entries, Entry, LONGEST_FILE, Mode, Tree, TreeError};
 
 /// The name of a file that is being written, which lies beside the one that it will be. It is too
 /// long for a name of a replica, so it is none of anybody's.
@@ -91,7 +91,7 @@ impl<F: Files> Reading<'_, '_, F> {
         if bytes.len() > LONGEST_FILE {
             self.note(alloc, path, Strangeness::Size)
         } else {
-            let entry = Entry::new(alloc, &path.key(), Content::File(bytes))?;
+            let entry = Entry::new(alloc, &path.key(), Content::File(Mode::NewFile, bytes))?;
             self.found.push(entry)?;
             Ok(())
         }

@@ -1,7 +1,8 @@
 use Rattle.std.proofs.Common.{◌≡◌, sym, ap, ◌∙◌, subst, IfOk}
 use Rattle.syn_model.specs.Mark.{mark, mark_of}
-use Rattle.syn_model.specs.Contents.{contents_of}
+use Rattle.syn_model.specs.Contents.{contents_with}
 use Rattle.syn_model.specs.Tree.{File, at_root}
+use Rattle.syn_tree.specs.Modes.{mode_of}
 use Rattle.syn_tree.specs.Nodes.{node_tree}
 use Rattle.syn_mark.specs.Marks.{content_of}
 use Rattle.syn_mark.proofs.MarkLemmas.{mark_one}
@@ -9,9 +10,10 @@ use Rattle.syn_mark.proofs.marking.mark_of.Goals as goal
 
 pub returns-in-File-clause-ok : goal.returns-in-File-clause-ok
 returns-in-File-clause-ok c =
+    let mode = mode_of c.in-File.mode in
     let bytes = c.in-File.bytes.items in
     let same : at_root (content_of c.of_file.result) ≡ mark (node_tree c.args.node.now) =
     ap at_root (c.of_file.ensures
-    ∙ ap (λ bs. mark_of (File (contents_of bs))) c.deref.ensures.value)
-    ∙ (mark_one (File (contents_of bytes)) ∙ ap (λ n. mark (node_tree n)) (sym c.in-File.is)) in
+    ∙ ap (λ bs. mark_of (File (contents_with mode bs))) c.deref.ensures.value)
+    ∙ (mark_one (File (contents_with mode bytes)) ∙ ap (λ n. mark (node_tree n)) (sym c.in-File.is)) in
     subst (λ t. IfOk c.of_mark.result (λ marks. marks ≡ t)) same c.of_mark.ensures.ok

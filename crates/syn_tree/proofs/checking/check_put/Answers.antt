@@ -1,7 +1,8 @@
 use Rattle.std.proofs.Common.{◌+◌, Some, None, if◌then◌else◌, length, refl, sym, ap, ◌∙◌, arith}
 use Rattle.std.proofs.Common.{subst}
 use Rattle.std.proofs.lemmas.Bool.{le-leb, lt-leb}
-use Rattle.syn_model.specs.Contents.{contents_of}
+use Rattle.std.specs.FinMap.{get}
+use Rattle.syn_model.specs.Event.{put_contents}
 use Rattle.syn_model.specs.Tree.{File, at_root}
 use Rattle.syn_model.specs.Refusal.{Full}
 use Rattle.syn_model.specs.Path.{IsPath}
@@ -17,7 +18,7 @@ returns-then-size-gt-LONGEST_FILE g c bytes e =
     let place = sym c.check_place.ensures ∙ ap refusal_in c.in_ok-check_place.was in
     let other = sym c.is_directory.ensures ∙ c.if-is_directory.false in
     sym (put_answer t p bytes place other
-    ∙ ap (λ b. if b then None else Some Full) (too_long t p (File (contents_of bytes))
+    ∙ ap (λ b. if b then None else Some Full) (too_long t p (File (put_contents (get t p) bytes))
     (lt-leb (length bytes) 16384 (omega (arith, e, c.if-size-gt-LONGEST_FILE.true))) _ refl))
 
 pub returns-then-fits : goal.returns-then-fits
@@ -27,8 +28,8 @@ returns-then-fits g c bytes e =
     let place = sym c.check_place.ensures ∙ ap refusal_in c.in_ok-check_place.was in
     let other = sym c.is_directory.ensures ∙ c.if-is_directory.false in
     let small = le-leb (length bytes) 16384 (omega (arith, e, c.if-size-gt-LONGEST_FILE.false)) in
-    let fits = c.fits.ensures (at_root (File (contents_of bytes)))
-    (measured_one p (File (contents_of bytes)) (c.name_spelled.result + 5 + c.args.size)
+    let fits = c.fits.ensures (at_root (File (put_contents (get t p) bytes)))
+    (measured_one p (File (put_contents (get t p) bytes)) (c.name_spelled.result + 5 + c.args.size)
     (subst IsPath c.key.ensures c.name_spelled.ensures.lawful) small (omega (
       arith,
       e,
@@ -44,8 +45,8 @@ returns-else-fits g c bytes e =
     let place = sym c.check_place.ensures ∙ ap refusal_in c.in_ok-check_place.was in
     let other = sym c.is_directory.ensures ∙ c.if-is_directory.false in
     let small = le-leb (length bytes) 16384 (omega (arith, e, c.if-size-gt-LONGEST_FILE.false)) in
-    let fits = c.fits.ensures (at_root (File (contents_of bytes)))
-    (measured_one p (File (contents_of bytes)) (c.name_spelled.result + 5 + c.args.size)
+    let fits = c.fits.ensures (at_root (File (put_contents (get t p) bytes)))
+    (measured_one p (File (put_contents (get t p) bytes)) (c.name_spelled.result + 5 + c.args.size)
     (subst IsPath c.key.ensures c.name_spelled.ensures.lawful) small (omega (
       arith,
       e,

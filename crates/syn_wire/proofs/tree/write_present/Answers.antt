@@ -1,12 +1,13 @@
 use Rattle.std.proofs.Common.{◌++◌, ◌∷◌, [], length, sym, ap, ap₂, ◌∙◌, subst, append_assoc, arith}
 use Rattle.syn_model.specs.Event.{AreBytes}
-use Rattle.syn_model.specs.Contents.{contents_of}
+use Rattle.syn_model.specs.Contents.{contents_with}
 use Rattle.syn_model.specs.Tree.{File, IsPart}
-use Rattle.syn_model.proofs.ContentsLemmas.{new_are_lawful}
+use Rattle.syn_model.proofs.ContentsLemmas.{with_are_lawful}
 use Rattle.syn_tree.proofs.ChangeLemmas.{lawful_part}
 use Rattle.std.proofs.lemmas.Result.{on_ok_weaker}
 use Rattle.syn_model.specs.Spelling.{spelling}
 use Rattle.syn_model.specs.Limits.{fits_part}
+use Rattle.syn_tree.specs.Modes.{mode_of}
 use Rattle.syn_tree.specs.Nodes.{node_tree}
 use Rattle.syn_wire.specs.Events.{file_spelling}
 use Rattle.syn_wire.proofs.NodeLemmas.{file_spelled, file_brief}
@@ -14,7 +15,7 @@ use Rattle.syn_wire.proofs.tree.write_present.Goals as goal
 
 pub write_file-requires : goal.write_file-requires
 write_file-requires c =
-    let brief = file_brief c.in-File.bytes.items
+    let brief = file_brief (contents_with (mode_of c.in-File.mode) c.in-File.bytes.items)
     (ap (λ n. fits_part (node_tree n)) (sym c.in-File.is) ∙ c.requires) in
     let long = ap length c.deref.ensures.value in
     omega (arith, brief, long)
@@ -23,7 +24,8 @@ pub returns-in_ok-push-in-File-clause-added : goal.returns-in_ok-push-in-File-cl
 returns-in_ok-push-in-File-clause-added c =
     let out = c.args.out.now.items in
     let bytes = c.in-File.bytes.items in
-    let spelled = ap (λ n. spelling (node_tree n)) c.in-File.is ∙ file_spelled bytes in
+    let spelled = ap (λ n. spelling (node_tree n)) c.in-File.is
+    ∙ file_spelled (contents_with (mode_of c.in-File.mode) bytes) in
     on_ok_weaker c.write_file.result (λ e.
     e ∙ (ap₂ (λ x y. x ++ file_spelling y) c.in_ok-push-in-File.ensures.items c.deref.ensures.value
     ∙ (append_assoc out (1 ∷ []) (file_spelling bytes) ∙ ap (λ b. out ++ b) (sym spelled))))
@@ -32,7 +34,8 @@ returns-in_ok-push-in-File-clause-added c =
 pub returns-in_ok-push-in-File-clause-lawful : goal.returns-in_ok-push-in-File-clause-lawful
 returns-in_ok-push-in-File-clause-lawful c =
     let bytes = c.in-File.bytes.items in
-    let part = lawful_part (File (contents_of bytes)) (new_are_lawful bytes
-    (subst AreBytes c.deref.ensures.value c.write_file.ensures.lawful)) in
+    let mode = mode_of c.in-File.mode in
+    let part = lawful_part (File (contents_with mode bytes)) (with_are_lawful mode bytes
+    c.is_lawful.ensures (subst AreBytes c.deref.ensures.value c.write_file.ensures.lawful)) in
     on_ok_weaker c.write_file.result
     (λ _. subst (λ n. IsPart (node_tree n)) (sym c.in-File.is) part) c.write_file.ensures.added

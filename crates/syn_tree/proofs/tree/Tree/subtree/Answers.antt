@@ -2,8 +2,8 @@ use Rattle.std.proofs.Common.{◌≡◌, ◌&&◌, nat_le, Some, None, true, sym
 use Rattle.std.specs.Prelude.{option_map}
 use Rattle.std.specs.FinMap.{entries, get, len}
 use Rattle.std.proofs.lemmas.Bool.{and_parts}
-use Rattle.syn_model.specs.Contents.{contents_of}
-use Rattle.syn_model.specs.Tree.{Tree, IsTree, Directory, File, file, subtree}
+use Rattle.syn_model.specs.Contents.{contents_with}
+use Rattle.syn_model.specs.Tree.{Tree, IsTree, Directory, File, file_with, subtree}
 use Rattle.syn_model.specs.Limits.{fits_replica, fits_part, fits_paths, tree_spelling_length}
 use Rattle.syn_model.specs.Limits.{greatest_spelling}
 use Rattle.syn_tree.specs.Contents.{found_content}
@@ -15,6 +15,7 @@ use Rattle.syn_tree.proofs.WithinLemmas.{stripped-within}
 use Rattle.syn_tree.proofs.StripLemmas.{stripped_lawful, stripped_entries, subtree_none}
 use Rattle.syn_tree.proofs.StripLemmas.{subtree_file}
 use Rattle.syn_tree.proofs.tree.Tree.subtree.Goals as goal
+use Rattle.syn_tree.specs.Modes.{mode_of}
 
 parts : (t : Tree) → fits_replica t ≡ true → (fits_part t ≡ true) × (fits_paths t ≡ true)
 parts t h =
@@ -52,11 +53,12 @@ pub returns-in_ok-bytes-in-Some-File-clause-ok : goal.returns-in_ok-bytes-in-Som
 returns-in_ok-bytes-in-Some-File-clause-ok c =
     let t = c.args.self.now in
     let bytes = c.in-Some-File.bytes.now in
-    let here : get t c.args.path.now ≡ Some (File (contents_of bytes)) = sym c.get.ensures
+    let mode = mode_of c.in-Some-File.mode in
+    let here : get t c.args.path.now ≡ Some (File (contents_with mode bytes)) = sym c.get.ensures
     ∙ (ap (option_map (λ found. found_content found)) c.in-Some-File.is
     ∙ ap (λ f. Some (found_content f)) c.in-Some-File.field-0-is) in
-    ap file c.in_ok-bytes-in-Some-File.ensures.items ∙ subtree_file t c.args.path.now
-    (contents_of bytes) (subst IsTree c.self.view_is c.self.invariant.tree).part.parents here
+    ap (file_with mode) c.in_ok-bytes-in-Some-File.ensures.items ∙ subtree_file t c.args.path.now
+    (contents_with mode bytes) (subst IsTree c.self.view_is c.self.invariant.tree).part.parents here
 
 pub returns-in_ok-list-in-Some-Dir-clause-ok : goal.returns-in_ok-list-in-Some-Dir-clause-ok
 returns-in_ok-list-in-Some-Dir-clause-ok c =
