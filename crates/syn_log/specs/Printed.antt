@@ -34,7 +34,7 @@ edit_line position user (Remove path) =
 abbrev pub node_shown : Option Node → List ℕ
 node_shown None = codes "-"
 node_shown (Some (Dir below)) = codes "d"
-node_shown (Some (File bytes)) = codes "f " ++ decimal (length bytes.items)
+node_shown (Some (File mode bytes)) = codes "f " ++ decimal (length bytes.items)
 
 abbrev pub replaced_line : ℕ → Token → Path → Option Node → List ℕ
 replaced_line position token path new = decimal position ++ (codes " replace session "
