@@ -20,11 +20,12 @@ use Rattle.syn_model.specs.Limits.{children, only_name, last_name_spelling_lengt
 use Rattle.syn_model.specs.Limits.{content_spelling_length, tree_spelling_length}
 use Rattle.syn_model.specs.Spelling.{entries_spelling, content_spelling, spelling_within, spelling}
 use Rattle.syn_model.specs.Mark.{IsMarks}
-use Rattle.syn_model.specs.MarkSpelling.{mark_spelling_within, mark_spelling}
+use Rattle.syn_model.specs.MarkSpelling.{mark_spelling}
 use Rattle.syn_model.proofs.PathLemmas.{same_name, same_path, name_itself, path_itself}
 use Rattle.syn_model.proofs.TreeLemmas.{get-subtree}
 use Rattle.syn_model.proofs.QuietLemmas.{get-children}
 use Rattle.syn_model.proofs.SubtreeLemmas.{parts, subtree_entries}
+use Rattle.syn_model.specs.Contents.{Contents, contents_front, contents_spelling, digest_spelling}
 
 -- ---- sums
 
@@ -346,31 +347,35 @@ module _ (cost : Content → ℕ) where
 
 -- ---- trees
 
-spelled_within : (depth : ℕ) (t : Tree) → is_present t root ≡ true →
-    length (spelling_within depth t) ≤ measure content_spelling_length t
-unfolding spelling_within
-spelled_within zero t there = omega arith
-spelled_within (suc depth) t there =
-    by (get t root) refl (λ n. spelled_within depth (subtree t (n ∷ [])))
-  where
-    by : (o : Option Content) → get t root ≡ o →
-        ((n : Name) → is_present (subtree t (n ∷ [])) root ≡ true → length (spelling_within depth
-        (subtree t (n ∷ []))) ≤ measure content_spelling_length (subtree t (n ∷ []))) →
-        length (content_spelling (spelling_within depth) t o) ≤ measure content_spelling_length t
-    by None e below = absurd (true≢false (sym there ∙ ap is_some e))
-    by (Some (File c)) e below =
-        let whole = with_root content_spelling_length (entries t) (File c)
-        (sym (get-entries t root) ∙ e) in
-        omega (arith, whole)
-    by (Some Directory) e below =
-        let whole = directory_takes content_spelling_length (spelling_within depth) t e below in
-        omega (arith, whole)
+-- by a spelling of files, where each takes a byte for its kind and what is spelled of it
+module _ (file : Contents → Bytes) (cost : Content → ℕ)
+    (counts : (c : Contents) → 1 + length (file c) ≤ cost (File c)) (empty : 3 ≤ cost Directory) where
+  spelled_within : (depth : ℕ) (t : Tree) → is_present t root ≡ true →
+      length (spelling_within file depth t) ≤ measure cost t
+  unfolding spelling_within
+  spelled_within zero t there = omega arith
+  spelled_within (suc depth) t there =
+      by (get t root) refl (λ n. spelled_within depth (subtree t (n ∷ [])))
+    where
+      by : (o : Option Content) → get t root ≡ o →
+          ((n : Name) → is_present (subtree t (n ∷ [])) root ≡ true → length
+          (spelling_within file depth (subtree t (n ∷ []))) ≤ measure cost (subtree t (n ∷ []))) →
+          length (content_spelling file (spelling_within file depth) t o) ≤ measure cost t
+      by None e below = absurd (true≢false (sym there ∙ ap is_some e))
+      by (Some (File c)) e below =
+          let whole = with_root cost (entries t) (File c) (sym (get-entries t root) ∙ e) in
+          let one = counts c in
+          omega (arith, whole, one)
+      by (Some Directory) e below =
+          let whole = directory_takes cost (spelling_within file depth) t e below in
+          omega (arith, whole, empty)
 
 -- a tree is spelled by no more bytes than its pairs take
 pub spelled_less : (t : Tree) → is_present t root ≡ true →
     length (spelling t) ≤ tree_spelling_length t
 spelled_less t there =
-    let less = spelled_within (suc (len t)) t there in
+    let less = spelled_within contents_spelling content_spelling_length (λ c. omega (arith,
+    length-append (contents_front c) c.bytes)) (omega arith) (suc (len t)) t there in
     let is = total_is (λ pair. last_name_spelling_length pair.0 + content_spelling_length pair.1)
     (entries t) in
     omega (arith, less, is)
@@ -381,27 +386,6 @@ spelled_less t there =
 abbrev mark_length : Content → ℕ
 mark_length Directory = 3
 mark_length (File digest) = 1 + length digest.bytes
-
-marked_within : (depth : ℕ) (t : Tree) → is_present t root ≡ true →
-    length (mark_spelling_within depth t (get t root)) ≤ measure mark_length t
-unfolding mark_spelling_within
-marked_within zero t there = omega arith
-marked_within (suc depth) t there =
-    by (get t root) refl (λ n. marked_within depth (subtree t (n ∷ [])))
-  where
-    by : (o : Option Content) →
-        get t root ≡ o → ((n : Name) → is_present (subtree t (n ∷ [])) root ≡ true →
-        length (mark_spelling_within depth (subtree t (n ∷ [])) (get (subtree t (n ∷ [])) root))
-        ≤ measure mark_length (subtree t (n ∷ []))) →
-        length (mark_spelling_within (suc depth) t o) ≤ measure mark_length t
-    by None e below = absurd (true≢false (sym there ∙ ap is_some e))
-    by (Some (File c)) e below =
-        let whole = with_root mark_length (entries t) (File c) (sym (get-entries t root) ∙ e) in
-        omega (arith, whole)
-    by (Some Directory) e below =
-        let whole = directory_takes mark_length
-        (λ part. mark_spelling_within depth part (get part root)) t e below in
-        omega (arith, whole)
 
 -- each pair of a map is found in it
 not_itself : (p q : Path) → is_lt (path_cmp p q) ≡ true → eq_by_cmp path_cmp q p ≡ false
@@ -464,7 +448,8 @@ pair_takes marks is e found =
 pub marks_less : (marks : Tree) → IsMarks marks → is_present marks root ≡ true →
     length (mark_spelling marks) ≤ 98 * len marks
 marks_less marks is there =
-    let less = marked_within (suc (len marks)) marks there in
+    let less = spelled_within digest_spelling mark_length (λ c. omega arith) (omega arith)
+    (suc (len marks)) marks there in
     let each = total_less (taken_by mark_length) (λ e. 98) (entries marks) (each_with
     (λ e. find path_cmp e.0 (entries marks) ≡ Some e.1) (λ e. taken_by mark_length e ≤ 98)
     (pair_takes marks is) (entries marks) (pairs_found (entries marks) (entries_sorted marks))) in

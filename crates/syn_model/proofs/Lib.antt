@@ -29,4 +29,4 @@ pub mod PlanCover
 pub mod PlanNames
 pub mod LengthLemmas
 pub mod ImageLengths
-pub mod MarkSpellings
+pub mod ToldSpellings

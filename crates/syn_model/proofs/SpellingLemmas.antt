@@ -1,33 +1,29 @@
 -- The spelling of a tree, or of a part of one, tells it.
-use Rattle.std.proofs.Common.{◌≡◌, ◌<◌, ◌^◌, ℕ, zero, suc, true, false, ◌&&◌, nat_le, List, [], ◌∷◌}
-use Rattle.std.proofs.Common.{◌++◌, length, take, drop, map, flat_map, refl, sym, ap, ap₂, ◌∙◌}
-use Rattle.std.proofs.Common.{subst, Option, Some, None, is_some, append_assoc, true≢false, ◌≢◌}
-use Rattle.std.proofs.Common.{arith, cond}
-use Rattle.std.specs.Int.{from_be_bytes, to_be_bytes, w16, w32}
-use Rattle.std.proofs.lemmas.Nat.{from_be_bytes-to_be_bytes_2, from_be_bytes-to_be_bytes_4}
-use Rattle.std.proofs.lemmas.Bool.{leb-true, and_parts}
+use Rattle.std.proofs.Common.{◌≡◌, ◌<◌, ◌^◌, ℕ, zero, suc, true, false, List, [], ◌∷◌, ◌++◌, length}
+use Rattle.std.proofs.Common.{take, drop, map, flat_map, refl, sym, ap, ap₂, ◌∙◌, subst, Option}
+use Rattle.std.proofs.Common.{Some, None, is_some, append_assoc, true≢false, ◌≢◌, arith, cond}
+use Rattle.std.specs.Int.{from_be_bytes, to_be_bytes, w16}
+use Rattle.std.proofs.lemmas.Nat.{from_be_bytes-to_be_bytes_2}
 use Rattle.std.proofs.Math.Seq.{take-append_seam, drop-append_seam}
 use Rattle.std.specs.Ordering.{eq_by_cmp}
-use Rattle.std.specs.List.{list_all, AllByRecursion}
-use Rattle.std.specs.FinMap.{entries, find, get, get-entries, len}
+use Rattle.std.specs.List.{AllByRecursion}
+use Rattle.std.specs.FinMap.{find, get, len}
 use Rattle.std.proofs.lemmas.Bool.{false_from_ne_true}
 use Rattle.std.proofs.lemmas.Option.{none-some, same_Some}
-use Rattle.syn_model.specs.Path.{Bytes, Name, Path, name_cmp, path_cmp, root}
+use Rattle.syn_model.specs.Path.{Bytes, Name, Path, name_cmp, root}
 use Rattle.syn_model.specs.Contents.{Contents}
-use Rattle.syn_model.specs.Tree.{Tree, Content, Directory, File, IsPart}
-use Rattle.syn_model.specs.Tree.{subtree, is_directory}
-use Rattle.syn_model.specs.Limits.{children, fits_content, fits_part}
-use Rattle.syn_model.specs.Spelling.{content_spelling, spelling, spelling_within}
-use Rattle.syn_model.specs.Laws.{NoSpellingBeginsAnother, SpellingUnfolds}
-use Rattle.syn_model.proofs.PathLemmas.{same_name, same_path}
+use Rattle.syn_model.specs.Tree.{Tree, Content, Directory, File, IsPart, subtree, is_directory}
+use Rattle.syn_model.specs.Tree.{is_present}
+use Rattle.syn_model.specs.Limits.{children}
+use Rattle.syn_model.specs.Spelling.{content_spelling, spelling_within, spelling_by}
+use Rattle.syn_model.specs.Laws.{SpellingUnfolds}
+use Rattle.syn_model.proofs.PathLemmas.{same_name}
 use Rattle.syn_model.proofs.TreeLemmas.{same_tree, get-subtree}
-use Rattle.syn_model.proofs.SubtreeLemmas.{subtree_smaller, subtree-is_part, subtree-fits}
+use Rattle.syn_model.proofs.SubtreeLemmas.{subtree_smaller}
 use Rattle.syn_model.proofs.HistoryLemmas.{no_file}
 use Rattle.syn_model.proofs.SyncLemmas.{directory_is}
 use Rattle.syn_model.proofs.QuietLemmas.{nothing_below}
 use Rattle.syn_model.proofs.DirectoryLemmas.{not_child, absent_below}
-use Rattle.syn_model.proofs.ContentsLemmas.{same_lawful}
-
 -- ---- bytes
 
 -- lists of one length that go on to one list are one, and so is what follows
@@ -44,40 +40,6 @@ first_or (x ∷ xs) d = x
 abbrev pub rest_of : Bytes → Bytes
 rest_of [] = []
 rest_of (x ∷ xs) = xs
-
--- ---- limits
-
-module _ (t : Tree) (h : fits_part t ≡ true) where
-  -- what holds of each pair holds of what is found
-  found : (es : List (Path × Content)) (p : Path) (c : Content) →
-      list_all (λ pair. fits_content pair.1 && nat_le (length (children t pair.0)) 256) es ≡ true →
-      find path_cmp p es ≡ Some c → (fits_content c && nat_le (length (children t p)) 256) ≡ true
-  found [] p c f e = absurd (none-some _ e)
-  found (x ∷ es) p c f e =
-      let two = and_parts (fits_content x.1 && nat_le (length (children t x.0)) 256) _ f in
-      elim (eq_by_cmp path_cmp p x.0)
-      as (λ b. eq_by_cmp path_cmp p x.0 ≡ b → cond b (Some x.1) (find path_cmp p es) ≡ Some c →
-      (fits_content c && nat_le (length (children t p)) 256) ≡ true) [
-        | true ↦ λ same k. ap₂ (λ q d. fits_content d && nat_le (length (children t q)) 256)
-            (same_path p x.0 same) (sym (same_Some _ _ k)) ∙ two.0
-        | false ↦ λ _ k. found es p c two.1 k
-      ] refl e
-
-  at : (p : Path) (c : Content) → get t p ≡ Some c →
-      (fits_content c ≡ true) × (nat_le (length (children t p)) 256 ≡ true)
-  at p c e =
-      and_parts (fits_content c) (nat_le (length (children t p)) 256)
-      (found (entries t) p c h (sym (get-entries t p) ∙ e))
-
-  brief : (contents : Contents) → get t root ≡ Some (File contents) → length contents.bytes < 2 ^ 32
-  brief contents e =
-      let small = leb-true (length contents.bytes) 16384 (at root (File contents) e).0 in
-      omega (arith, small)
-
-  few : get t root ≡ Some Directory → length (children t root) < 2 ^ 16
-  few e =
-      let small = leb-true (length (children t root)) 256 (at root Directory e).1 in
-      omega (arith, small)
 
 -- ---- parts
 
@@ -187,88 +149,83 @@ same_directory t u r s ht hu at_root same =
 
 -- ---- spellings
 
-abbrev At : (Tree → Bytes) → Tree → Bytes → Bytes
-At f t r = content_spelling f t (get t root) ++ r
-
 pub heads_differ : {X : Type 0} (a b : ℕ) (x y : Bytes) → a ≢ b → a ∷ x ≡ b ∷ y → X
 heads_differ a b x y denied e = absurd (denied (ap (λ z. first_or z 0) e))
 
--- what the counts in a spelling can tell of a tree: how long a file at its root is, and how many
--- names are in it
-pub record IsCounted (t : Tree) : Type 0 where
-  pub brief : (contents : Contents) → get t root ≡ Some (File contents) →
-      length contents.bytes < 2 ^ 32
-  pub few : get t root ≡ Some Directory → length (children t root) < 2 ^ 16
+-- trees that a spelling of what a file holds tells: it tells a file at their root, two bytes count
+-- the names in them, and what is below them is such a tree again
+pub record IsTold (file : Contents → Bytes) (P : Tree → Type 0) : Type 0 where
+  pub part : (t : Tree) → P t → IsPart t
+  pub below : (t : Tree) (n : Name) → is_present t root ≡ true → P t → P (subtree t (n ∷ []))
+  pub few : (t : Tree) → P t → get t root ≡ Some Directory → length (children t root) < 2 ^ 16
+  pub tells : (t u : Tree) (c d : Contents) (r s : Bytes) → P t → P u →
+      get t root ≡ Some (File c) → get u root ≡ Some (File d) →
+      file c ++ r ≡ file d ++ s → (c ≡ d) × (r ≡ s)
 
-counted : (t : Tree) → fits_part t ≡ true → IsCounted t
-counted t h = record { brief = brief t h; few = few t h }
+module _ (file : Contents → Bytes) (P : Tree → Type 0) (told : IsTold file P) where
+  -- one level, where the parts below tell themselves
+  level : (f g : Tree → Bytes) (t u : Tree) (r s : Bytes) → P t → P u →
+      (get t root ≡ Some Directory → get u root ≡ Some Directory → Tells f g t u) →
+      (a b : Option Content) → get t root ≡ a → get u root ≡ b →
+      content_spelling file f t a ++ r ≡ content_spelling file g u b ++ s → (t ≡ u) × (r ≡ s)
+  level f g t u r s ht hu tells None None a b e = (
+    no_directory t u (told.part t ht) (told.part u hu) (a ∙ sym b)
+        (λ d. none-some _ (sym a ∙ d)),
+    ap rest_of e,
+  )
+  level f g t u r s ht hu tells None (Some (File d)) a b e =
+      heads_differ 0 1 _ _ (λ z. omega (arith, z)) e
+  level f g t u r s ht hu tells None (Some Directory) a b e =
+      heads_differ 0 2 _ _ (λ z. omega (arith, z)) e
+  level f g t u r s ht hu tells (Some (File c)) None a b e =
+      heads_differ 1 0 _ _ (λ z. omega (arith, z)) e
+  level f g t u r s ht hu tells (Some (File c)) (Some Directory) a b e =
+      heads_differ 1 2 _ _ (λ z. omega (arith, z)) e
+  level f g t u r s ht hu tells (Some Directory) None a b e =
+      heads_differ 2 0 _ _ (λ z. omega (arith, z)) e
+  level f g t u r s ht hu tells (Some Directory) (Some (File d)) a b e =
+      heads_differ 2 1 _ _ (λ z. omega (arith, z)) e
+  level f g t u r s ht hu tells (Some (File c)) (Some (File d)) a b e =
+      let same = told.tells t u c d r s ht hu a b (ap rest_of e) in
+      let alike : Some (File c) ≡ Some (File d) = ap (λ x. Some (File x)) same.0 in (
+        no_directory t u (told.part t ht) (told.part u hu) (a ∙ (alike ∙ sym b))
+            (λ k. no_file c (same_Some _ _ (sym k ∙ a))),
+        same.1,
+      )
+  level f g t u r s ht hu tells (Some Directory) (Some Directory) a b e =
+      let all = λ (h : Tree → Bytes) (w : Tree). flat_map (named_spelling h w) (children w root) in
+      let whole = sym (append_assoc (2 ∷ to_be_bytes w16 (length (children t root))) (all f t) r)
+      ∙ (e ∙ append_assoc (2 ∷ to_be_bytes w16 (length (children u root))) (all g u) s) in
+      let count = split (to_be_bytes w16 (length (children t root)))
+      (to_be_bytes w16 (length (children u root))) _ _ refl (ap rest_of whole) in
+      let long = sym (from_be_bytes-to_be_bytes_2 (length (children t root)) (told.few t ht a))
+      ∙ (ap (from_be_bytes w16) count.0
+      ∙ from_be_bytes-to_be_bytes_2 (length (children u root)) (told.few u hu b)) in
+      let same = same_entries f g t u (tells a b) (children t root)
+      (children u root) r s long count.1 in (
+        same_directory t u r s (told.part t ht) (told.part u hu) (a ∙ sym b) same,
+        same.rest,
+      )
 
--- one level, where the parts below tell themselves
-pub level : (f g : Tree → Bytes) (t u : Tree) (r s : Bytes) → IsPart t → IsPart u → IsCounted t →
-    IsCounted u → (get t root ≡ Some Directory → get u root ≡ Some Directory → Tells f g t u) →
-    (a b : Option Content) → get t root ≡ a → get u root ≡ b →
-    content_spelling f t a ++ r ≡ content_spelling g u b ++ s → (t ≡ u) × (r ≡ s)
-level f g t u r s ht hu ft fu tells None None a b e =
-    (no_directory t u ht hu (a ∙ sym b) (λ d. none-some _ (sym a ∙ d)), ap rest_of e)
-level f g t u r s ht hu ft fu tells None (Some (File d)) a b e =
-    heads_differ 0 1 _ _ (λ z. omega (arith, z)) e
-level f g t u r s ht hu ft fu tells None (Some Directory) a b e =
-    heads_differ 0 2 _ _ (λ z. omega (arith, z)) e
-level f g t u r s ht hu ft fu tells (Some (File c)) None a b e =
-    heads_differ 1 0 _ _ (λ z. omega (arith, z)) e
-level f g t u r s ht hu ft fu tells (Some (File c)) (Some Directory) a b e =
-    heads_differ 1 2 _ _ (λ z. omega (arith, z)) e
-level f g t u r s ht hu ft fu tells (Some Directory) None a b e =
-    heads_differ 2 0 _ _ (λ z. omega (arith, z)) e
-level f g t u r s ht hu ft fu tells (Some Directory) (Some (File d)) a b e =
-    heads_differ 2 1 _ _ (λ z. omega (arith, z)) e
-level f g t u r s ht hu ft fu tells (Some (File c)) (Some (File d)) a b e =
-    let whole = sym (append_assoc (1 ∷ to_be_bytes w32 (length c.bytes)) c.bytes r)
-    ∙ (e ∙ append_assoc (1 ∷ to_be_bytes w32 (length d.bytes)) d.bytes s) in
-    let count = split (to_be_bytes w32 (length c.bytes))
-    (to_be_bytes w32 (length d.bytes)) _ _ refl (ap rest_of whole) in
-    let long = sym (from_be_bytes-to_be_bytes_4 (length c.bytes) (ft.brief c a)) ∙ (ap
-    (from_be_bytes w32) count.0 ∙ from_be_bytes-to_be_bytes_4 (length d.bytes) (fu.brief d b)) in
-    let text = split c.bytes d.bytes r s long count.1 in
-    let same = same_lawful c d (ht.lawful root c a) (hu.lawful root d b) text.0 in
-    let alike : Some (File c) ≡ Some (File d) = ap (λ x. Some (File x)) same in (
-      no_directory t u ht hu (a ∙ (alike ∙ sym b)) (λ k. no_file c (same_Some _ _ (sym k ∙ a))),
-      text.1,
-    )
-level f g t u r s ht hu ft fu tells (Some Directory) (Some Directory) a b e =
-    let all = λ (h : Tree → Bytes) (w : Tree). flat_map (named_spelling h w) (children w root) in
-    let whole = sym (append_assoc (2 ∷ to_be_bytes w16 (length (children t root))) (all f t) r)
-    ∙ (e ∙ append_assoc (2 ∷ to_be_bytes w16 (length (children u root))) (all g u) s) in
-    let count = split (to_be_bytes w16 (length (children t root)))
-    (to_be_bytes w16 (length (children u root))) _ _ refl (ap rest_of whole) in
-    let long = sym (from_be_bytes-to_be_bytes_2 (length (children t root)) (ft.few a))
-    ∙ (ap (from_be_bytes w16) count.0
-    ∙ from_be_bytes-to_be_bytes_2 (length (children u root)) (fu.few b)) in
-    let same = same_entries f g t u (tells a b) (children t root)
-    (children u root) r s long count.1 in
-    (same_directory t u r s ht hu (a ∙ sym b) same, same.rest)
+  told_within : (d k : ℕ) (t u : Tree) (r s : Bytes) → len t < d → len u < k → P t → P u →
+      spelling_within file d t ++ r ≡ spelling_within file k u ++ s → (t ≡ u) × (r ≡ s)
+  unfolding spelling_within
+  told_within zero k t u r s lt lu ht hu e = absurd (omega (arith, lt))
+  told_within (suc d) zero t u r s lt lu ht hu e = absurd (omega (arith, lu))
+  told_within (suc d) (suc k) t u r s lt lu ht hu e =
+      level (spelling_within file d) (spelling_within file k) t u r s ht hu (λ dt du n m r' s' e'.
+      let st = subtree_smaller t n [] (ap is_some dt) in
+      let su = subtree_smaller u m [] (ap is_some du) in
+      told_within d k (subtree t (n ∷ [])) (subtree u (m ∷ [])) r' s' (omega (arith, st, lt))
+      (omega (arith, su, lu)) (told.below t n (ap is_some dt) ht)
+      (told.below u m (ap is_some du) hu) e')
+      (get t root) (get u root) refl refl e
 
-spelled_within : (d k : ℕ) (t u : Tree) (r s : Bytes) → len t < d → len u < k → IsPart t →
-    IsPart u → fits_part t ≡ true → fits_part u ≡ true →
-    spelling_within d t ++ r ≡ spelling_within k u ++ s → (t ≡ u) × (r ≡ s)
-unfolding spelling_within
-spelled_within zero k t u r s lt lu ht hu ft fu e = absurd (omega (arith, lt))
-spelled_within (suc d) zero t u r s lt lu ht hu ft fu e = absurd (omega (arith, lu))
-spelled_within (suc d) (suc k) t u r s lt lu ht hu ft fu e =
-    level (spelling_within d) (spelling_within k) t u r s ht hu (counted t ft) (counted u fu)
-    (λ dt du n m r' s' e'.
-    let st = subtree_smaller t n [] (ap is_some dt) in
-    let su = subtree_smaller u m [] (ap is_some du) in
-    spelled_within d k (subtree t (n ∷ [])) (subtree u (m ∷ [])) r' s' (omega (arith, st, lt))
-    (omega (arith, su, lu))
-    (subtree-is_part t (n ∷ []) ht) (subtree-is_part u (m ∷ []) hu) (subtree-fits t (n ∷ []) ft)
-    (subtree-fits u (m ∷ []) fu) e')
-    (get t root) (get u root) refl refl e
-
--- no spelling begins another
-pub spelling_tells : NoSpellingBeginsAnother
-spelling_tells t u r s ht hu ft fu e =
-    spelled_within (suc (len t)) (suc (len u)) t u r s (omega arith) (omega arith) ht hu ft fu e
+  -- no spelling of such a tree begins another
+  pub told_by : (t u : Tree) (r s : Bytes) → P t → P u →
+      spelling_by file t ++ r ≡ spelling_by file u ++ s → (t ≡ u) × (r ≡ s)
+  told_by t u r s ht hu e =
+      told_within (suc (len t)) (suc (len u)) t u r s (omega arith) (omega arith) ht hu e
 
 -- ---- the depth of a spelling
 
@@ -280,30 +237,36 @@ alike_entries f g t same [] = refl
 alike_entries f g t same (x ∷ xs) =
     ap₂ (λ b more. (length x.0 ∷ x.0 ++ b) ++ more) (same x.0) (alike_entries f g t same xs)
 
-pub alike_content : (f g : Tree → Bytes) (t : Tree) →
-    (get t root ≡ Some Directory → (n : Name) → f (subtree t (n ∷ [])) ≡ g (subtree t (n ∷ []))) →
-    (o : Option Content) → get t root ≡ o → content_spelling f t o ≡ content_spelling g t o
-alike_content f g t same None e = refl
-alike_content f g t same (Some (File c)) e = refl
-alike_content f g t same (Some Directory) e =
-    ap (λ b. 2 ∷ to_be_bytes w16 (length (children t root)) ++ b)
-    (alike_entries f g t (same e) (children t root))
+module _ (file : Contents → Bytes) where
+  alike_content : (f g : Tree → Bytes) (t : Tree) → (get t root ≡ Some Directory → (n : Name) →
+      f (subtree t (n ∷ [])) ≡ g (subtree t (n ∷ []))) → (o : Option Content) → get t root ≡ o →
+      content_spelling file f t o ≡ content_spelling file g t o
+  alike_content f g t same None e = refl
+  alike_content f g t same (Some (File c)) e = refl
+  alike_content f g t same (Some Directory) e =
+      ap (λ b. 2 ∷ to_be_bytes w16 (length (children t root)) ++ b)
+      (alike_entries f g t (same e) (children t root))
 
--- a spelling is the same at each depth that is enough
-deep_enough : (d k : ℕ) (t : Tree) → len t < d → len t < k →
-    spelling_within d t ≡ spelling_within k t
-unfolding spelling_within
-deep_enough zero k t h l = absurd (omega (arith, h))
-deep_enough (suc d) zero t h l = absurd (omega (arith, l))
-deep_enough (suc d) (suc k) t h l = alike_content (spelling_within d) (spelling_within k) t (λ e n.
-    let small = subtree_smaller t n [] (ap is_some e) in
-    deep_enough d k (subtree t (n ∷ [])) (omega (arith, small, h)) (omega (arith, small, l)))
-    (get t root) refl
+  -- a spelling is the same at each depth that is enough
+  deep_enough : (d k : ℕ) (t : Tree) → len t < d → len t < k →
+      spelling_within file d t ≡ spelling_within file k t
+  unfolding spelling_within
+  deep_enough zero k t h l = absurd (omega (arith, h))
+  deep_enough (suc d) zero t h l = absurd (omega (arith, l))
+  deep_enough (suc d) (suc k) t h l =
+      alike_content (spelling_within file d) (spelling_within file k) t (λ e n.
+      let small = subtree_smaller t n [] (ap is_some e) in
+      deep_enough d k (subtree t (n ∷ [])) (omega (arith, small, h)) (omega (arith, small, l)))
+      (get t root) refl
 
--- so that the spelling of a part is made of those of the parts below its root
+  -- so that the spelling of a part is made of those of the parts below its root
+  pub unfolds_by : (t : Tree) →
+      spelling_by file t ≡ content_spelling file (spelling_by file) t (get t root)
+  unfolding spelling_within
+  unfolds_by t = alike_content (spelling_within file (len t)) (spelling_by file) t (λ e n.
+      let small = subtree_smaller t n [] (ap is_some e) in
+      deep_enough (len t) (suc (len (subtree t (n ∷ [])))) (subtree t (n ∷ [])) small (omega arith))
+      (get t root) refl
+
 pub spelling_unfolds : SpellingUnfolds
-unfolding spelling_within
-spelling_unfolds t = alike_content (spelling_within (len t)) spelling t (λ e n.
-    let small = subtree_smaller t n [] (ap is_some e) in
-    deep_enough (len t) (suc (len (subtree t (n ∷ [])))) (subtree t (n ∷ [])) small (omega arith))
-    (get t root) refl
+spelling_unfolds file t = unfolds_by file t

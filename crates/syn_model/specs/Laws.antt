@@ -15,7 +15,7 @@ use Rattle.syn_model.specs.Standing.{Standing, new_standing, standing_after, All
 use Rattle.syn_model.specs.History.{History, IsHistory, IsAllowed, AllAllowed, tree_of, standing_of}
 use Rattle.syn_model.specs.History.{floor, last_touches, is_quiet}
 use Rattle.syn_model.specs.Event.{Event, Put, after_edit}
-use Rattle.syn_model.specs.Spelling.{content_spelling, spelling, event_spelling}
+use Rattle.syn_model.specs.Spelling.{content_spelling, spelling, spelling_by, event_spelling}
 use Rattle.syn_model.specs.Image.{image_spelling, IsStanding, StandsFor}
 use Rattle.syn_model.specs.Dirty.{Scan, Paths, dirty, IsClosedUpward, IsSafeEstimate}
 use Rattle.syn_model.specs.Which.{Which}
@@ -60,9 +60,11 @@ abbrev pub SubtreeFitsPaths : Type 0
 SubtreeFitsPaths = (tree : Tree) (at : Path) → fits_paths tree ≡ true →
     fits_paths (subtree tree at) ≡ true
 
--- The spelling of a part is made of what stands at its root and the spellings of the parts below.
+-- The spelling of a part is made of what stands at its root and the spellings of the parts below,
+-- and so is that of marks.
 abbrev pub SpellingUnfolds : Type 0
-SpellingUnfolds = (t : Tree) → spelling t ≡ content_spelling spelling t (get t root)
+SpellingUnfolds = (file : Contents → Bytes) (t : Tree) →
+    spelling_by file t ≡ content_spelling file (spelling_by file) t (get t root)
 
 -- No spelling of a part begins that of another, so that a spelling tells its part.
 abbrev pub NoSpellingBeginsAnother : Type 0

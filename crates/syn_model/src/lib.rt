@@ -28,7 +28,7 @@ ghost use Rattle.syn_model.specs.Plan.{ItemFindsArchive, ItemFindsSides, Prefere
 ghost use Rattle.syn_model.specs.ArchiveImage.{KeepingStaysSound, StandsForSound};
 ghost use Rattle.syn_model.specs.ArchiveImage.{ArchiveImageStands, ArchiveImagesFit};
 ghost use Rattle.syn_model.specs.ArchiveImage.{NewArchiveStands, RecordGoesOn};
-ghost use Rattle.syn_model.specs.MarkSpelling.{MarkSpellingUnfolds, NoMarkSpellingBeginsAnother};
+ghost use Rattle.syn_model.specs.MarkSpelling.{NoMarkSpellingBeginsAnother};
 ghost use Rattle.syn_model.specs.Rows.{ItemsOfOneNameHold, Floors, RefusedEditsHold, Spellings};
 
 /// Paths compare as bytes: by their names, each followed by one zero byte.
@@ -62,7 +62,6 @@ pub fn mark_laws()
     ensures digests { MarkIsDigests }
 
     // Their spelling tells them, as long as they are no more than an archive holds.
-    ensures unfolds { MarkSpellingUnfolds }
     ensures tells { NoMarkSpellingBeginsAnother }
 {}
 

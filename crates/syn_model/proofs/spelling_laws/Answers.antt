@@ -1,4 +1,5 @@
-use Rattle.syn_model.proofs.SpellingLemmas.{spelling_tells, spelling_unfolds}
+use Rattle.syn_model.proofs.SpellingLemmas.{spelling_unfolds}
+use Rattle.syn_model.proofs.ToldSpellings.{spelling_tells}
 use Rattle.syn_model.proofs.spelling_laws.Goals as goal
 
 pub returns-clause-unfolds : goal.returns-clause-unfolds

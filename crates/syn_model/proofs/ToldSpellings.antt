@@ -1,0 +1,142 @@
+-- What the spellings of trees and of marks tell.
+use Rattle.std.proofs.Common.{◌≡◌, ◌≤◌, ◌<◌, ◌^◌, true, ◌&&◌, nat_le, List, [], ◌∷◌, ◌++◌}
+use Rattle.std.proofs.Common.{length, filter_map, refl, sym, ap, ap₂, ◌∙◌, Some, append_assoc}
+use Rattle.std.proofs.Common.{arith, cond, false}
+use Rattle.std.specs.Int.{from_be_bytes, to_be_bytes, w32}
+use Rattle.std.proofs.lemmas.Nat.{from_be_bytes-to_be_bytes_4}
+use Rattle.std.proofs.lemmas.Bool.{leb-true, and_parts}
+use Rattle.std.specs.Ordering.{eq_by_cmp}
+use Rattle.std.specs.List.{list_all}
+use Rattle.std.specs.FinMap.{entries, find, get, get-entries, len, len-entries}
+use Rattle.std.proofs.lemmas.Option.{none-some, same_Some}
+use Rattle.syn_model.specs.Path.{Bytes, Path, path_cmp, root}
+use Rattle.syn_model.specs.Contents.{Contents}
+use Rattle.syn_model.specs.Contents.{AreLawfulContents, IsDigest}
+use Rattle.syn_model.specs.Contents.{contents_spelling, digest_spelling}
+use Rattle.syn_model.specs.Tree.{Tree, Content, Directory, File, Pair, IsPart, subtree}
+use Rattle.syn_model.specs.Mark.{IsMarks}
+use Rattle.syn_model.specs.Limits.{children, fits_content, fits_part}
+use Rattle.syn_model.specs.MarkSpelling.{NoMarkSpellingBeginsAnother}
+use Rattle.syn_model.specs.Laws.{NoSpellingBeginsAnother}
+use Rattle.syn_model.proofs.ContentsLemmas.{same_lawful}
+use Rattle.syn_model.proofs.LengthLemmas.{top}
+use Rattle.syn_model.proofs.PathLemmas.{same_path}
+use Rattle.syn_model.proofs.SpellingLemmas.{IsTold, split, told_by}
+use Rattle.syn_model.proofs.SubtreeLemmas.{subtree_smaller, subtree-is_part, subtree-fits}
+use Rattle.syn_model.proofs.TreeLemmas.{get-subtree}
+
+-- ---- what a file holds
+
+-- bytes after their length
+pub text_tells : (a b r s : Bytes) → length a < 2 ^ 32 → length b < 2 ^ 32 →
+    (to_be_bytes w32 (length a) ++ a) ++ r ≡ (to_be_bytes w32 (length b) ++ b) ++ s →
+    (a ≡ b) × (r ≡ s)
+text_tells a b r s la lb e =
+    let whole = sym (append_assoc (to_be_bytes w32 (length a)) a r)
+    ∙ (e ∙ append_assoc (to_be_bytes w32 (length b)) b s) in
+    let count = split (to_be_bytes w32 (length a)) (to_be_bytes w32 (length b)) _ _ refl whole in
+    let long = sym (from_be_bytes-to_be_bytes_4 (length a) la)
+    ∙ (ap (from_be_bytes w32) count.0 ∙ from_be_bytes-to_be_bytes_4 (length b) lb) in
+    split a b r s long count.1
+
+pub contents_tell : (c d : Contents) (r s : Bytes) → AreLawfulContents c → AreLawfulContents d →
+    length c.bytes < 2 ^ 32 → length d.bytes < 2 ^ 32 →
+    contents_spelling c ++ r ≡ contents_spelling d ++ s → (c ≡ d) × (r ≡ s)
+contents_tell c d r s hc hd lc ld e =
+    let same = text_tells c.bytes d.bytes r s lc ld e in
+    (same_lawful c d hc hd same.0, same.1)
+
+pub digests_tell : (c d : Contents) (r s : Bytes) → IsDigest c → IsDigest d →
+    digest_spelling c ++ r ≡ digest_spelling d ++ s → (c ≡ d) × (r ≡ s)
+digests_tell c d r s hc hd e =
+    let same = split c.bytes d.bytes r s (hc.1 ∙ sym hd.1) e in
+    (same_lawful c d hc.0 hd.0 same.0, same.1)
+
+-- ---- limits
+
+module _ (t : Tree) (h : fits_part t ≡ true) where
+  -- what holds of each pair holds of what is found
+  found : (es : List (Path × Content)) (p : Path) (c : Content) →
+      list_all (λ pair. fits_content pair.1 && nat_le (length (children t pair.0)) 256) es ≡ true →
+      find path_cmp p es ≡ Some c → (fits_content c && nat_le (length (children t p)) 256) ≡ true
+  found [] p c f e = absurd (none-some _ e)
+  found (x ∷ es) p c f e =
+      let two = and_parts (fits_content x.1 && nat_le (length (children t x.0)) 256) _ f in
+      elim (eq_by_cmp path_cmp p x.0)
+      as (λ b. eq_by_cmp path_cmp p x.0 ≡ b → cond b (Some x.1) (find path_cmp p es) ≡ Some c →
+      (fits_content c && nat_le (length (children t p)) 256) ≡ true) [
+        | true ↦ λ same k. ap₂ (λ q d. fits_content d && nat_le (length (children t q)) 256)
+            (same_path p x.0 same) (sym (same_Some _ _ k)) ∙ two.0
+        | false ↦ λ _ k. found es p c two.1 k
+      ] refl e
+
+  at : (p : Path) (c : Content) → get t p ≡ Some c →
+      (fits_content c ≡ true) × (nat_le (length (children t p)) 256 ≡ true)
+  at p c e =
+      and_parts (fits_content c) (nat_le (length (children t p)) 256)
+      (found (entries t) p c h (sym (get-entries t p) ∙ e))
+
+  brief : (contents : Contents) → get t root ≡ Some (File contents) → length contents.bytes < 2 ^ 32
+  brief contents e =
+      let small = leb-true (length contents.bytes) 16384 (at root (File contents) e).0 in
+      omega (arith, small)
+
+  few : get t root ≡ Some Directory → length (children t root) < 2 ^ 16
+  few e =
+      let small = leb-true (length (children t root)) 256 (at root Directory e).1 in
+      omega (arith, small)
+
+
+-- ---- trees
+
+abbrev IsSpelled : Tree → Type 0
+IsSpelled t = IsPart t × (fits_part t ≡ true)
+
+trees_told : IsTold contents_spelling IsSpelled
+trees_told = record {
+  part = λ t h. h.0;
+  below = λ t n there h. (subtree-is_part t (n ∷ []) h.0, subtree-fits t (n ∷ []) h.1);
+  few = λ t h. few t h.1;
+  tells = λ t u c d r s ht hu a b. contents_tell c d r s (ht.0.lawful root c a)
+      (hu.0.lawful root d b) (brief t ht.1 c a) (brief u hu.1 d b);
+}
+
+-- no spelling begins another
+pub spelling_tells : NoSpellingBeginsAnother
+spelling_tells t u r s ht hu ft fu e =
+    told_by contents_spelling IsSpelled trees_told t u r s (ht, ft) (hu, fu) e
+
+-- ---- marks
+
+-- what is below a path of marks are marks
+pub marks_below : (t : Tree) (p : Path) → IsMarks t → IsMarks (subtree t p)
+marks_below t p is = record {
+  part = subtree-is_part t p is.part;
+  digests = λ q contents e. is.digests (p ++ q) contents (sym (get-subtree t p q) ∙ e);
+}
+
+-- a directory has no more names than the tree has pairs
+names_few : (es : List Pair) → length (filter_map top es) ≤ length es
+names_few [] = omega arith
+names_few (([], c) ∷ es) = let rest = names_few es in omega (arith, rest)
+names_few ((n ∷ [], c) ∷ es) = let rest = names_few es in omega (arith, rest)
+names_few ((n ∷ m ∷ q, c) ∷ es) = let rest = names_few es in omega (arith, rest)
+
+abbrev AreMarks : Tree → Type 0
+AreMarks t = IsMarks t × (len t ≤ 4096)
+
+marks_told : IsTold digest_spelling AreMarks
+marks_told = record {
+  part = λ t h. h.0.part;
+  below = λ t n there h. let small = subtree_smaller t n [] there in let most = h.1 in
+      (marks_below t (n ∷ []) h.0, omega (arith, small, most));
+  few = λ t h _. let names = names_few (entries t) in let count = len-entries t in
+      let most = h.1 in omega (arith, names, count, most);
+  tells = λ t u c d r s ht hu a b. digests_tell c d r s
+      (ht.0.part.lawful root c a, ht.0.digests root c a)
+      (hu.0.part.lawful root d b, hu.0.digests root d b);
+}
+
+pub mark_spelling_tells : NoMarkSpellingBeginsAnother
+mark_spelling_tells t u r s ht hu ft fu e =
+    told_by digest_spelling AreMarks marks_told t u r s (ht, ft) (hu, fu) e
