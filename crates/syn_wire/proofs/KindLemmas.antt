@@ -7,19 +7,16 @@ use Rattle.std.proofs.lemmas.Bool.{and_parts, leb-true}
 use Rattle.syn_model.specs.Path.{Name, root}
 use Rattle.syn_model.specs.Contents.{Contents}
 use Rattle.syn_model.specs.Tree.{Tree, Content, Pair, File, IsPart, is_present, subtree}
-use Rattle.syn_model.specs.Mark.{IsMarks}
 use Rattle.syn_model.specs.Limits.{children, fits_content, fits_part}
-use Rattle.syn_model.proofs.TreeLemmas.{get-subtree}
+use Rattle.syn_model.specs.Spelling.{content_spelling}
+use Rattle.syn_model.proofs.ToldSpellings.{contents_tell, digests_tell, marks_below}
 use Rattle.syn_model.proofs.SubtreeLemmas.{subtree-fits, subtree-is_part, subtree_smaller}
 use Rattle.syn_wire.specs.inner.Kinds.{Kind, OfContents, OfMarks, spelling_of, file_spelling_of}
 use Rattle.syn_wire.specs.inner.Kinds.{IsFileOf, IsPartOf}
 use Rattle.syn_wire.specs.Reads.{NoneBeginsAnother}
-use Rattle.syn_wire.proofs.EventLemmas.{file_tells}
 use Rattle.syn_tree.proofs.RootedLemmas.{is_rooted}
 use Rattle.syn_wire.proofs.MarkLemmas.{few_children, mark_unfolds}
-use Rattle.syn_wire.proofs.NameLemmas.{split}
-use Rattle.syn_wire.proofs.WalkLemmas.{content_by, tree_unfolds}
-use Rattle.syn_model.proofs.ContentsLemmas.{same_lawful}
+use Rattle.syn_wire.proofs.WalkLemmas.{tree_unfolds}
 
 -- what stands at the root keeps its limits
 pub root_fits : (t : Tree) (c : Content) → fits_part t ≡ true → get t root ≡ Some c →
@@ -30,15 +27,8 @@ root_fits t c h is =
     and_parts (fits_content c) (nat_le (length (children t root)) 256) (and_parts (fit (root, c))
     (list_all fit rooted.below) (ap (list_all fit) (sym rooted.whole) ∙ h)).0
 
--- what is below a path of marks are marks
-marks_below : (t : Tree) (n : Name) → IsMarks t → IsMarks (subtree t (n ∷ []))
-marks_below t n is = record {
-  part = subtree-is_part t (n ∷ []) is.part;
-  digests = λ q contents e. is.digests (n ∷ q) contents (sym (get-subtree t (n ∷ []) q) ∙ e);
-}
-
 pub unfolds : (kind : Kind) (t : Tree) →
-    spelling_of kind t ≡ content_by (file_spelling_of kind) (spelling_of kind) t (get t root)
+    spelling_of kind t ≡ content_spelling (file_spelling_of kind) (spelling_of kind) t (get t root)
 unfolds OfContents t = tree_unfolds t
 unfolds OfMarks t = mark_unfolds t
 
@@ -66,14 +56,9 @@ is_part_below OfContents t n is h = (subtree-is_part t (n ∷ []) h.0, subtree-f
 is_part_below OfMarks t n is h =
     let small = subtree_smaller t n [] is in
     let few = h.1 in
-    (marks_below t n h.0, omega (arith, small, few))
+    (marks_below t (n ∷ []) h.0, omega (arith, small, few))
 
 -- a spelling of a file tells it
 pub files_tell : (kind : Kind) → NoneBeginsAnother (IsFileOf kind) (file_spelling_of kind)
-files_tell OfContents v w r s hv hw e =
-    let same = file_tells v.bytes w.bytes r s (record { bytes = hv.0.bytes; brief = hv.1 })
-    (record { bytes = hw.0.bytes; brief = hw.1 }) e in
-    (same_lawful v w hv.0 hw.0 same.0, same.1)
-files_tell OfMarks v w r s hv hw e =
-    let same = split v.bytes w.bytes r s (hv.1 ∙ sym hw.1) e in
-    (same_lawful v w hv.0 hw.0 same.0, same.1)
+files_tell OfContents v w r s hv hw e = contents_tell v w r s hv.0 hw.0 hv.1 hw.1 e
+files_tell OfMarks v w r s hv hw e = digests_tell v w r s hv hw e

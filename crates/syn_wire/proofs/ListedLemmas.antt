@@ -31,7 +31,7 @@ use Rattle.syn_wire.specs.inner.Parts.{IsChildOf, PartIsRead, PartsAreRead}
 use Rattle.syn_wire.proofs.GroupLemmas.{tops}
 use Rattle.syn_wire.proofs.KindLemmas.{unfolds}
 use Rattle.syn_wire.proofs.PartsLemmas.{child_name, own_pair}
-use Rattle.syn_wire.proofs.WalkLemmas.{content_by}
+use Rattle.syn_model.specs.Spelling.{content_spelling}
 
 abbrev pub Listed : Type 0
 Listed = List (Name × Pairs)
@@ -225,7 +225,7 @@ module _ (kind : Kind) where
       let names = spelled_names t listed b parts below in
       let kids : children t root ≡ tops (listed_pairs listed) = ap tops all in
       let here : get t root ≡ Some Directory = get-entries t root ∙ ap (find path_cmp root) all in
-      unfolds kind t ∙ (ap (content_by (file_spelling_of kind) (spelling_of kind) t) here
+      unfolds kind t ∙ (ap (content_spelling (file_spelling_of kind) (spelling_of kind) t) here
       ∙ ap₂ (λ n more. 2 ∷ to_be_bytes w16 n ++ more) (ap length kids ∙ names.0)
       (ap (flat_map (named t)) kids ∙ names.1))
 
@@ -235,7 +235,7 @@ module _ (kind : Kind) where
       ≡ 1 ∷ file_spelling_of kind contents
   file_of_pair contents =
       let t : Tree = from_sorted ((root, File contents) ∷ []) in
-      unfolds kind t ∙ ap (content_by (file_spelling_of kind) (spelling_of kind) t)
+      unfolds kind t ∙ ap (content_spelling (file_spelling_of kind) (spelling_of kind) t)
       (get-rising ((root, File contents) ∷ []) root (tt, tt))
 
   pub file_spelled : (at : Path) (fields : Bytes) (file : Contents) (left : Bytes)

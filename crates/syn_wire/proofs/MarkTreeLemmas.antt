@@ -21,7 +21,7 @@ use Rattle.syn_wire.specs.inner.Parts.{PartIsRead, ReadsPart, StandsAt}
 use Rattle.syn_wire.proofs.MadeLemmas.{absent_lawful, paths_stand, under_root}
 use Rattle.syn_wire.proofs.MarkLemmas.{few_nodes, few_paths, mark_unfolds}
 use Rattle.syn_wire.proofs.NameLemmas.{first_or}
-use Rattle.syn_wire.proofs.WalkLemmas.{content_by}
+use Rattle.syn_model.specs.Spelling.{content_spelling}
 
 marks_at_root : (t : Tree) → IsMarkTree t → StandsAt OfMarks root t
 marks_at_root t h = record {
@@ -83,7 +83,7 @@ no_marks_there bytes fields kind is other none t rest begins = by_content (get t
     by_content : (o : Option Content) → get t root ≡ o → ⊥
     by_content None e =
         other (ap (λ b. first_or b 0) (sym is ∙ (begins.spelled ∙ ap (λ b. b ++ rest)
-        (mark_unfolds t ∙ ap (content_by digest_spelling mark_spelling t) e))))
+        (mark_unfolds t ∙ ap (content_spelling digest_spelling mark_spelling t) e))))
     by_content (Some c) e =
         none t rest (record {
           lawful = record { optional = begins.lawful; present = ap is_some e };
@@ -96,7 +96,7 @@ none_without_byte bytes short t rest begins =
     by_content (get t root) (begins.spelled ∙ ap (λ b. b ++ rest) (mark_unfolds t))
   where
     by_content : (o : Option Content) →
-        bytes ≡ content_by digest_spelling mark_spelling t o ++ rest → ⊥
+        bytes ≡ content_spelling digest_spelling mark_spelling t o ++ rest → ⊥
     by_content None e = omega (arith, ap length e, short)
     by_content (Some (File c)) e = omega (arith, ap length e, short)
     by_content (Some Directory) e = omega (arith, ap length e, short)

@@ -14,13 +14,15 @@ use Rattle.syn_placed.proofs.TreeLemmas.{entries-one}
 
 pub absent_spelled : spelling absent ≡ 0 ∷ []
 absent_spelled =
-    spelling_unfolds absent ∙ ap (content_spelling spelling absent) (get-empty path_cmp root)
+    spelling_unfolds contents_spelling absent
+    ∙ ap (content_spelling contents_spelling spelling absent) (get-empty path_cmp root)
 
 pub file_spelled : (contents : Contents) →
     spelling (at_root (File contents)) ≡ 1 ∷ contents_spelling contents
 file_spelled contents =
-    spelling_unfolds (at_root (File contents))
-    ∙ ap (content_spelling spelling (at_root (File contents))) (get-at_root (File contents) root)
+    spelling_unfolds contents_spelling (at_root (File contents))
+    ∙ ap (content_spelling contents_spelling spelling (at_root (File contents)))
+    (get-at_root (File contents) root)
 
 pub file_brief : (contents : Contents) → fits_part (at_root (File contents)) ≡ true →
     length contents.bytes ≤ 16384

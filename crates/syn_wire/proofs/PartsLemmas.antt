@@ -30,7 +30,8 @@ use Rattle.syn_wire.specs.inner.Parts.{parts_pairs, parts_spelling}
 use Rattle.syn_wire.proofs.GroupLemmas.{file_alone, directory_grouped}
 use Rattle.syn_wire.proofs.KindLemmas.{unfolds, is_part, is_file, has_few, is_part_below}
 use Rattle.syn_wire.proofs.NameLemmas.{first_or, rest_of, names_tell}
-use Rattle.syn_wire.proofs.WalkLemmas.{children_present, content_by}
+use Rattle.syn_wire.proofs.WalkLemmas.{children_present}
+use Rattle.syn_model.specs.Spelling.{content_spelling}
 
 -- the pair of the path itself
 pub own_pair : (at : Path) (c : Content) → ◌≡◌ {A = Pair} (at ++ root, c) (at, c)
@@ -172,7 +173,7 @@ each_of_map P g (x ∷ xs) h = (h.0, each_of_map P g xs h.1)
 
 module _ (kind : Kind) where
   abbrev content_begins : Tree → Option Content → Bytes
-  content_begins t o = content_by (file_spelling_of kind) (spelling_of kind) t o
+  content_begins t o = content_spelling (file_spelling_of kind) (spelling_of kind) t o
 
   pub file_at : (t : Tree) (fields rest : Bytes) → IsPartOf kind t →
       1 ∷ fields ≡ spelling_of kind t ++ rest → IsFileAt kind t fields rest

@@ -16,7 +16,7 @@ use Rattle.syn_model.specs.Contents.{Contents, contents_spelling}
 use Rattle.syn_model.specs.Tree.{Tree, Content, Pair, Directory, File, HasParents, is_present}
 use Rattle.syn_model.specs.Tree.{subtree}
 use Rattle.syn_model.specs.Limits.{children, last_name_spelling_length, content_spelling_length}
-use Rattle.syn_model.specs.Spelling.{spelling, content_spelling, entries_spelling}
+use Rattle.syn_model.specs.Spelling.{spelling, content_spelling}
 use Rattle.syn_model.proofs.PathLemmas.{name_itself}
 use Rattle.syn_model.proofs.TreeLemmas.{get-subtree}
 use Rattle.syn_model.proofs.HistoryLemmas.{no_file}
@@ -68,15 +68,8 @@ some_rooted t is = by_content (get t root) refl
 
 -- ---- walks
 
--- what stands at the root with all below it, by a spelling of files and one of parts
-abbrev pub content_by : (Contents → Bytes) → (Tree → Bytes) → Tree → Option Content → Bytes
-content_by file spell t None = 0 ∷ []
-content_by file spell t (Some (File contents)) = 1 ∷ file contents
-content_by file spell t (Some Directory) =
-    2 ∷ to_be_bytes w16 (length (children t root)) ++ entries_spelling spell t
-
 module _ (file : Contents → Bytes) (spell : Tree → Bytes)
-    (unfolds : (t : Tree) → spell t ≡ content_by file spell t (get t root)) where
+    (unfolds : (t : Tree) → spell t ≡ content_spelling file spell t (get t root)) where
   abbrev pub Walked : Tree → Type 0
   Walked t = spell t ≡ flat_map (pair_by file t) (entries t)
 
@@ -129,12 +122,12 @@ module _ (file : Contents → Bytes) (spell : Tree → Bytes)
       by_content : (o : Option Content) → get t root ≡ o → Walked t
       by_content None e = absurd (true≢false (sym is ∙ ap is_some e))
       by_content (Some (File c)) e =
-          unfolds t ∙ (ap (content_by file spell t) e
+          unfolds t ∙ (ap (content_spelling file spell t) e
           ∙ sym (ap (flat_map (pair_by file t))
           (file_alone t (File c) h e (λ k. no_file c (same_Some _ _ (sym k ∙ e))))
           ∙ append-nil (standing_by file (length (children t root)) (File c))))
       by_content (Some Directory) e =
-          unfolds t ∙ (ap (content_by file spell t) e
+          unfolds t ∙ (ap (content_spelling file spell t) e
           ∙ (ap (λ b. 2 ∷ to_be_bytes w16 (length (children t root)) ++ b)
           (walked_names t (children t root)
           (each-map (λ x. is_present (subtree t (x.0 ∷ [])) root ≡ true)
@@ -153,20 +146,14 @@ module _ (file : Contents → Bytes) (spell : Tree → Bytes)
       (subtree-parents t (n ∷ []) h) there)
 
 pub walks_by : (file : Contents → Bytes) (spell : Tree → Bytes) →
-    ((t : Tree) → spell t ≡ content_by file spell t (get t root)) → (t : Tree) → HasParents t →
+    ((t : Tree) → spell t ≡ content_spelling file spell t (get t root)) → (t : Tree) → HasParents t →
     is_present t root ≡ true → spell t ≡ flat_map (pair_by file t) (entries t)
 walks_by file spell unfolds t h is =
     walked_within file spell unfolds (suc (len t)) t (omega arith) h is
 
--- a tree's parts unfold so
-tree_content : (t : Tree) (o : Option Content) →
-    content_spelling spelling t o ≡ content_by contents_spelling spelling t o
-tree_content t None = refl
-tree_content t (Some (File c)) = refl
-tree_content t (Some Directory) = refl
-
-pub tree_unfolds : (t : Tree) → spelling t ≡ content_by contents_spelling spelling t (get t root)
-tree_unfolds t = spelling_unfolds t ∙ tree_content t (get t root)
+pub tree_unfolds : (t : Tree) →
+    spelling t ≡ content_spelling contents_spelling spelling t (get t root)
+tree_unfolds t = spelling_unfolds contents_spelling t
 
 pub spelling_walks : SpellingIsWalk
 spelling_walks t h is = walks_by contents_spelling spelling tree_unfolds t h is
