@@ -22,7 +22,7 @@ use Rattle.syn_headline.specs.Side.{is_dead_token, serve, token_of, Reads, IsUnr
 use Rattle.syn_headline.specs.Side.{staged_bytes}
 use Rattle.syn_headline.specs.Laws.{AddsAllowed, ServesAllowed, ServesByReading}
 use Rattle.syn_model.proofs.HistoryLemmas.{first_cause-none, none-append, append-none}
-use Rattle.syn_model.proofs.SpellingLemmas.{spelling_tells}
+use Rattle.syn_model.proofs.ToldSpellings.{spelling_tells}
 
 -- what is answered unless a cause stands adds what it adds where none stands
 unless : (old : History) (side : Side) (why : Option Refusal) (served : Served) →

@@ -7,7 +7,7 @@ use Rattle.syn_model.specs.Limits.{fits_part, fits_paths, tree_spelling_length, 
 use Rattle.syn_model.specs.Spelling.{spelling}
 use Rattle.syn_headline.proofs.Invariant.{IsOfReplica}
 use Rattle.syn_model.proofs.SubtreeLemmas.{subtree-fits, subtree-is_part}
-use Rattle.syn_model.proofs.SpellingLemmas.{spelling_tells}
+use Rattle.syn_model.proofs.ToldSpellings.{spelling_tells}
 
 pub spellings_tell : (t u : Tree) → IsPart t → fits_part t ≡ true → IsOfReplica u →
     spelling t ≡ spelling u → t ≡ u

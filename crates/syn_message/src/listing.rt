@@ -6,24 +6,20 @@ ghost use Rattle.syn_message.specs.Bodies.{IsWholeReading};
 ghost use Rattle.syn_message.specs.Listings.{IsEntry, IsListing, entries_of, entries_spelling};
 ghost use Rattle.syn_message.specs.Listings.{AreRising, entry_of, entry_spelling, mark_spelling};
 ghost use Rattle.syn_message.specs.inner.Listed.{AreEntries, each_spelling, name_spelling};
-ghost use Rattle.syn_model.specs.Contents.{IsDigest, contents_of, digest_spelling};
 ghost use Rattle.syn_wire.specs.Reads.{IsReading};
 
 use std::alloc::Global;
 use std::str;
 use syn_mark::Mark;
 use syn_path::{Name, PathError};
-use syn_tree::{MOST_CHILDREN, Mode};
-use syn_wire::{WireError, read_u16, spelling_laws, write_u16};
+use syn_tree::MOST_CHILDREN;
+use syn_wire::{WireError, read_digest, read_u16, spelling_laws, write_digest, write_u16};
 
 /// The kind of a file's mark.
 const FILE: u8 = 1;
 
 /// The kind of a directory's mark.
 const DIRECTORY: u8 = 2;
-
-/// How many bytes a digest has.
-const DIGEST_LENGTH: usize = 32;
 
 /// Adds how many entries there are, and each of them.
 pub(crate) fn write_entries(body: &mut Vec<u8>, entries: &[(Name, Mark)]) -> Result<(), WireError>
@@ -47,9 +43,9 @@ fn write_entry(body: &mut Vec<u8>, name: &Name, mark: Mark) -> Result<(), WireEr
     body.push(text.len() as u8)?;
     body.extend_from_slice(text.as_bytes())?;
     match mark {
-        Mark::File(_, digest) => {
+        Mark::File(mode, digest) => {
             body.push(FILE)?;
-            body.extend_from_slice(digest.as_slice())?;
+            write_digest(body, mode, &digest)?;
         }
         Mark::Dir => body.push(DIRECTORY)?,
     }
@@ -154,26 +150,12 @@ fn read_mark(bytes: &[u8]) -> Option<(Mark, &[u8])>
     };
     match *kind {
         FILE => {
-            let (digest, rest) = read_digest(after)?;
-            Some((Mark::File(Mode::NewFile, digest), rest))
+            let (mode, digest, rest) = read_digest(after)?;
+            Some((Mark::File(mode, digest), rest))
         }
         DIRECTORY => Some((Mark::Dir, after)),
         _ => None,
     }
-}
-
-/// A digest of 32 bytes, and the rest.
-fn read_digest(bytes: &[u8]) -> Option<([u8; DIGEST_LENGTH], &[u8])>
-    ensures { IsReading IsDigest digest_spelling bytes.now
-        (option_map (λ found. (contents_of found.0, found.1.now)) result) }
-{
-    if bytes.len() < DIGEST_LENGTH {
-        return None;
-    }
-    let (front, rest) = bytes.split_at(DIGEST_LENGTH);
-    let mut digest = [0; DIGEST_LENGTH];
-    digest.copy_from_slice(front);
-    Some((digest, rest))
 }
 
 /// Each name is below the next.

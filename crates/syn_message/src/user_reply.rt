@@ -9,7 +9,7 @@ use crate::kind::{EDITED, GOT, REFUSED};
 use std::alloc::Global;
 use syn_refusal::Refusal;
 use syn_tree::Content;
-use syn_wire::{WireError, write_file, write_u64};
+use syn_wire::{WireError, write_contents, write_u64};
 
 /// Nothing is there.
 pub(crate) const ABSENT: u8 = 0;
@@ -74,9 +74,9 @@ fn write_found(body: &mut Vec<u8>, found: Option<&Content>) -> Result<(), WireEr
             body.push(ABSENT)?;
             Ok(())
         }
-        Some(Content::File(_, bytes)) => {
+        Some(Content::File(mode, bytes)) => {
             body.push(FILE)?;
-            write_file(body, bytes)
+            write_contents(body, *mode, bytes)
         }
         Some(Content::Dir) => {
             body.push(DIRECTORY)?;

@@ -1,11 +1,12 @@
 //! Reads the body of a reply to a user.
 ghost use Rattle.std.specs.Prelude.{◌≡◌, IfOk, option_map};
-ghost use Rattle.syn_model.specs.Contents.{contents_of, contents_spelling};
+ghost use Rattle.syn_model.specs.Contents.{contents_spelling, contents_with};
 ghost use Rattle.syn_message.specs.Bodies.{IsWholeReading};
 ghost use Rattle.syn_message.specs.UserReplies.{IsFound, IsLawfulTelling, IsWithinFile, ReadsTold};
 ghost use Rattle.syn_message.specs.UserReplies.{found_spelling};
 ghost use Rattle.syn_message.specs.UserReplies.{telling_of, telling_spelling, told_of};
 ghost use Rattle.syn_tree.specs.Contents.{content_of};
+ghost use Rattle.syn_tree.specs.Modes.{mode_of};
 
 use crate::head::read_user_head;
 use crate::kind::{EDITED, GOT, REFUSED};
@@ -13,7 +14,7 @@ use crate::reply_reading::read_refusal;
 use crate::user_reply::{ABSENT, AnsweredToUser, DIRECTORY, FILE, UserReply};
 use std::alloc::Global;
 use syn_tree::{Content, LONGEST_FILE, Mode};
-use syn_wire::{WireError, read_file, read_u64, spelling_laws};
+use syn_wire::{WireError, read_contents, read_u64, spelling_laws};
 
 /// The reply to a user that the body spells; none where it spells none.
 ///
@@ -81,7 +82,7 @@ fn read_found(alloc: Global, fields: &[u8]) -> Result<Option<Option<Content>>, W
     match fields {
         [ABSENT] => Ok(Some(None)),
         [FILE, file @ ..] => match read_whole_file(alloc, file)? {
-            Some(bytes) => Ok(Some(Some(Content::File(Mode::NewFile, bytes)))),
+            Some((mode, bytes)) => Ok(Some(Some(Content::File(mode, bytes)))),
             None => Ok(None),
         },
         [DIRECTORY] => Ok(Some(Some(Content::Dir))),
@@ -89,17 +90,17 @@ fn read_found(alloc: Global, fields: &[u8]) -> Result<Option<Option<Content>>, W
     }
 }
 
-/// At most `LONGEST_FILE` bytes behind their length, with nothing behind them.
-fn read_whole_file(alloc: Global, bytes: &[u8]) -> Result<Option<Vec<u8>>, WireError>
+/// A mode and at most `LONGEST_FILE` bytes, with nothing behind them.
+fn read_whole_file(alloc: Global, bytes: &[u8]) -> Result<Option<(Mode, Vec<u8>)>, WireError>
     ensures { IfOk result (λ read. IsWholeReading IsWithinFile contents_spelling bytes.now
-        (option_map (λ file. contents_of file.items) read)) }
+        (option_map (λ file. contents_with (mode_of file.0) file.1.items) read)) }
 {
     spelling_laws();
-    let Some((file, rest)) = read_file(alloc, bytes)? else {
+    let Some((mode, file, rest)) = read_contents(alloc, bytes)? else {
         return Ok(None);
     };
     if !rest.is_empty() || file.len() > LONGEST_FILE {
         return Ok(None);
     }
-    Ok(Some(file))
+    Ok(Some((mode, file)))
 }

@@ -10,8 +10,8 @@ use Rattle.std.proofs.lemmas.Bool.{and_parts, le-leb, leb-true}
 use Rattle.std.proofs.lemmas.Option.{none-some}
 use Rattle.syn_model.specs.Path.{Bytes, Path, IsPath, path_cmp, root}
 use Rattle.syn_model.specs.Tree.{Tree, Content, Directory, File, IsPart, IsTree, absent}
-use Rattle.syn_model.specs.Contents.{contents_of, contents_spelling}
-use Rattle.syn_model.specs.Tree.{file}
+use Rattle.syn_model.specs.Contents.{contents_spelling, Contents}
+use Rattle.syn_model.specs.Tree.{file, at_root}
 use Rattle.syn_model.specs.Limits.{fits_part, fits_path, fits_paths, fits_replica}
 use Rattle.syn_model.specs.Limits.{greatest_spelling, tree_spelling_length}
 use Rattle.syn_model.specs.Spelling.{spelling, content_spelling}
@@ -24,19 +24,17 @@ use Rattle.syn_tree.proofs.CheckLemmas.{one_fits}
 use Rattle.syn_tree.proofs.PlaceableLemmas.{fits-path}
 use Rattle.syn_placed.proofs.RisingLemmas.{sorted_of}
 use Rattle.syn_placed.proofs.TreeLemmas.{entries-absent, entries-one, from_entries-same}
-use Rattle.syn_wire.specs.Events.{IsFile, file_spelling}
+use Rattle.syn_wire.specs.Contents.{IsBriefFile}
 use Rattle.syn_wire.specs.Reads.{BeginsWith, IsReading}
 use Rattle.syn_wire.specs.Trees.{NoTreeBeginsAnother, IsDirectoryTree, IsOptionalTree, IsWholeTree}
 use Rattle.syn_wire.specs.inner.Kinds.{OfContents}
 use Rattle.syn_wire.specs.inner.Parts.{ReadsParts, PartsAreRead, StandsAt, parts_pairs}
 use Rattle.syn_wire.specs.inner.Parts.{parts_spelling}
-use Rattle.syn_wire.proofs.EventLemmas.{file_tells}
-use Rattle.syn_wire.proofs.KindLemmas.{root_fits}
+use Rattle.syn_wire.proofs.KindLemmas.{files_tell, root_fits}
 use Rattle.syn_wire.proofs.NameLemmas.{first_or}
 use Rattle.syn_wire.proofs.NodeLemmas.{file_spelled}
 use Rattle.syn_wire.proofs.NumberLemmas.{u16_tells}
 use Rattle.syn_wire.proofs.PartsLemmas.{file_at, directory_at, parts_in, parts_stand}
-use Rattle.syn_model.proofs.ContentsLemmas.{new_are_lawful}
 
 -- ---- limits
 
@@ -172,38 +170,35 @@ absent_lawful =
       paths = ap (list_all (λ pair. fits_path pair.0)) entries-absent;
     }
 
-pub no_file_read : (fields : Bytes) → IsReading IsFile file_spelling fields None →
+pub no_file_read : (fields : Bytes) → IsReading IsBriefFile contents_spelling fields None →
     IsReading IsOptionalTree spelling (1 ∷ fields) None
 no_file_read fields none t rest begins =
     let f = file_at OfContents t fields rest
     (begins.lawful.part, begins.lawful.fits) begins.spelled in
-    none f.contents.bytes rest (record {
-      lawful = record { bytes = f.lawful.0.bytes; brief = f.lawful.1 };
-      spelled = f.spelled;
-    })
+    none f.contents rest (record { lawful = f.lawful; spelled = f.spelled })
 
-pub long_file_read : (fields bytes after : Bytes) →
-    BeginsWith IsFile file_spelling fields bytes after → 16384 < length bytes →
+pub long_file_read : (fields : Bytes) (file : Contents) (after : Bytes) →
+    BeginsWith IsBriefFile contents_spelling fields file after → 16384 < length file.bytes →
     IsReading IsOptionalTree spelling (1 ∷ fields) None
-long_file_read fields bytes after found long t rest begins =
+long_file_read fields file after found long t rest begins =
     let f = file_at OfContents t fields rest
     (begins.lawful.part, begins.lawful.fits) begins.spelled in
-    let same = ap length (file_tells bytes f.contents.bytes after rest found.lawful
-    (record { bytes = f.lawful.0.bytes; brief = f.lawful.1 }) (sym found.spelled ∙ f.spelled)).0 in
+    let same = ap (λ (c : Contents). length c.bytes) (files_tell OfContents file f.contents after
+    rest found.lawful f.lawful (sym found.spelled ∙ f.spelled)).0 in
     let short = leb-true (length f.contents.bytes) 16384
     (root_fits t (File f.contents) begins.lawful.fits f.here).0 in
     absurd (omega (arith, same, short, long))
 
-pub file_read : (fields bytes after : Bytes) → BeginsWith IsFile file_spelling fields bytes after →
-    length bytes ≤ 16384 → BeginsWith IsOptionalTree spelling (1 ∷ fields) (file bytes) after
-file_read fields bytes after found short = record {
+pub file_read : (fields : Bytes) (file : Contents) (after : Bytes) →
+    BeginsWith IsBriefFile contents_spelling fields file after → length file.bytes ≤ 16384 →
+    BeginsWith IsOptionalTree spelling (1 ∷ fields) (at_root (File file)) after
+file_read fields file after found short = record {
   lawful = record {
-    part =
-        lawful_part (File (contents_of bytes)) (new_are_lawful bytes found.lawful.bytes);
-    fits = one_fits (File (contents_of bytes)) (le-leb (length bytes) 16384 short);
-    paths = ap (list_all (λ pair. fits_path pair.0)) (entries-one (File (contents_of bytes)));
+    part = lawful_part (File file) found.lawful.0;
+    fits = one_fits (File file) (le-leb (length file.bytes) 16384 short);
+    paths = ap (list_all (λ pair. fits_path pair.0)) (entries-one (File file));
   };
-  spelled = ap (λ b. 1 ∷ b) found.spelled ∙ ap (λ b. b ++ after) (sym (file_spelled (contents_of bytes)));
+  spelled = ap (λ b. 1 ∷ b) found.spelled ∙ ap (λ b. b ++ after) (sym (file_spelled file));
 }
 
 -- ---- kinds

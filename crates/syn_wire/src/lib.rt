@@ -35,6 +35,7 @@ ghost use Rattle.syn_wire.specs.Marks.{NoMarksBeginOthers};
 ghost use Rattle.syn_wire.specs.Trees.{NoTreeBeginsAnother, SpellingIsWalk, SpellingIsMeasured};
 
 mod bytes;
+mod contents;
 mod error;
 mod event;
 mod mark_reading;
@@ -49,6 +50,7 @@ mod tree_reading;
 mod window;
 
 pub use bytes::{LONGEST_PIECE, read_file, write_file};
+pub use contents::{read_contents, read_digest, write_contents, write_digest};
 pub use error::WireError;
 pub use event::{decode_event, edit_length, encode_edit, encode_event, read_token, write_token};
 pub use mark_reading::{decode_mark_tree, decode_marks};

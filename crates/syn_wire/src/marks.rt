@@ -7,6 +7,7 @@ ghost use Rattle.syn_model.specs.Contents.{digest_spelling};
 ghost use Rattle.syn_wire.specs.Reads.{IsBeginning};
 ghost use Rattle.syn_wire.specs.Trees.{last_name_spelling, standing_by};
 
+use crate::contents::write_digest;
 use crate::error::WireError;
 use crate::tree::{ABSENT, FILE, last_name_length, write_count, write_last_name};
 use std::alloc::Global;
@@ -120,10 +121,9 @@ fn write_mark(out: &mut Vec<u8>, entry: &MarkEntry, count: usize) -> Result<(), 
 {
     write_last_name(out, entry.path())?;
     match entry.standing() {
-        Mark::File(_, digest) => {
+        Mark::File(mode, digest) => {
             out.push(FILE)?;
-            out.extend_from_slice(digest.as_slice())?;
-            Ok(())
+            write_digest(out, *mode, digest)
         }
         Mark::Dir => write_count(out, count),
     }

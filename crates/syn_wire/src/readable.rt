@@ -1,17 +1,15 @@
 //! What a file and a directory are read as, of trees and of marks.
 ghost use Rattle.std.specs.Prelude.{◌≡◌, IfOk, option_map};
 ghost use Rattle.syn_model.specs.Tree.{Directory};
-ghost use Rattle.syn_wire.specs.inner.Kinds.{IsFileRead};
+ghost use Rattle.syn_mark.specs.Marks.{content_of};
+ghost use Rattle.syn_wire.specs.inner.Kinds.{IsFileRead, OfMarks};
 
-use crate::bytes::read_file;
+use crate::contents::{read_contents, read_digest};
 use crate::error::WireError;
 use std::alloc::Global;
 use syn_mark::Mark;
 use syn_placed::Standing;
-use syn_tree::{Content, Mode};
-
-// How many bytes a digest has.
-const DIGEST_LENGTH: usize = 32;
+use syn_tree::Content;
 
 /// What may stand at a path, as it is read.
 pub(crate) trait Readable: Standing {
@@ -40,8 +38,8 @@ impl Readable for Content {
     }
 
     fn read_file(alloc: Global, fields: &[u8]) -> Result<Option<(Content, &[u8])>, WireError> {
-        match read_file(alloc, fields)? {
-            Some((bytes, rest)) => Ok(Some((Content::File(Mode::NewFile, bytes), rest))),
+        match read_contents(alloc, fields)? {
+            Some((mode, bytes, rest)) => Ok(Some((Content::File(mode, bytes), rest))),
             None => Ok(None),
         }
     }
@@ -57,12 +55,15 @@ impl Readable for Mark {
     }
 
     fn read_file(_alloc: Global, fields: &[u8]) -> Result<Option<(Mark, &[u8])>, WireError> {
-        if fields.len() < DIGEST_LENGTH {
-            return Ok(None);
-        }
-        let (front, rest) = fields.split_at(DIGEST_LENGTH);
-        let mut digest = [0; DIGEST_LENGTH];
-        digest.copy_from_slice(front);
-        Ok(Some((Mark::File(Mode::NewFile, digest), rest)))
+        Ok(read_mark(fields))
     }
+}
+
+// The mark of a file, and the rest.
+fn read_mark(fields: &[u8]) -> Option<(Mark, &[u8])>
+    ensures { IsFileRead OfMarks fields.now
+        (option_map (λ found. (content_of found.0, found.1.now)) result) }
+{
+    let (mode, digest, rest) = read_digest(fields)?;
+    Some((Mark::File(mode, digest), rest))
 }

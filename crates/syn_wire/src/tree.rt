@@ -10,7 +10,7 @@ ghost use Rattle.syn_tree.specs.Nodes.{part_of, node_tree};
 ghost use Rattle.syn_wire.specs.Reads.{IsBeginning};
 ghost use Rattle.syn_wire.specs.Trees.{last_name_spelling, kind_spelling, standing_spelling};
 
-use crate::bytes::write_file;
+use crate::contents::write_contents;
 use crate::error::WireError;
 use crate::number::{write_u16, write_u32};
 use std::alloc::Global;
@@ -90,9 +90,8 @@ fn write_present(out: &mut Vec<u8>, node: &Node) -> Result<(), WireError>
 {
     match node {
         Node::File(mode, bytes) => {
-            mode.is_lawful();
             out.push(FILE)?;
-            write_file(out, bytes)
+            write_contents(out, *mode, bytes)
         }
         Node::Dir(entries) => write_directory(out, entries),
     }

@@ -5,7 +5,7 @@ ghost use Rattle.syn_tree.specs.Nodes.{part_of};
 ghost use Rattle.syn_wire.specs.Reads.{IsReading};
 ghost use Rattle.syn_wire.specs.Trees.{IsDirectoryTree, IsOptionalTree, IsWholeTree};
 
-use crate::bytes::read_file;
+use crate::contents::read_contents;
 use crate::error::WireError;
 use crate::number::read_u16;
 use crate::part_reading::read_parts;
@@ -14,7 +14,7 @@ use crate::tree::{ABSENT, DIRECTORY, FILE};
 use std::alloc::Global;
 use syn_path::Path;
 use syn_placed::Placed;
-use syn_tree::{Content, Entries, Entry, LONGEST_FILE, Mode, Node, Tree, TreeError};
+use syn_tree::{Content, Entries, Entry, LONGEST_FILE, Node, Tree, TreeError};
 
 /// The tree that the bytes begin with, and the rest; none where no front of them is the spelling of
 /// a tree within all limits of a replica.
@@ -58,13 +58,13 @@ fn read_file_node(alloc: Global, fields: &[u8]) -> Result<Option<(Option<Node>, 
     ensures { IfOk result (λ read. IsReading IsOptionalTree spelling (FILE ∷ fields.now)
         (option_map (λ found. (part_of found.0, found.1.now)) read)) }
 {
-    let Some((bytes, rest)) = read_file(alloc, fields)? else {
+    let Some((mode, bytes, rest)) = read_contents(alloc, fields)? else {
         return Ok(None);
     };
     if bytes.len() > LONGEST_FILE {
         return Ok(None);
     }
-    Ok(Some((Some(Node::File(Mode::NewFile, bytes)), rest)))
+    Ok(Some((Some(Node::File(mode, bytes)), rest)))
 }
 
 // What follows the kind of a directory.

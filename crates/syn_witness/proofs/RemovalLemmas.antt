@@ -22,11 +22,11 @@ use Rattle.std.specs.List.{list_all}
 use Rattle.std.proofs.lemmas.Option.{none-some}
 use Rattle.std.proofs.lemmas.List.Elements.{All-nil, All-cons, All-from_recursion}
 use Rattle.syn_model.specs.Limits.{children}
-use Rattle.syn_model.specs.Spelling.{spelling}
-use Rattle.syn_model.specs.MarkSpelling.{mark_spelling, mark_content_spelling, kept_spelling}
+use Rattle.syn_model.specs.Spelling.{spelling, content_spelling}
+use Rattle.syn_model.specs.MarkSpelling.{mark_spelling, kept_spelling}
 use Rattle.syn_model.specs.Archive.{Recorded, CanKeep}
 use Rattle.syn_model.proofs.HistoryLemmas.{absent-is_part}
-use Rattle.syn_model.proofs.MarkSpellings.{mark_spelling_unfolds}
+use Rattle.syn_model.proofs.SpellingLemmas.{spelling_unfolds}
 use Rattle.syn_model.proofs.RowLemmas.{spellings}
 use Rattle.syn_model.proofs.TreeLemmas.{subtree-replace}
 use Rattle.syn_headline.specs.Machine.{unarmed, written, record_size}
@@ -36,6 +36,7 @@ use Rattle.syn_headline.specs.Side.{Staged, Replace, Done, Reads, answer, serve,
 use Rattle.syn_headline.specs.Network.{Which, Left, Right}
 use Rattle.syn_headline.specs.Planning.{SeesBoth}
 use Rattle.syn_headline.specs.World.{World, Edits, Start, Deliver, Steps}
+use Rattle.syn_model.specs.Contents.{digest_spelling}
 use Rattle.syn_witness.proofs.WitnessMessages.{number_of}
 use Rattle.syn_witness.proofs.WitnessSteps.{machine_of, meets_unarmed, took, runs_with}
 use Rattle.syn_witness.proofs.WitnessSteps.{reads_nothing, says_so, adds_so, edits_so, lists}
@@ -319,8 +320,8 @@ replaces =
 -- a record of nothing has ten bytes
 pub gone_size : record_size (kept_spelling (Recorded a_path absent)) ≡ 10
 gone_size =
-    ap (λ spelled. record_size (2 ∷ 1 ∷ 1 ∷ 97 ∷ spelled)) (mark_spelling_unfolds absent
-    ∙ ap (mark_content_spelling mark_spelling absent) (get_by absent [] root absent-entries))
+    ap (λ spelled. record_size (2 ∷ 1 ∷ 1 ∷ 97 ∷ spelled)) (spelling_unfolds digest_spelling absent
+    ∙ ap (content_spelling digest_spelling mark_spelling absent) (get_by absent [] root absent-entries))
 
 takes_done : Steps replaced (Deliver 13) carried
 takes_done =

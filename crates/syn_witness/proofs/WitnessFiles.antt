@@ -6,15 +6,16 @@ use Rattle.std.specs.Prelude.{flat_map, Contains, get_or}
 use Rattle.std.specs.List.{list_all}
 use Rattle.std.specs.Ordering.{eq_by_cmp}
 use Rattle.std.specs.FinMap.{entries, get, len, same_entries_map}
-use Rattle.std.specs.Int.{byte_at, to_be_bytes, bytes_high_first, w16, w32}
+use Rattle.std.specs.Int.{to_be_bytes, w16, w32}
 use Rattle.std.specs.Str.{IsAscii}
-use Rattle.std.proofs.lemmas.List.Elements.{All-nil, All-cons, All-append}
+use Rattle.std.proofs.lemmas.List.Elements.{All-nil, All-cons}
 use Rattle.std.proofs.lemmas.Str.{IsUtf8-from_ascii}
-use Rattle.sha2.specs.Sha256.{sha256, digest_bytes}
+use Rattle.sha2.specs.Sha256.{sha256}
 use Rattle.syn_model.specs.Path.{Bytes, Path, IsName, IsPath, root, path_cmp}
 use Rattle.syn_model.specs.Tree.{subtree, Tree, Pair, Content, IsPart, IsTree, Directory, File}
 use Rattle.syn_model.specs.Tree.{file, empty_directory, replace, is_directory, is_directory_content}
-use Rattle.syn_model.specs.Contents.{Contents, AreLawfulContents, contents_of}
+use Rattle.syn_model.specs.Contents.{Contents, AreLawfulContents, contents_of, contents_spelling}
+use Rattle.syn_model.specs.Contents.{digest_spelling}
 use Rattle.syn_model.specs.Limits.{fits_replica, fits_part, fits_paths, fits_content, fits_path}
 use Rattle.syn_model.specs.Event.{AreBytes, Edited, Put}
 use Rattle.syn_model.specs.History.{tree_of, IsAllowed}
@@ -22,7 +23,7 @@ use Rattle.syn_model.specs.Mark.{mark, IsMarks}
 use Rattle.syn_model.proofs.MarkLemmas.{mark-digests}
 use Rattle.sha2.proofs.Facts256.{length-sha256}
 use Rattle.syn_model.specs.Archive.{Recorded}
-use Rattle.syn_model.specs.MarkSpelling.{mark_spelling, kept_spelling, mark_spelling_within}
+use Rattle.syn_model.specs.MarkSpelling.{mark_spelling, kept_spelling}
 use Rattle.syn_headline.specs.Machine.{record_size}
 use Rattle.syn_model.specs.Spelling.{spelling, spelling_within, content_spelling}
 use Rattle.syn_model.proofs.PathLemmas.{same_path}
@@ -104,7 +105,8 @@ pub file_spelling : (bytes : Bytes) →
     spelling (file bytes) ≡ 1 ∷ to_be_bytes w32 (length bytes) ++ bytes
 unfolding spelling_within
 file_spelling bytes =
-    ap (content_spelling (spelling_within (len (file bytes))) (file bytes))
+    ap (content_spelling contents_spelling
+    (spelling_within contents_spelling (len (file bytes))) (file bytes))
     (get_by (file bytes) ((root, content bytes) ∷ []) root (file-entries bytes))
 
 pub file_fits_part : (b : ℕ) → fits_part (file (b ∷ [])) ≡ true
@@ -194,13 +196,14 @@ put_allowed user n b known letter byte fits = record {
 -- the record of a file's mark at a letter has 42 bytes
 pub letter_size : (letter : ℕ) (bytes : Bytes) →
     record_size (kept_spelling (Recorded (letter_path letter) (mark (file bytes)))) ≡ 42
-unfolding mark_spelling_within
+unfolding spelling_within
 letter_size letter bytes =
     let marks = mark (file bytes) in
     let at : get marks root ≡ Some (digest bytes) =
     get_by marks ((root, digest bytes) ∷ []) root (file_mark-entries bytes) in
     ap (λ content. record_size
-    (2 ∷ 1 ∷ 1 ∷ letter ∷ mark_spelling_within (suc (len marks)) marks content)) at
+    (2 ∷ 1 ∷ 1 ∷ letter ∷ content_spelling digest_spelling
+    (spelling_within digest_spelling (len marks)) marks content)) at
     ∙ ap (λ n. 5 + suc (suc (suc (suc (suc n))))) (length-sha256 bytes)
 
 pub letter_fits : (letter : ℕ) (bytes : Bytes) (room : ℕ) → 42 ≤ room →
@@ -209,10 +212,10 @@ letter_fits letter bytes room h = subst (λ size. size ≤ room) (sym (letter_si
 
 -- an archive of no marks
 pub no_marks : mark_spelling empty_directory ≡ 2 ∷ 0 ∷ 0 ∷ []
-unfolding mark_spelling_within
+unfolding spelling_within
 no_marks =
-    let spell = λ (part : Tree). mark_spelling_within (len empty_directory) part (get part root) in
-    ap (mark_spelling_within (suc (len empty_directory)) empty_directory)
+    let spell = spelling_within digest_spelling (len empty_directory) in
+    ap (content_spelling digest_spelling spell empty_directory)
     (get_by empty_directory alone root alone-entries)
     ∙ ap (λ found. 2 ∷ to_be_bytes w16 (length found) ++ flat_map
     (λ entry. length entry.0 ∷ entry.0 ++ spell (subtree empty_directory (entry.0 ∷ []))) found)

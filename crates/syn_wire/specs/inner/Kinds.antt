@@ -9,6 +9,7 @@ use Rattle.syn_model.specs.Mark.{IsMarks}
 use Rattle.syn_model.specs.Limits.{fits_part, most_nodes}
 use Rattle.syn_model.specs.Spelling.{spelling}
 use Rattle.syn_model.specs.MarkSpelling.{mark_spelling}
+use Rattle.syn_wire.specs.Contents.{IsBriefFile}
 use Rattle.syn_wire.specs.Reads.{BeginsWith, IsReading}
 
 pub data Kind : Type 0 where
@@ -26,7 +27,7 @@ file_spelling_of OfMarks = digest_spelling
 
 -- a file of a length that four bytes spell, or a digest
 abbrev pub IsFileOf : Kind → Contents → Type 0
-IsFileOf OfContents contents = AreLawfulContents contents × (length contents.bytes < 2 ^ 32)
+IsFileOf OfContents contents = IsBriefFile contents
 IsFileOf OfMarks digest = IsDigest digest
 
 -- what may stand at a path of such a tree, within the limits there

@@ -22,27 +22,12 @@ returns-in_err-push-in-File-clause-kept c = (
       ∙ c.write_last_name.ensures.kept.1,
 )
 
-pub returns-in_err-extend_from_slice-in-File-clause-added :
-    goal.returns-in_err-extend_from_slice-in-File-clause-added
-returns-in_err-extend_from_slice-in-File-clause-added c =
-    on_ok_of_exit c.from_residual-in_err-extend_from_slice-in-File.result _ _
-    c.from_residual-in_err-extend_from_slice-in-File.ensures.1
-
-pub returns-in_err-extend_from_slice-in-File-clause-kept :
-    goal.returns-in_err-extend_from_slice-in-File-clause-kept
-returns-in_err-extend_from_slice-in-File-clause-kept c =
-    begins_more c.args.out.now.items c.write_last_name.new.out.items
-    c.extend_from_slice.new.self.items (1 ∷ []) c.write_last_name.ensures.kept
-    (c.in_err-extend_from_slice-in-File.ensures.items ∙ c.in_ok-push-in-File.ensures.items)
-
-pub returns-in_ok-extend_from_slice-in-File-clause-kept :
-    goal.returns-in_ok-extend_from_slice-in-File-clause-kept
-returns-in_ok-extend_from_slice-in-File-clause-kept c =
+pub returns-in_ok-push-in-File-clause-kept : goal.returns-in_ok-push-in-File-clause-kept
+returns-in_ok-push-in-File-clause-kept c =
     let out = c.args.out.now.items in
-    begins_more out c.push.new.self.items c.extend_from_slice.new.self.items _
-    (begins_more out c.write_last_name.new.out.items c.push.new.self.items
-    (1 ∷ []) c.write_last_name.ensures.kept c.in_ok-push-in-File.ensures.items)
-    c.in_ok-extend_from_slice-in-File.ensures.items
+    begins_further out c.push.new.self.items c.write_digest.new.out.items
+    (begins_more out c.write_last_name.new.out.items c.push.new.self.items (1 ∷ [])
+    c.write_last_name.ensures.kept c.in_ok-push-in-File.ensures.items) c.write_digest.ensures.kept
 
 pub returns-in-Dir-clause-kept : goal.returns-in-Dir-clause-kept
 returns-in-Dir-clause-kept c =
