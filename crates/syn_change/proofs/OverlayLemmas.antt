@@ -6,16 +6,16 @@ use Rattle.std.specs.Ordering.{eq_by_cmp}
 use Rattle.std.proofs.lemmas.Option.{none-some}
 use Rattle.std.specs.FinMap.{get, find, entries, get-entries}
 use Rattle.syn_model.specs.Path.{Path, Name, path_cmp, root, strip_prefix, is_root, parent}
-use Rattle.syn_model.specs.Contents.{Contents, contents_with}
+use Rattle.syn_model.specs.Contents.{Contents}
 use Rattle.syn_model.specs.Tree.{Tree, Content, Directory, File, Pair, HasParents, at_root}
-use Rattle.syn_model.specs.Tree.{is_directory, is_directory_content, is_present, IsTree}
+use Rattle.syn_model.specs.Tree.{is_directory, is_directory_content, is_present}
 use Rattle.syn_model.specs.Event.{Edit, after_edit, put_contents}
 use Rattle.syn_model.specs.Refusal.{Refusal, Cause, first_cause, Root, NoParent, IsDirectory}
 use Rattle.syn_model.specs.Refusal.{Exists}
 use Rattle.syn_model.specs.Standing.{edit_refusal, full_causes}
 use Rattle.syn_model.proofs.PathLemmas.{same_path, path_itself, strip_prefix-is}
 use Rattle.syn_model.proofs.PathLemmas.{strip_prefix-append}
-use Rattle.syn_model.proofs.HistoryLemmas.{get-at_root, get-below_root, put_mode-is_mode}
+use Rattle.syn_model.proofs.HistoryLemmas.{get-at_root, get-below_root}
 use Rattle.syn_model.proofs.TreeLemmas.{within, beside}
 use Rattle.syn_placed.specs.Pairs.{Pairs, rooted}
 use Rattle.syn_placed.proofs.RisingLemmas.{Rising}
@@ -79,11 +79,9 @@ IsPut before Directory = Unit {0}
 IsPut before (File contents) = contents ≡ put_contents before contents.bytes
 
 -- as long as nothing changes a mode, each file is so
-pub is_put : (t : Tree) (p : Path) (f : Found) → IsTree t → IsPut (get t p) (found_content f)
-is_put t p (found.File NewFile bytes) h =
-    ap (λ mode. contents_with mode bytes.now)
-    (sym (put_mode-is_mode (get t p) (λ before is. h.part.lawful p before is)))
-is_put t p found.Dir h = tt
+pub is_put : (before : Option Content) (f : Found) → IsPut before (found_content f)
+is_put before (found.File NewFile bytes) = refl
+is_put before found.Dir = tt
 
 stands_there : (t : Tree) (p : Path) (c : Content) → IsPut (get t p) c →
     get (after_edit t (entry_edit (p, c))) p ≡ Some c

@@ -1,8 +1,14 @@
 //! The events of a replica's history.
 
+ghost use Rattle.std.specs.Prelude.{◌≡◌, IfErr, IfOk};
+ghost use Rattle.syn_history.specs.Events.{event_of};
+ghost use Rattle.syn_tree.specs.Nodes.{part_of};
+
+use crate::error::HistoryError;
 use crate::token::Token;
+use std::alloc::Global;
 use syn_path::Path;
-use syn_tree::{Edit, Node};
+use syn_tree::{Edit, Node, TreeError};
 
 /// What changes a replica. The event at position k takes its history from k to k + 1 events.
 #[derive(Debug, Drop)]
@@ -24,4 +30,48 @@ pub enum Event {
         since: u64,
         new: Option<Node>,
     },
+}
+
+impl Event {
+    /// An equal one of its own. Refused 11 where memory is refused.
+    pub fn copy(&self, alloc: Global) -> Result<Event, HistoryError>
+        ensures ok { IfOk result (λ copy. event_of copy ≡ event_of self.now) }
+        ensures memory { IfErr result (λ e. e ≡ HistoryError.Memory) }
+    {
+        match self {
+            Event::Edited { user, edit } => match edit.copy(alloc) {
+                Ok(edit) => Ok(Event::Edited { user: *user, edit }),
+                Err(_) => Err(HistoryError::Memory),
+            },
+            Event::Began { session } => Ok(Event::Began { session: *session }),
+            Event::Replaced {
+                token,
+                path,
+                since,
+                new,
+            } => {
+                let path = path.copy(alloc)?;
+                match copy_part(alloc, new) {
+                    Ok(new) => Ok(Event::Replaced {
+                        token: *token,
+                        path,
+                        since: *since,
+                        new,
+                    }),
+                    Err(_) => Err(HistoryError::Memory),
+                }
+            }
+        }
+    }
+}
+
+/// An equal part of its own, or nothing. Refused 11 where memory is refused.
+fn copy_part(alloc: Global, part: &Option<Node>) -> Result<Option<Node>, TreeError>
+    ensures ok { IfOk result (λ copy. part_of copy ≡ part_of part.now) }
+    ensures memory { IfErr result (λ e. e ≡ TreeError.Memory) }
+{
+    match part {
+        Some(node) => Ok(Some(node.copy(alloc)?)),
+        None => Ok(None),
+    }
 }

@@ -1,20 +1,20 @@
 -- Histories leave whole trees.
 use Rattle.std.proofs.Common.{◌≡◌, Bool, true, false, cond, not, if◌then◌else◌, List, [], ◌∷◌, ◌++◌}
 use Rattle.std.proofs.Common.{refl, sym, ap, ◌∙◌, subst, Some, None, is_some, IsSome, true≢false}
-use Rattle.std.proofs.Common.{◌≢◌, append_assoc, append-nil, fold, inr, All, Option}
+use Rattle.std.proofs.Common.{◌≢◌, append_assoc, append-nil, fold, inr, All}
 use Rattle.std.specs.Ordering.{eq_by_cmp}
 use Rattle.std.specs.FinMap.{get, get-insert, get-empty, empty}
 use Rattle.std.proofs.lemmas.List.Elements.{All-nil}
 use Rattle.std.proofs.lemmas.Option.{none-some, same_Some}
 use Rattle.std.proofs.lemmas.Bool.{not-false}
 use Rattle.syn_model.specs.Path.{Name, Path, path_cmp, root, is_root, parent, IsName}
-use Rattle.syn_model.specs.Contents.{Contents, AreLawfulContents, IsMode}
+use Rattle.syn_model.specs.Contents.{Contents, AreLawfulContents}
 use Rattle.syn_model.specs.Tree.{Tree, Content, Directory, File, IsPart, IsTree, StandsIn, at_root}
 use Rattle.syn_model.specs.Tree.{empty_directory, absent, replace, is_directory, is_present}
 use Rattle.syn_model.specs.Refusal.{Cause, first_cause, NoParent, Root, IsDirectory, Exists, Absent}
 use Rattle.syn_model.specs.Refusal.{OldSession}
 use Rattle.syn_model.specs.Event.{Edit, Put, MakeDir, Remove, Event, Edited, Began, Replaced}
-use Rattle.syn_model.specs.Event.{after_edit, after_event, IsLawfulEdit, put_contents, put_mode}
+use Rattle.syn_model.specs.Event.{after_edit, after_event, IsLawfulEdit, put_contents}
 use Rattle.syn_model.specs.History.{History, tree_of, position_causes, is_old_token, IsAllowed}
 use Rattle.syn_model.specs.History.{AllAllowed, IsHistory}
 use Rattle.syn_model.specs.Standing.{place_causes, edit_causes, full_causes}
@@ -22,7 +22,7 @@ use Rattle.syn_model.specs.Laws.{AllowedGoesOn}
 use Rattle.syn_model.proofs.PathLemmas.{path_total}
 use Rattle.syn_model.proofs.TreeLemmas.{replace-is_part, beside}
 use Rattle.syn_model.proofs.SyncLemmas.{directory_is}
-use Rattle.syn_model.proofs.ContentsLemmas.{with_are_lawful}
+use Rattle.syn_model.proofs.ContentsLemmas.{new_are_lawful}
 
 pub first_cause-none : (cause : Cause) (causes : List Cause) → first_cause (cause ∷ causes) ≡ None →
     (cause.0 ≡ false) × (first_cause causes ≡ None)
@@ -119,21 +119,13 @@ is_file (File contents) = true
 pub no_file : (contents : Contents) → Directory ≢ File contents
 no_file contents e = true≢false (sym (ap is_file e))
 
--- the mode of a file that is put is one
-pub put_mode-is_mode : (x : Option Content) →
-    ((before : Contents) → x ≡ Some (File before) → AreLawfulContents before) → IsMode (put_mode x)
-put_mode-is_mode None h = refl
-put_mode-is_mode (Some Directory) h = refl
-put_mode-is_mode (Some (File before)) h = (h before refl).mode
-
 edit-is_tree : (t : Tree) (edit : Edit) (more : List Cause) → IsTree t → IsLawfulEdit edit →
     first_cause (edit_causes t edit ++ more) ≡ None → IsTree (after_edit t edit)
 edit-is_tree t (Put p bytes) more ht h e =
     let place = place-stands t p ((is_directory t p, IsDirectory) ∷ more) e in
     let put = put_contents (get t p) bytes in
     replace-is_tree t p (at_root (File put)) ht (at_root-is_part (File put)
-    (λ b x. subst AreLawfulContents (same_file put b x) (with_are_lawful (put_mode (get t p)) bytes
-    (put_mode-is_mode (get t p) (λ before is. ht.part.lawful p before is)) h.1)))
+    (λ b x. subst AreLawfulContents (same_file put b x) (new_are_lawful bytes h.1)))
     place.0 place.1 h.0.names
 edit-is_tree t (MakeDir p) more ht h e =
     let place = place-stands t p ((is_present t p, Exists) ∷ more) e in

@@ -1,6 +1,6 @@
 //! What stands below a directory, lawful by its type but for the limits of a whole tree. A reader
 //! checks here what it has read.
-ghost use Rattle.std.specs.Prelude.{◌≡◌, true, length, IfSome, IfNone, IsTrue};
+ghost use Rattle.std.specs.Prelude.{◌≡◌, true, length, IfErr, IfOk, IfSome, IfNone, IsTrue};
 ghost use Rattle.std.specs.FinMap.{entries};
 ghost use Rattle.syn_model.specs.Tree.{IsTree, empty_directory};
 ghost use Rattle.syn_model.specs.Limits.{children, fits_part, fits_paths, fits_content};
@@ -12,12 +12,14 @@ ghost use Rattle.syn_tree.specs.Entries.{AreEntries, has_few, stands_in, IsLawfu
 use crate::content::Found;
 use crate::cursor::Cursor;
 use crate::entry::{Entry, found_at};
+use crate::error::TreeError;
 use crate::lawful::{are_contents, is_path};
 use crate::measures::{LONGEST_FILE, MOST_CHILDREN};
 use crate::pair::Pair;
 use std::alloc::Global;
 use std::marker::Model;
 use syn_path::{Key, Path};
+use syn_placed::Standing;
 use syn_placed::ranges::{are_rising, count_children, count_children_at, is_directory};
 
 /// What stands below a directory, in path order: 256 entries a directory, 16,384 bytes a file, and
@@ -83,6 +85,15 @@ impl Entries {
         Some(Entries { list })
     }
 
+    /// Equal entries of their own. Refused 11 where memory is refused.
+    pub fn copy(&self, alloc: Global) -> Result<Entries, TreeError>
+        ensures ok { IfOk result (λ copy. copy ≡ self.now) }
+        ensures memory { IfErr result (λ e. e ≡ TreeError.Memory) }
+    {
+        let list = copies(alloc, &self.list)?;
+        Ok(Entries { list })
+    }
+
     /// What stands below the directory, in path order.
     pub fn iter(&self) -> Cursor<'_>
         ensures all { rooted result ≡ entries self.now }
@@ -119,6 +130,19 @@ impl Entries {
     {
         self.list
     }
+}
+
+/// Equal entries of their own. Refused 11 where memory is refused.
+fn copies(alloc: Global, list: &[Entry]) -> Result<Vec<Entry>, TreeError>
+    ensures ok { IfOk result (λ copies. copies.items ≡ list.now) }
+    ensures memory { IfErr result (λ e. e ≡ TreeError.Memory) }
+{
+    let mut copies = Vec::with_capacity(alloc, list.len())?;
+    for entry in list {
+        let content = entry.standing().copy(alloc)?;
+        copies.push(Entry::new(alloc, entry.key(), content)?)?;
+    }
+    Ok(copies)
 }
 
 /// Each of the entries stands in a directory, and keeps the limits of a file and a directory.

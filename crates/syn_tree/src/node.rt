@@ -1,13 +1,15 @@
 //! A part of a tree by itself, as a replacement puts it. Unlike a whole tree it may be a file.
-ghost use Rattle.std.specs.Prelude.{◌≡◌, true, false};
+ghost use Rattle.std.specs.Prelude.{◌≡◌, true, false, IfErr, IfOk};
 ghost use Rattle.syn_model.specs.Limits.{fits_part, fits_paths};
 ghost use Rattle.syn_model.specs.Path.{Path};
 ghost use Rattle.syn_tree.specs.Lists.{FitsNowhere};
 ghost use Rattle.syn_tree.specs.Nodes.{node_tree};
 
 use crate::entries::Entries;
+use crate::error::TreeError;
 use crate::measures::LONGEST_FILE;
 use crate::mode::Mode;
+use std::alloc::Global;
 
 /// What can stand at a path: a file, or a directory with what is below it.
 #[derive(Debug, Drop)]
@@ -19,6 +21,17 @@ pub enum Node {
 }
 
 impl Node {
+    /// An equal one of its own. Refused 11 where memory is refused.
+    pub fn copy(&self, alloc: Global) -> Result<Node, TreeError>
+        ensures ok { IfOk result (λ copy. node_tree copy ≡ node_tree self.now) }
+        ensures memory { IfErr result (λ e. e ≡ TreeError.Memory) }
+    {
+        match self {
+            Node::File(mode, bytes) => Ok(Node::File(*mode, Vec::from_slice(alloc, bytes)?)),
+            Node::Dir(entries) => Ok(Node::Dir(entries.copy(alloc)?)),
+        }
+    }
+
     /// Whether it keeps the limit of a file's bytes, as a directory does by its type.
     pub fn is_brief(&self) -> bool
         ensures brief { result ≡ true → fits_part (node_tree self.now) ≡ true }

@@ -9,6 +9,6 @@ returns-clause-placed c =
     both_ok c.apply.result
     (λ made allowed. placed_by c.args.work.now c.args.pair.now _ c.apply.new.self
     c.entries.ensures.tree.part.parents (subst (IsPut (get c.args.work.now c.args.pair.now.0))
-    c.found.ensures (is_put c.args.work.now c.args.pair.now.0 c.found.result c.entries.ensures.tree))
+    c.found.ensures (is_put (get c.args.work.now c.args.pair.now.0) c.found.result))
     c.in_ok-edit_for-2.ensures allowed made)
     c.apply.ensures.done c.apply.ensures.allowed
