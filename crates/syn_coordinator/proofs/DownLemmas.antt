@@ -12,7 +12,11 @@ use Rattle.syn_disk.specs.Arms.{Arms as DiskArms, is_stopped}
 use Rattle.syn_disk.specs.Calls.{BreaksSometime, MakesAtLeast}
 use Rattle.syn_disk.specs.Stops.{Untouched}
 use Rattle.syn_disk.specs.declared.disk.Disk.{Ghosts}
-use Rattle.syn_headline.specs.Coordinator.{archive_layout}
+use Rattle.syn_archive.specs.Refusals.{refusal_of}
+use Rattle.syn_headline.specs.Coordinator.{CoordinatorMachine, archive_layout, coordinator_kind}
+use Rattle.syn_headline.specs.Coordinator.{running_after, with_archive}
+use Rattle.syn_headline.specs.MachineSteps.{no_memory_to_open, open_fails, with_device}
+use Rattle.syn_headline.specs.MachineSteps.{opens as opens_down}
 use Rattle.syn_headline.specs.Machine.{Arms, Down, Halted, Meets, Opens, Status, Up, all_made}
 use Rattle.syn_headline.specs.Machine.{one_fails, one_stops, unarmed}
 use Rattle.syn_journal.specs.Layout.{bytes_left}
@@ -24,7 +28,7 @@ use Rattle.syn_recovery.specs.Calls.{goes_on}
 use Rattle.syn_recovery.specs.Machines.{ArchivesOpen, of_archive}
 use Rattle.syn_recovery.specs.Meaning.{MayBeOf}
 use Rattle.syn_keep.specs.Machines.{IsMachine, Journal, Runs}
-use Rattle.syn_coordinator.specs.Openings.{OpensAs, RestsStill, RestsWith, fails, wants_memory}
+use Rattle.syn_coordinator.specs.Openings.{OpensAs, RestsStill, RestsWith}
 use Rattle.syn_coordinator.specs.Coordinators.{Stands}
 use Rattle.syn_keep.specs.Tries.{found_in, listed}
 use Rattle.syn_coordinator.specs.declared.coordinator.Coordinator.{Coordinator}
@@ -61,9 +65,26 @@ some_stands pair machine bytes may =
     let found = some_archive pair machine may.value may.generation may.means in
     (found.0, record { value = may.value; means = may.journal.means; stands = found.1 })
 
+-- a machine that runs no session runs none behind an opening
+with_journal_alone : (machine : CoordinatorMachine) (journal : Journal) →
+    machine.running ≡ None →
+    record { journal = journal; running = None } ≡ with_archive machine journal
+with_journal_alone machine journal idle =
+    ap (λ r. record { journal = journal; running = r })
+    (sym (ap (λ r. running_after journal.status r) idle ∙ none_runs journal.status))
+  where
+    none_runs : (status : Status) → running_after status None ≡ None
+    none_runs Up = refl
+    none_runs Halted = refl
+    none_runs Down = refl
+
 module _ {D : Type 0} (disk : Ghosts D) (pair : ℕ) (device : D) (tried : Option Tried)
-    (machine : Journal) (rests : RestsWith disk.arms disk.may_leave pair device tried machine)
+    (opening : CoordinatorMachine)
+    (rests : RestsWith disk.arms disk.may_leave pair device tried opening)
     (stays : (d : D) → disk.may_leave d (disk.seen d)) (reads : MadeReadsMeet) where
+  abbrev machine : Journal
+  machine = opening.journal
+
   here : MayBeOf (of_archive pair) machine (disk.seen device)
   here = rests.leaves (disk.seen device) (stays device)
 
@@ -154,18 +175,19 @@ module _ {D : Type 0} (disk : Ghosts D) (pair : ℕ) (device : D) (tried : Optio
         ((number : ℕ) (journal : Journal) → IsMachine archive number journal → journal.writing
         ≡ None → Stands coordinator number (record { journal = journal; running = None })) →
         MakesAtLeast 1 (disk.arms device) (disk.arms (disk_of archive)) →
-        OpensAs coordinator pair machine (listed found)
+        OpensAs coordinator pair opening (listed found)
     open_ok coordinator found is_found is_new makes =
         let met = reads 1 (disk.arms device) (disk.arms (disk_of archive)) rests.goes makes in
         let went = goes_so met.0 Up 0 (disk.arms (disk_of archive)) met.2 in
         let so = opened_so met.0 went.0 went.1 in
         record {
-          calls = met.0;
-          journal = so.0;
-          opens = subst (λ kept. Opens (archive_layout pair) CanKeep machine met.0 so.0 kept)
+          next = with_archive opening so.0;
+          opens = opens_down met.0 so.0 (listed found) rests.down
+              (subst (λ kept. Opens (archive_layout pair) CanKeep machine met.0 so.0 kept)
               (found_is archive pair machine tried met.0 so.0 so.1 rests.tries so.2.0 so.2.2.room
-              so.2.2.generation ∙ ap listed (sym is_found)) so.2.0;
-          stands = is_new pair so.0 so.2.1 so.2.2.idle;
+              so.2.2.generation ∙ ap listed (sym is_found)) so.2.0);
+          stands = subst (Stands coordinator pair) (with_journal_alone opening so.0 rests.idle)
+              (is_new pair so.0 so.2.1 so.2.2.idle);
         }
 
   -- it is not, and the disk comes back
@@ -174,36 +196,47 @@ module _ {D : Type 0} (disk : Ghosts D) (pair : ℕ) (device : D) (tried : Optio
       (broken : BrokenCallsMeet) where
     pub open_not : (e : ArchiveError) → (e ≡ error.Device) ⊎ (e ≡ error.Memory) →
         AfterReads 1 e (disk.arms device) (disk.arms back) →
-        RestsStill disk.arms disk.may_leave pair back tried machine e
+        RestsStill disk.arms disk.may_leave pair back tried opening (refusal_of e)
     open_not e (inl is_device) calls =
         let breaks : BreaksSometime (disk.arms device) (disk.arms back) =
         subst (λ x. AfterReads 1 x (disk.arms device) (disk.arms back)) is_device calls in
         let met = goes_so breaks.0 Halted 1 (disk.arms back)
         (broken breaks.0 (disk.arms device) (disk.arms back) rests.goes breaks.1) in
-        subst (RestsStill disk.arms disk.may_leave pair back tried machine) (sym is_device)
-        (fails breaks.0 (armed_at (disk.arms back)) 1 met.1 (record {
-          down = refl;
-          unarmed_is = met.2;
-          armed = met.2;
-          goes = met.0;
-          leaves =
-              λ bytes left. may_be_still (of_archive pair) machine Down (armed_at (disk.arms back))
-              1 bytes (rests.leaves bytes (untouched.nothing_new bytes left));
-          tries =
-              tries_still pair tried machine Down (armed_at (disk.arms back)) 1
-              (λ _. down_not_up) rests.tries;
-        }))
+        subst (λ e. RestsStill disk.arms disk.may_leave pair back tried opening (refusal_of e))
+        (sym is_device) (record {
+          next = with_device (coordinator_kind pair) opening Down (armed_at (disk.arms back)) 1;
+          opens = open_fails breaks.0 (armed_at (disk.arms back)) 1 rests.down met.1;
+          rests = record {
+            down = refl;
+            unarmed_is = met.2;
+            idle = refl;
+            armed = met.2;
+            goes = met.0;
+            leaves =
+                λ bytes left. may_be_still (of_archive pair) machine Down
+                (armed_at (disk.arms back)) 1 bytes
+                (rests.leaves bytes (untouched.nothing_new bytes left));
+            tries =
+                tries_still pair tried machine Down (armed_at (disk.arms back)) 1
+                (λ _. down_not_up) rests.tries;
+          };
+        })
     open_not e (inr is_memory) calls =
         let makes : MakesAtLeast 1 (disk.arms device) (disk.arms back) =
         subst (λ x. AfterReads 1 x (disk.arms device) (disk.arms back)) is_memory calls in
         let found = reads 1 (disk.arms device) (disk.arms back) rests.goes makes in
         let met = goes_so found.0 Up 0 (disk.arms back) found.2 in
-        subst (RestsStill disk.arms disk.may_leave pair back tried machine) (sym is_memory)
-        (wants_memory (record {
-          down = rests.down;
-          unarmed_is = rests.unarmed_is;
-          armed = met.2;
-          goes = met.0;
-          leaves = λ bytes left. rests.leaves bytes (untouched.nothing_new bytes left);
-          tries = rests.tries;
-        }))
+        subst (λ e. RestsStill disk.arms disk.may_leave pair back tried opening (refusal_of e))
+        (sym is_memory) (record {
+          next = opening;
+          opens = no_memory_to_open rests.down;
+          rests = record {
+            down = rests.down;
+            unarmed_is = rests.unarmed_is;
+            idle = rests.idle;
+            armed = met.2;
+            goes = met.0;
+            leaves = λ bytes left. rests.leaves bytes (untouched.nothing_new bytes left);
+            tries = rests.tries;
+          };
+        })

@@ -12,26 +12,26 @@ use Rattle.syn_archive.specs.declared.error.ArchiveError.TheVariants as error
 use Rattle.syn_disk.specs.Arms.{is_stopped}
 use Rattle.syn_disk.specs.declared.disk.Disk.{Ghosts}
 use Rattle.syn_headline.specs.Coordinator.{CoordinatorMachine, Running, archive_layout}
-use Rattle.syn_headline.specs.Coordinator.{running_after, with_archive}
-use Rattle.syn_headline.specs.Machine.{Up, Halted, Down, Status, Compacts, Opens, compacted}
-use Rattle.syn_headline.specs.Machine.{not_compacted, opened, recovered}
-use Rattle.syn_headline.specs.World.{is_halted}
+use Rattle.syn_headline.specs.Coordinator.{coordinator_kind, no_call, running_after, with_archive}
+use Rattle.syn_headline.specs.Machine.{Up, Halted, Down, Status, Arms, Meets, Compacts, Opens}
+use Rattle.syn_headline.specs.Machine.{compacted, not_compacted, opened, recovered}
+use Rattle.syn_headline.specs.MachineSteps.{Checkpoints, checkpoints, Reopens, is_halted, reopens}
+use Rattle.syn_headline.specs.MachineSteps.{reopen_is_cut, with_device}
 use Rattle.syn_model.specs.Archive as model
 use Rattle.syn_model.specs.Limits.{greatest}
-use Rattle.syn_model.specs.Refusal.{first_cause}
+use Rattle.syn_model.specs.Refusal.{Refusal, first_cause}
 use Rattle.syn_model.specs.Refusal as why
 use Rattle.syn_model.specs.Archive.{CanKeep, Kept}
-use Rattle.syn_coordinator.specs.Coordinators.{Checkpoints, checkpoints, Reopens, reopens}
-use Rattle.syn_coordinator.specs.Coordinators.{ReopensNot, reopens_not, Does, Stands}
-use Rattle.syn_coordinator.specs.Coordinators.{checkpoint_causes, checkpoint_refusals, device_of}
-use Rattle.syn_coordinator.specs.Coordinators.{ended_in, in_report, report_shown, runs, goes_on}
-use Rattle.syn_coordinator.specs.Coordinators.{goes_down}
+use Rattle.syn_coordinator.specs.Coordinators.{ReopensNot, Does, Stands, heard, checkpoint_causes}
+use Rattle.syn_coordinator.specs.Coordinators.{checkpoint_refusals, device_of, ended_in, in_report}
+use Rattle.syn_coordinator.specs.Coordinators.{report_shown, runs, goes_on, goes_down}
 use Rattle.syn_keep.specs.Tries.{Tries, found_in, listed}
 use Rattle.syn_coordinator.proofs.OpeningLemmas.{found_is}
 use Rattle.syn_keep.specs.declared.tried.Tried.{Tried}
 use Rattle.syn_coordinator.proofs.TriedLemmas.{tries_none, tries_still, untried_up}
-use Rattle.syn_keep.specs.Machines.{Journal, Runs, Fails, IsMachine, Reopened, opened_again}
-use Rattle.syn_keep.specs.Machines.{cut_off, NotReopened, stayed, went_down}
+use Rattle.syn_coordinator.proofs.ReopenLemmas.{Reopened, opened_again, cut_off, NotReopened}
+use Rattle.syn_coordinator.proofs.ReopenLemmas.{stayed, went_down}
+use Rattle.syn_keep.specs.Machines.{Journal, Runs, Fails, IsMachine}
 use Rattle.syn_coordinator.specs.declared.coordinator.Coordinator.{Coordinator}
 use Rattle.syn_session.specs.Sessions.{IsRunning, IsSession}
 use Rattle.syn_session.specs.declared.session.Session.{Session}
@@ -253,7 +253,7 @@ module _ {D : Type 0} {disk : Ghosts D} (old new : Coordinator D disk) (pair : �
 
   pub checkpoint_does : Runs old.archive machine.journal → new.tried ≡ old.tried →
       (status : Status) → status ≢ Down → CompactsSo new.archive pair machine.journal status →
-      Does old new pair (Checkpoints pair machine) [] []
+      Does old new pair (Checkpoints (coordinator_kind pair) machine) [] []
   checkpoint_does was same_tried status up (moves_on journal (compacts, shown) is_status is) =
       goes_on _ _ (checkpoints journal compacts)
       (stands_with status up journal is_status is (λ some. (
@@ -306,36 +306,75 @@ module _ {D : Type 0} {disk : Ghosts D} (old new : Coordinator D disk) (pair : �
       absurd (up_not_down (sym (opens_up pair machine.journal journal kept calls opens) ∙ down))
   gives_none found kept journal (cut_off calls arms failures meets) down none = ap listed (sym none)
 
+  reopened_step : (journal : Journal) (kept : List Kept) →
+      Reopened pair machine.journal journal kept →
+      Reopens (coordinator_kind pair) machine (with_archive machine journal)
+      (record no_call { kept = kept }) []
+  reopened_step _ _ (opened_again calls journal kept least opens) =
+      reopens calls journal kept least opens
+  reopened_step _ _ (cut_off calls arms failures meets) =
+      reopen_is_cut calls arms failures meets
+
+  still_heard : (status : Status) (refusals : List Refusal) → status ≢ Down →
+      refusals ≡ heard status refusals
+  still_heard Up refusals stays = refl
+  still_heard Halted refusals stays = refl
+  still_heard Down refusals stays = absurd (stays refl)
+
+  -- nothing was opened, for this reason
+  abbrev IsRefusedSo : Status → Status → Refusal → Type 0
+  IsRefusedSo met left reason = (calls : ℕ) (arms : Arms) (failed : ℕ) →
+      Meets machine.journal.arms calls met arms failed →
+      Reopens (coordinator_kind pair) machine
+      (with_device (coordinator_kind pair) machine left arms failed) no_call (reason ∷ [])
+
+  unopened_step : (met left : Status) (reason : Refusal) → left ≢ Down →
+      IsRefusedSo met left reason → (journal : Journal) →
+      NotReopened machine.journal met left journal →
+      ReopensNot pair machine reason (with_archive machine journal) no_call
+  unopened_step met left reason stays so _ (stayed calls arms failures meets) =
+      subst (Reopens (coordinator_kind pair) machine
+      (with_device (coordinator_kind pair) machine left arms failures) no_call)
+      (still_heard left (reason ∷ []) stays) (so calls arms failures meets)
+  unopened_step met left reason stays so _ (went_down calls arms failures meets) =
+      reopen_is_cut calls arms failures meets
+
   pub reopen_does : (found : Option Kept) → (is_stopped (disk.arms (device_of new)) ≡ false →
       (new.tried ≡ None) × (found ≡ found_in old.tried new.archive)) →
       (is_stopped (disk.arms (device_of new)) ≡ true → (new.tried ≡ old.tried) × (found ≡ None)) →
       Moves new.archive pair
       (λ journal. (kept : List Kept) × Reopened pair machine.journal journal kept) Up →
-      Does old new pair (Reopens pair machine) (listed found) []
+      Does old new pair (λ next call. Reopens (coordinator_kind pair) machine next call [])
+      (listed found) []
   reopen_does found forgets stays (moves_on journal again is_status is) =
-      goes_on _ _ (reopens journal again.0 again.1) (stands_with Up up_not_down journal is_status is
+      goes_on _ _ (reopened_step journal again.0 again.1)
+      (stands_with Up up_not_down journal is_status is
       (λ some. open_keeps pair _ _ _ (stands.quiet some) again.1) (λ some. (forgets is.goes).0)
       (tries_again again.0 journal again.1 is_status (forgets is.goes).0))
       (gives found again.0 journal again.1 is_status is (forgets is.goes).1) refl none_ended
   reopen_does found forgets stays (moves_down journal again stopped down leaves) =
-      goes_down _ _ (reopens journal again.0 again.1) stopped down leaves
+      goes_down _ _ (reopened_step journal again.0 again.1) stopped down leaves
       (gives_none found again.0 journal again.1 down (stays stopped).1)
       (tries_cut again.0 journal again.1 down (stays stopped).0)
 
-  pub not_reopened : new.tried ≡ old.tried → (met left : Status) → left ≢ Down →
-      (machine.journal.status ≢ Up → left ≢ Up) →
+  pub not_reopened : new.tried ≡ old.tried → (met left : Status) (reason : Refusal) →
+      left ≢ Down → (machine.journal.status ≢ Up → left ≢ Up) → IsRefusedSo met left reason →
       Moves new.archive pair (NotReopened machine.journal met left) left →
-      Does old new pair (ReopensNot machine met left) [] []
-  not_reopened same_tried met left up stops (moves_on journal not_opened is_status is) =
-      goes_on _ _ (reopens_not journal not_opened) (stands_with left up journal is_status is
+      Does old new pair (ReopensNot pair machine reason) [] []
+  not_reopened same_tried met left reason up stops so
+      (moves_on journal not_opened is_status is) =
+      goes_on _ _ (unopened_step met left reason up so journal not_opened)
+      (stands_with left up journal is_status is
       (λ some. (
         (stay_keeps _ _ _ _ not_opened).0,
         (stay_keeps _ _ _ _ not_opened).1
             ∙ stands.quiet some,
       )) (λ some. same_tried ∙ stands.untried some)
       (tries_unopened met left stops journal not_opened same_tried)) refl refl none_ended
-  not_reopened same_tried met left up stops (moves_down journal not_opened stopped down leaves) =
-      goes_down _ _ (reopens_not journal not_opened) stopped down leaves refl
+  not_reopened same_tried met left reason up stops so
+      (moves_down journal not_opened stopped down leaves) =
+      goes_down _ _ (unopened_step met left reason up so journal not_opened) stopped down leaves
+      refl
       (tries_unopened met left stops journal not_opened same_tried)
 
 pub error_is : {T : Type 0} (a b : ArchiveError) → failed T a ≡ failed T b → a ≡ b

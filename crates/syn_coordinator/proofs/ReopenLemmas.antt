@@ -11,7 +11,9 @@ use Rattle.syn_archive.specs.declared.error.ArchiveError.TheVariants as error
 use Rattle.syn_disk.specs.Calls.{MakesAtLeast, BreaksSometime}
 use Rattle.syn_disk.specs.Stops.{Untouched}
 use Rattle.syn_disk.specs.declared.disk.Disk.{Ghosts}
-use Rattle.syn_headline.specs.Machine.{Up, Halted, Down, Status, Arms, Meets, unarmed, after_device}
+use Rattle.syn_headline.specs.Coordinator.{archive_layout}
+use Rattle.syn_headline.specs.Machine.{Up, Halted, Down, Status, Arms, Meets, Opens, unarmed}
+use Rattle.syn_headline.specs.Machine.{after_device}
 use Rattle.syn_disk.specs.Arms.{is_stopped}
 use Rattle.syn_journal.specs.Layout.{Value, bytes_left, meaning, Fault}
 use Rattle.syn_model.specs.Path.{Bytes}
@@ -22,11 +24,25 @@ use Rattle.syn_model.specs.Refusal as why
 use Rattle.syn_recovery.specs.Calls.{armed_at, goes_on, goes_down, MadeReadsMeet, BrokenCallsMeet}
 use Rattle.syn_recovery.specs.Machines.{of_archive, ArchivesOpen}
 use Rattle.syn_recovery.specs.Meaning.{MayBeOf, MayMean, as_kept, with_record, compacted}
-use Rattle.syn_keep.specs.Machines.{Journal, LeavesMachine, Runs, Fails, IsMachine, Reopened}
-use Rattle.syn_keep.specs.Machines.{opened_again, cut_off, NotReopened, stayed, went_down}
+use Rattle.syn_keep.specs.Machines.{Journal, LeavesMachine, Runs, Fails, IsMachine}
 use Rattle.syn_keep.specs.Steps.{Moves, moves_on, moves_down}
 use Rattle.syn_keep.proofs.MachineLemmas.{may_be}
 use Rattle.syn_recovery.proofs.DiskLemmas.{may_be_still, one_generation, one_value}
+
+-- The machine was opened again by so many device calls; or it went down among them
+pub data Reopened (pair : ℕ) (machine : Journal) : Journal → List Kept → Type 0 where
+  opened_again : (calls : ℕ) (new : Journal) (kept : List Kept) → 1 ≤ calls →
+      Opens (archive_layout pair) CanKeep machine calls new kept →
+      Reopened pair machine new kept
+  cut_off : (calls : ℕ) (arms : Arms) (failed : ℕ) → Meets machine.arms calls Down arms failed →
+      Reopened pair machine (after_device machine Down arms failed) []
+
+-- Its device calls met this, and nothing was opened: it is left so; or it went down among them
+pub data NotReopened (machine : Journal) (met left : Status) : Journal → Type 0 where
+  stayed : (calls : ℕ) (arms : Arms) (failed : ℕ) → Meets machine.arms calls met arms failed →
+      NotReopened machine met left (after_device machine left arms failed)
+  went_down : (calls : ℕ) (arms : Arms) (failed : ℕ) → Meets machine.arms calls Down arms failed →
+      NotReopened machine met left (after_device machine Down arms failed)
 
 -- a device that fails is no want of memory
 pub no_memory : (e : ArchiveError) → e ≡ error.Device → refusal_of e ≢ why.Memory

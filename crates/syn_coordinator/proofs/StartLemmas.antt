@@ -1,7 +1,7 @@
 -- A start is the step of a coordinator that starts.
 use Rattle.std.proofs.Common.{◌≡◌, ◌≢◌, ◌<◌, ◌^◌, ℕ, ◌+◌, Bool, true, false, not, nat_le}
-use Rattle.std.proofs.Common.{if◌then◌else◌, [], ◌∷◌, Option, Some, None, refl, sym, ap, ◌∙◌}
-use Rattle.std.proofs.Common.{◌++◌, List, subst, inl, inr}
+use Rattle.std.proofs.Common.{if◌then◌else◌, [], ◌∷◌, Option, Some, None, refl, sym, ap, ◌∙◌, ◌++◌}
+use Rattle.std.proofs.Common.{List, subst, inl, inr}
 use Rattle.std.proofs.lemmas.Bool.{false≢true}
 use Rattle.std.proofs.lemmas.Option.{none-some}
 use Rattle.std.specs.Prelude.{is_some, ◌&&◌}
@@ -10,11 +10,11 @@ use Rattle.syn_headline.specs.Coordinator.{CoordinatorMachine, CoordinatorStarts
 use Rattle.syn_headline.specs.Coordinator.{start_breaks, archive_layout, new_session, begins}
 use Rattle.syn_headline.specs.Coordinator.{sent_now}
 use Rattle.syn_headline.specs.Machine.{Up, Halted, Down, Status, has_room}
-use Rattle.syn_headline.specs.World.{is_halted}
+use Rattle.syn_headline.specs.MachineSteps.{is_halted}
 use Rattle.syn_model.specs.Archive as model
-use Rattle.syn_model.specs.Archive.{CanKeep, Session}
+use Rattle.syn_model.specs.Archive.{Session}
 use Rattle.syn_model.specs.Limits.{greatest}
-use Rattle.syn_model.specs.Refusal.{Refusal, Full, BadMessage, first_cause, Cause}
+use Rattle.syn_model.specs.Refusal.{Refusal, Full, first_cause, Cause}
 use Rattle.syn_model.specs.Refusal as why
 use Rattle.syn_coordinator.specs.Coordinators.{Does, Stands, ended_in, in_report, report_shown}
 use Rattle.syn_coordinator.specs.Coordinators.{runs, all_causes, goes_on, goes_down, refusals_of}

@@ -1,25 +1,23 @@
 -- What a coordinator shows, which of the model's machines it is, and what a call does.
 use Rattle.std.specs.Option.{option_map_or}
-use Rattle.std.specs.Prelude.{◌≡◌, ◌⊎◌, ◌<◌, ◌++◌, ℕ, Result, MatchResult, nat_le, nat_lt, Bool}
-use Rattle.std.specs.Prelude.{true, false, not, ◌&&◌, List}
-use Rattle.std.specs.Prelude.{[], ◌∷◌, map, Option, Some, None, length, option_map, is_some}
-use Rattle.std.specs.Prelude.{if◌then◌else◌}
+use Rattle.std.specs.Prelude.{◌≡◌, ◌⊎◌, ◌<◌, ◌++◌, ℕ, Result, MatchResult, nat_lt, Bool, true}
+use Rattle.std.specs.Prelude.{false, not, ◌&&◌, List, [], ◌∷◌, map, Option, Some, None, length}
+use Rattle.std.specs.Prelude.{option_map, is_some, if◌then◌else◌}
 use Rattle.syn_archive.specs.Archive.{disk_of}
 use Rattle.syn_archive.specs.declared.archive.Archive.{Archive}
 use Rattle.syn_coordinator.specs.declared.coordinator.Coordinator.{Coordinator}
 use Rattle.syn_disk.specs.Arms.{is_stopped}
 use Rattle.syn_disk.specs.declared.disk.Disk.{Ghosts}
-use Rattle.syn_headline.specs.Coordinator.{Call, CoordinatorMachine, archive_layout, no_call}
-use Rattle.syn_headline.specs.Coordinator.{Running, outstanding, start_causes, with_archive}
-use Rattle.syn_headline.specs.Machine.{Arms, Compacts, Down, Status, after_device}
+use Rattle.syn_headline.specs.Coordinator.{Call, CoordinatorMachine, Running, coordinator_kind}
+use Rattle.syn_headline.specs.Coordinator.{outstanding, start_causes}
+use Rattle.syn_headline.specs.Machine.{Arms, Down, Halted, Status, Up, after_device}
+use Rattle.syn_headline.specs.MachineSteps.{Reopens, causes_at, full_generation}
 use Rattle.syn_headline.specs.Network.{Message, Which}
 use Rattle.syn_headline.specs.Report.{Report}
-use Rattle.syn_headline.specs.World.{is_halted}
-use Rattle.syn_keep.specs.Machines.{IsMachine, Journal, LeavesMachine, NotReopened, Reopened}
+use Rattle.syn_keep.specs.Machines.{IsMachine, LeavesMachine}
 use Rattle.syn_keep.specs.Tries.{Tries, record_of}
 use Rattle.syn_keep.specs.declared.tried.Tried.{Tried}
 use Rattle.syn_model.specs.Archive.{Kept}
-use Rattle.syn_model.specs.Limits.{greatest}
 use Rattle.syn_model.specs.Refusal.{Cause, Refusal}
 use Rattle.syn_model.specs.Refusal as why
 use Rattle.syn_session.specs.Reports.{report_model}
@@ -124,8 +122,7 @@ pub record KeepsReadings {D : Type 0} {disk : Ghosts D} (old new : Coordinator D
 
 -- why a start is refused, and then for want of memory
 abbrev pub refusals_of : ℕ → CoordinatorMachine → List Cause
-refusals_of pair machine =
-    (is_halted machine.journal.status, why.Halted) ∷ start_causes pair machine
+refusals_of pair machine = causes_at machine.journal.status (start_causes pair machine)
 
 abbrev pub all_causes : ℕ → CoordinatorMachine → List Cause
 all_causes pair machine = refusals_of pair machine ++ (true, why.Memory) ∷ []
@@ -134,29 +131,21 @@ all_causes pair machine = refusals_of pair machine ++ (true, why.Memory) ∷ []
 
 abbrev pub checkpoint_refusals : CoordinatorMachine → List Cause
 checkpoint_refusals machine =
-    (is_halted machine.journal.status, why.Halted)
-    ∷ (nat_le greatest machine.journal.generation, why.Full) ∷ []
+    causes_at machine.journal.status (full_generation machine.journal.generation)
 
 abbrev pub checkpoint_causes : CoordinatorMachine → List Cause
 checkpoint_causes machine = checkpoint_refusals machine ++ (true, why.Memory) ∷ []
 
--- a checkpoint is made, or its device fails
-pub data Checkpoints (pair : ℕ) (machine : CoordinatorMachine) : CoordinatorMachine → Call →
-    Type 0 where
-  checkpoints : (journal : Journal) → Compacts (archive_layout pair) machine.journal journal →
-      Checkpoints pair machine (with_archive machine journal) no_call
+-- a machine that stopped is not heard
+abbrev pub heard : Status → List Refusal → List Refusal
+heard Up refusals = refusals
+heard Halted refusals = refusals
+heard Down refusals = []
 
--- another opening gives what the disk then means, with the record that was being written or without
-pub data Reopens (pair : ℕ) (machine : CoordinatorMachine) : CoordinatorMachine → Call →
-    Type 0 where
-  reopens : (journal : Journal) (kept : List Kept) → Reopened pair machine.journal journal kept →
-      Reopens pair machine (with_archive machine journal) (record no_call { kept = kept })
-
--- or it gives nothing, and its device calls left the machine so
-pub data ReopensNot (machine : CoordinatorMachine) (met left : Status) : CoordinatorMachine →
-    Call → Type 0 where
-  reopens_not : (journal : Journal) → NotReopened machine.journal met left journal →
-      ReopensNot machine met left (with_archive machine journal) no_call
+-- another opening of the machine that is refused so, or in which it stops
+abbrev pub ReopensNot : ℕ → CoordinatorMachine → Refusal → CoordinatorMachine → Call → Type 0
+ReopensNot pair machine reason next call =
+    Reopens (coordinator_kind pair) machine next call (heard next.journal.status (reason ∷ []))
 
 -- with these arms at its device
 abbrev pub with_arms : CoordinatorMachine → Arms → CoordinatorMachine

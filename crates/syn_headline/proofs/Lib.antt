@@ -38,6 +38,7 @@ pub mod ToldLemmas
 pub mod SessionRuns
 pub mod LoggedRuns
 pub mod View
+pub mod MachineLemmas
 pub mod Walks
 pub mod Heard
 pub mod Rising

@@ -1,9 +1,8 @@
 -- Each step of the world is one of the picture, and a session that runs remembers what it
 -- should.
-use Rattle.std.proofs.Common.{◌≡◌, ℕ, zero, suc, Bool, true, false, if◌then◌else◌, List, map, refl}
-use Rattle.std.proofs.Common.{sym, ap, ◌∙◌, subst, Option, Some, None, append-nil, inl, inr, ◌≢◌}
-use Rattle.std.proofs.Common.{◌⊎◌, ◌∷◌, ◌++◌, ap₂, option_map, is_some, nat_le, not, ◌+◌, slice_get}
-use Rattle.std.proofs.Common.{[]}
+use Rattle.std.proofs.Common.{◌≡◌, ℕ, true, List, map, refl, sym, ap, ◌∙◌, subst, Option, Some}
+use Rattle.std.proofs.Common.{None, append-nil, inl, inr, ◌≢◌, ◌⊎◌, ◌∷◌, ◌++◌, ap₂, option_map}
+use Rattle.std.proofs.Common.{is_some, nat_le, not, ◌+◌, slice_get, []}
 use Rattle.std.specs.Prelude.{Contains, IfSome}
 use Rattle.std.proofs.lemmas.Option.{none-some}
 use Rattle.syn_model.specs.Event.{Edit, Event, Edited}
@@ -12,38 +11,35 @@ use Rattle.syn_headline.specs.Machine.{after_device, with_image, with_record, re
 use Rattle.syn_headline.specs.Machine.{compacted, not_compacted, Opens, opened, recovered}
 use Rattle.syn_model.specs.Limits.{greatest}
 use Rattle.syn_headline.specs.Side.{Reply}
-use Rattle.syn_headline.specs.SideMachine.{SideMachine, causes_of}
+use Rattle.syn_headline.specs.MachineSteps.{MachineCall, Does, causes_at, is_halted}
+use Rattle.syn_headline.specs.MachineSteps as one
+use Rattle.syn_headline.specs.SideMachine.{SideMachine, with_journal, side_kind, causes_of}
+use Rattle.syn_headline.specs.SideMachine.{EditsSide, UserEdits}
 use Rattle.syn_headline.specs.Network.{Which, Left, Right, Message, Asks, Answers, Sent}
 use Rattle.syn_headline.specs.Acknowledged.{Ack, Kept_by}
 use Rattle.syn_headline.specs.Coordinator.{Running, running_after, CoordinatorMachine}
 use Rattle.syn_headline.specs.Coordinator.{archive_layout, with_archive, Call, start_causes, takes}
-use Rattle.syn_headline.specs.Coordinator.{ignores, CoordinatorTakes}
-use Rattle.syn_headline.specs.World.{World, Machine, At, Coordinator, side_of, says, set_device}
-use Rattle.syn_headline.specs.World.{side_goes, Step, Edits, Start, Deliver, Tick, Checkpoint, Fail}
-use Rattle.syn_headline.specs.World.{Stop, Open, Reopen, status_of, coordinator_goes}
-use Rattle.syn_headline.specs.World.{archive_writes, refuses_with, is_halted, answered_by}
-use Rattle.syn_headline.specs.World.{UnlessDown, Calls, EditsSide, edits, Starts, CompactsMachine}
-use Rattle.syn_headline.specs.World.{compacts_side, compacts_archive, Delivers, no_message}
-use Rattle.syn_headline.specs.World.{to_no_side, to_side, to_coordinator, Ticks, ticks}
-use Rattle.syn_headline.specs.World.{OpensMachine, opens_side, opens_archive, FailsDevice}
-use Rattle.syn_headline.specs.World.{fails_device, OpensDown, opens, open_fails, no_memory_to_open}
-use Rattle.syn_headline.specs.World.{Reopens, reopens, reopen_fails, reopen_is_cut}
-use Rattle.syn_headline.specs.World.{no_memory_to_reopen, full_generation, generation_of, Steps}
-use Rattle.syn_headline.specs.World.{Runs}
+use Rattle.syn_headline.specs.Coordinator.{ignores, CoordinatorTakes, CoordinatorStarts, no_call}
+use Rattle.syn_headline.specs.Coordinator.{coordinator_kind}
+use Rattle.syn_headline.specs.World.{World, Machine, At, Coordinator, side_of, says, side_goes}
+use Rattle.syn_headline.specs.World.{Step, Edits, Start, Deliver, Tick, Checkpoint, Fail, Stop}
+use Rattle.syn_headline.specs.World.{Open, Reopen, coordinator_goes, refuses_with, side_does}
+use Rattle.syn_headline.specs.World.{coordinator_does, MachineDoes, Delivers, no_message}
+use Rattle.syn_headline.specs.World.{to_no_side, to_side, to_coordinator, Ticks, ticks, Steps, Runs}
 use Rattle.syn_headline.specs.Picture.{Follows, FollowsAll, nothing_more, one_more}
 use Rattle.syn_headline.proofs.Invariant.{Plans, histories_of, IsKept, IsHarmless}
 use Rattle.syn_headline.specs.Runs.{picture_of, session_picture, coordinator_picture}
-use Rattle.syn_headline.proofs.View.{not_up, halted_not_up, down_not_up, neither, edits_follow}
-use Rattle.syn_headline.proofs.View.{opens_follow, compacts_follow, request_follows, device_follows}
+use Rattle.syn_headline.proofs.MachineLemmas.{calls_leave, does_leave, left_not_up}
+use Rattle.syn_headline.proofs.View.{not_up, neither, edits_follow, opens_follow, compacts_follow}
+use Rattle.syn_headline.proofs.View.{request_follows, device_follows}
 use Rattle.syn_headline.proofs.Heard.{sent_at}
 use Rattle.syn_headline.proofs.Sessions.{IsHeard, GoesBeside}
-use Rattle.syn_model.specs.Refusal.{Refusal, Device, Memory, Cause, first_cause}
+use Rattle.syn_model.specs.Refusal.{Refusal, Cause, first_cause}
 use Rattle.syn_model.specs.Refusal as why
 use Rattle.syn_model.specs.Archive.{Archive, Kept, Session, CanKeep}
 use Rattle.syn_model.proofs.HistoryLemmas.{first_cause-none}
 use Rattle.syn_headline.specs.Planning.{Log}
 use Rattle.syn_headline.specs.Report.{Report}
-use Rattle.syn_headline.specs.World as world
 use Rattle.syn_headline.specs.Picture as picture
 use Rattle.syn_headline.proofs.AdvanceLemmas.{step_advances}
 use Rattle.syn_headline.proofs.CallLemmas.{takes_follow}
@@ -51,10 +47,15 @@ use Rattle.syn_headline.proofs.StartLemmas.{nothing_given, heard_still, starts_f
 use Rattle.syn_headline.proofs.TickLemmas.{ticks_follow}
 use Rattle.syn_headline.proofs.StillHeard.{IsFollowed, beside_heard, same_beside, side_heard}
 use Rattle.syn_headline.proofs.StillHeard.{nothing_asked, nothing_said, says_after, says_no_request}
-use Rattle.syn_headline.proofs.StillHeard.{after_running, device_heard}
+use Rattle.syn_headline.proofs.StillHeard.{after_running}
 use Rattle.syn_headline.proofs.ReportedRuns.{AllTold, grows, step_told}
 
 -- The archive's journal
+
+-- it is left so, and the coordinator acknowledges these
+abbrev archive_writes : World → Journaled Archive Kept → List Kept → World
+archive_writes old journal kept = coordinator_goes old (with_archive old.coordinator journal)
+    (record no_call { kept = kept })
 
 view_archive : (old : World) (journal : Journaled Archive Kept) (kept : List Kept) →
     picture_of (archive_writes old journal kept) ≡ record (picture_of old) {
@@ -115,6 +116,15 @@ compacts_archive_follow old _ (not_compacted status arms failed down meets) =
     (view_archive_alone old
     (after_device (record old.coordinator.journal { compacting = true }) status arms failed))
 
+archive_device_follows : (old : World) (status : Status) (arms : Arms) (failed : ℕ) →
+    (old.coordinator.journal.status ≢ Up → status ≢ Up) → Follows (picture_of old)
+    (picture_of (archive_writes old (after_device old.coordinator.journal status arms failed) []))
+archive_device_follows old status arms failed up =
+    picture.archive_changes status
+    (option_map session_picture (running_after status old.coordinator.running)) up
+    (still_running status old.coordinator.running)
+    (view_archive_alone old (after_device old.coordinator.journal status arms failed))
+
 none_runs : (plans : Plans) (old : World) → IsKept plans (picture_of old) → (kept : Kept) →
     old.coordinator.journal.writing ≡ Some kept → (running : Option Running) →
     old.coordinator.running ≡ running → running ≡ None
@@ -150,17 +160,25 @@ opens_archive_follow plans old k h calls _ _ (recovered arms kept meets is can) 
       inl (append-nil old.reports),
     )
 
--- a side and a device report nothing
+-- a side reports nothing
 side_reports : (old : World) (side : Which) (machine : SideMachine) (messages : List Message)
     (events : List Event) → (side_goes old side machine messages events).reports ≡ old.reports
 side_reports old Left machine messages events = refl
 side_reports old Right machine messages events = refl
 
-device_reports : (old : World) (machine : Machine) (status : Status) (arms : Arms) (failed : ℕ) →
-    (set_device old machine status arms failed).reports ≡ old.reports
-device_reports old (At Left) status arms failed = refl
-device_reports old (At Right) status arms failed = refl
-device_reports old Coordinator status arms failed = refl
+-- nothing is done
+same_side : (old : World) (side : Which) → side_goes old side (side_of old side) [] [] ≡ old
+same_side old Left = ap₂ (λ s a. record old { sent = s; acknowledged = a })
+    (append-nil old.sent) (append-nil old.acknowledged)
+same_side old Right = ap₂ (λ s a. record old { sent = s; acknowledged = a })
+    (append-nil old.sent) (append-nil old.acknowledged)
+
+same_coordinator : (old : World) → coordinator_goes old old.coordinator no_call ≡ old
+same_coordinator old =
+    ap₂ (λ s a. record (coordinator_goes old old.coordinator no_call)
+    { sent = s; acknowledged = a }) (append-nil old.sent) (append-nil old.acknowledged)
+    ∙ ap₂ (λ r l. record old { reports = r; log = l }) (append-nil old.reports)
+    (append-nil old.log)
 
 -- The steps
 
@@ -170,103 +188,96 @@ module _ (plans : Plans) (old : World) (k : IsKept plans (picture_of old))
   stays_so new e = subst (IsFollowed old) (sym e) (picture.same refl, h, inl refl)
 
   -- what a call was refused with is seen nowhere
-  told_so : (made : World) (reason : Refusal) → IsFollowed old made →
-      IsFollowed old (refuses_with made reason)
-  told_so made reason f = (
+  told_so : (made : World) (reasons : List Refusal) → IsFollowed old made →
+      IsFollowed old (refuses_with made reasons)
+  told_so made reasons f = (
     f.0,
-    beside_heard made (refuses_with made reason)
-        (same_beside made (refuses_with made reason) refl refl refl) made.coordinator.running f.1,
+    beside_heard made (refuses_with made reasons)
+        (same_beside made (refuses_with made reasons) refl refl refl) made.coordinator.running f.1,
     f.2,
   )
 
-  refused_so : (causes : List Cause) (new : World) → world.IsRefused old causes new →
-      IsFollowed old new
-  refused_so causes new r = subst (IsFollowed old) (sym r.2) (told_so old r.0 (stays_so old refl))
-
-  answered_so : (machine : Machine) (made new : World) → IsFollowed old made →
-      new ≡ answered_by machine made → IsFollowed old new
-  answered_so machine made new f e =
-      subst (IsFollowed old) (sym e) (by (is_halted (status_of made machine)))
-    where
-      by : (b : Bool) → IsFollowed old (if b then refuses_with made Device else made)
-      by true = told_so made Device f
-      by false = f
-
-  unless_down_so : (machine : Machine) (IsDone : Type 0) (new : World) →
-      (status_of old machine ≢ Down → IsDone → IsFollowed old new) →
-      UnlessDown old machine IsDone new → IsFollowed old new
-  unless_down_so machine IsDone new done (inl (down, e)) = stays_so new e
-  unless_down_so machine IsDone new done (inr (up, is)) = done up is
-
-  calls_so : (machine : Machine) (causes : List Cause) (Made : World → Type 0) (new : World) →
-      ((made : World) → first_cause ((is_halted (status_of old machine), why.Halted) ∷ causes)
-      ≡ None → status_of old machine ≢ Down → Made made → IsFollowed old made) →
-      Calls old machine causes Made new → IsFollowed old new
-  calls_so machine causes Made new made (inl (down, e)) = stays_so new e
-  calls_so machine causes Made new made (inr (up, inl r)) =
-      refused_so ((is_halted (status_of old machine), why.Halted) ∷ causes) new r
-  calls_so machine causes Made new made (inr (up, inr (none, between, g, e))) =
-      answered_so machine between new (made between none up g) e
-
-  edits_so : (side : Which) (user : ℕ) (edit : Edit) (made : World) →
-      first_cause ((is_halted (status_of old (At side)), why.Halted) ∷ causes_of old.pair
-      (side_of old side) (Edited user edit)) ≡ None → status_of old (At side) ≢ Down →
-      EditsSide old side (Edited user edit) made → IsFollowed old made
-  edits_so side user edit made none up g =
-      (edits_follow old side user edit made none up g, heard_of made g, inl (still made g))
-    where
-      still : (made : World) → EditsSide old side (Edited user edit) made →
-          made.reports ≡ old.reports
-      still _ (edits journal events lawful writes) = side_reports old side _ [] events
-
-      heard_of : (made : World) → EditsSide old side (Edited user edit) made →
-          IfSome made.coordinator.running (IsHeard made)
-      heard_of _ (edits journal events lawful writes) =
-          side_heard old side _ [] events nothing_asked (nothing_said old.sent) h
-
-  compacts_so : (machine : Machine) (made : World) → CompactsMachine old machine made →
-      IsFollowed old made
-  compacts_so _ _ (compacts_side side journal c) = (
-    compacts_follow old side journal c,
-    side_heard old side _ [] [] nothing_asked (nothing_said old.sent) h,
-    inl (side_reports old side _ [] []),
+  -- What a side does by itself
+  side_so : (side : Which) (next : SideMachine) (events : List Event) →
+      Follows (picture_of old) (picture_of (side_goes old side next [] events)) →
+      IsFollowed old (side_goes old side next [] events)
+  side_so side next events follows = (
+    follows,
+    side_heard old side next [] events nothing_asked (nothing_said old.sent) h,
+    inl (side_reports old side next [] events),
   )
-  compacts_so _ _ (compacts_archive journal c) = (
-    compacts_archive_follow old journal c,
+
+  abbrev SideLeft : Which → SideMachine → List Event → Type 0
+  SideLeft side next events = IsFollowed old (side_goes old side next [] events)
+
+  side_stays : (side : Which) → SideLeft side (side_of old side) []
+  side_stays side = stays_so (side_goes old side (side_of old side) [] []) (same_side old side)
+
+  edits_so : (side : Which) (user : ℕ) (edit : Edit) (next : SideMachine) (events : List Event)
+      (refusals : List Refusal) →
+      UserEdits old.pair (side_of old side) (Edited user edit) next events refusals →
+      SideLeft side next events
+  edits_so side user edit next events refusals so =
+      calls_leave (side_kind old.pair) (side_of old side) (SideLeft side) (side_stays side)
+      (causes_of old.pair (side_of old side) (Edited user edit))
+      (EditsSide old.pair (side_of old side) (Edited user edit))
+      (λ next events none up made. side_so side next events
+      (edits_follow old side user edit next events none up made)) next events refusals so
+
+  side_does_so : (side : Which) (call : MachineCall) (next : SideMachine) (events : List Event)
+      (refusals : List Refusal) →
+      Does (side_kind old.pair) (side_of old side) call next events refusals →
+      SideLeft side next events
+  side_does_so side call next events refusals so =
+      does_leave (side_kind old.pair) (side_of old side) (SideLeft side) (side_stays side)
+      (λ journal compacts. side_so side (with_journal (side_of old side) journal) []
+      (compacts_follow old side journal compacts))
+      (λ calls journal events opens. side_so side (with_journal (side_of old side) journal) events
+      (opens_follow old side calls journal events opens)) call
+      (λ status arms failed left. side_so side
+      (with_journal (side_of old side) (after_device (side_of old side).journal status arms failed))
+      [] (device_follows old side status arms failed
+      (left_not_up (side_of old side).journal call status arms failed left)))
+      next events refusals so
+
+  -- What the coordinator does by itself
+  abbrev CoordinatorLeft : CoordinatorMachine → Call → Type 0
+  CoordinatorLeft next call = IsFollowed old (coordinator_goes old next call)
+
+  coordinator_stays : CoordinatorLeft old.coordinator no_call
+  coordinator_stays =
+      stays_so (coordinator_goes old old.coordinator no_call) (same_coordinator old)
+
+  archive_so : (journal : Journaled Archive Kept) →
+      Follows (picture_of old) (picture_of (archive_writes old journal [])) →
+      IsFollowed old (archive_writes old journal [])
+  archive_so journal follows = (
+    follows,
     after_running old (archive_writes old journal [])
         journal.status old.coordinator.running (archive_beside old journal) h,
     inl (append-nil old.reports),
   )
 
-  opens_so : (calls : ℕ) (machine : Machine) (made : World) → OpensMachine old calls machine made →
-      IsFollowed old made
-  opens_so calls _ _ (opens_side side journal events o) = (
-    opens_follow old side calls journal events o,
-    side_heard old side _ [] events nothing_asked (nothing_said old.sent) h,
-    inl (side_reports old side _ [] events),
-  )
-  opens_so calls _ _ (opens_archive journal kept o) =
-      opens_archive_follow plans old k h calls journal kept o
+  coordinator_does_so : (call : MachineCall) (next : CoordinatorMachine) (given : Call)
+      (refusals : List Refusal) →
+      Does (coordinator_kind old.pair) old.coordinator call next given refusals →
+      CoordinatorLeft next given
+  coordinator_does_so call next given refusals so =
+      does_leave (coordinator_kind old.pair) old.coordinator CoordinatorLeft coordinator_stays
+      (λ journal compacts. archive_so journal (compacts_archive_follow old journal compacts))
+      (λ calls journal kept opens. opens_archive_follow plans old k h calls journal kept opens)
+      call (λ status arms failed left. archive_so
+      (after_device old.coordinator.journal status arms failed)
+      (archive_device_follows old status arms failed
+      (left_not_up old.coordinator.journal call status arms failed left)))
+      next given refusals so
 
-  device_so : (machine : Machine) (status : Status) (arms : Arms) (failed : ℕ) →
-      (status_of old machine ≢ Up → status ≢ Up) →
-      IsFollowed old (set_device old machine status arms failed)
-  device_so machine status arms failed up = (
-    device_follows old machine status arms failed up,
-    device_heard old machine status arms failed h,
-    inl (device_reports old machine status arms failed),
-  )
-
-  fails_so : (machine : Machine) (calls : ℕ) (status left : Status) (made : World) →
-      (status_of old machine ≢ Up → left ≢ Up) → FailsDevice old machine calls status left made →
-      IsFollowed old made
-  fails_so machine calls status left _ up (fails_device arms failed meets) =
-      device_so machine left arms failed up
-
-  starts_so : (preference : Option Which) (made : World) → first_cause
-      ((is_halted (status_of old Coordinator), why.Halted) ∷ start_causes old.pair old.coordinator)
-      ≡ None → status_of old Coordinator ≢ Down → Starts old preference made → IsFollowed old made
-  starts_so preference _ none up (world.starts machine call g) =
+  starts_so : (preference : Option Which) (next : CoordinatorMachine) (call : Call) →
+      first_cause (causes_at old.coordinator.journal.status
+      (start_causes old.pair old.coordinator)) ≡ None →
+      old.coordinator.journal.status ≢ Down →
+      CoordinatorStarts old.pair preference old.coordinator next call → CoordinatorLeft next call
+  starts_so preference machine call none up g =
       let first = first_cause-none (is_halted old.coordinator.journal.status, why.Halted)
       (start_causes old.pair old.coordinator) none in
       let last = old.coordinator.journal.value.last_session in
@@ -313,48 +324,34 @@ module _ (plans : Plans) (old : World) (k : IsKept plans (picture_of old))
   ticks_so : (new : World) → Ticks old new → IsFollowed old new
   ticks_so _ (ticks machine call g) = ticks_follow plans old k h machine call g
 
-  opens_down_so : (machine : Machine) (new : World) → OpensDown old machine new → IsFollowed old new
-  opens_down_so machine _ (opens calls new o) = opens_so calls machine new o
-  opens_down_so machine _ (open_fails calls made f) =
-      told_so made Device (fails_so machine calls Halted Down made (λ _. down_not_up) f)
-  opens_down_so machine _ no_memory_to_open = told_so old Memory (stays_so old refl)
-
-  reopens_so : (machine : Machine) (new : World) → Reopens old machine new → IsFollowed old new
-  reopens_so machine _ (reopens calls new some o) = opens_so calls machine new o
-  reopens_so machine _ (reopen_fails calls made f) =
-      told_so made Device (fails_so machine calls Halted Halted made (λ _. halted_not_up) f)
-  reopens_so machine _ (reopen_is_cut calls made f) =
-      fails_so machine calls Down Down made (λ _. down_not_up) f
-  reopens_so machine _ (no_memory_to_reopen calls made f) =
-      told_so made Memory (fails_so machine calls Up (status_of old machine) made (λ same. same) f)
+  machine_so : (machine : Machine) (call : MachineCall) (new : World) →
+      MachineDoes old machine call new → IsFollowed old new
+  machine_so (At side) call _ (side_does next events refusals so) =
+      told_so (side_goes old side next [] events) refusals
+      (side_does_so side call next events refusals so)
+  machine_so Coordinator call _ (coordinator_does next given refusals so) =
+      told_so (coordinator_goes old next given) refusals
+      (coordinator_does_so call next given refusals so)
 
   -- each step
   pub step_follows : (step : Step) (new : World) → Steps old step new → IsFollowed old new
-  step_follows (Edits side user edit) new g =
-      calls_so (At side) (causes_of old.pair (side_of old side) (Edited user edit))
-      (EditsSide old side (Edited user edit)) new (edits_so side user edit) g
-  step_follows (Start preference) new g =
-      calls_so Coordinator (start_causes old.pair old.coordinator) (Starts old preference) new
-      (starts_so preference) g
+  step_follows (Edits side user edit) _ (side_does next events refusals so) =
+      told_so (side_goes old side next [] events) refusals
+      (edits_so side user edit next events refusals so)
+  step_follows (Start preference) _ (coordinator_does next call refusals so) =
+      told_so (coordinator_goes old next call) refusals
+      (calls_leave (coordinator_kind old.pair) old.coordinator CoordinatorLeft
+      coordinator_stays (start_causes old.pair old.coordinator)
+      (CoordinatorStarts old.pair preference old.coordinator) (starts_so preference) next call
+      refusals so)
   step_follows (Deliver message) new g =
       delivers_so (slice_get old.sent message) (sent_at old.sent message) new g
   step_follows Tick new g = ticks_so new g
-  step_follows (Checkpoint machine) new g =
-      calls_so machine (full_generation (generation_of old machine))
-      (CompactsMachine old machine) new (λ made none up c. compacts_so machine made c) g
-  step_follows (Fail machine call) new g =
-      unless_down_so machine _ new (λ up e. subst (IsFollowed old) (sym e)
-      (device_so machine (status_of old machine) _ 0 (λ same. same))) g
-  step_follows (Stop machine zero) new g =
-      unless_down_so machine _ new
-      (λ up e. subst (IsFollowed old) (sym e) (device_so machine Down _ 0 (λ _. down_not_up))) g
-  step_follows (Stop machine (suc calls)) new g =
-      unless_down_so machine _ new (λ up e. subst (IsFollowed old) (sym e)
-      (device_so machine (status_of old machine) _ 0 (λ same. same))) g
-  step_follows (Open machine) new (inl (up, e)) = stays_so new e
-  step_follows (Open machine) new (inr (down, o)) = opens_down_so machine new o
-  step_follows (Reopen machine) new g =
-      unless_down_so machine _ new (λ up r. reopens_so machine new r) g
+  step_follows (Checkpoint machine) new g = machine_so machine one.Checkpoint new g
+  step_follows (Fail machine call) new g = machine_so machine (one.Fail call) new g
+  step_follows (Stop machine calls) new g = machine_so machine (one.Stop calls) new g
+  step_follows (Open machine) new g = machine_so machine one.Open new g
+  step_follows (Reopen machine) new g = machine_so machine one.Reopen new g
 
 -- a whole run
 pub runs_follow : (steps : List Step) (plans : Plans) (old new : World) → IsKept plans

@@ -1,41 +1,35 @@
 -- The machines stand for what was acknowledged, after each step of the world, from whatever stands
 -- so.
-use Rattle.std.proofs.Common.{◌≡◌, ℕ, zero, suc, Bool, true, false, if◌then◌else◌, List, [], ◌∷◌}
-use Rattle.std.proofs.Common.{◌++◌, refl, sym, ap, ◌∙◌, subst, Option, append-nil, inl, inr}
-use Rattle.std.proofs.Common.{slice_get}
-use Rattle.syn_model.specs.Refusal.{Refusal, Device, Memory, Full, Cause}
+use Rattle.std.proofs.Common.{◌≡◌, ℕ, List, [], ◌∷◌, ◌++◌, refl, sym, ap, ◌∙◌, subst, Option}
+use Rattle.std.proofs.Common.{append-nil, slice_get}
+use Rattle.syn_model.specs.Refusal.{Refusal, Full}
 use Rattle.syn_model.specs.Event.{Event, Edited}
 use Rattle.syn_model.specs.History.{History, IsAllowed}
 use Rattle.syn_model.specs.Archive.{Archive, Kept, Session, CanKeep, archive_of}
-use Rattle.syn_headline.specs.Machine.{Status, Arms, Journaled, Layout, Writes, idle, written}
-use Rattle.syn_headline.specs.Machine.{unwritten, Compacts, compacted, not_compacted, Opens, opened}
-use Rattle.syn_headline.specs.Machine.{recovered}
+use Rattle.syn_headline.specs.Machine.{Journaled, Layout, Writes, idle, written, unwritten}
+use Rattle.syn_headline.specs.Machine.{Compacts, compacted, not_compacted, Opens, opened, recovered}
+use Rattle.syn_headline.specs.MachineSteps.{MachineCall, Does}
+use Rattle.syn_headline.specs.MachineSteps as one
 use Rattle.syn_headline.specs.Side.{Request, Reply}
 use Rattle.syn_headline.specs.SideMachine.{SideMachine, side_layout, SideTakes, answers, adds}
-use Rattle.syn_headline.specs.SideMachine.{causes_of}
+use Rattle.syn_headline.specs.SideMachine.{causes_of, side_kind, EditsSide, edits}
 use Rattle.syn_headline.specs.Network.{Which, Left, Right, Message}
 use Rattle.syn_headline.specs.Acknowledged.{Stores, history_of, stores_after}
 use Rattle.syn_headline.specs.Coordinator.{CoordinatorMachine, Call, Walk, Exchange, Running}
 use Rattle.syn_headline.specs.Coordinator.{archive_layout, past, refusing, making_room, Keeps}
 use Rattle.syn_headline.specs.Coordinator.{writes, cut_behind, Takes, CoordinatorTakes}
 use Rattle.syn_headline.specs.Coordinator.{CoordinatorStarts, CoordinatorTicks, Advances, start_of}
-use Rattle.syn_headline.specs.Coordinator.{start_causes}
+use Rattle.syn_headline.specs.Coordinator.{start_causes, coordinator_kind}
 use Rattle.syn_headline.specs.Coordinator as fine
 use Rattle.syn_headline.specs.Planning.{Planned}
 use Rattle.syn_headline.specs.World.{World, Machine, At, Coordinator, Step, Edits, Start, Deliver}
 use Rattle.syn_headline.specs.World.{Tick, Checkpoint, Fail, Stop, Open, Reopen, side_of, side_goes}
-use Rattle.syn_headline.specs.World.{coordinator_goes, status_of, refuses_with, is_halted}
-use Rattle.syn_headline.specs.World.{answered_by, UnlessDown, Calls, EditsSide, edits, Starts}
-use Rattle.syn_headline.specs.World.{CompactsMachine, compacts_side, compacts_archive, Delivers}
-use Rattle.syn_headline.specs.World.{no_message, to_no_side, to_side, to_coordinator, Ticks, ticks}
-use Rattle.syn_headline.specs.World.{OpensMachine, opens_side, opens_archive, set_device}
-use Rattle.syn_headline.specs.World.{FailsDevice, fails_device, OpensDown, opens, open_fails}
-use Rattle.syn_headline.specs.World.{no_memory_to_open, Reopens, reopens, reopen_fails}
-use Rattle.syn_headline.specs.World.{reopen_is_cut, no_memory_to_reopen, full_generation}
-use Rattle.syn_headline.specs.World.{generation_of, Steps, Runs}
-use Rattle.syn_headline.specs.World as world
+use Rattle.syn_headline.specs.World.{coordinator_goes, refuses_with, side_does, coordinator_does}
+use Rattle.syn_headline.specs.World.{MachineDoes, Delivers, no_message, to_no_side, to_side}
+use Rattle.syn_headline.specs.World.{to_coordinator, Ticks, ticks, Steps}
 use Rattle.syn_headline.specs.Runs.{RunsStand, stores_of, picture_of}
 use Rattle.syn_headline.specs.Headline as promised
+use Rattle.syn_headline.proofs.MachineLemmas.{calls_leave, does_leave}
 use Rattle.syn_headline.proofs.View.{view_goes}
 use Rattle.syn_headline.proofs.WorldLemmas.{side_goes as view_side_goes}
 use Rattle.syn_headline.proofs.WorldLemmas.{coordinator_goes as view_coordinator_goes}
@@ -173,79 +167,66 @@ coordinator_stands before old machine call s e =
     (coordinator_goes old machine call).reports (old.log ++ call.logged)
     (picture_of (coordinator_goes old machine call)) s e refl
 
-device_stands : (before : Stores) (old : World) (machine : Machine) (status : Status) (arms : Arms)
-    (failed : ℕ) → StandsFor before old →
-    StandsFor before (set_device old machine status arms failed)
-device_stands before old (At Left) status arms failed s =
-    record { left = s.left; right = s.right; archive = s.archive }
-device_stands before old (At Right) status arms failed s =
-    record { left = s.left; right = s.right; archive = s.archive }
-device_stands before old Coordinator status arms failed s =
-    record { left = s.left; right = s.right; archive = s.archive }
-
 module _ (before : Stores) (old : World) (s : StandsFor before old) where
-  refused_stands : (made : World) (reason : Refusal) → StandsFor before made →
-      StandsFor before (refuses_with made reason)
-  refused_stands made reason s = record { left = s.left; right = s.right; archive = s.archive }
+  refused_stands : (made : World) (reasons : List Refusal) → StandsFor before made →
+      StandsFor before (refuses_with made reasons)
+  refused_stands made reasons s = record { left = s.left; right = s.right; archive = s.archive }
 
-  answered_stands : (machine : Machine) (made : World) → StandsFor before made →
-      StandsFor before (answered_by machine made)
-  answered_stands machine made s = by (is_halted (status_of made machine))
-    where
-      by : (b : Bool) → StandsFor before (if b then refuses_with made Device else made)
-      by true = refused_stands made Device s
-      by false = s
+  -- A side goes on by itself as it acknowledges
+  abbrev SideGrows : Which → SideMachine → List Event → Type 0
+  SideGrows side next events =
+      next.journal.value ≡ (side_of old side).journal.value ++ events
 
-  unless_down_stands : (machine : Machine) (IsDone : Type 0) (new : World) →
-      (IsDone → StandsFor before new) → UnlessDown old machine IsDone new → StandsFor before new
-  unless_down_stands machine IsDone new done (inl (down, e)) = subst (StandsFor before) (sym e) s
-  unless_down_stands machine IsDone new done (inr (up, is)) = done is
+  side_same : (side : Which) (value : History) → value ≡ (side_of old side).journal.value →
+      value ≡ (side_of old side).journal.value ++ []
+  side_same side value e = e ∙ sym (append-nil (side_of old side).journal.value)
 
-  calls_stand : (machine : Machine) (causes : List Cause) (Made : World → Type 0) (new : World) →
-      ((made : World) → Made made → StandsFor before made) → Calls old machine causes Made new →
-      StandsFor before new
-  calls_stand machine causes Made new made (inl (down, e)) = subst (StandsFor before) (sym e) s
-  calls_stand machine causes Made new made (inr (up, inl r)) =
-      subst (StandsFor before) (sym r.2) (refused_stands old r.0 s)
-  calls_stand machine causes Made new made (inr (up, inr (none, between, g, e))) =
-      subst (StandsFor before) (sym e) (answered_stands machine between (made between g))
+  edits_stand : (side : Which) (event : Event) (next : SideMachine) (events : List Event) →
+      EditsSide old.pair (side_of old side) event next events → SideGrows side next events
+  edits_stand side event _ _ (edits journal events lawful w) =
+      writes_value old.pair (side_of old side).journal journal event events w
 
-  edits_stand : (side : Which) (event : Event) (made : World) → EditsSide old side event made →
-      StandsFor before made
-  edits_stand side event _ (edits journal events lawful w) =
-      side_stands before old side _
-      [] events s (writes_value old.pair (side_of old side).journal journal event events w)
+  side_does_stand : (side : Which) (call : MachineCall) (next : SideMachine) (events : List Event)
+      (refusals : List Refusal) →
+      Does (side_kind old.pair) (side_of old side) call next events refusals →
+      SideGrows side next events
+  side_does_stand side call next events refusals so =
+      does_leave (side_kind old.pair) (side_of old side) (SideGrows side)
+      (side_same side (side_of old side).journal.value refl)
+      (λ journal c. side_same side journal.value
+      (compacts_value (side_layout old.pair) (side_of old side).journal journal c))
+      (λ calls journal events o.
+      opens_history old.pair (side_of old side).journal calls journal events o) call
+      (λ status arms failed left. side_same side (side_of old side).journal.value refl)
+      next events refusals so
 
-  compacts_stand : (machine : Machine) (made : World) → CompactsMachine old machine made →
-      StandsFor before made
-  compacts_stand _ _ (compacts_side side journal c) =
-      side_stands before old side _ [] [] s (compacts_value (side_layout old.pair)
-      (side_of old side).journal journal c ∙ sym (append-nil (side_of old side).journal.value))
-  compacts_stand _ _ (compacts_archive journal c) =
-      coordinator_stands before old (fine.with_archive old.coordinator journal)
-      (record fine.no_call { kept = [] }) s
-      (compacts_value (archive_layout old.pair) old.coordinator.journal journal c)
+  -- and so does the coordinator
+  abbrev ArchiveGrows : CoordinatorMachine → Call → Type 0
+  ArchiveGrows next call =
+      next.journal.value ≡ archive_of old.coordinator.journal.value call.kept
 
-  opens_stand : (calls : ℕ) (machine : Machine) (made : World) →
-      OpensMachine old calls machine made → StandsFor before made
-  opens_stand calls _ _ (opens_side side journal events o) =
-      side_stands before old side _
-      [] events s (opens_history old.pair (side_of old side).journal calls journal events o)
-  opens_stand calls _ _ (opens_archive journal kept o) =
-      coordinator_stands before old (fine.with_archive old.coordinator journal)
-      (record fine.no_call { kept = kept }) s
-      (opens_value old.pair old.coordinator.journal calls journal kept o)
+  coordinator_does_stand : (call : MachineCall) (next : CoordinatorMachine) (given : Call)
+      (refusals : List Refusal) →
+      Does (coordinator_kind old.pair) old.coordinator call next given refusals →
+      ArchiveGrows next given
+  coordinator_does_stand call next given refusals so =
+      does_leave (coordinator_kind old.pair) old.coordinator ArchiveGrows refl
+      (λ journal c.
+      compacts_value (archive_layout old.pair) old.coordinator.journal journal c)
+      (λ calls journal kept o.
+      opens_value old.pair old.coordinator.journal calls journal kept o)
+      call (λ status arms failed left. refl) next given refusals so
 
-  fails_stand : (machine : Machine) (calls : ℕ) (status left : Status) (made : World) →
-      FailsDevice old machine calls status left made → StandsFor before made
-  fails_stand machine calls status left _ (fails_device arms failed meets) =
-      device_stands before old machine left arms failed s
-
-  starts_stand : (preference : Option Which) (made : World) → Starts old preference made → StandsFor
-      before made
-  starts_stand preference _ (world.starts machine call g) =
-      coordinator_stands before old machine call s
-      (starts_value old.pair preference old.coordinator machine call g)
+  machine_stands : (machine : Machine) (call : MachineCall) (new : World) →
+      MachineDoes old machine call new → StandsFor before new
+  machine_stands (At side) call _ (side_does next events refusals so) =
+      refused_stands (side_goes old side next [] events) refusals
+      (side_stands before old side next [] events s
+      (side_does_stand side call next events refusals so))
+  machine_stands Coordinator call _ (coordinator_does next given refusals so) =
+      refused_stands (coordinator_goes old next given) refusals
+      (coordinator_stands before old next given s
+      (coordinator_does_stand call next given refusals so))
 
   delivers_stand : (o : Option Message) (new : World) → Delivers old o new → StandsFor before new
   delivers_stand _ _ no_message = s
@@ -261,46 +242,31 @@ module _ (before : Stores) (old : World) (s : StandsFor before old) where
   ticks_stand _ (ticks machine call g) =
       coordinator_stands before old machine call s (ticks_value old.coordinator machine call g)
 
-  opens_down_stands : (machine : Machine) (new : World) → OpensDown old machine new →
-      StandsFor before new
-  opens_down_stands machine _ (opens calls new o) = opens_stand calls machine new o
-  opens_down_stands machine _ (open_fails calls made f) =
-      refused_stands made Device (fails_stand machine calls _ _ made f)
-  opens_down_stands machine _ no_memory_to_open = refused_stands old Memory s
-
-  reopens_stand : (machine : Machine) (new : World) → Reopens old machine new → StandsFor before new
-  reopens_stand machine _ (reopens calls new some o) = opens_stand calls machine new o
-  reopens_stand machine _ (reopen_fails calls made f) =
-      refused_stands made Device (fails_stand machine calls _ _ made f)
-  reopens_stand machine _ (reopen_is_cut calls made f) = fails_stand machine calls _ _ made f
-  reopens_stand machine _ (no_memory_to_reopen calls made f) =
-      refused_stands made Memory (fails_stand machine calls _ _ made f)
-
   step_stands : (step : Step) (new : World) → Steps old step new → StandsFor before new
-  step_stands (Edits side user edit) new g =
-      calls_stand (At side) (causes_of old.pair (side_of old side) (Edited user edit))
-      (EditsSide old side (Edited user edit)) new (edits_stand side (Edited user edit)) g
-  step_stands (Start preference) new g =
-      calls_stand Coordinator (start_causes old.pair old.coordinator)
-      (Starts old preference) new (starts_stand preference) g
+  step_stands (Edits side user edit) _ (side_does next events refusals so) =
+      refused_stands (side_goes old side next [] events) refusals
+      (side_stands before old side next [] events s
+      (calls_leave (side_kind old.pair) (side_of old side) (SideGrows side)
+      (side_same side (side_of old side).journal.value refl)
+      (causes_of old.pair (side_of old side) (Edited user edit))
+      (EditsSide old.pair (side_of old side) (Edited user edit))
+      (λ next events none up made. edits_stand side (Edited user edit) next events made)
+      next events refusals so))
+  step_stands (Start preference) _ (coordinator_does next call refusals so) =
+      refused_stands (coordinator_goes old next call) refusals
+      (coordinator_stands before old next call s
+      (calls_leave (coordinator_kind old.pair) old.coordinator ArchiveGrows refl
+      (start_causes old.pair old.coordinator)
+      (CoordinatorStarts old.pair preference old.coordinator)
+      (λ next call none up g. starts_value old.pair preference old.coordinator next call g)
+      next call refusals so))
   step_stands (Deliver message) new g = delivers_stand (slice_get old.sent message) new g
   step_stands Tick new g = ticks_stand new g
-  step_stands (Checkpoint machine) new g =
-      calls_stand machine (full_generation (generation_of old machine))
-      (CompactsMachine old machine) new (compacts_stand machine) g
-  step_stands (Fail machine call) new g =
-      unless_down_stands machine _ new
-      (λ e. subst (StandsFor before) (sym e) (device_stands before old machine _ _ 0 s)) g
-  step_stands (Stop machine zero) new g =
-      unless_down_stands machine _ new
-      (λ e. subst (StandsFor before) (sym e) (device_stands before old machine _ _ 0 s)) g
-  step_stands (Stop machine (suc calls)) new g =
-      unless_down_stands machine _ new
-      (λ e. subst (StandsFor before) (sym e) (device_stands before old machine _ _ 0 s)) g
-  step_stands (Open machine) new (inl (up, e)) = subst (StandsFor before) (sym e) s
-  step_stands (Open machine) new (inr (down, o)) = opens_down_stands machine new o
-  step_stands (Reopen machine) new g =
-      unless_down_stands machine _ new (reopens_stand machine new) g
+  step_stands (Checkpoint machine) new g = machine_stands machine one.Checkpoint new g
+  step_stands (Fail machine call) new g = machine_stands machine (one.Fail call) new g
+  step_stands (Stop machine calls) new g = machine_stands machine (one.Stop calls) new g
+  step_stands (Open machine) new g = machine_stands machine one.Open new g
+  step_stands (Reopen machine) new g = machine_stands machine one.Reopen new g
 
 -- a whole run
 pub runs_stand : RunsStand

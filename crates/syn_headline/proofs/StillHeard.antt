@@ -5,7 +5,7 @@ use Rattle.std.proofs.Common.{[]}
 use Rattle.std.specs.Prelude.{Contains, IfSome, length, ◌≤◌}
 use Rattle.std.proofs.lemmas.Option.{none-some, same_Some}
 use Rattle.syn_model.specs.Event.{Event}
-use Rattle.syn_headline.specs.Machine.{Status, Up, Halted, Down, Arms, has_room}
+use Rattle.syn_headline.specs.Machine.{Status, Up, Halted, Down, has_room}
 use Rattle.syn_model.specs.Path.{Path}
 use Rattle.syn_model.specs.Tree.{is_directory}
 use Rattle.syn_model.specs.Limits.{children}
@@ -17,8 +17,7 @@ use Rattle.syn_headline.specs.SideMachine.{answers, adds, said}
 use Rattle.syn_headline.specs.Network.{Which, Left, Right, Message, Asks, Answers, Sent}
 use Rattle.syn_headline.specs.Acknowledged.{Happened}
 use Rattle.syn_headline.specs.Coordinator.{Running, running_after}
-use Rattle.syn_headline.specs.World.{World, Machine, At, Coordinator, side_of, side_goes, says}
-use Rattle.syn_headline.specs.World.{set_device}
+use Rattle.syn_headline.specs.World.{World, side_of, side_goes, says}
 use Rattle.syn_headline.specs.Picture.{Follows}
 use Rattle.syn_headline.proofs.Invariant.{Plans, histories_of, IsTrueListing, IsKept}
 use Rattle.syn_headline.proofs.SideSteps.{if_some}
@@ -211,17 +210,3 @@ pub after_running : (old new : World) (status : Status) (running : Option Runnin
 after_running old new Up running g h = beside_heard old new g running h
 after_running old new Halted running g h = beside_heard old new g running h
 after_running old new Down running g h = tt
-
-pub device_heard : (old : World) (machine : Machine) (status : Status) (arms : Arms) (failed : ℕ) →
-    IfSome old.coordinator.running (IsHeard old) →
-    IfSome (set_device old machine status arms failed).coordinator.running
-    (IsHeard (set_device old machine status arms failed))
-device_heard old (At Left) status arms failed h =
-    beside_heard old (set_device old (At Left) status arms failed) (same_beside old
-    (set_device old (At Left) status arms failed) refl refl refl) old.coordinator.running h
-device_heard old (At Right) status arms failed h =
-    beside_heard old (set_device old (At Right) status arms failed) (same_beside old
-    (set_device old (At Right) status arms failed) refl refl refl) old.coordinator.running h
-device_heard old Coordinator status arms failed h =
-    after_running old (set_device old Coordinator status arms failed) status old.coordinator.running
-    (same_beside old (set_device old Coordinator status arms failed) refl refl refl) h

@@ -1,7 +1,7 @@
 -- The picture of a world, and what each step of the sides and of the devices is in it.
-use Rattle.std.proofs.Common.{◌≡◌, ◌≢◌, ◌⊎◌, ℕ, Bool, true, false, true≢false, if◌then◌else◌, List}
-use Rattle.std.proofs.Common.{[], ◌∷◌, ◌++◌, map, refl, sym, ap, ap₂, ◌∙◌, subst, Option, Some}
-use Rattle.std.proofs.Common.{None, option_map, append-nil, inl, inr}
+use Rattle.std.proofs.Common.{◌≡◌, ◌≢◌, ◌⊎◌, ℕ, true, false, true≢false, List, [], ◌∷◌, ◌++◌, map}
+use Rattle.std.proofs.Common.{refl, sym, ap, ap₂, ◌∙◌, subst, Option, Some, None, append-nil, inl}
+use Rattle.std.proofs.Common.{inr}
 use Rattle.std.specs.Prelude.{Contains}
 use Rattle.std.proofs.lemmas.List.{append_cancel_left}
 use Rattle.syn_model.specs.Refusal.{Refusal, Device, first_cause}
@@ -16,16 +16,15 @@ use Rattle.syn_headline.specs.Side.{Side, Served, Staging, Request, Reply, Refus
 use Rattle.syn_headline.specs.Side.{room_causes, Serves}
 use Rattle.syn_headline.specs.SideMachine.{ServesAs, SideMachine, side_layout, side_now}
 use Rattle.syn_headline.specs.SideMachine.{staging_after, with_journal, has_room_for, causes_of}
-use Rattle.syn_headline.specs.SideMachine.{said, SideTakes, answers, adds}
+use Rattle.syn_headline.specs.SideMachine.{said, SideTakes, answers, adds, EditsSide, edits}
 use Rattle.syn_headline.specs.Network.{Which, Left, Right, Sent, Message, Asks, Answers}
 use Rattle.syn_headline.specs.Acknowledged.{Ack, Happened}
-use Rattle.syn_headline.specs.Coordinator.{CoordinatorMachine, plan_of, running_after}
 use Rattle.syn_headline.specs.Coordinator as fine
 use Rattle.syn_headline.specs.World as fine_world
-use Rattle.syn_headline.specs.World.{At, Coordinator, Machine, side_writes, set_device, status_of}
-use Rattle.syn_headline.specs.World.{refuses_with, answered_by, is_halted, EditsSide, says}
-use Rattle.syn_headline.specs.Runs.{picture_of, side_picture, session_picture}
-use Rattle.syn_headline.specs.Picture.{SessionPicture, Picture, side_of, set_side, Follows}
+use Rattle.syn_headline.specs.MachineSteps.{causes_at, is_halted}
+use Rattle.syn_headline.specs.World.{says}
+use Rattle.syn_headline.specs.Runs.{picture_of, side_picture}
+use Rattle.syn_headline.specs.Picture.{Picture, side_of, set_side, Follows}
 use Rattle.syn_headline.specs.Picture as picture
 use Rattle.syn_headline.proofs.OutcomeLemmas.{Outcome, refuses, begins_again, begins, lists}
 use Rattle.syn_headline.proofs.OutcomeLemmas.{lists_none, fetches, stages_first, stages_more}
@@ -45,12 +44,6 @@ pub view_goes : (old : fine_world.World) (side : Which) (machine : SideMachine)
     }
 view_goes old Left machine messages events = refl
 view_goes old Right machine messages events = refl
-
-pub view_set : (old : fine_world.World) (side : Which) (machine : SideMachine) →
-    picture_of (fine_world.set_side old side machine) ≡ set_side (picture_of old) side
-    (side_picture machine)
-view_set old Left machine = refl
-view_set old Right machine = refl
 
 pub staged_up : (status : Status) (staging : Option Staging) → status ≡ Up →
     staging_after status staging ≡ staging
@@ -144,18 +137,11 @@ side_changes old new side journal value writing up e =
     (e ∙ ap (set_side (picture_of old) side)
     (ap₂ build value writing ∙ sym (ap with_status (view_of old side))))
 
--- What is refused changes nothing that is seen
-pub view_refused : (world : fine_world.World) (reason : Refusal) →
-    picture_of (refuses_with world reason) ≡ picture_of world
-view_refused world reason = refl
-
-pub view_answered : (machine : Machine) (world : fine_world.World) →
-    picture_of (answered_by machine world) ≡ picture_of world
-view_answered machine world = by (is_halted (status_of world machine))
-  where
-    by : (b : Bool) → picture_of (if b then refuses_with world Device else world) ≡ picture_of world
-    by true = refl
-    by false = refl
+-- a side's journal is left so, and it acknowledges these
+abbrev pub side_writes : fine_world.World → Which → Journaled History Event → List Event →
+    fine_world.World
+side_writes old side journal events =
+    fine_world.side_goes old side (with_journal (fine_world.side_of old side) journal) [] events
 
 -- Events that are acknowledged by a side, with nothing said
 pub side_acknowledges : (old : fine_world.World) (side : Which) (journal : Journaled History Event)
@@ -197,11 +183,13 @@ neither Halted h k = absurd (true≢false h)
 neither Down h k = absurd (k refl)
 
 pub edits_follow : (old : fine_world.World) (side : Which) (user : ℕ) (edit : Edit)
-    (new : fine_world.World) → first_cause ((is_halted (status_of old (At side)), why.Halted)
-    ∷ causes_of old.pair (fine_world.side_of old side) (Edited user edit)) ≡ None →
-    status_of old (At side) ≢ Down → EditsSide old side (Edited user edit) new →
-    Follows (picture_of old) (picture_of new)
-edits_follow old side user edit _ none down (fine_world.edits journal events lawful writes) =
+    (next : SideMachine) (events : List Event) →
+    first_cause (causes_at (fine_world.side_of old side).journal.status
+    (causes_of old.pair (fine_world.side_of old side) (Edited user edit))) ≡ None →
+    (fine_world.side_of old side).journal.status ≢ Down →
+    EditsSide old.pair (fine_world.side_of old side) (Edited user edit) next events →
+    Follows (picture_of old) (picture_of (fine_world.side_goes old side next [] events))
+edits_follow old side user edit _ _ none down (edits journal events lawful writes) =
     let machine = fine_world.side_of old side in
     let event = Edited user edit in
     let first = first_cause-none (is_halted machine.journal.status, why.Halted)
@@ -430,23 +418,12 @@ request_follows old side session number request _ _ _ asked lawful
 
 -- The devices
 
--- a device is left so, and what the machine stands for stays
-pub device_follows : (old : fine_world.World) (machine : Machine) (status : Status) (arms : Arms)
-    (failed : ℕ) → (status_of old machine ≢ Up → status ≢ Up) →
-    Follows (picture_of old) (picture_of (set_device old machine status arms failed))
-device_follows old (At side) status arms failed up =
+-- a device is left so, and what the side stands for stays
+pub device_follows : (old : fine_world.World) (side : Which) (status : Status) (arms : Arms)
+    (failed : ℕ) → ((fine_world.side_of old side).journal.status ≢ Up → status ≢ Up) →
+    Follows (picture_of old) (picture_of (side_writes old side
+    (after_device (fine_world.side_of old side).journal status arms failed) []))
+device_follows old side status arms failed up =
     let journal = after_device (fine_world.side_of old side).journal status arms failed in
-    side_changes old (set_device old (At side) status arms failed) side journal refl refl up
-    (view_set old side (with_journal (fine_world.side_of old side) journal))
-device_follows old Coordinator status arms failed up =
-    picture.archive_changes status
-    (option_map session_picture (running_after status old.coordinator.running)) up
-    (still status old.coordinator.running) refl
-  where
-    still : (status : Status) (running : Option fine.Running) →
-        (option_map session_picture (running_after status running) ≡ option_map session_picture
-        running)
-        ⊎ (option_map session_picture (running_after status running) ≡ None)
-    still Up running = inl refl
-    still Halted running = inl refl
-    still Down running = inr refl
+    side_changes old (side_writes old side journal []) side journal refl refl up
+    (side_settled old side journal)

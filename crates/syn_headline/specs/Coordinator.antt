@@ -7,14 +7,15 @@ use Rattle.std.specs.Prelude.{◌+◌, ◌≡◌, ◌≢◌, ◌⊎◌, List, []
 use Rattle.std.specs.Prelude.{take, slice_get, Option, Some, None, is_some, IsSome}
 use Rattle.syn_model.specs.Path.{Path}
 use Rattle.syn_model.specs.Limits.{greatest}
-use Rattle.syn_model.specs.Refusal.{Refusal, Device, Memory, Full, JournalFull, Busy, TooLarge}
-use Rattle.syn_model.specs.Refusal.{BadMessage, NoAnswer, Cause, first_cause}
+use Rattle.syn_model.specs.Refusal.{Refusal, Device, Memory, Full, JournalFull, Busy, NoAnswer}
+use Rattle.syn_model.specs.Refusal.{Cause}
 use Rattle.syn_model.specs.Refusal as why_refused
 use Rattle.syn_model.specs.Archive.{Archive, Kept, Session, Recorded, RecordedDir, CanKeep}
 use Rattle.syn_model.specs.Archive.{kept_refusal}
 use Rattle.syn_model.specs.Decision.{MarkSame, MarkDir, Conflict, path_of}
 use Rattle.syn_headline.specs.Machine.{Status, Up, Halted, Down, Journaled, IsBefore, unarmed}
 use Rattle.syn_headline.specs.Machine.{has_room, cut, with_record, Writes, Compacts}
+use Rattle.syn_headline.specs.MachineSteps.{Kind, Effect, Calls}
 use Rattle.syn_headline.specs.Side.{Request, Begin, Fetch, Stage, Replace, IsLawfulRequest, Reply}
 use Rattle.syn_headline.specs.Side.{Done, Refused}
 use Rattle.syn_headline.specs.Network.{Which, Left, Right, other, is_side, Message}
@@ -25,10 +26,9 @@ pub use Rattle.syn_headline.specs.Session.{Exchange, Outstanding, Running, Coord
 pub use Rattle.syn_headline.specs.Session.{is_recorded, archive_layout, outstanding, asked_in}
 pub use Rattle.syn_headline.specs.Session.{asked_of, without, asked_count, numbered, asking}
 pub use Rattle.syn_headline.specs.Session.{messages_to, most_listings, IsListing, MayWait}
-pub use Rattle.syn_headline.specs.Session.{AreRising, Waits, WasTaken}
-pub use Rattle.syn_headline.specs.Session.{WasAsked, AsksOnce, BothBegun, IsShown, is_not_dir}
-pub use Rattle.syn_headline.specs.Session.{is_unstable, entries_in, nodes_shown}
-pub use Rattle.syn_headline.specs.Session.{piece_total, first_total, fits_piece}
+pub use Rattle.syn_headline.specs.Session.{AreRising, Waits, WasTaken, WasAsked, AsksOnce}
+pub use Rattle.syn_headline.specs.Session.{BothBegun, IsShown, is_not_dir, is_unstable, entries_in}
+pub use Rattle.syn_headline.specs.Session.{nodes_shown, piece_total, first_total, fits_piece}
 pub use Rattle.syn_headline.specs.Session.{fault_of, plan_of, MakesPlan, HasPlan, record_for}
 pub use Rattle.syn_headline.specs.Session.{AtCursor, IsStagedTo, MayAsk, AsksNext, stays, makes}
 
@@ -413,7 +413,7 @@ pub data CoordinatorTicks (machine : CoordinatorMachine) : CoordinatorMachine �
       CoordinatorTicks machine (record machine { running = None })
       (record no_call { reports = report_of running (Some why) ∷ [] })
 
--- An opening, a checkpoint and a stop
+-- The coordinator as a kind of machine
 
 -- a stop loses the session
 abbrev pub running_after : Status → Option Running → Option Running
@@ -427,3 +427,17 @@ with_archive machine journal = record {
   journal = journal;
   running = running_after journal.status machine.running;
 }
+
+abbrev pub coordinator_kind : ℕ → Kind CoordinatorMachine Call Archive Kept
+coordinator_kind pair = record {
+  layout = archive_layout pair;
+  CanKeep = CanKeep;
+  journal_of = λ machine. machine.journal;
+  with_journal = with_archive;
+  acknowledging = λ kept. record no_call { kept = kept };
+}
+
+-- a start, made or refused
+abbrev pub Starts : ℕ → Option Which → CoordinatorMachine → Effect CoordinatorMachine Call
+Starts pair preference machine = Calls (coordinator_kind pair) machine
+    (start_causes pair machine) (CoordinatorStarts pair preference machine)

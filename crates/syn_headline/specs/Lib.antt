@@ -1,4 +1,5 @@
 pub mod Machine
+pub mod MachineSteps
 pub mod Side
 pub mod SideMachine
 pub mod Network

@@ -2,12 +2,13 @@
 use Rattle.std.specs.Prelude.{ℕ, Bool, false, ◌≡◌, ◌⊎◌, List, [], ◌∷◌, ◌++◌, Option, Some, None}
 use Rattle.syn_model.specs.Refusal.{Refusal, Device, Memory, Cause}
 use Rattle.syn_model.specs.Refusal as why
-use Rattle.syn_model.specs.Event.{Event}
-use Rattle.syn_model.specs.History.{History, event_causes, standing_of}
+use Rattle.syn_model.specs.Event.{Event, IsLawfulEvent}
+use Rattle.syn_model.specs.History.{History, IsAllowed, event_causes, standing_of}
 use Rattle.syn_model.specs.Spelling.{event_spelling}
 use Rattle.syn_model.specs.Image.{image_spelling}
 use Rattle.syn_headline.specs.Machine.{Status, Up, Halted, Down, Journaled, Layout, has_room}
 use Rattle.syn_headline.specs.Machine.{Writes}
+use Rattle.syn_headline.specs.MachineSteps.{Kind, Effect, Calls}
 use Rattle.syn_headline.specs.Side.{Request, Stage, Reply, Refused, Staging, Side, Served, Serves}
 use Rattle.syn_headline.specs.Side.{answer, stage, token_of, room_causes}
 
@@ -42,6 +43,15 @@ with_journal machine journal = record {
   staging = staging_after journal.status machine.staging;
 }
 
+abbrev pub side_kind : ℕ → Kind SideMachine (List Event) History Event
+side_kind pair = record {
+  layout = side_layout pair;
+  CanKeep = IsAllowed;
+  journal_of = λ machine. machine.journal;
+  with_journal = with_journal;
+  acknowledging = λ events. events;
+}
+
 -- the record of the event fits into the journal
 abbrev pub has_room_for : ℕ → SideMachine → Event → Bool
 has_room_for pair machine event = has_room (side_layout pair) machine.journal event
@@ -50,6 +60,18 @@ has_room_for pair machine event = has_room (side_layout pair) machine.journal ev
 abbrev pub causes_of : ℕ → SideMachine → Event → List Cause
 causes_of pair machine event =
     event_causes machine.journal.value event ++ room_causes (has_room_for pair machine) event
+
+-- an edit that is made
+pub data EditsSide (pair : ℕ) (machine : SideMachine) (event : Event) : SideMachine →
+    List Event → Type 0 where
+  edits : (journal : Journaled History Event) (events : List Event) → IsLawfulEvent event →
+      Writes (side_layout pair) machine.journal event journal events →
+      EditsSide pair machine event (with_journal machine journal) events
+
+-- an edit of a user, made or refused
+abbrev pub UserEdits : ℕ → SideMachine → Event → Effect SideMachine (List Event)
+UserEdits pair machine event =
+    Calls (side_kind pair) machine (causes_of pair machine event) (EditsSide pair machine event)
 
 -- a halted side still stages, and refuses all else
 abbrev pub serve_halted : Side → ℕ → Request → Served

@@ -1,24 +1,19 @@
 -- Three machines and the network between them, and what a step may do.
-use Rattle.std.specs.Prelude.{ℕ, zero, suc, Bool, true, false, nat_le, if◌then◌else◌, ◌≤◌, ◌≡◌, ◌≢◌}
-use Rattle.std.specs.Prelude.{◌⊎◌, List, [], ◌∷◌, ◌++◌, slice_get, map, length, Option, Some, None}
-use Rattle.syn_model.specs.Refusal.{Refusal, Device, Full, Memory, Cause, first_cause}
-use Rattle.syn_model.specs.Refusal as why
-use Rattle.syn_model.specs.Limits.{greatest}
-use Rattle.syn_model.specs.Event.{Edit, Event, Edited, IsLawfulEvent}
-use Rattle.syn_model.specs.History.{IsAllowed}
-use Rattle.syn_model.specs.Archive.{Archive, Kept, CanKeep}
-use Rattle.syn_headline.specs.Machine.{Status, Halted, Down, Arms, unarmed, Meets, Up, Journaled}
-use Rattle.syn_headline.specs.Machine.{after_device, Writes, Compacts, Opens}
+use Rattle.std.specs.Prelude.{ℕ, ◌≡◌, List, [], ◌∷◌, ◌++◌, slice_get, map, length, Option, Some}
+use Rattle.std.specs.Prelude.{None}
+use Rattle.syn_model.specs.Refusal.{Refusal}
+use Rattle.syn_model.specs.Event.{Edit, Event, Edited}
+use Rattle.syn_headline.specs.Machine.{Status, Down}
+use Rattle.syn_headline.specs.MachineSteps.{Effect, MachineCall, Does}
+use Rattle.syn_headline.specs.MachineSteps as one
 use Rattle.syn_headline.specs.Side.{Request, Reply}
-use Rattle.syn_headline.specs.SideMachine.{SideMachine, side_layout, with_journal, causes_of}
-use Rattle.syn_headline.specs.SideMachine.{SideTakes}
+use Rattle.syn_headline.specs.SideMachine.{SideMachine, side_kind, UserEdits, SideTakes}
 use Rattle.syn_headline.specs.Network.{Which, Left, Right, Message, Asks, Answers, Sent}
 use Rattle.syn_headline.specs.Acknowledged.{Ack, Happened, Kept_by}
 use Rattle.syn_headline.specs.Planning.{Log}
 use Rattle.syn_headline.specs.Report.{Report}
-use Rattle.syn_headline.specs.Coordinator.{CoordinatorMachine, archive_layout, with_archive, Call}
-use Rattle.syn_headline.specs.Coordinator.{no_call, CoordinatorTakes, CoordinatorStarts}
-use Rattle.syn_headline.specs.Coordinator.{CoordinatorTicks, start_causes}
+use Rattle.syn_headline.specs.Coordinator.{CoordinatorMachine, coordinator_kind, Call, Starts}
+use Rattle.syn_headline.specs.Coordinator.{CoordinatorTakes, CoordinatorTicks}
 
 pub data Machine : Type 0 where
   At : (side : Which) → Machine
@@ -61,10 +56,6 @@ abbrev pub status_of : World → Machine → Status
 status_of world (At side) = (side_of world side).journal.status
 status_of world Coordinator = world.coordinator.journal.status
 
-abbrev pub arms_of : World → Machine → Arms
-arms_of world (At side) = (side_of world side).journal.arms
-arms_of world Coordinator = world.coordinator.journal.arms
-
 -- how many device calls of a machine failed
 abbrev pub failures_of : World → Machine → ℕ
 failures_of world (At side) = (side_of world side).journal.failures
@@ -94,69 +85,29 @@ coordinator_goes old machine call =
       log = old.log ++ call.logged;
     }
 
--- the call of a machine left its journal and acknowledged this
-abbrev pub side_writes : World → Which → Journaled (List Event) Event → List Event → World
-side_writes old side journal events =
-    side_goes old side (with_journal (side_of old side) journal) [] events
+abbrev pub refuses_with : World → List Refusal → World
+refuses_with world reasons = record world { refusals = world.refusals ++ reasons }
 
-abbrev pub archive_writes : World → Journaled Archive Kept → List Kept → World
-archive_writes old journal kept = coordinator_goes old (with_archive old.coordinator journal)
-    (record no_call { kept = kept })
+-- a side does so by itself: it says nothing, and its user is told what it was refused with
+pub data SideDoes (old : World) (side : Which) (So : Effect SideMachine (List Event)) : World →
+    Type 0 where
+  side_does : (next : SideMachine) (events : List Event) (refusals : List Refusal) →
+      So next events refusals →
+      SideDoes old side So (refuses_with (side_goes old side next [] events) refusals)
 
--- How calls are refused
+pub data CoordinatorDoes (old : World) (So : Effect CoordinatorMachine Call) : World →
+    Type 0 where
+  coordinator_does : (next : CoordinatorMachine) (call : Call) (refusals : List Refusal) →
+      So next call refusals →
+      CoordinatorDoes old So (refuses_with (coordinator_goes old next call) refusals)
 
-abbrev pub refuses_with : World → Refusal → World
-refuses_with world reason = record world { refusals = world.refusals ++ reason ∷ [] }
-
--- the first of the causes refuses it, or want of memory where none stands
-abbrev pub IsRefused : World → List Cause → World → Type 0
-IsRefused old causes new =
-    (reason : Refusal) × (first_cause (causes ++ (true, Memory) ∷ []) ≡ Some reason)
-    × (new ≡ refuses_with old reason)
-
-abbrev pub is_halted : Status → Bool
-is_halted Halted = true
-is_halted _ = false
-
--- a call that leaves the machine halted is refused so
-abbrev pub answered_by : Machine → World → World
-answered_by machine world = if is_halted (status_of world machine) then refuses_with world Device
-    else world
-
--- on a machine that is down nothing is done
-abbrev pub UnlessDown : World → Machine → Type 0 → World → Type 0
-UnlessDown old machine IsDone new =
-    ((status_of old machine ≡ Down) × (new ≡ old)) ⊎ ((status_of old machine ≢ Down) × IsDone)
-
--- a call is refused, says why and changes nothing, or no cause stands and it is made
-abbrev pub Calls : World → Machine → List Cause → (World → Type 0) → World → Type 0
-Calls old machine causes Made new =
-    let all = (is_halted (status_of old machine), why.Halted) ∷ causes in
-    UnlessDown old machine
-    (IsRefused old all new
-    ⊎ ((first_cause all ≡ None) × (made : World) × Made made
-    × (new ≡ answered_by machine made))) new
+abbrev pub MachineDoes : World → Machine → MachineCall → World → Type 0
+MachineDoes old (At side) call new =
+    SideDoes old side (Does (side_kind old.pair) (side_of old side) call) new
+MachineDoes old Coordinator call new =
+    CoordinatorDoes old (Does (coordinator_kind old.pair) old.coordinator call) new
 
 -- The steps
-
--- an edit, or a checkpoint, that is made
-pub data EditsSide (old : World) (side : Which) (event : Event) : World → Type 0 where
-  edits : (journal : Journaled (List Event) Event) (events : List Event) → IsLawfulEvent event →
-      Writes (side_layout old.pair) (side_of old side).journal event journal events →
-      EditsSide old side event (side_writes old side journal events)
-
-pub data Starts (old : World) (preference : Option Which) : World → Type 0 where
-  starts : (machine : CoordinatorMachine) (call : Call) →
-      CoordinatorStarts old.pair preference old.coordinator machine call →
-      Starts old preference (coordinator_goes old machine call)
-
-pub data CompactsMachine (old : World) : Machine → World → Type 0 where
-  compacts_side : (side : Which) (journal : Journaled (List Event) Event) →
-      Compacts (side_layout old.pair) (side_of old side).journal journal →
-      CompactsMachine old (At side) (side_writes old side journal [])
-  compacts_archive : (journal : Journaled Archive Kept) →
-      Compacts (archive_layout old.pair) old.coordinator.journal journal →
-      CompactsMachine old Coordinator (archive_writes old journal [])
 
 -- a message is delivered; a machine that is down takes none
 pub data Delivers (old : World) : Option Message → World → Type 0 where
@@ -179,88 +130,19 @@ pub data Ticks (old : World) : World → Type 0 where
       CoordinatorTicks old.coordinator machine call →
       Ticks old (coordinator_goes old machine call)
 
--- an opening by so many device calls gives this
-pub data OpensMachine (old : World) (calls : ℕ) : Machine → World → Type 0 where
-  opens_side : (side : Which) (journal : Journaled (List Event) Event) (events : List Event) →
-      Opens (side_layout old.pair) IsAllowed (side_of old side).journal calls journal events →
-      OpensMachine old calls (At side) (side_writes old side journal events)
-  opens_archive : (journal : Journaled Archive Kept) (kept : List Kept) →
-      Opens (archive_layout old.pair) CanKeep old.coordinator.journal calls journal kept →
-      OpensMachine old calls Coordinator (archive_writes old journal kept)
-
--- the device of the machine is left so, and so many of its calls failed
-abbrev pub set_device : World → Machine → Status → Arms → ℕ → World
-set_device old (At side) status arms failed =
-    set_side old side (with_journal (side_of old side)
-    (after_device (side_of old side).journal status arms failed))
-set_device old Coordinator status arms failed =
-    record old {
-      coordinator =
-          with_archive old.coordinator (after_device old.coordinator.journal status arms failed);
-    }
-
--- device calls of an opening that gave nothing: one fails, or is followed by a stop, or all are
--- made and memory is refused
-pub data FailsDevice (old : World) (machine : Machine) (calls : ℕ) (status left : Status) : World →
-    Type 0 where
-  fails_device : (arms : Arms) (failed : ℕ) → Meets (arms_of old machine) calls status arms failed →
-      FailsDevice old machine calls status left (set_device old machine left arms failed)
-
--- what is armed at a machine
-abbrev pub armed : World → Machine → Arms → World
-armed old machine arms = set_device old machine (status_of old machine) arms 0
-
--- a machine that is down is opened, and stays down where that fails
-pub data OpensDown (old : World) (machine : Machine) : World → Type 0 where
-  opens : (calls : ℕ) (new : World) → OpensMachine old calls machine new → OpensDown old machine new
-  open_fails : (calls : ℕ) (made : World) → FailsDevice old machine calls Halted Down made →
-      OpensDown old machine (refuses_with made Device)
-  no_memory_to_open : OpensDown old machine (refuses_with old Memory)
-
--- a machine that is not down opens its disk again by at least one device call; one that fails halts
--- it
-pub data Reopens (old : World) (machine : Machine) : World → Type 0 where
-  reopens : (calls : ℕ) (new : World) → 1 ≤ calls → OpensMachine old calls machine new →
-      Reopens old machine new
-  reopen_fails : (calls : ℕ) (made : World) → FailsDevice old machine calls Halted Halted made →
-      Reopens old machine (refuses_with made Device)
-  reopen_is_cut : (calls : ℕ) (made : World) → FailsDevice old machine calls Down Down made →
-      Reopens old machine made
-  no_memory_to_reopen : (calls : ℕ) (made : World) →
-      FailsDevice old machine calls Up (status_of old machine) made →
-      Reopens old machine (refuses_with made Memory)
-
-abbrev pub full_generation : ℕ → List Cause
-full_generation generation = (nat_le greatest generation, Full) ∷ []
-
-abbrev pub generation_of : World → Machine → ℕ
-generation_of world (At side) = (side_of world side).journal.generation
-generation_of world Coordinator = world.coordinator.journal.generation
-
 -- One step
 abbrev pub Steps : World → Step → World → Type 0
 Steps old (Edits side user edit) new =
-    Calls old (At side) (causes_of old.pair (side_of old side) (Edited user edit))
-    (EditsSide old side (Edited user edit)) new
+    SideDoes old side (UserEdits old.pair (side_of old side) (Edited user edit)) new
 Steps old (Start preference) new =
-    Calls old Coordinator (start_causes old.pair old.coordinator) (Starts old preference) new
+    CoordinatorDoes old (Starts old.pair preference old.coordinator) new
 Steps old (Deliver message) new = Delivers old (slice_get old.sent message) new
 Steps old Tick new = Ticks old new
-Steps old (Checkpoint machine) new =
-    Calls old machine (full_generation (generation_of old machine))
-    (CompactsMachine old machine) new
-Steps old (Fail machine call) new =
-    UnlessDown old machine
-    (new ≡ armed old machine (record (arms_of old machine) { fail = call })) new
-Steps old (Stop machine zero) new =
-    UnlessDown old machine (new ≡ set_device old machine Down unarmed 0) new
-Steps old (Stop machine (suc calls)) new =
-    UnlessDown old machine
-    (new ≡ armed old machine (record (arms_of old machine) { stop = suc calls })) new
-Steps old (Open machine) new =
-    ((status_of old machine ≢ Down) × (new ≡ old))
-    ⊎ ((status_of old machine ≡ Down) × OpensDown old machine new)
-Steps old (Reopen machine) new = UnlessDown old machine (Reopens old machine new) new
+Steps old (Checkpoint machine) new = MachineDoes old machine one.Checkpoint new
+Steps old (Fail machine number) new = MachineDoes old machine (one.Fail number) new
+Steps old (Stop machine calls) new = MachineDoes old machine (one.Stop calls) new
+Steps old (Open machine) new = MachineDoes old machine one.Open new
+Steps old (Reopen machine) new = MachineDoes old machine one.Reopen new
 
 -- a list of steps, one after another
 abbrev pub Runs : World → List Step → World → Type 0

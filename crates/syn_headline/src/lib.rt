@@ -12,7 +12,8 @@
 //!
 //! `syn_headline` proves its sentences of every run of the world's steps (`Runs`). So the code of a
 //! layer owes that what it does is such a step, and nothing about runs. What a machine does is said
-//! over the machine alone, with no world; the world's steps lift it.
+//! over the machine alone, with no world, and once for both kinds of machine (`Kind`, `Does`); the
+//! world's steps lift it (`SideDoes`, `CoordinatorDoes`, `MachineDoes`).
 //!
 //! - A **machine** keeps a value in a journal (`Journaled`): a side its history, the coordinator
 //!   its archive. What a record makes of the value, and the bytes of records and images, are its
@@ -65,7 +66,7 @@
 //!   as a child is asked for only once its parent's listing was taken (`ordered` of `IsPlanOf`).
 //! - A user's edit, a start, a checkpoint and a reopening are lost on a machine that is down. Else
 //!   each is made, or is refused with the first of its causes, which the world keeps (`Calls`,
-//!   `refusals`). It is 9 where it leaves the machine halted (`answered_by`).
+//!   `refusals`). It is 9 where it leaves the machine halted (`refused_by`).
 //!
 //! From these steps follows what is proved of runs (`run_laws`, `session_laws`). Each replacement
 //! is legal, each archive entry was held, nothing was asked twice, and each plan is logged. Each
@@ -82,12 +83,11 @@ ghost use Rattle.syn_headline.specs.Laws.{LaterAreOld, DeadAreOld, ServesByReadi
 ghost use Rattle.syn_headline.specs.Headline.{formatted, IsPair, IsRunFrom};
 ghost use Rattle.syn_headline.specs.Runs.{OfEachRun, RunsStand};
 ghost use Rattle.syn_headline.specs.Headline.{EachReplacementIsLegal, EachTokenOnce};
-ghost use Rattle.syn_headline.specs.Headline.{RecoveredIsLegal};
-ghost use Rattle.syn_headline.specs.Headline.{EachEntryWasHeld, LeavesPair, LogsPlans, Owes};
-ghost use Rattle.syn_headline.specs.Headline.{CompleteSessionsSynchronize};
+ghost use Rattle.syn_headline.specs.Headline.{RecoveredIsLegal, EachEntryWasHeld, LeavesPair};
+ghost use Rattle.syn_headline.specs.Headline.{LogsPlans, Owes, CompleteSessionsSynchronize};
 ghost use Rattle.syn_headline.specs.Headline.{CompleteSessionsReconcile, ReportsItsConflicts};
-ghost use Rattle.syn_headline.specs.Headline.{PreferenceLeavesOne};
-ghost use Rattle.syn_headline.specs.Headline.{CountsItsItems, CarriedIsMarked, HeldIsMarked};
+ghost use Rattle.syn_headline.specs.Headline.{PreferenceLeavesOne, CountsItsItems, CarriedIsMarked};
+ghost use Rattle.syn_headline.specs.Headline.{HeldIsMarked};
 ghost use Rattle.syn_headline.specs.Reported.{EachReportTells, TakesExpected};
 
 /// A step of a side leaves its history or adds one allowed event, and is the one that its staged

@@ -14,13 +14,14 @@ use Rattle.syn_headline.specs.Side.{Reply, Request}
 use Rattle.syn_headline.specs.SideMachine.{SideMachine, SideTakes, answers, adds, side_layout}
 use Rattle.syn_headline.specs.SideMachine.{staging_after, with_journal}
 use Rattle.syn_host.specs.Outcomes.{Acknowledges, refused_in}
-use Rattle.syn_host.specs.SideSteps.{Journal, takes}
-use Rattle.syn_host.specs.Sides.{AnswersSo, RunsAs, Settles, SettlesAdded}
+use Rattle.syn_host.specs.SideSteps.{Answers, Journal, takes}
+use Rattle.syn_host.specs.Sides.{AnswerIsStep, RunsAs, Settles, SettlesAdded}
 use Rattle.syn_host.specs.declared.outcome.Outcome.TheVariants.{Nothing}
 use Rattle.syn_host.specs.declared.side.SideCall.{SideCall}
 use Rattle.syn_message.specs.Replies.{IsLawfulReply, reply_of}
 use Rattle.syn_message.specs.declared.reply.Reply.{Reply as Said}
 use Rattle.syn_model.specs.Event.{Event}
+use Rattle.syn_model.specs.Refusal.{Refusal}
 use Rattle.syn_model.specs.Spelling.{event_spelling}
 use Rattle.syn_replica.specs.Replica.{IsHalted, disk_of, position_shown, tried_shown}
 use Rattle.syn_replica.specs.declared.replica.Replica.{Replica}
@@ -128,38 +129,47 @@ module _ {D : Type 0} {disk : Ghosts D} (pair : ℕ) (old new : Replica D disk)
         | inr sent ↦ sent
       ]
 
+  -- a request that is taken refuses no user
+  unrefused : (reply : Option Reply) {refusals : List Refusal} → refusals ≡ []
+      → SideTakes pair machine session request takes_so.next reply takes_so.events
+      → Answers pair machine session request reply takes_so.next takes_so.events refusals
+  unrefused reply none made = subst
+      (Answers pair machine session request reply takes_so.next takes_so.events) (sym none)
+      (takes takes_so.next takes_so.events made)
+
   -- the machine stopped in it
   pub answer_cut : (position : ℕ) → position ≡ length machine.journal.value
       → (call : SideCall D disk) → Settles (side_of new after) position Nothing call
       → is_stopped (disk.arms (disk_of new)) ≡ true
-      → AnswersSo pair machine (failed_by old) session request
+      → AnswerIsStep pair machine (failed_by old) session request
       (record { call = call; reply = None })
   answer_cut position position_now call settles stopped = elim takes_so.leaves
-      as (λ _. AnswersSo pair machine (failed_by old) session request
+      as (λ _. AnswerIsStep pair machine (failed_by old) session request
       (record { call = call; reply = None })) [
         | goes_on goes ↦ absurd (false≢true (sym goes.runs ∙ stopped))
         | stops rests ↦
             let down = becomes.down rests.down in
             let behind = settles.stops stopped in
-            record {
-              next = takes_so.next;
-              events = takes_so.events;
-              answers = takes takes_so.next None takes_so.events
-                  (subst (λ s. SideTakes pair machine session request takes_so.next
-                  (heard s (reply_of said)) takes_so.events) rests.down takes_so.takes);
-              refuses = ap refused_in behind.0;
-              acknowledges = subst (λ o. Acknowledges o takes_so.events) (sym behind.0) down.0;
-              lawful = tt;
-              is = behind.1 pair takes_so.next (record {
-                down = rests.down;
-                unarmed_is = down.1;
-                unstaged = down.2;
-                position_is = position_now ∙ ap length (sym down.3);
-                tries = tries;
-                leaves = rests.left;
-              });
-              counts = omega (arith, settles.counted, takes_so.counts);
-            }
+            (
+              record {
+                next = takes_so.next;
+                events = takes_so.events;
+                step = unrefused None (ap refused_in behind.0) (subst (λ s. SideTakes pair machine
+                    session request takes_so.next (heard s (reply_of said)) takes_so.events)
+                    rests.down takes_so.takes);
+                acknowledges = subst (λ o. Acknowledges o takes_so.events) (sym behind.0) down.0;
+                is = behind.1 pair takes_so.next (record {
+                  down = rests.down;
+                  unarmed_is = down.1;
+                  unstaged = down.2;
+                  position_is = position_now ∙ ap length (sym down.3);
+                  tries = tries;
+                  leaves = rests.left;
+                });
+                counts = omega (arith, settles.counted, takes_so.counts);
+              },
+              tt,
+            )
       ]
 
   -- it goes on
@@ -189,51 +199,52 @@ module _ {D : Type 0} {disk : Ghosts D} (pair : ℕ) (old new : Replica D disk)
       → (position ≡ position_shown new → Settles (side_of new after) position Nothing call)
       → (position ≢ position_shown new → SettlesAdded (side_of new after) position call)
       → is_stopped (disk.arms (disk_of new)) ≡ false
-      → AnswersSo pair machine (failed_by old) session request
+      → AnswerIsStep pair machine (failed_by old) session request
       (record { call = call; reply = Some said })
   answer_goes position position_now call same added goes = elim takes_so.leaves
-      as (λ _. AnswersSo pair machine (failed_by old) session request
+      as (λ _. AnswerIsStep pair machine (failed_by old) session request
       (record { call = call; reply = Some said })) [
         | stops rests ↦ absurd (false≢true (sym goes ∙ rests.stopped))
         | goes_on is ↦
             let now = runs_on is in
             let other = not_down pair (side_of new after) takes_so.next now in
             let shown = position_is pair (side_of new after) takes_so.next now in
-            let made = takes takes_so.next (Some (reply_of said)) takes_so.events
-            (subst (λ r. SideTakes pair machine session request takes_so.next r
-            takes_so.events) (says takes_so.next.journal.status other) takes_so.takes) in
+            let made = subst (λ r. SideTakes pair machine session request takes_so.next r
+            takes_so.events) (says takes_so.next.journal.status other) takes_so.takes in
             elim (becomes.either other)
-            as (λ _. AnswersSo pair machine (failed_by old) session request
+            as (λ _. AnswerIsStep pair machine (failed_by old) session request
             (record { call = call; reply = Some said })) [
               | inl stays ↦
                   let settled = same (position_now
                   ∙ (ap length (sym stays.1) ∙ sym shown)) in
                   let behind = settled.goes_on goes in
-                  record {
-                    next = takes_so.next;
-                    events = takes_so.events;
-                    answers = made;
-                    refuses = ap refused_in behind.0;
-                    acknowledges = subst (λ o. Acknowledges o takes_so.events) (sym behind.0)
-                        stays.0;
-                    lawful = lawful;
-                    is = behind.1 pair takes_so.next now;
-                    counts = omega (arith, settled.counted, takes_so.counts);
-                  }
+                  (
+                    record {
+                      next = takes_so.next;
+                      events = takes_so.events;
+                      step = unrefused (Some (reply_of said)) (ap refused_in behind.0) made;
+                      acknowledges = subst (λ o. Acknowledges o takes_so.events) (sym behind.0)
+                          stays.0;
+                      is = behind.1 pair takes_so.next now;
+                      counts = omega (arith, settled.counted, takes_so.counts);
+                    },
+                    lawful,
+                  )
               | inr grown ↦
                   let settled = added (λ is. one_longer machine.journal.value grown.0
                   (ap length (sym grown.2) ∙ (sym shown ∙ (sym is ∙ position_now)))) in
                   let behind = settled.goes_on goes grown.0 (takes_so.added grown.0 grown.1) in
-                  record {
-                    next = takes_so.next;
-                    events = takes_so.events;
-                    answers = made;
-                    refuses = behind.0;
-                    acknowledges = subst (λ es. Acknowledges call.outcome es) (sym grown.1)
-                        behind.1;
-                    lawful = lawful;
-                    is = behind.2 pair takes_so.next grown.3 now;
-                    counts = omega (arith, settled.counted, takes_so.counts);
-                  }
+                  (
+                    record {
+                      next = takes_so.next;
+                      events = takes_so.events;
+                      step = unrefused (Some (reply_of said)) behind.0 made;
+                      acknowledges = subst (λ es. Acknowledges call.outcome es) (sym grown.1)
+                          behind.1;
+                      is = behind.2 pair takes_so.next grown.3 now;
+                      counts = omega (arith, settled.counted, takes_so.counts);
+                    },
+                    lawful,
+                  )
             ]
       ]

@@ -6,8 +6,8 @@ use Rattle.syn_disk.specs.Arms.{is_stopped}
 use Rattle.syn_disk.specs.Disk.{NothingNew}
 use Rattle.syn_disk.specs.declared.disk.Disk.{Ghosts}
 use Rattle.syn_headline.specs.Machine.{Status, Up, Halted, Down, Arms}
-use Rattle.syn_headline.specs.SideMachine.{SideMachine}
-use Rattle.syn_host.specs.SideSteps.{with_device}
+use Rattle.syn_headline.specs.MachineSteps.{with_device}
+use Rattle.syn_headline.specs.SideMachine.{SideMachine, side_kind}
 use Rattle.syn_host.specs.Sides.{RunsAs}
 use Rattle.syn_model.specs.History.{History}
 use Rattle.syn_recovery.specs.Calls.{armed_at}
@@ -40,7 +40,8 @@ pub still_runs : {D : Type 0} {disk : Ghosts D} (pair : ℕ) (old new : Replica 
     → arms ≡ armed_at (disk.arms (disk_of new)) → is_stopped (disk.arms (disk_of new)) ≡ false
     → tried_shown new ≡ tried_shown old
     → NothingNew (disk.may_leave (disk_of old)) (disk.may_leave (disk_of new))
-    → RunsAs pair (side_of new agent) (with_device machine machine.journal.status arms failed)
+    → RunsAs pair (side_of new agent)
+    (with_device (side_kind pair) machine machine.journal.status arms failed)
 still_runs pair old new agent machine arms failed runs same stands room generation armed goes tried
     nothing_new = record {
       is = record {

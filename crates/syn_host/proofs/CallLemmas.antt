@@ -1,24 +1,24 @@
 -- A call of a coordinator that was made is a step of its machine, and what came of it is told.
-use Rattle.std.proofs.Common.{◌≡◌, ◌≢◌, ◌∙◌, ℕ, List, [], None, Option, Some, IfSome, refl, sym}
-use Rattle.std.proofs.Common.{ap, map, option_map, subst}
+use Rattle.std.proofs.Common.{◌≡◌, ◌≢◌, ◌∙◌, ℕ, List, [], None, Option, Some, IfSome, refl, sym, ap}
+use Rattle.std.proofs.Common.{map, option_map, subst}
 use Rattle.std.specs.Global.{Vec}
 use Rattle.syn_disk.specs.declared.disk.Disk.{Ghosts}
 use Rattle.syn_headline.specs.Coordinator.{Call, CoordinatorMachine, CoordinatorStarts}
 use Rattle.syn_headline.specs.Coordinator.{CoordinatorTicks, Keeps, archive_layout, cut_behind}
 use Rattle.syn_headline.specs.Coordinator.{gives_up, no_call, no_session, resends, running_after}
-use Rattle.syn_headline.specs.Coordinator.{start_breaks, writes}
+use Rattle.syn_headline.specs.Coordinator.{Starts, coordinator_kind, start_breaks, writes}
+use Rattle.syn_headline.specs.MachineSteps.{Checkpoint, Checkpoints, Does as MachineDoes}
+use Rattle.syn_headline.specs.MachineSteps.{checkpoints, is_done, makes, refused_by}
 use Rattle.syn_headline.specs.Coordinator as walk
 use Rattle.syn_headline.specs.Machine.{Status, Down, Compacts, compacted, not_compacted, unarmed}
 use Rattle.syn_headline.specs.Machine.{Writes, idle, unwritten}
 use Rattle.syn_headline.specs.Machine as kinds
 use Rattle.syn_headline.specs.Network.{Message}
 use Rattle.syn_headline.specs.Report.{Report}
-use Rattle.syn_host.specs.Coordinators.{IsCoordinator}
-use Rattle.syn_host.specs.CoordinatorSteps.{CallStep, CallsSo, Checkpoints, IsToTell, Settles}
-use Rattle.syn_host.specs.CoordinatorSteps.{Starts, Unrefused, refuses_nothing}
-use Rattle.syn_host.specs.CoordinatorSteps as steps
+use Rattle.syn_host.specs.Coordinators.{CoordinatorStep, IsCoordinator}
+use Rattle.syn_host.specs.CoordinatorSteps.{CallIsStep, IsToTell, Settles, Unrefused}
+use Rattle.syn_host.specs.CoordinatorSteps.{refuses_nothing}
 use Rattle.syn_host.specs.Outcomes.{Tells, TellsRefused, causes_in}
-use Rattle.syn_host.specs.SideSteps.{refused_by}
 use Rattle.syn_host.specs.declared.coordinator.CoordinatorCall.{CoordinatorCall}
 use Rattle.syn_host.specs.declared.coordinator.CoordinatorHost.{CoordinatorHost}
 use Rattle.syn_host.specs.declared.outcome.CoordinatorOutcome.{CoordinatorOutcome}
@@ -26,10 +26,7 @@ use Rattle.syn_model.specs.Archive.{Kept}
 use Rattle.syn_model.specs.Refusal.{Refusal, first_cause}
 use Rattle.syn_refusal.specs.declared.refusal.Refusal.{Refusal as Refused}
 use Rattle.syn_coordinator.specs.Coordinators.{Does, Stands, checkpoint_refusals, ended_in}
-use Rattle.syn_coordinator.specs.Coordinators.{goes_down}
-use Rattle.syn_coordinator.specs.Coordinators.{goes_on, in_report, refusals_of, written}
-use Rattle.syn_coordinator.specs.Coordinators.{Checkpoints as DoesCheckpoint}
-use Rattle.syn_coordinator.specs.Coordinators.{checkpoints as does_checkpoint}
+use Rattle.syn_coordinator.specs.Coordinators.{goes_down, goes_on, in_report, refusals_of, written}
 use Rattle.syn_keep.specs.Machines.{Journal}
 use Rattle.syn_session.specs.Reports.{report_model}
 use Rattle.syn_session.specs.Sendings.{messages_of}
@@ -74,10 +71,10 @@ module _ {D : Type 0} {disk : Ghosts D} (old new : Session D disk) (pair : ℕ)
     (cuts : IsCutSo Step)
     (same : (next : CoordinatorMachine) (made : Call) → Step next made
     → made.reports ≡ ended_in old new → made.reports ≡ told.reports)
-    (Whole : CallStep)
+    (Whole : CoordinatorStep)
     (lift : (next : CoordinatorMachine) (made : Call) → Step next made
     → Whole next made (refusals_at next.journal.status)) where
-  pub does_call : Does old new pair Step told.kept told.messages → CallsSo pair Whole call
+  pub does_call : Does old new pair Step told.kept told.messages → CallIsStep pair Whole call
   does_call (goes_on next made step now kept messages reports) =
       let behind = settles.goes_on pair next now in
       record {
@@ -136,8 +133,8 @@ keeps_down pair machine _ kept _ other (cut_behind fresh before stop) down = ref
 
 module _ (pair : ℕ) (machine : CoordinatorMachine)
     (other : machine.journal.status ≢ Down) where
-  pub checkpoint_is_cut : IsCutSo (DoesCheckpoint pair machine)
-  checkpoint_is_cut _ _ (does_checkpoint journal compacts) down = record {
+  pub checkpoint_is_cut : IsCutSo (Checkpoints (coordinator_kind pair) machine)
+  checkpoint_is_cut _ _ (checkpoints journal compacts) down = record {
     unarmed_is = compacts_down pair machine.journal journal other compacts down;
     idle = ap (λ s. running_after s machine.running) down;
     silent = refl;
@@ -202,39 +199,43 @@ module _ {D : Type 0} {disk : Ghosts D} (old new : Session D disk) (pair : ℕ)
 
   pub checkpoint_call : Settles new no_call refused_by call
       → first_cause (checkpoint_refusals machine) ≡ None
-      → Does old new pair (DoesCheckpoint pair machine) [] []
-      → CallsSo pair (Checkpoints pair machine) call
+      → Does old new pair (Checkpoints (coordinator_kind pair) machine) [] []
+      → CallIsStep pair (MachineDoes (coordinator_kind pair) machine Checkpoint) call
   checkpoint_call settles none does =
-      does_call old new pair (DoesCheckpoint pair machine) no_call refused_by refl call settles
-      (checkpoint_is_cut pair machine other) same (Checkpoints pair machine) lift does
+      does_call old new pair (Checkpoints (coordinator_kind pair) machine) no_call refused_by refl
+      call settles
+      (checkpoint_is_cut pair machine other) same
+      (MachineDoes (coordinator_kind pair) machine Checkpoint) lift does
     where
-      same : (next : CoordinatorMachine) (made : Call) → DoesCheckpoint pair machine next made
+      same : (next : CoordinatorMachine) (made : Call)
+          → Checkpoints (coordinator_kind pair) machine next made
           → made.reports ≡ ended_in old new → made.reports ≡ []
-      same _ _ (does_checkpoint journal compacts) is = refl
+      same _ _ (checkpoints journal compacts) is = refl
 
-      lift : (next : CoordinatorMachine) (made : Call) → DoesCheckpoint pair machine next made
-          → Checkpoints pair machine next made (refused_by next.journal.status)
-      lift _ _ (does_checkpoint journal compacts) =
-          steps.Checkpoints.checkpoints journal other none compacts
+      lift : (next : CoordinatorMachine) (made : Call)
+          → Checkpoints (coordinator_kind pair) machine next made
+          → MachineDoes (coordinator_kind pair) machine Checkpoint next made
+          (refused_by next.journal.status)
+      lift next made step = is_done _ _ _ other (makes next made none step)
 
   pub start_call : (preference : Option Which) (messages : List Message)
       → Settles new (record no_call { kept = written new; messages = messages }) refused_by call
       → first_cause (refusals_of pair machine) ≡ None
       → Does old new pair (CoordinatorStarts pair preference machine) (written new) messages
-      → CallsSo pair (Starts pair preference machine) call
+      → CallIsStep pair (Starts pair preference machine) call
   start_call preference messages settles none does =
       does_call old new pair (CoordinatorStarts pair preference machine)
       (record no_call { kept = written new; messages = messages }) refused_by refl call settles
       (start_is_cut pair machine other preference)
       (λ next made step is. start_reports pair machine other preference next made step)
       (Starts pair preference machine)
-      (λ next made step. steps.Starts.starts next made other none step) does
+      (λ next made step. is_done _ _ _ other (makes next made none step)) does
 
   pub tick_call : (messages : List Message)
       → Settles new (record no_call { messages = messages; reports = ended_in old new })
       refuses_nothing call
       → Does old new pair (CoordinatorTicks machine) [] messages
-      → CallsSo pair (Unrefused (CoordinatorTicks machine)) call
+      → CallIsStep pair (Unrefused (CoordinatorTicks machine)) call
   tick_call messages settles does =
       does_call old new pair (CoordinatorTicks machine)
       (record no_call { messages = messages; reports = ended_in old new }) refuses_nothing refl
@@ -245,9 +246,9 @@ module _ {D : Type 0} {disk : Ghosts D} (old new : Session D disk) (pair : ℕ)
 -- A call that was not made
 pub refused_call : {D : Type 0} {disk : Ghosts D} (pair : ℕ) (machine : CoordinatorMachine)
     (was : CoordinatorHost D disk) (call : CoordinatorCall D disk) (refused : Option Refused)
-    (refusals : List Refusal) (Whole : CallStep) → IsCoordinator pair was machine
+    (refusals : List Refusal) (Whole : CoordinatorStep) → IsCoordinator pair was machine
     → call.coordinator ≡ was → IfSome call.outcome (λ told. TellsRefused told refused)
-    → causes_in refused ≡ refusals → Whole machine no_call refusals → CallsSo pair Whole call
+    → causes_in refused ≡ refusals → Whole machine no_call refusals → CallIsStep pair Whole call
 refused_call pair machine was call refused refusals Whole is same told causes step = record {
   next = machine;
   made = no_call;

@@ -1,10 +1,8 @@
 -- Causes of refusals, in their order.
-use Rattle.std.proofs.Common.{◌≡◌, ◌≢◌, ◌⊎◌, ◌∙◌, ◌+◌, ◌-◌, ◌≤◌, ℕ, suc, Bool, true, false, not}
-use Rattle.std.proofs.Common.{List, [], ◌∷◌, ◌++◌, Option, Some, None, ap, arith, inl, inr, refl}
-use Rattle.std.proofs.Common.{subst, sym, ◌<◌}
-use Rattle.std.proofs.lemmas.Bool.{eqb-true, false≢true}
-use Rattle.std.proofs.lemmas.Bool.Decides.{leb_tells}
-use Rattle.std.specs.Prelude.{◌||◌, ◌==◌, nat_le, nat_lt, length}
+use Rattle.std.proofs.Common.{◌≡◌, ◌≢◌, ◌⊎◌, ◌∙◌, ◌+◌, ◌-◌, ℕ, true, false, not, List, [], ◌∷◌}
+use Rattle.std.proofs.Common.{◌++◌, Option, Some, None, ap, arith, inl, inr, refl, subst, sym, ◌<◌}
+use Rattle.std.proofs.lemmas.Bool.{eqb-true}
+use Rattle.std.specs.Prelude.{◌||◌, ◌==◌, nat_le, length}
 use Rattle.syn_archive.specs.Refusals as archives
 use Rattle.syn_archive.specs.declared.error.ArchiveError.{ArchiveError}
 use Rattle.syn_archive.specs.declared.error.ArchiveError.TheVariants as errors
@@ -12,26 +10,21 @@ use Rattle.syn_disk.specs.Arms.{Arms}
 use Rattle.syn_disk.specs.Calls.{MakesAtLeast}
 use Rattle.syn_headline.specs.SideMachine.{SideMachine, causes_of}
 use Rattle.syn_headline.specs.Machine.{Up, Halted}
-use Rattle.syn_headline.specs.World.{is_halted}
-use Rattle.syn_host.specs.SideSteps.{causes_at}
+use Rattle.syn_headline.specs.MachineSteps.{causes_at, is_halted}
 use Rattle.syn_journal.specs.declared.error.JournalError.TheVariants as journal
-use Rattle.syn_model.specs.Event.{Edit, Put, MakeDir, Remove, Edited}
-use Rattle.syn_model.specs.History.{History, event_causes}
+use Rattle.syn_model.specs.Event.{Edit, Edited}
+use Rattle.syn_model.specs.History.{event_causes}
 use Rattle.syn_model.specs.Refusal.{Refusal, Cause, first_cause, number}
 use Rattle.syn_model.specs.Refusal as why
 use Rattle.syn_model.specs.Spelling.{event_spelling}
 use Rattle.syn_replica.specs.Refusals.{AfterReads, CountsFailures, IsOneOf, MakesIfDevice}
 use Rattle.syn_replica.specs.Refusals.{checkpoint_refusals}
-use Rattle.syn_replica.specs.Refusals.{outside_refusals}
 use Rattle.syn_standing.specs.Refusals.{refusal_of}
-use Rattle.syn_replica.specs.Steps.{add_refusal, room_causes}
+use Rattle.syn_replica.specs.Steps.{add_refusal}
 use Rattle.syn_standing.specs.declared.error.ReplicaError.{ReplicaError}
-use Rattle.syn_standing.specs.declared.error.ReplicaError.TheVariants.{Tree, History as OfHistory}
 use Rattle.syn_standing.specs.declared.error.ReplicaError.TheVariants.{Journal}
-use Rattle.syn_history.specs.Refusals.{refusal_of as of_history}
 use Rattle.syn_history.specs.declared.error.HistoryError.{HistoryError}
 use Rattle.syn_history.specs.declared.error.HistoryError.TheVariants as history
-use Rattle.syn_tree.specs.Refusals.{refusal_of as of_tree}
 use Rattle.syn_tree.specs.declared.error.TreeError.{TreeError}
 use Rattle.syn_tree.specs.declared.error.TreeError.TheVariants as tree
 use Rattle.syn_agent.proofs.CauseLemmas.{device_is, none_is_no, or_cases, outside, rooms}
@@ -110,13 +103,15 @@ causes_are pair room left user edit machine is left_is =
 
 module _ (machine : SideMachine) (causes : List Cause) (up : machine.journal.status ≡ Up) where
   -- a machine that is up is not halted
-  pub causes_none : first_cause causes ≡ None → first_cause (causes_at machine causes) ≡ None
+  pub causes_none : first_cause causes ≡ None
+      → first_cause (causes_at machine.journal.status causes) ≡ None
   causes_none none =
       ap (λ s. first_cause ((is_halted s, why.Halted) ∷ causes)) up ∙ none
 
   pub causes_some : (reason : Refusal)
       → first_cause (causes ++ (true, why.Memory) ∷ []) ≡ Some reason
-      → first_cause (causes_at machine causes ++ (true, why.Memory) ∷ []) ≡ Some reason
+      → first_cause (causes_at machine.journal.status causes ++ (true, why.Memory) ∷ [])
+      ≡ Some reason
   causes_some reason some =
       ap (λ s. first_cause ((is_halted s, why.Halted) ∷ causes ++ (true, why.Memory) ∷ [])) up
       ∙ some
@@ -124,7 +119,7 @@ module _ (machine : SideMachine) (causes : List Cause) (up : machine.journal.sta
 -- a halted machine refuses everything
 pub causes_halted : (machine : SideMachine) (causes more : List Cause)
     → machine.journal.status ≡ Halted
-    → first_cause (causes_at machine causes ++ more) ≡ Some why.Halted
+    → first_cause (causes_at machine.journal.status causes ++ more) ≡ Some why.Halted
 causes_halted machine causes more is =
     ap (λ s. first_cause ((is_halted s, why.Halted) ∷ causes ++ more)) is
 

@@ -1,7 +1,6 @@
 -- A checkpoint of a side is a step of its machine.
-use Rattle.std.proofs.Common.{◌≡◌, ◌⊎◌, ◌∙◌, ◌+◌, ◌-◌, ◌<◌, ◌≤◌, ℕ, suc, true, false}
-use Rattle.std.proofs.Common.{List, [], ◌∷◌, ◌++◌, Some, None, arith, refl}
-use Rattle.std.proofs.Common.{sym, ap, ap₂, subst, inl, inr}
+use Rattle.std.proofs.Common.{◌≡◌, ◌⊎◌, ◌∙◌, ◌+◌, ◌-◌, ◌<◌, ◌≤◌, ℕ, suc, true, false, List, [], ◌∷◌}
+use Rattle.std.proofs.Common.{◌++◌, Some, None, arith, refl, sym, ap, ap₂, subst, inl, inr}
 use Rattle.std.proofs.lemmas.Bool.Decides.{nat_tests}
 use Rattle.std.specs.Prelude.{◌^◌, nat_le, length}
 use Rattle.syn_agent.specs.Machines.{CompactedIsOf, IsOf, IsUpAs}
@@ -12,13 +11,12 @@ use Rattle.syn_disk.specs.Stops.{LeavesOnly}
 use Rattle.syn_disk.specs.declared.disk.Disk.{Ghosts}
 use Rattle.syn_headline.specs.Machine.{Status, Up, Halted, Down, Arms, Meets, unarmed, room_behind}
 use Rattle.syn_headline.specs.Machine.{after_device, with_image, compacted, not_compacted}
-use Rattle.syn_headline.specs.SideMachine.{SideMachine, side_layout, with_journal}
-use Rattle.syn_headline.specs.World.{full_generation}
+use Rattle.syn_headline.specs.MachineSteps.{Checkpoint, Does, causes_at, checkpoints}
+use Rattle.syn_headline.specs.MachineSteps.{full_generation, is_done, makes, refused_by, refuses}
+use Rattle.syn_headline.specs.SideMachine.{SideMachine, side_kind, side_layout, with_journal}
 use Rattle.syn_host.specs.Outcomes.{Acknowledges, refused_in}
-use Rattle.syn_host.specs.SideSteps.{Checkpoints, Journal, causes_at, checkpoints, refused_by}
-use Rattle.syn_host.specs.SideSteps.{refuses}
-use Rattle.syn_host.specs.Sides.{CheckpointsSo, HasCounted, IsHost, IsRefused, RunsAs, Settles}
-use Rattle.syn_host.specs.Sides.{Stops}
+use Rattle.syn_host.specs.SideSteps.{Journal, SideStep}
+use Rattle.syn_host.specs.Sides.{CallIsStep, HasCounted, IsHost, IsRefused, RunsAs, Settles, Stops}
 use Rattle.syn_host.specs.declared.outcome.Outcome.{Outcome}
 use Rattle.syn_host.specs.declared.outcome.Outcome.TheVariants.{Nothing}
 use Rattle.syn_host.specs.declared.side.SideCall.{SideCall}
@@ -46,6 +44,10 @@ use Rattle.syn_host.proofs.SideLemmas.{halted_not_up, none_not_some, not_down, r
 use Rattle.syn_host.proofs.SideLemmas.{still_staged}
 use Rattle.syn_recovery.proofs.DiskLemmas.{behind_image}
 
+-- a checkpoint of the machine
+abbrev Checkpoints : ℕ → SideMachine → SideStep
+Checkpoints pair machine = Does (side_kind pair) machine Checkpoint
+
 one_more : (n : ℕ) → suc n ≡ n + 1
 one_more n = omega arith
 
@@ -59,7 +61,8 @@ module _ {D : Type 0} {disk : Ghosts D} (pair : ℕ) (old new : Replica D disk) 
     (machine : SideMachine) (runs : RunsAs pair (side_of old agent) machine)
     (up : machine.journal.status ≡ Up) (call : SideCall D disk) (position : ℕ)
     (position_now : position ≡ length machine.journal.value)
-    (none : first_cause (causes_at machine (full_generation machine.journal.generation)) ≡ None)
+    (none : first_cause (causes_at machine.journal.status
+    (full_generation machine.journal.generation)) ≡ None)
     (counts_now : (d : D) (t : ℕ) (c : List ℕ) → t ≤ disk.moment d → disk.may_leave d c
     → disk.left_since d t c) (compacted_is_of : CompactedIsOf)
     (memory : SameMemory old new) (same_tried : tried_shown new ≡ tried_shown old)
@@ -116,16 +119,17 @@ module _ {D : Type 0} {disk : Ghosts D} (pair : ℕ) (old new : Replica D disk) 
     stopped_so : failed_by old ≤ failed_by new
         → is_stopped (disk.arms (disk_of new)) ≡ true
         → Meets machine.journal.arms 6 Down unarmed 0
-        → CheckpointsSo pair machine (failed_by old) call
+        → CallIsStep pair machine (failed_by old) (Checkpoints pair machine) call
     stopped_so few stopped meets =
         let behind = stops stopped in
         let next = with_journal machine (under_way Down unarmed 0) in
         record {
           next = next;
-          checkpoints = subst (λ o. Checkpoints pair machine next (refused_in o)) (sym behind.0)
+          events = [];
+          step = subst (λ o. Checkpoints pair machine next [] (refused_in o)) (sym behind.0)
+              (is_done _ _ _ (not_down pair (side_of old agent) machine runs) (makes next [] none
               (checkpoints (under_way Down unarmed 0)
-              (not_down pair (side_of old agent) machine runs) none
-              (not_compacted Down unarmed 0 (inr refl) meets));
+              (not_compacted Down unarmed 0 (inr refl) meets))));
           acknowledges = subst (λ o. Acknowledges o []) (sym behind.0) refl;
           is = behind.1 pair next (record {
             down = refl;
@@ -157,17 +161,18 @@ module _ {D : Type 0} {disk : Ghosts D} (pair : ℕ) (old new : Replica D disk) 
 
     compacts : is_stopped (disk.arms (disk_of new)) ≡ false
         → Meets machine.journal.arms 6 Up arms_now 0
-        → CheckpointsSo pair machine (failed_by old) call
+        → CallIsStep pair machine (failed_by old) (Checkpoints pair machine) call
     compacts goes meets =
         let behind = settles.goes_on goes in
         let next = with_journal machine with_it in
-        let made : Checkpoints pair machine next (refused_by machine.journal.status) =
-        checkpoints with_it (not_down pair (side_of old agent) machine runs) none
-        (compacted arms_now meets) in
+        let made : Checkpoints pair machine next [] (refused_by machine.journal.status) =
+        is_done _ _ _ (not_down pair (side_of old agent) machine runs) (makes next [] none
+        (checkpoints with_it (compacted arms_now meets))) in
         record {
           next = next;
-          checkpoints = subst (λ o. Checkpoints pair machine next (refused_in o)) (sym behind.0)
-              (subst (λ s. Checkpoints pair machine next (refused_by s)) up made);
+          events = [];
+          step = subst (λ o. Checkpoints pair machine next [] (refused_in o)) (sym behind.0)
+              (subst (λ s. Checkpoints pair machine next [] (refused_by s)) up made);
           acknowledges = subst (λ o. Acknowledges o []) (sym behind.0) refl;
           is = behind.1 pair next (record {
             is = is_up next (record {
@@ -189,10 +194,10 @@ module _ {D : Type 0} {disk : Ghosts D} (pair : ℕ) (old new : Replica D disk) 
         }
 
     pub compact_ok : MadeCallsMeet → Makes 6 (disk.arms (disk_of old)) (disk.arms (disk_of new))
-        → CheckpointsSo pair machine (failed_by old) call
-    compact_ok made makes =
-        elim (made 6 (disk.arms (disk_of old)) (disk.arms (disk_of new)) runs.is.runs makes)
-        as (λ _. CheckpointsSo pair machine (failed_by old) call) [
+        → CallIsStep pair machine (failed_by old) (Checkpoints pair machine) call
+    compact_ok made calls =
+        elim (made 6 (disk.arms (disk_of old)) (disk.arms (disk_of new)) runs.is.runs calls)
+        as (λ _. CallIsStep pair machine (failed_by old) (Checkpoints pair machine) call) [
           | goes_on goes meets ↦ compacts goes (met Up arms_now 0 meets)
           | goes_down stopped meets ↦ stopped_so settles.stops settles.counted
               (omega (arith, same)) stopped (met Down unarmed 0 meets)
@@ -204,19 +209,20 @@ module _ {D : Type 0} {disk : Ghosts D} (pair : ℕ) (old new : Replica D disk) 
       (halted : IsHalted new) (more : failed_by old < failed_by new) where
     broke : is_stopped (disk.arms (disk_of new)) ≡ false
         → Meets machine.journal.arms 6 Halted arms_now 1
-        → CheckpointsSo pair machine (failed_by old) call
+        → CallIsStep pair machine (failed_by old) (Checkpoints pair machine) call
     broke goes meets =
         let behind = settles.goes_on goes in
         let next = with_journal machine (under_way Halted arms_now 1) in
         let past = remembers pair (side_of old agent) machine runs in
-        let made : Checkpoints pair machine next (why.Device ∷ []) =
-        checkpoints (under_way Halted arms_now 1)
-        (not_down pair (side_of old agent) machine runs) none
-        (not_compacted Halted arms_now 1 (inl refl) meets) in
+        let made : Checkpoints pair machine next [] (why.Device ∷ []) =
+        is_done _ _ _ (not_down pair (side_of old agent) machine runs) (makes next [] none
+        (checkpoints (under_way Halted arms_now 1)
+        (not_compacted Halted arms_now 1 (inl refl) meets))) in
         record {
           next = next;
-          checkpoints = subst (λ o. Checkpoints pair machine next (refused_in o)) (sym behind.0)
-              (subst (λ r. Checkpoints pair machine next r) (sym is_refused) made);
+          events = [];
+          step = subst (λ o. Checkpoints pair machine next [] (refused_in o)) (sym behind.0)
+              (subst (λ r. Checkpoints pair machine next [] r) (sym is_refused) made);
           acknowledges = subst (λ o. Acknowledges o []) (sym behind.0) is_not;
           is = behind.1 pair next (record {
             is = record {
@@ -240,10 +246,10 @@ module _ {D : Type 0} {disk : Ghosts D} (pair : ℕ) (old new : Replica D disk) 
 
     pub compact_failed : BrokenCallsMeet
         → Breaks 6 (disk.arms (disk_of old)) (disk.arms (disk_of new))
-        → CheckpointsSo pair machine (failed_by old) call
+        → CallIsStep pair machine (failed_by old) (Checkpoints pair machine) call
     compact_failed broken breaks =
         elim (broken 6 (disk.arms (disk_of old)) (disk.arms (disk_of new)) runs.is.runs breaks)
-        as (λ _. CheckpointsSo pair machine (failed_by old) call) [
+        as (λ _. CallIsStep pair machine (failed_by old) (Checkpoints pair machine) call) [
           | goes_on goes meets ↦ broke goes (met Halted arms_now 1 meets)
           | goes_down stopped meets ↦ stopped_so settles.stops settles.counted
               (omega (arith, more)) stopped (met Down unarmed 0 meets)
@@ -259,18 +265,20 @@ pub compact_refused : {D : Type 0} {disk : Ghosts D} (pair : ℕ) (old new : Rep
     (outcome : Outcome) (reason : Refusal) (call : SideCall D disk) (position : ℕ) →
     Settles (side_of new agent) position outcome call → refused_in outcome ≡ reason ∷ [] →
     Acknowledges outcome [] → first_cause
-    (causes_at machine (full_generation machine.journal.generation) ++ (true, why.Memory) ∷ [])
+    (causes_at machine.journal.status (full_generation machine.journal.generation)
+    ++ (true, why.Memory) ∷ [])
     ≡ Some reason → failed_by new ≡ failed_by old
-    → CheckpointsSo pair machine (failed_by old) call
+    → CallIsStep pair machine (failed_by old) (Checkpoints pair machine) call
 compact_refused pair old new agent machine runs up stands readings same_tried arms is_up outcome
     reason call position settles is_refused is_not some same =
     let behind = settles.goes_on (ap is_stopped arms ∙ runs.is.runs) in
-    let made : Checkpoints pair machine machine (reason ∷ []) =
-    refuses reason (not_down pair (side_of old agent) machine runs) some in
+    let made : Checkpoints pair machine machine [] (reason ∷ []) =
+    is_done _ _ _ (not_down pair (side_of old agent) machine runs) (refuses reason some) in
     record {
       next = machine;
-      checkpoints = subst (λ o. Checkpoints pair machine machine (refused_in o)) (sym behind.0)
-          (subst (λ r. Checkpoints pair machine machine r) (sym is_refused) made);
+      events = [];
+      step = subst (λ o. Checkpoints pair machine machine [] (refused_in o)) (sym behind.0)
+          (subst (λ r. Checkpoints pair machine machine [] r) (sym is_refused) made);
       acknowledges = subst (λ o. Acknowledges o []) (sym behind.0) is_not;
       is = behind.1 pair machine
           (stays pair old new agent machine runs up stands readings same_tried arms is_up);
@@ -281,14 +289,15 @@ compact_refused pair old new agent machine runs up stands readings same_tried ar
 pub checkpoint_halted : {D : Type 0} {disk : Ghosts D} (pair : ℕ) (side : UpSide D disk)
     (machine : SideMachine) → RunsAs pair side machine → (refusal : Code)
     (call : SideCall D disk) → IsRefused side refusal call
-    → first_cause (causes_at machine (full_generation machine.journal.generation)
+    → first_cause (causes_at machine.journal.status (full_generation machine.journal.generation)
     ++ (true, why.Memory) ∷ []) ≡ Some (cause_of refusal)
-    → CheckpointsSo pair machine (failed_by side.replica) call
+    → CallIsStep pair machine (failed_by side.replica) (Checkpoints pair machine) call
 checkpoint_halted pair side machine runs refusal call refused some = record {
   next = machine;
-  checkpoints = subst (λ o. Checkpoints pair machine machine (refused_in o))
+  events = [];
+  step = subst (λ o. Checkpoints pair machine machine [] (refused_in o))
       (sym refused.outcome_is)
-      (refuses (cause_of refusal) (not_down pair side machine runs) some);
+      (is_done _ _ _ (not_down pair side machine runs) (refuses (cause_of refusal) some));
   acknowledges = subst (λ o. Acknowledges o []) (sym refused.outcome_is) refl;
   is = subst (λ s. IsHost pair s machine) (sym refused.side_is) runs;
   counts = counts_still side machine call refused.side_is;

@@ -1,14 +1,10 @@
 -- What is armed at a coordinator, and a stop of it, are steps of its machine.
 use Rattle.std.proofs.Common.{◌≡◌, ◌≢◌, ◌∙◌, ℕ, None, Option, Some, inl, inr, refl, sym, ap}
 use Rattle.syn_disk.specs.declared.disk.Disk.{Ghosts}
-use Rattle.syn_headline.specs.Coordinator.{CoordinatorMachine, running_after, with_archive}
+use Rattle.syn_headline.specs.Coordinator.{CoordinatorMachine, coordinator_kind, running_after}
 use Rattle.syn_headline.specs.Machine.{Status, Up, Halted, Down, Arms, after_device, unarmed}
+use Rattle.syn_headline.specs.MachineSteps.{with_device}
 use Rattle.syn_headline.specs.Session.{Running}
-use Rattle.syn_host.specs.Coordinators.{with_device_arms}
-use Rattle.syn_model.specs.Path.{Bytes}
-use Rattle.syn_recovery.specs.Machines.{of_archive}
-use Rattle.syn_recovery.specs.Meaning.{MayBeOf, MayMean, as_kept, compacted, with_record}
-use Rattle.syn_journal.specs.Layout.{Value}
 use Rattle.syn_coordinator.specs.Coordinators.{Stands, with_arms}
 use Rattle.syn_keep.specs.Machines.{Journal}
 use Rattle.syn_keep.specs.Tries.{Tries}
@@ -36,19 +32,6 @@ tries_stopped pair (Some tried) machine tries = record {
   };
 }
 
--- a machine that runs no session runs none behind an opening
-pub with_journal_alone : (machine : CoordinatorMachine) (journal : Journal)
-    → machine.running ≡ None
-    → record { journal = journal; running = None } ≡ with_archive machine journal
-with_journal_alone machine journal idle =
-    ap (λ r. record { journal = journal; running = r })
-    (sym (ap (λ r. running_after journal.status r) idle ∙ none_runs journal.status))
-  where
-    none_runs : (status : Status) → running_after status None ≡ None
-    none_runs Up = refl
-    none_runs Halted = refl
-    none_runs Down = refl
-
 module _ {D : Type 0} {disk : Ghosts D} (pair : ℕ) (coordinator : Session D disk)
     (machine : CoordinatorMachine) (stands : Stands coordinator pair machine) where
   pub is_not_down : machine.journal.status ≢ Down
@@ -64,9 +47,10 @@ still_runs Halted running other = refl
 still_runs Down running other = absurd (other refl)
 
 -- a machine that is not down keeps its session as its device is armed
-pub same_arms : (machine : CoordinatorMachine) (arms : Arms) → machine.journal.status ≢ Down
-    → with_arms machine arms ≡ with_device_arms machine arms
-same_arms machine arms other =
+pub same_arms : (pair : ℕ) (machine : CoordinatorMachine) (arms : Arms)
+    → machine.journal.status ≢ Down → with_arms machine arms
+    ≡ with_device (coordinator_kind pair) machine machine.journal.status arms 0
+same_arms pair machine arms other =
     ap (λ r. record {
       journal = after_device machine.journal machine.journal.status arms 0;
       running = r;

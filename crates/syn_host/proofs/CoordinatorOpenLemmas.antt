@@ -1,91 +1,94 @@
--- What an opening of the coordinator's disk gives its machine.
-use Rattle.std.proofs.Common.{◌≡◌, ◌∷◌, [], ℕ, None, Option, Some, arith, refl, subst, sym}
-use Rattle.syn_archive.specs.Refusals.{CountsFailures, refusal_of}
+-- How many failed calls an opening of a coordinator's disk counts.
+use Rattle.std.proofs.Common.{◌≡◌, ◌≢◌, ◌⊎◌, ◌<◌, ◌≤◌, ◌+◌, ◌∷◌, [], ℕ, List, ap, arith, inl, inr}
+use Rattle.std.proofs.Common.{refl, slice_get}
+use Rattle.std.proofs.lemmas.Option.{none-some, same_Some}
+use Rattle.syn_archive.specs.Refusals.{CountsFailures}
 use Rattle.syn_archive.specs.declared.error.ArchiveError.{ArchiveError}
-use Rattle.syn_disk.specs.Arms.{Arms as DiskArms}
-use Rattle.syn_disk.specs.declared.disk.Disk.{Ghosts}
-use Rattle.syn_headline.specs.Coordinator.{CoordinatorMachine, with_archive}
-use Rattle.syn_headline.specs.Machine.{Arms, Down, Halted, Meets, Status, Up, after_device}
-use Rattle.syn_headline.specs.Machine.{one_fails}
-use Rattle.syn_host.specs.CoordinatorOpenings.{OpensDown, OpensSo, no_memory, open_fails}
-use Rattle.syn_host.specs.Coordinators.{Rests}
-use Rattle.syn_host.specs.declared.coordinator.CoordinatorHost.TheVariants as host
-use Rattle.syn_host.specs.declared.coordinator.DownCoordinator.{DownCoordinator}
-use Rattle.syn_model.specs.Path.{Bytes}
-use Rattle.syn_refusal.specs.Refusals.{cause_of}
-use Rattle.syn_refusal.specs.declared.refusal.Refusal.{Refusal as Code}
-use Rattle.syn_coordinator.specs.Openings.{RestsStill, RestsWith, fails, wants_memory}
-use Rattle.syn_keep.specs.declared.tried.Tried.{Tried}
+use Rattle.syn_archive.specs.declared.error.ArchiveError.TheVariants as error
+use Rattle.syn_headline.specs.Coordinator.{Call, CoordinatorMachine, archive_layout}
+use Rattle.syn_headline.specs.Coordinator.{coordinator_kind}
+use Rattle.syn_headline.specs.Machine.{Arms, Down, Halted, Meets, Status, Up, all_made, one_fails}
+use Rattle.syn_headline.specs.Machine.{one_stops}
+use Rattle.syn_headline.specs.MachineSteps.{OpensDown, Reopens, is_open, no_memory_to_open}
+use Rattle.syn_headline.specs.MachineSteps.{no_memory_to_reopen, open_fails, opens, reopen_fails}
+use Rattle.syn_headline.specs.MachineSteps.{reopen_is_cut, reopens}
+use Rattle.syn_model.specs.Archive.{CanKeep}
+use Rattle.syn_model.specs.Refusal.{Device, Refusal}
+use Rattle.syn_host.proofs.OpenLemmas.{opens_counts}
+
+pub not_nine : [] ≢ Device ∷ []
+not_nine e = none-some Device (ap (λ refusals. slice_get refusals 0) e)
+
+pub which_nine : (reason : Refusal) → reason ∷ [] ≡ Device ∷ [] → reason ≡ Device
+which_nine reason e = same_Some _ _ (ap (λ refusals. slice_get refusals 0) e)
+
+-- no count of an archive's disk goes back
+pub never_less : (e : ArchiveError) (old new : ℕ) → CountsFailures e old new → old ≤ new
+never_less error.Device old new counts = omega (arith, counts)
+never_less e old new counts = omega (arith, counts)
 
 -- device calls of which one halted the machine: one failed
 halts_by_one : (arms : Arms) (calls : ℕ) (status : Status) (left : Arms) (failed : ℕ)
-    → status ≡ Halted → Meets arms calls status left failed → failed ≡ 1
-halts_by_one arms calls Up left failed halted meets = absurd (let k : Up ≡ Halted = halted in cc)
-halts_by_one arms calls Down left failed halted meets =
+    → Meets arms calls status left failed → status ≡ Halted → failed ≡ 1
+halts_by_one arms calls _ _ _ (all_made fail stop) halted =
+    absurd (let k : Up ≡ Halted = halted in cc)
+halts_by_one arms calls _ _ _ (one_fails made few before unstopped) halted = refl
+halts_by_one arms calls _ _ _ (one_stops made few before stop) halted =
     absurd (let k : Down ≡ Halted = halted in cc)
-halts_by_one arms calls Halted _ _ halted (one_fails made few before unstopped) = refl
 
--- a coordinator that is down rests
-pub rests_with : {D : Type 0} (arms : D → DiskArms) (may_leave : D → Bytes → Type 0) (pair : ℕ)
-    (side : DownCoordinator D) (machine : CoordinatorMachine)
-    → Rests arms may_leave pair side machine
-    → RestsWith arms may_leave pair side.disk side.tried machine.journal
-rests_with arms may_leave pair side machine rests = record {
-  down = rests.down;
-  unarmed_is = rests.unarmed_is;
-  armed = rests.armed;
-  goes = rests.goes;
-  leaves = rests.leaves;
-  tries = rests.tries;
-}
+-- and else none
+else_none : (arms : Arms) (calls : ℕ) (status : Status) (left : Arms) (failed : ℕ)
+    → Meets arms calls status left failed → status ≢ Halted → failed ≡ 0
+else_none arms calls _ _ _ (all_made fail stop) other = refl
+else_none arms calls _ _ _ (one_fails made few before unstopped) other = absurd (other refl)
+else_none arms calls _ _ _ (one_stops made few before stop) other = refl
 
-module _ {D : Type 0} (disk : Ghosts D) (pair : ℕ) (side : DownCoordinator D)
-    (machine : CoordinatorMachine) (rests : Rests disk.arms disk.may_leave pair side machine)
-    (back : D) (tried : Option Tried) where
-  -- it is not opened, and stays down
-  pub stays_down : (e : ArchiveError) (refusal : Code) → cause_of refusal ≡ refusal_of e
-      → RestsStill disk.arms disk.may_leave pair back tried machine.journal e
-      → CountsFailures e (disk.failures side.disk) (disk.failures back)
-      → OpensSo {D = D} {disk = disk} pair machine (disk.failures side.disk) (record {
-        coordinator = host.Down (record { disk = back; tried = tried });
-        found = None;
-        refused = Some refusal;
-      })
-  stays_down _ refusal is (fails calls arms failures meets still) more =
-      let next = with_archive machine (after_device machine.journal Down arms failures) in
-      record {
-        next = next;
-        opens = subst (λ r. OpensDown pair machine next [] (r ∷ [])) (sym is)
-            (open_fails calls arms failures rests.down meets);
-        is = record {
-          down = refl;
-          unarmed_is = still.unarmed_is;
-          idle = refl;
-          armed = still.armed;
-          goes = still.goes;
-          leaves = still.leaves;
-          tries = still.tries;
-        };
-        counts =
-            omega (
-              arith,
-              more,
-              halts_by_one machine.journal.arms calls Halted arms failures refl
-                  meets,
-            );
-      }
-  stays_down _ refusal is (wants_memory still) same = record {
-    next = machine;
-    opens = subst (λ r. OpensDown pair machine machine [] (r ∷ [])) (sym is)
-        (no_memory rests.down);
-    is = record {
-      down = still.down;
-      unarmed_is = still.unarmed_is;
-      idle = rests.idle;
-      armed = still.armed;
-      goes = still.goes;
-      leaves = still.leaves;
-      tries = still.tries;
-    };
-    counts = omega (arith, same);
-  }
+up_not_halted : Up ≢ Halted
+up_not_halted e = cc
+
+down_not_halted : Down ≢ Halted
+down_not_halted e = cc
+
+-- one more call failed only where it was refused 9
+abbrev pub CountsOne : ℕ → ℕ → List Refusal → Type 0
+CountsOne was now refusals = (now ≡ was) ⊎ ((refusals ≡ Device ∷ []) × (now ≡ was + 1))
+
+module _ (pair : ℕ) (machine : CoordinatorMachine) where
+  none_more : (failed : ℕ) → failed ≡ 0 → machine.journal.failures + failed
+      ≡ machine.journal.failures
+  none_more failed none = omega (arith, none)
+
+  pub opening_counts : (next : CoordinatorMachine) (made : Call) (refusals : List Refusal)
+      → OpensDown (coordinator_kind pair) machine next made refusals
+      → CountsOne machine.journal.failures next.journal.failures refusals
+  opening_counts _ _ _ (is_open up) = inl refl
+  opening_counts _ _ _ (opens calls journal kept down so) =
+      inl (opens_counts (archive_layout pair) CanKeep machine.journal calls journal kept so)
+  opening_counts _ _ _ (open_fails calls arms failed down meets) =
+      inr (refl, ap (λ n. machine.journal.failures + n)
+      (halts_by_one machine.journal.arms calls Halted arms failed meets refl))
+  opening_counts _ _ _ (no_memory_to_open down) = inl refl
+
+  pub reopening_counts : (next : CoordinatorMachine) (made : Call) (refusals : List Refusal)
+      → Reopens (coordinator_kind pair) machine next made refusals
+      → CountsOne machine.journal.failures next.journal.failures refusals
+  reopening_counts _ _ _ (reopens calls journal kept least so) =
+      inl (opens_counts (archive_layout pair) CanKeep machine.journal calls journal kept so)
+  reopening_counts _ _ _ (reopen_fails calls arms failed meets) =
+      inr (refl, ap (λ n. machine.journal.failures + n)
+      (halts_by_one machine.journal.arms calls Halted arms failed meets refl))
+  reopening_counts _ _ _ (reopen_is_cut calls arms failed meets) =
+      inl (none_more failed
+      (else_none machine.journal.arms calls Down arms failed meets down_not_halted))
+  reopening_counts _ _ _ (no_memory_to_reopen calls arms failed meets) =
+      inl (none_more failed
+      (else_none machine.journal.arms calls Up arms failed meets up_not_halted))
+
+-- so it counts no more failed calls than its disk
+pub counts_by : (was now before after : ℕ) (refusals : List Refusal) → CountsOne was now refusals
+    → before ≤ after → (refusals ≡ Device ∷ [] → before < after) → now + before ≤ was + after
+counts_by was now before after refusals (inl same) least grew = omega (arith, same, least)
+counts_by was now before after refusals (inr one) least grew =
+    let more = grew one.0 in
+    let same = one.1 in
+    omega (arith, more, same)

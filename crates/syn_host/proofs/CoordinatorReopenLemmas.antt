@@ -1,40 +1,37 @@
 -- Another opening of a coordinator's archive is a step of its machine.
-use Rattle.std.proofs.Common.{◌≡◌, ◌≢◌, ◌⊎◌, ◌∙◌, ◌∷◌, [], ℕ, Bool, true, false, List, None}
-use Rattle.std.proofs.Common.{Option, Some, ap, inl, inr, refl, subst, sym}
-use Rattle.std.proofs.lemmas.Bool.{false≢true}
-use Rattle.syn_archive.specs.Refusals.{refusal_of}
-use Rattle.syn_archive.specs.declared.error.ArchiveError.{ArchiveError}
-use Rattle.syn_archive.specs.declared.error.ArchiveError.TheVariants as error
-use Rattle.syn_disk.specs.Arms.{is_stopped}
+use Rattle.std.proofs.Common.{◌≡◌, ◌≢◌, ◌∙◌, ◌<◌, ◌≤◌, ◌∷◌, [], ℕ, List, Option, None, ap}
+use Rattle.std.proofs.Common.{option_map, refl, subst, sym}
 use Rattle.syn_disk.specs.declared.disk.Disk.{Ghosts}
-use Rattle.syn_headline.specs.Coordinator.{CoordinatorMachine, archive_layout, with_archive}
-use Rattle.syn_headline.specs.Machine.{Arms, Down, Halted, Meets, Opens, Status, Up, after_device}
-use Rattle.syn_headline.specs.Machine.{opened, recovered}
-use Rattle.syn_host.specs.CoordinatorOpenings.{ReopensMachine, ReopensSo, SettlesFound, found_by}
-use Rattle.syn_host.specs.CoordinatorOpenings.{with_device}
-use Rattle.syn_host.specs.CoordinatorOpenings as step
-use Rattle.syn_host.specs.Coordinators.{IsCoordinator}
+use Rattle.syn_headline.specs.Coordinator.{Call, CoordinatorMachine, archive_layout}
+use Rattle.syn_headline.specs.Coordinator.{coordinator_kind, no_call}
+use Rattle.syn_headline.specs.Machine.{Down, Halted, Opens, Status, Up, opened, recovered, unarmed}
+use Rattle.syn_headline.specs.MachineSteps.{Does as MachineDoes, Reopen, Reopens, is_done}
+use Rattle.syn_headline.specs.MachineSteps.{no_memory_to_reopen, reopen_fails, reopen_is_cut}
+use Rattle.syn_headline.specs.MachineSteps.{reopens}
+use Rattle.syn_host.specs.CoordinatorOpenings.{OpeningIsStep, SettlesFound, gives_found}
+use Rattle.syn_host.specs.Coordinators.{IsCoordinator, archive_disk}
 use Rattle.syn_host.specs.Outcomes.{causes_in}
 use Rattle.syn_host.specs.declared.coordinator.open.CoordinatorOpening.{CoordinatorOpening}
 use Rattle.syn_model.specs.Archive.{CanKeep, Kept}
-use Rattle.syn_model.specs.Refusal.{Refusal, Device, Memory}
-use Rattle.syn_refusal.specs.Refusals.{cause_of}
+use Rattle.syn_model.specs.Refusal.{Device, Refusal}
 use Rattle.syn_refusal.specs.declared.refusal.Refusal.{Refusal as Code}
-use Rattle.syn_coordinator.specs.Coordinators.{Does, Reopens, ReopensNot, Stands, device_of}
-use Rattle.syn_coordinator.specs.Coordinators.{goes_down, goes_on, reopens, reopens_not}
-use Rattle.syn_coordinator.specs.Coordinators.{tried_shown}
-use Rattle.syn_keep.specs.Machines.{Journal, LeavesMachine, cut_off, opened_again, stayed}
-use Rattle.syn_keep.specs.Machines.{went_down}
-use Rattle.syn_keep.specs.Tries.{Tries}
+use Rattle.syn_coordinator.specs.Coordinators.{Does, Stands, device_of, goes_down, goes_on, heard}
+use Rattle.syn_keep.specs.Machines.{Journal}
+use Rattle.syn_keep.specs.Tries.{listed}
 use Rattle.syn_coordinator.specs.declared.coordinator.Coordinator.{Coordinator as Session}
+use Rattle.syn_image.specs.Archives.{kept_of}
 use Rattle.syn_image.specs.declared.kept.Kept.{Kept as Record}
 use Rattle.syn_host.proofs.AnswerLemmas.{meets_down}
 use Rattle.syn_host.proofs.CoordinatorLemmas.{is_not_down}
+use Rattle.syn_host.proofs.CoordinatorOpenLemmas.{counts_by, not_nine, reopening_counts}
 use Rattle.syn_host.proofs.SideLemmas.{halted_not_down, up_not_down}
-use Rattle.syn_keep.proofs.DueLemmas.{device_or_other}
 
-device_or_not : (e : ArchiveError) → (e ≡ error.Device) ⊎ (e ≢ error.Device)
-device_or_not e = elim (device_or_other e) [ inl device ↦ inl device | inr other ↦ inr other.0 ]
+-- what is heard of a machine that goes on is all that was said
+pub still_heard : (status : Status) (refusals : List Refusal) → status ≢ Down
+    → heard status refusals ≡ refusals
+still_heard Up refusals goes = refl
+still_heard Halted refusals goes = refl
+still_heard Down refusals goes = absurd (goes refl)
 
 -- an opening leaves the machine up
 opens_up : (pair : ℕ) (machine journal : Journal) (calls : ℕ) (kept : List Kept)
@@ -42,100 +39,105 @@ opens_up : (pair : ℕ) (machine journal : Journal) (calls : ℕ) (kept : List K
 opens_up pair machine _ calls _ (opened room generation arms meets left) = refl
 opens_up pair machine _ calls _ (recovered arms kept meets writing can) = refl
 
+module _ (pair : ℕ) (machine : CoordinatorMachine) where
+  abbrev ReopensSo : CoordinatorMachine → Call → List Refusal → Type 0
+  ReopensSo = Reopens (coordinator_kind pair) machine
+
+  -- it gives no more than what it kept
+  only_kept : (next : CoordinatorMachine) (call : Call) (refusals : List Refusal)
+      → ReopensSo next call refusals → call ≡ record no_call { kept = call.kept }
+  only_kept _ _ _ (reopens calls journal kept least so) = refl
+  only_kept _ _ _ (reopen_fails calls arms failed meets) = refl
+  only_kept _ _ _ (reopen_is_cut calls arms failed meets) = refl
+  only_kept _ _ _ (no_memory_to_reopen calls arms failed meets) = refl
+
+  -- a machine that it left down was cut off
+  pub record IsCutOff (next : CoordinatorMachine) (call : Call) (refusals : List Refusal)
+      : Type 0 where
+    pub unarmed_is : next.journal.arms ≡ unarmed
+    pub idle : next.running ≡ None
+    pub unrefused : refusals ≡ []
+    pub nothing : call.kept ≡ []
+
+  cut_off : machine.journal.status ≢ Down → (next : CoordinatorMachine) (call : Call)
+      (refusals : List Refusal) → ReopensSo next call refusals → next.journal.status ≡ Down
+      → IsCutOff next call refusals
+  cut_off other _ _ _ (reopens calls journal kept least so) down =
+      absurd (up_not_down (sym (opens_up pair machine.journal journal calls kept so) ∙ down))
+  cut_off other _ _ _ (reopen_fails calls arms failed meets) down =
+      absurd (halted_not_down down)
+  cut_off other _ _ _ (reopen_is_cut calls arms failed meets) down = record {
+    unarmed_is = meets_down machine.journal.arms arms calls failed Down meets refl;
+    idle = refl;
+    unrefused = refl;
+    nothing = refl;
+  }
+  cut_off other _ _ _ (no_memory_to_reopen calls arms failed meets) down = absurd (other down)
+
 module _ {D : Type 0} {disk : Ghosts D} (old new : Session D disk) (pair : ℕ)
     (machine : CoordinatorMachine) (stands : Stands old pair machine)
     (opening : CoordinatorOpening D disk) where
   abbrev other : machine.journal.status ≢ Down
   other = is_not_down pair old machine stands
 
-  -- what was told is what the machine gave
-  so_reopens : (next : CoordinatorMachine) (kept : List Kept) (refusals : List Refusal)
-      → ReopensMachine pair machine next kept refusals → kept ≡ found_by opening.found
+  -- how many failed calls the disk had counted, and has counted now
+  abbrev before : ℕ
+  before = disk.failures (device_of old)
+
+  abbrev after : ℕ
+  after = disk.failures (device_of new)
+
+  abbrev IsSo : Type 0
+  IsSo = OpeningIsStep pair machine before (MachineDoes (coordinator_kind pair) machine Reopen)
+      opening
+
+  is_step : (next : CoordinatorMachine) (call : Call) (refusals : List Refusal)
+      → Reopens (coordinator_kind pair) machine next call refusals
+      → call.kept ≡ listed (option_map kept_of opening.found)
       → refusals ≡ causes_in opening.refused → IsCoordinator pair opening.coordinator next
-      → ReopensSo pair machine opening
-  so_reopens next kept refusals made found refused is = record {
+      → before ≤ disk.failures (archive_disk opening.coordinator)
+      → (refusals ≡ Device ∷ []
+      → before < disk.failures (archive_disk opening.coordinator)) → IsSo
+  is_step next call refusals step kept told is least grew = record {
     next = next;
-    reopens = subst (λ r. ReopensMachine pair machine next (found_by opening.found) r) refused
-        (subst (λ k. ReopensMachine pair machine next k refusals) found made);
+    step = is_done _ _ _ other
+        (subst (Reopens (coordinator_kind pair) machine next (gives_found opening.found)) told
+        (subst (λ c. Reopens (coordinator_kind pair) machine next c refusals)
+        (only_kept pair machine next call refusals step
+        ∙ ap (λ (k : List Kept). record no_call { kept = k }) kept) step));
     is = is;
+    counts = counts_by machine.journal.failures next.journal.failures before
+        (disk.failures (archive_disk opening.coordinator)) refusals
+        (reopening_counts pair machine next call refusals step) least grew;
   }
 
+  -- the disk counts as its coordinator's
   module _ (found : Option Record) (refused : Option Code)
-      (settles : SettlesFound new found refused opening) where
-    -- its machine stopped among the device calls
-    cut_so : (calls : ℕ) (arms : Arms) (failed : ℕ)
-        → Meets machine.journal.arms calls Down arms failed
-        → is_stopped (disk.arms (device_of new)) ≡ true
-        → LeavesMachine disk (device_of new) pair (after_device machine.journal Down arms failed)
-        → Tries pair (tried_shown new) (after_device machine.journal Down arms failed)
-        → ReopensSo pair machine opening
-    cut_so calls arms failed meets stopped leaves tries =
-        let next = with_device machine Down arms failed in
+      (settles : SettlesFound new found refused opening) (told : Status → List Refusal)
+      (told_is : (status : Status) → status ≢ Down → told status ≡ causes_in refused)
+      (least : before ≤ after) (grew : causes_in refused ≡ Device ∷ [] → before < after) where
+    pub reopened_so : Does old new pair
+        (λ next call. Reopens (coordinator_kind pair) machine next call
+        (told next.journal.status)) (listed (option_map kept_of found)) [] → IsSo
+    reopened_so (goes_on next call step now kept messages reports) =
+        let behind = settles.goes_on pair next now in
+        let is_told = told_is next.journal.status (is_not_down pair new next now) in
+        is_step next call (told next.journal.status) step
+        (kept ∙ ap (λ f. listed (option_map kept_of f)) (sym behind.0))
+        (is_told ∙ ap causes_in (sym behind.1)) behind.2
+        (subst (λ n. before ≤ n) (sym settles.counted) least)
+        (λ nine. subst (λ n. before < n) (sym settles.counted) (grew (sym is_told ∙ nine)))
+    reopened_so (goes_down next call step stopped down leaves kept tries) =
+        let cut = cut_off pair machine other next call (told next.journal.status) step down in
         let behind = settles.stops stopped pair next (record {
-          down = refl;
-          unarmed_is = meets_down machine.journal.arms arms calls failed Down meets refl;
-          idle = refl;
+          down = down;
+          unarmed_is = cut.unarmed_is;
+          idle = cut.idle;
           leaves = leaves;
           tries = tries;
         }) in
-        so_reopens next [] [] (step.is_cut calls arms failed other meets)
-        (sym (ap found_by behind.0)) (sym (ap causes_in behind.1)) behind.2
-
-  pub reopens_found : (found : Option Record) → SettlesFound new found None opening
-      → Does old new pair (Reopens pair machine) (found_by found) []
-      → ReopensSo pair machine opening
-  reopens_found found settles (goes_on _ _ (reopens journal told (opened_again calls _ _ least
-      so)) now kept messages reports) =
-      let next = with_archive machine journal in
-      let behind = settles.goes_on pair next now in
-      so_reopens next told [] (step.ReopensMachine.reopens calls journal told other least so)
-      (kept ∙ sym (ap found_by behind.0)) (sym (ap causes_in behind.1)) behind.2
-  reopens_found found settles (goes_on _ _ (reopens _ _ (cut_off calls arms failed meets)) now kept
-      messages reports) = absurd (is_not_down pair new _ now refl)
-  reopens_found found settles (goes_down _ _ (reopens journal told (opened_again calls _ _ least
-      so)) stopped down leaves kept tries) =
-      absurd (up_not_down (sym (opens_up pair machine.journal journal calls told so) ∙ down))
-  reopens_found found settles (goes_down _ _ (reopens _ _ (cut_off calls arms failed meets))
-      stopped down leaves kept tries) =
-      cut_so found None settles calls arms failed meets stopped leaves tries
-
-  -- nothing was opened, for this reason
-  not_opened : (met left : Status) (reason : Refusal) (refusal : Code)
-      → cause_of refusal ≡ reason → left ≢ Down
-      → ((calls : ℕ) (arms : Arms) (failed : ℕ) → Meets machine.journal.arms calls met arms failed
-      → ReopensMachine pair machine (with_device machine left arms failed) [] (reason ∷ []))
-      → SettlesFound new None (Some refusal) opening
-      → Does old new pair (ReopensNot machine met left) [] [] → ReopensSo pair machine opening
-  not_opened met left reason refusal is stays made settles (goes_on _ _ (reopens_not _ (stayed calls
-      arms failed meets)) now kept messages reports) =
-      let next = with_device machine left arms failed in
-      let behind = settles.goes_on pair next now in
-      so_reopens next [] (reason ∷ []) (made calls arms failed meets) (sym (ap found_by behind.0))
-      (ap (λ r. r ∷ []) (sym is) ∙ sym (ap causes_in behind.1)) behind.2
-  not_opened met left reason refusal is stays made settles (goes_on _ _ (reopens_not _ (went_down
-      calls arms failed meets)) now kept messages reports) =
-      absurd (is_not_down pair new _ now refl)
-  not_opened met left reason refusal is stays made settles (goes_down _ _ (reopens_not _ (stayed
-      calls arms failed meets)) stopped down leaves kept tries) = absurd (stays down)
-  not_opened met left reason refusal is stays made settles (goes_down _ _ (reopens_not _ (went_down
-      calls arms failed meets)) stopped down leaves kept tries) =
-      cut_so None (Some refusal) settles calls arms failed meets stopped leaves tries
-
-  pub reopens_nothing : (e : ArchiveError) (refusal : Code) → cause_of refusal ≡ refusal_of e
-      → SettlesFound new None (Some refusal) opening
-      → (e ≡ error.Device → Does old new pair (ReopensNot machine Halted Halted) [] [])
-      → (e ≢ error.Device → (e ≡ error.Memory)
-      × Does old new pair (ReopensNot machine Up machine.journal.status) [] [])
-      → ReopensSo pair machine opening
-  reopens_nothing e refusal is settles device memory = elim (device_or_not e) [
-    | inl failed ↦
-        not_opened Halted Halted Device refusal (is ∙ ap refusal_of failed) halted_not_down
-        (λ calls arms failures meets. step.reopen_fails calls arms failures other meets)
-        settles (device failed)
-    | inr wanted ↦
-        not_opened Up machine.journal.status Memory refusal (is ∙ ap refusal_of (memory wanted).0)
-        other
-        (λ calls arms failures meets.
-        step.ReopensMachine.no_memory calls arms failures other meets)
-        settles (memory wanted).1
-  ]
+        is_step next call (told next.journal.status) step
+        (cut.nothing ∙ ap (λ f. listed (option_map kept_of f)) (sym behind.0))
+        (cut.unrefused ∙ ap causes_in (sym behind.1)) behind.2
+        (subst (λ n. before ≤ n) (sym settles.counted) least)
+        (λ nine. absurd (not_nine (sym cut.unrefused ∙ nine)))

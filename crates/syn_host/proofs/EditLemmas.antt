@@ -1,7 +1,6 @@
 -- An edit of a side's user is a step of its machine.
-use Rattle.std.proofs.Common.{◌≡◌, ◌⊎◌, ◌∙◌, ◌+◌, ◌-◌, ◌<◌, ◌≤◌, ℕ, true, false, arith}
-use Rattle.std.proofs.Common.{List, [], ◌∷◌, ◌++◌, Option, Some, None, refl}
-use Rattle.std.proofs.Common.{sym, ap, subst, inl, inr}
+use Rattle.std.proofs.Common.{◌≡◌, ◌⊎◌, ◌∙◌, ◌+◌, ◌-◌, ◌<◌, ◌≤◌, ℕ, true, false, arith, List, []}
+use Rattle.std.proofs.Common.{◌∷◌, ◌++◌, Option, Some, None, refl, sym, ap, subst, inl, inr}
 use Rattle.std.specs.Prelude.{length}
 use Rattle.syn_agent.specs.Machines.{IsOf, IsUpAs, WrittenIsOf}
 use Rattle.syn_agent.specs.declared.agent.Agent.{Agent}
@@ -9,13 +8,14 @@ use Rattle.syn_disk.specs.Arms.{is_stopped}
 use Rattle.syn_disk.specs.Calls.{Makes, Breaks}
 use Rattle.syn_disk.specs.Stops.{LeavesOnly}
 use Rattle.syn_disk.specs.declared.disk.Disk.{Ghosts}
-use Rattle.syn_headline.specs.Machine.{Status, Up, Halted, Down, Arms, Meets, unarmed}
-use Rattle.syn_headline.specs.Machine.{after_device, with_record, written, unwritten}
-use Rattle.syn_headline.specs.SideMachine.{SideMachine, causes_of, side_layout}
+use Rattle.syn_headline.specs.Machine.{Status, Up, Halted, Down, Arms, Meets, unarmed, after_device}
+use Rattle.syn_headline.specs.Machine.{with_record, written, unwritten}
+use Rattle.syn_headline.specs.MachineSteps.{causes_at, is_done, makes, refused_by, refuses}
+use Rattle.syn_headline.specs.SideMachine.{SideMachine, UserEdits, causes_of, edits, side_layout}
 use Rattle.syn_headline.specs.SideMachine.{with_journal}
 use Rattle.syn_host.specs.Outcomes.{Acknowledges, refused_in}
-use Rattle.syn_host.specs.SideSteps.{Edits, Journal, causes_at, edits, refused_by, refuses}
-use Rattle.syn_host.specs.Sides.{EditsSo, IsHost, IsRefused, RunsAs, Settles, SettlesAdded}
+use Rattle.syn_host.specs.SideSteps.{Journal}
+use Rattle.syn_host.specs.Sides.{CallIsStep, IsHost, IsRefused, RunsAs, Settles, SettlesAdded}
 use Rattle.syn_host.specs.Sides.{CountsFrom, HasCounted, Stops, side_disk}
 use Rattle.syn_host.specs.declared.side.SideHost.TheVariants as host
 use Rattle.syn_host.specs.declared.outcome.Outcome.{Outcome}
@@ -24,19 +24,17 @@ use Rattle.syn_host.specs.declared.side.UpSide.{UpSide}
 use Rattle.syn_model.specs.Event.{Event, IsLawfulEvent}
 use Rattle.syn_model.specs.History.{History}
 use Rattle.syn_model.specs.Path.{Bytes}
-use Rattle.syn_model.specs.Refusal.{Refusal, Cause, first_cause, number}
+use Rattle.syn_model.specs.Refusal.{Refusal, first_cause}
 use Rattle.syn_model.specs.Refusal as why
 use Rattle.syn_model.specs.Spelling.{event_spelling}
-use Rattle.syn_recovery.specs.Calls.{armed_at, goes_on, goes_down, MadeCallsMeet}
-use Rattle.syn_recovery.specs.Calls.{BrokenCallsMeet}
+use Rattle.syn_recovery.specs.Calls.{armed_at, goes_on, goes_down, MadeCallsMeet, BrokenCallsMeet}
 use Rattle.syn_recovery.specs.Machines.{of_side}
 use Rattle.syn_recovery.specs.Meaning.{MayBeOf}
 use Rattle.syn_refusal.specs.Refusals.{cause_of}
 use Rattle.syn_refusal.specs.declared.refusal.Refusal.{Refusal as Code}
 use Rattle.syn_replica.specs.Disks.{DiskKeeps, event_size}
 use Rattle.syn_replica.specs.Replica.{HasRecord, IsHalted, KeepsBeforeOrAfter, KeepsReadings}
-use Rattle.syn_replica.specs.Replica.{Stands, disk_of, generation_shown}
-use Rattle.syn_replica.specs.Replica.{left_shown, tried_shown}
+use Rattle.syn_replica.specs.Replica.{Stands, disk_of, generation_shown, left_shown, tried_shown}
 use Rattle.syn_replica.specs.declared.replica.Replica.{Replica}
 use Rattle.syn_host.proofs.SideLemmas.{halted_not_up, none_not_some, not_down, remembers}
 use Rattle.syn_host.proofs.SideLemmas.{still_staged}
@@ -106,20 +104,22 @@ module _ {D : Type 0} {disk : Ghosts D} (pair : ℕ) (old new : Replica D disk) 
   -- it goes down as the event is written
   module _ (stops : is_stopped (disk.arms (disk_of new)) ≡ true
       → Stops new_side position (tried_shown new) call) (counted : HasCounted new_side call)
-      (none : first_cause (causes_at machine (causes_of pair machine event)) ≡ None) where
+      (none : first_cause (causes_at machine.journal.status (causes_of pair machine event))
+      ≡ None) where
     stopped_so : failed_by old ≤ failed_by new
         → is_stopped (disk.arms (disk_of new)) ≡ true
         → Meets machine.journal.arms 4 Down unarmed 0
-        → EditsSo pair machine (failed_by old) event call
+        → CallIsStep pair machine (failed_by old) (UserEdits pair machine event) call
     stopped_so few stopped meets =
         let behind = stops stopped in
         let next = with_journal machine (writing_it Down unarmed 0) in
         record {
           next = next;
           events = [];
-          edits = subst (λ o. Edits pair machine event next [] (refused_in o)) (sym behind.0)
-              (edits (writing_it Down unarmed 0) [] (not_down pair (side_of old agent) machine
-              runs) none lawful (unwritten Down unarmed 0 refl (inr refl) meets));
+          step = subst (λ o. UserEdits pair machine event next [] (refused_in o)) (sym behind.0)
+              (is_done _ _ _ (not_down pair (side_of old agent) machine runs) (makes next [] none
+              (edits (writing_it Down unarmed 0) [] lawful
+              (unwritten Down unarmed 0 refl (inr refl) meets))));
           acknowledges = subst (λ o. Acknowledges o []) (sym behind.0) refl;
           is = behind.1 pair next (record {
             down = refl;
@@ -134,7 +134,7 @@ module _ {D : Type 0} {disk : Ghosts D} (pair : ℕ) (old new : Replica D disk) 
 
   -- the event is written
   module _ (settles : SettlesAdded new_side position call)
-      (none : first_cause (causes_at machine (causes_of pair machine event)) ≡ None)
+      (none : first_cause (causes_at machine.journal.status (causes_of pair machine event)) ≡ None)
       (is_up : (next : SideMachine) → IsUpAs pair new agent next → IsOf pair new agent next)
       (stands : Stands new (value ++ event ∷ [])) (has : HasRecord old new event)
       (same : failed_by new ≡ failed_by old) where
@@ -143,18 +143,19 @@ module _ {D : Type 0} {disk : Ghosts D} (pair : ℕ) (old new : Replica D disk) 
 
     added : is_stopped (disk.arms (disk_of new)) ≡ false
         → Meets machine.journal.arms 4 Up arms_now 0
-        → EditsSo pair machine (failed_by old) event call
+        → CallIsStep pair machine (failed_by old) (UserEdits pair machine event) call
     added goes meets =
         let behind = settles.goes_on goes event tried in
         let next = with_journal machine with_it in
-        let made : Edits pair machine event next (event ∷ []) (refused_by machine.journal.status) =
-        edits with_it (event ∷ []) (not_down pair (side_of old agent) machine runs) none lawful
-        (written arms_now refl meets) in
+        let made : UserEdits pair machine event next (event ∷ [])
+        (refused_by machine.journal.status) =
+        is_done _ _ _ (not_down pair (side_of old agent) machine runs) (makes next (event ∷ []) none
+        (edits with_it (event ∷ []) lawful (written arms_now refl meets))) in
         record {
           next = next;
           events = event ∷ [];
-          edits = subst (λ r. Edits pair machine event next (event ∷ []) r) (sym behind.0)
-              (subst (λ s. Edits pair machine event next (event ∷ []) (refused_by s)) up made);
+          step = subst (λ r. UserEdits pair machine event next (event ∷ []) r) (sym behind.0)
+              (subst (λ s. UserEdits pair machine event next (event ∷ []) (refused_by s)) up made);
           acknowledges = behind.1;
           is = behind.2 pair next up (record {
             is = is_up next (record {
@@ -175,10 +176,10 @@ module _ {D : Type 0} {disk : Ghosts D} (pair : ℕ) (old new : Replica D disk) 
         }
 
     pub edit_ok : MadeCallsMeet → Makes 4 (disk.arms (disk_of old)) (disk.arms (disk_of new))
-        → EditsSo pair machine (failed_by old) event call
-    edit_ok made makes =
-        elim (made 4 (disk.arms (disk_of old)) (disk.arms (disk_of new)) runs.is.runs makes)
-        as (λ _. EditsSo pair machine (failed_by old) event call) [
+        → CallIsStep pair machine (failed_by old) (UserEdits pair machine event) call
+    edit_ok made calls =
+        elim (made 4 (disk.arms (disk_of old)) (disk.arms (disk_of new)) runs.is.runs calls)
+        as (λ _. CallIsStep pair machine (failed_by old) (UserEdits pair machine event) call) [
           | goes_on goes meets ↦ added goes (met Up arms_now 0 meets)
           | goes_down stopped meets ↦ stopped_so settles.stops settles.counted none
               (omega (arith, same)) stopped (met Down unarmed 0 meets)
@@ -187,24 +188,25 @@ module _ {D : Type 0} {disk : Ghosts D} (pair : ℕ) (old new : Replica D disk) 
   -- the device failed
   module _ (outcome : Outcome) (settles : Settles new_side position outcome call)
       (is_refused : refused_in outcome ≡ why.Device ∷ []) (is_not : Acknowledges outcome [])
-      (none : first_cause (causes_at machine (causes_of pair machine event)) ≡ None)
+      (none : first_cause (causes_at machine.journal.status (causes_of pair machine event)) ≡ None)
       (halted : IsHalted new) (readings : KeepsReadings old new)
       (more : failed_by old < failed_by new) where
     broke : is_stopped (disk.arms (disk_of new)) ≡ false
         → Meets machine.journal.arms 4 Halted arms_now 1
-        → EditsSo pair machine (failed_by old) event call
+        → CallIsStep pair machine (failed_by old) (UserEdits pair machine event) call
     broke goes meets =
         let behind = settles.goes_on goes in
         let next = with_journal machine (writing_it Halted arms_now 1) in
         let past = remembers pair (side_of old agent) machine runs in
-        let made : Edits pair machine event next [] (why.Device ∷ []) =
-        edits (writing_it Halted arms_now 1) [] (not_down pair (side_of old agent) machine runs)
-        none lawful (unwritten Halted arms_now 1 refl (inl refl) meets) in
+        let made : UserEdits pair machine event next [] (why.Device ∷ []) =
+        is_done _ _ _ (not_down pair (side_of old agent) machine runs) (makes next [] none
+        (edits (writing_it Halted arms_now 1) [] lawful
+        (unwritten Halted arms_now 1 refl (inl refl) meets))) in
         record {
           next = next;
           events = [];
-          edits = subst (λ o. Edits pair machine event next [] (refused_in o)) (sym behind.0)
-              (subst (λ r. Edits pair machine event next [] r) (sym is_refused) made);
+          step = subst (λ o. UserEdits pair machine event next [] (refused_in o)) (sym behind.0)
+              (subst (λ r. UserEdits pair machine event next [] r) (sym is_refused) made);
           acknowledges = subst (λ o. Acknowledges o []) (sym behind.0) is_not;
           is = behind.1 pair next (record {
             is = record {
@@ -231,10 +233,10 @@ module _ {D : Type 0} {disk : Ghosts D} (pair : ℕ) (old new : Replica D disk) 
 
     pub edit_failed : BrokenCallsMeet
         → Breaks 4 (disk.arms (disk_of old)) (disk.arms (disk_of new))
-        → EditsSo pair machine (failed_by old) event call
+        → CallIsStep pair machine (failed_by old) (UserEdits pair machine event) call
     edit_failed broken breaks =
         elim (broken 4 (disk.arms (disk_of old)) (disk.arms (disk_of new)) runs.is.runs breaks)
-        as (λ _. EditsSo pair machine (failed_by old) event call) [
+        as (λ _. CallIsStep pair machine (failed_by old) (UserEdits pair machine event) call) [
           | goes_on goes meets ↦ broke goes (met Halted arms_now 1 meets)
           | goes_down stopped meets ↦ stopped_so settles.stops settles.counted none
               (omega (arith, more)) stopped (met Down unarmed 0 meets)
@@ -266,18 +268,19 @@ module _ {D : Type 0} {disk : Ghosts D} (pair : ℕ) (old new : Replica D disk) 
   pub edit_refused : (event : Event) (outcome : Outcome) (reason : Refusal)
       (call : SideCall D disk) (position : ℕ) → Settles (side_of new agent) position outcome call
       → refused_in outcome ≡ reason ∷ [] → Acknowledges outcome []
-      → first_cause (causes_at machine (causes_of pair machine event) ++ (true, why.Memory) ∷ [])
+      → first_cause (causes_at machine.journal.status (causes_of pair machine event)
+      ++ (true, why.Memory) ∷ [])
       ≡ Some reason → failed_by new ≡ failed_by old
-      → EditsSo pair machine (failed_by old) event call
+      → CallIsStep pair machine (failed_by old) (UserEdits pair machine event) call
   edit_refused event outcome reason call position settles is_refused is_not some same =
       let behind = settles.goes_on (ap is_stopped arms ∙ runs.is.runs) in
-      let made : Edits pair machine event machine [] (reason ∷ []) =
-      refuses reason (not_down pair (side_of old agent) machine runs) some in
+      let made : UserEdits pair machine event machine [] (reason ∷ []) =
+      is_done _ _ _ (not_down pair (side_of old agent) machine runs) (refuses reason some) in
       record {
         next = machine;
         events = [];
-        edits = subst (λ o. Edits pair machine event machine [] (refused_in o)) (sym behind.0)
-            (subst (λ r. Edits pair machine event machine [] r) (sym is_refused) made);
+        step = subst (λ o. UserEdits pair machine event machine [] (refused_in o)) (sym behind.0)
+            (subst (λ r. UserEdits pair machine event machine [] r) (sym is_refused) made);
         acknowledges = subst (λ o. Acknowledges o []) (sym behind.0) is_not;
         is = behind.1 pair machine stays;
         counts = omega (arith, settles.counted, same);
@@ -294,13 +297,16 @@ counts_still {D} {disk} side machine call same =
 pub edit_halted : {D : Type 0} {disk : Ghosts D} (pair : ℕ) (side : UpSide D disk)
     (machine : SideMachine) → RunsAs pair side machine → (event : Event) (refusal : Code)
     (call : SideCall D disk) → IsRefused side refusal call
-    → first_cause (causes_at machine (causes_of pair machine event) ++ (true, why.Memory) ∷ [])
-    ≡ Some (cause_of refusal) → EditsSo pair machine (failed_by side.replica) event call
+    → first_cause (causes_at machine.journal.status (causes_of pair machine event)
+    ++ (true, why.Memory) ∷ [])
+    ≡ Some (cause_of refusal) → CallIsStep pair machine (failed_by side.replica)
+    (UserEdits pair machine event) call
 edit_halted pair side machine runs event refusal call refused some = record {
   next = machine;
   events = [];
-  edits = subst (λ o. Edits pair machine event machine [] (refused_in o)) (sym refused.outcome_is)
-      (refuses (cause_of refusal) (not_down pair side machine runs) some);
+  step = subst (λ o. UserEdits pair machine event machine [] (refused_in o))
+      (sym refused.outcome_is)
+      (is_done _ _ _ (not_down pair side machine runs) (refuses (cause_of refusal) some));
   acknowledges = subst (λ o. Acknowledges o []) (sym refused.outcome_is) refl;
   is = subst (λ s. IsHost pair s machine) (sym refused.side_is) runs;
   counts = counts_still side machine call refused.side_is;

@@ -1,4 +1,5 @@
 mod CauseLemmas
+mod StopLemmas
 mod SideLemmas
 mod EditLemmas
 mod CheckpointLemmas

@@ -1,7 +1,6 @@
 -- What an opening of a side's disk gives.
-use Rattle.std.proofs.Common.{◌≡◌, ◌⊎◌, ◌∙◌, ◌-◌, ◌<◌, ℕ, suc, false, List}
-use Rattle.std.proofs.Common.{[], ◌∷◌, ◌++◌, Option, Some, None, Result, Ok, Err, inl, inr, refl}
-use Rattle.std.proofs.Common.{sym, ap, ap₂, subst, arith, length-append}
+use Rattle.std.proofs.Common.{◌≡◌, ◌⊎◌, ◌∙◌, ◌-◌, ◌<◌, ℕ, false, List, [], ◌∷◌, ◌++◌, Option, Some}
+use Rattle.std.proofs.Common.{None, inl, inr, refl, sym, ap, subst, arith, length-append}
 use Rattle.std.specs.Prelude.{◌^◌, length}
 use Rattle.syn_agent.specs.Agents.{staging_of}
 use Rattle.syn_agent.specs.Machines.{IsOf, IsUpAs}
@@ -10,18 +9,18 @@ use Rattle.syn_disk.specs.Arms.{Arms as DiskArms, is_stopped}
 use Rattle.syn_disk.specs.Calls.{BreaksSometime, MakesAtLeast}
 use Rattle.syn_disk.specs.Stops.{Untouched}
 use Rattle.syn_headline.specs.Machine.{Status, Up, Halted, Down, Arms, Meets, unarmed, Opens}
-use Rattle.syn_headline.specs.Machine.{Journaled, Layout, opened}
-use Rattle.syn_headline.specs.Machine.{recovered, one_stops, all_made, one_fails}
-use Rattle.syn_headline.specs.SideMachine.{SideMachine, side_layout, with_journal}
+use Rattle.syn_headline.specs.Machine.{Journaled, Layout, opened, recovered}
+use Rattle.syn_headline.specs.MachineSteps.{OpensDown, no_memory_to_open, open_fails, opens}
+use Rattle.syn_headline.specs.MachineSteps.{with_device}
+use Rattle.syn_headline.specs.SideMachine.{SideMachine, side_kind, side_layout, with_journal}
 use Rattle.syn_host.specs.Outcomes.{Acknowledges}
-use Rattle.syn_host.specs.SideSteps.{Journal, OpensSide, no_memory, open_fails, opens, with_device}
-use Rattle.syn_host.specs.Sides.{Gains, OpensSo, RestsAs, TriesWriting}
+use Rattle.syn_host.specs.SideSteps.{Journal}
+use Rattle.syn_host.specs.Sides.{CallIsStep, Gains, RestsAs, TriesWriting}
 use Rattle.syn_host.specs.declared.outcome.Outcome.{Outcome}
 use Rattle.syn_host.specs.declared.outcome.Outcome.TheVariants.{Refused}
 use Rattle.syn_host.specs.declared.side.DownSide.{DownSide}
 use Rattle.syn_host.specs.declared.side.SideHost.TheVariants as host
-use Rattle.syn_journal.specs.Layout.{HasJournal, Value, bytes_left, generation_at}
-use Rattle.syn_journal.specs.declared.half.Half.{Half}
+use Rattle.syn_journal.specs.Layout.{HasJournal, Value, bytes_left}
 use Rattle.syn_disk.specs.declared.disk.Disk.{Ghosts}
 use Rattle.syn_model.specs.Event.{Event}
 use Rattle.syn_model.specs.History.{History, IsAllowed}
@@ -30,8 +29,8 @@ use Rattle.syn_model.specs.Path.{Bytes}
 use Rattle.syn_model.specs.Refusal.{Refusal}
 use Rattle.syn_model.specs.Refusal as why
 use Rattle.syn_model.specs.Spelling.{event_spelling}
-use Rattle.syn_recovery.specs.Calls.{BrokenCallsMeet, CallsMeet, MadeReadsMeet, armed_at}
-use Rattle.syn_recovery.specs.Calls.{goes_down, goes_on}
+use Rattle.syn_recovery.specs.Calls.{BrokenCallsMeet, CallsMeet, MadeReadsMeet, armed_at, goes_down}
+use Rattle.syn_recovery.specs.Calls.{goes_on}
 use Rattle.syn_recovery.specs.Machines.{SidesOpen, of_side}
 use Rattle.syn_recovery.specs.Meaning.{MayBeOf, MayMean, MeansAsKept, as_kept, with_record}
 use Rattle.syn_recovery.specs.Meaning.{compacted}
@@ -147,7 +146,7 @@ module _ {D : Type 0} (disk : Ghosts D) (pair : ℕ) (side : DownSide D) (machin
       (same : failed_by replica ≡ disk.failures side.disk) where
     opened_so : (calls : ℕ) → is_stopped (disk.arms (disk_of replica)) ≡ false →
         Meets machine.journal.arms calls Up (armed_at (disk.arms (disk_of replica))) 0 →
-        OpensSo pair machine (disk.failures side.disk)
+        CallIsStep pair machine (disk.failures side.disk) (OpensDown (side_kind pair) machine)
         (record { side = host.Up (side_of replica agent); outcome = outcome })
     opened_so calls goes meets =
         let arms_now = armed_at (disk.arms (disk_of replica)) in
@@ -164,7 +163,8 @@ module _ {D : Type 0} (disk : Ghosts D) (pair : ℕ) (side : DownSide D) (machin
         record {
           next = next;
           events = found.added;
-          opens = subst (λ r. OpensSide pair machine next found.added r) (sym gains.refuses)
+          step = subst (λ r. OpensDown (side_kind pair) machine next found.added r)
+              (sym gains.refuses)
               (opens calls found.new found.added rests.down found.opens);
           acknowledges = gained_so pair machine.journal calls found.new found.added outcome
               side.position (position_shown replica) tried gains tries rests.position_is
@@ -196,7 +196,7 @@ module _ {D : Type 0} (disk : Ghosts D) (pair : ℕ) (side : DownSide D) (machin
         }
 
     pub open_ok : MakesAtLeast 1 (disk.arms side.disk) (disk.arms (disk_of replica)) →
-        OpensSo pair machine (disk.failures side.disk)
+        CallIsStep pair machine (disk.failures side.disk) (OpensDown (side_kind pair) machine)
         (record { side = host.Up (side_of replica agent); outcome = outcome })
     open_ok makes =
         let found = reads 1 (disk.arms side.disk) (disk.arms (disk_of replica)) rests.goes makes in
@@ -212,16 +212,17 @@ module _ {D : Type 0} (disk : Ghosts D) (pair : ℕ) (side : DownSide D) (machin
     pub open_failed : cause_of refusal ≡ why.Device → disk.failures side.disk < disk.failures back
         → BrokenCallsMeet
         → BreaksSometime (disk.arms side.disk) (disk.arms back)
-        → OpensSo {D = D} {disk = disk} pair machine (disk.failures side.disk)
+        → CallIsStep {D = D} {disk = disk} pair machine (disk.failures side.disk)
+        (OpensDown (side_kind pair) machine)
         (record { side = host.Down rest; outcome = Refused refusal })
     open_failed is_device more broken breaks =
         let met = goes_so breaks.0 Halted 1 (disk.arms back)
         (broken breaks.0 (disk.arms side.disk) (disk.arms back) rests.goes breaks.1) in
-        let next = with_device machine Down (armed_at (disk.arms back)) 1 in
+        let next = with_device (side_kind pair) machine Down (armed_at (disk.arms back)) 1 in
         record {
           next = next;
           events = [];
-          opens = subst (λ r. OpensSide pair machine next [] (r ∷ [])) (sym is_device)
+          step = subst (λ r. OpensDown (side_kind pair) machine next [] (r ∷ [])) (sym is_device)
               (open_fails breaks.0 (armed_at (disk.arms back)) 1 rests.down met.1);
           acknowledges = refl;
           is = record {
@@ -242,7 +243,8 @@ module _ {D : Type 0} (disk : Ghosts D) (pair : ℕ) (side : DownSide D) (machin
     pub open_refused : cause_of refusal ≡ why.Memory
         → disk.failures back ≡ disk.failures side.disk
         → MakesAtLeast 1 (disk.arms side.disk) (disk.arms back)
-        → OpensSo {D = D} {disk = disk} pair machine (disk.failures side.disk)
+        → CallIsStep {D = D} {disk = disk} pair machine (disk.failures side.disk)
+        (OpensDown (side_kind pair) machine)
         (record { side = host.Down rest; outcome = Refused refusal })
     open_refused is_memory same makes =
         let found = reads 1 (disk.arms side.disk) (disk.arms back) rests.goes makes in
@@ -250,8 +252,8 @@ module _ {D : Type 0} (disk : Ghosts D) (pair : ℕ) (side : DownSide D) (machin
         record {
           next = machine;
           events = [];
-          opens = subst (λ r. OpensSide pair machine machine [] (r ∷ [])) (sym is_memory)
-              (no_memory rests.down);
+          step = subst (λ r. OpensDown (side_kind pair) machine machine [] (r ∷ [])) (sym is_memory)
+              (no_memory_to_open rests.down);
           acknowledges = refl;
           is = record {
             down = rests.down;

@@ -1,6 +1,6 @@
 -- Another opening of a side's own disk is a step of its machine.
-use Rattle.std.proofs.Common.{◌≡◌, ◌≢◌, ◌∙◌, ◌+◌, ◌-◌, ◌<◌, ◌≤◌, ℕ, suc, zero, true, false, []}
-use Rattle.std.proofs.Common.{◌∷◌, ◌++◌, Option, inl, inr, refl, sym, ap, ap₂, subst, arith}
+use Rattle.std.proofs.Common.{◌≡◌, ◌≢◌, ◌∙◌, ◌+◌, ◌-◌, ◌<◌, ◌≤◌, ℕ, suc, zero, true, false, [], ◌∷◌}
+use Rattle.std.proofs.Common.{◌++◌, Option, inl, inr, refl, sym, ap, ap₂, subst, arith}
 use Rattle.std.specs.Prelude.{length}
 use Rattle.syn_agent.specs.Machines.{IsOf, IsUpAs, StandsAs}
 use Rattle.syn_agent.specs.declared.agent.Agent.{Agent}
@@ -10,11 +10,12 @@ use Rattle.syn_disk.specs.Stops.{Untouched}
 use Rattle.syn_disk.specs.declared.disk.Disk.{Ghosts}
 use Rattle.syn_headline.specs.Machine.{Status, Up, Halted, Down, Arms, Meets, unarmed, IsBefore}
 use Rattle.syn_headline.specs.Machine.{after_calls, all_made}
-use Rattle.syn_headline.specs.SideMachine.{SideMachine, side_layout, with_journal}
+use Rattle.syn_headline.specs.MachineSteps.{Does, Reopen, is_done, no_memory_to_reopen}
+use Rattle.syn_headline.specs.MachineSteps.{reopen_fails, reopen_is_cut, reopens, with_device}
+use Rattle.syn_headline.specs.SideMachine.{SideMachine, side_kind, side_layout, with_journal}
 use Rattle.syn_host.specs.Outcomes.{Acknowledges, refused_in}
-use Rattle.syn_host.specs.SideSteps.{ReopensSide, is_cut, no_memory, reopen_fails}
-use Rattle.syn_host.specs.SideSteps.{reopens, with_device}
-use Rattle.syn_host.specs.Sides.{IsHost, IsRefused, ReopensSo, RunsAs, Settles, SettlesOpened}
+use Rattle.syn_host.specs.SideSteps.{SideStep}
+use Rattle.syn_host.specs.Sides.{CallIsStep, IsHost, IsRefused, RunsAs, Settles, SettlesOpened}
 use Rattle.syn_host.specs.Sides.{HasCounted, Stops, TriesWriting}
 use Rattle.syn_host.specs.declared.outcome.Outcome.{Outcome}
 use Rattle.syn_host.specs.declared.side.SideCall.{SideCall}
@@ -37,9 +38,13 @@ use Rattle.syn_replica.specs.declared.replica.Replica.{Replica}
 use Rattle.syn_host.proofs.ArmLemmas.{stands_as, still_runs}
 use Rattle.syn_host.proofs.EditLemmas.{counts_still, failed_by, side_of}
 use Rattle.syn_host.proofs.OpenLemmas.{gained_so, knows, opens_counts, some_history}
-use Rattle.syn_host.proofs.SideLemmas.{halted_not_up, none_not_some, not_down}
-use Rattle.syn_host.proofs.SideLemmas.{remembers, state, still_staged, up_not_down}
+use Rattle.syn_host.proofs.SideLemmas.{halted_not_up, none_not_some, not_down, remembers, state}
+use Rattle.syn_host.proofs.SideLemmas.{still_staged, up_not_down}
 use Rattle.syn_recovery.proofs.DiskLemmas.{may_be_still, one_generation, one_value}
+
+-- another opening of the machine
+abbrev ReopensSide : ℕ → SideMachine → SideStep
+ReopensSide pair machine = Does (side_kind pair) machine Reopen
 
 -- two replicas that stand over one disk show the same of it
 same_room : {D : Type 0} {disk : Ghosts D} (old new : Replica D disk) (a b : History)
@@ -108,7 +113,8 @@ module _ {D : Type 0} {disk : Ghosts D} (pair : ℕ) (old new : Replica D disk) 
 
   leaves : (status : Status) (arms : Arms) (failed : ℕ) (bytes : Bytes)
       → disk.may_leave (disk_of new) bytes
-      → MayBeOf (of_side pair) (with_device machine status arms failed).journal bytes
+      → MayBeOf (of_side pair) (with_device (side_kind pair) machine status arms failed).journal
+      bytes
   leaves status arms failed bytes may = may_be_still (of_side pair) machine.journal status arms
       failed bytes (runs.is.left bytes (untouched.nothing_new bytes may))
 
@@ -125,15 +131,15 @@ module _ {D : Type 0} {disk : Ghosts D} (pair : ℕ) (old new : Replica D disk) 
       (calls : ℕ) → failed_by old ≤ failed_by new →
       is_stopped (disk.arms (disk_of new)) ≡ true →
       Meets machine.journal.arms calls Down unarmed 0 →
-      ReopensSo pair machine (failed_by old) call
+      CallIsStep pair machine (failed_by old) (ReopensSide pair machine) call
   cut_so tried tries settles counted calls few stopped meets =
       let behind = settles stopped in
-      let next = with_device machine Down unarmed 0 in
+      let next = with_device (side_kind pair) machine Down unarmed 0 in
       record {
         next = next;
         events = [];
-        reopens = subst (λ o. ReopensSide pair machine next [] (refused_in o)) (sym behind.0)
-            (is_cut calls unarmed 0 other meets);
+        step = subst (λ o. ReopensSide pair machine next [] (refused_in o)) (sym behind.0)
+            (is_done _ _ _ other (reopen_is_cut calls unarmed 0 meets));
         acknowledges = subst (λ o. Acknowledges o []) (sym behind.0) refl;
         is = behind.1 pair next (record {
           down = refl;
@@ -160,7 +166,7 @@ module _ {D : Type 0} {disk : Ghosts D} (pair : ℕ) (old new : Replica D disk) 
 
     opened_so : (calls : ℕ) → 1 ≤ calls → is_stopped (disk.arms (disk_of new)) ≡ false
         → Meets machine.journal.arms calls Up arms_now 0
-        → ReopensSo pair machine (failed_by old) call
+        → CallIsStep pair machine (failed_by old) (ReopensSide pair machine) call
     opened_so calls least goes meets =
         let behind = settles.goes_on goes in
         let gains = behind.0 in
@@ -178,8 +184,8 @@ module _ {D : Type 0} {disk : Ghosts D} (pair : ℕ) (old new : Replica D disk) 
         record {
           next = next;
           events = found.added;
-          reopens = subst (λ r. ReopensSide pair machine next found.added r) (sym gains.refuses)
-              (reopens calls found.new found.added other least found.opens);
+          step = subst (λ r. ReopensSide pair machine next found.added r) (sym gains.refuses)
+              (is_done _ _ _ other (reopens calls found.new found.added least found.opens));
           acknowledges = gained_so pair machine.journal calls found.new found.added call.outcome
               position (position_shown new) tried gains tries position_now
               (ap (λ s. s.position) stood.remembers.standing) found.opens;
@@ -211,11 +217,12 @@ module _ {D : Type 0} {disk : Ghosts D} (pair : ℕ) (old new : Replica D disk) 
 
     pub reopen_ok : MadeReadsMeet
         → MakesAtLeast 1 (disk.arms (disk_of old)) (disk.arms (disk_of new))
-        → ReopensSo pair machine (failed_by old) call
+        → CallIsStep pair machine (failed_by old) (ReopensSide pair machine) call
     reopen_ok reads makes =
         let found = reads 1 (disk.arms (disk_of old)) (disk.arms (disk_of new)) runs.is.runs
         makes in
-        elim found.2 as (λ _. ReopensSo pair machine (failed_by old) call) [
+        elim found.2
+        as (λ _. CallIsStep pair machine (failed_by old) (ReopensSide pair machine) call) [
           | goes_on goes meets ↦ opened_so found.0 found.1 goes (met found.0 Up arms_now 0 meets)
           | goes_down stopped meets ↦ cut_so tried tries settles.stops settles.counted found.0
               (omega (arith, same)) stopped (met found.0 Down unarmed 0 meets)
@@ -231,20 +238,22 @@ module _ {D : Type 0} {disk : Ghosts D} (pair : ℕ) (old new : Replica D disk) 
     pub reopen_failed : refused_in outcome ≡ why.Device ∷ [] → IsHalted new
         → failed_by old < failed_by new → BrokenCallsMeet
         → BreaksSometime (disk.arms (disk_of old)) (disk.arms (disk_of new))
-        → ReopensSo pair machine (failed_by old) call
+        → CallIsStep pair machine (failed_by old) (ReopensSide pair machine) call
     reopen_failed is_refused halted more broken breaks =
         elim (broken breaks.0 (disk.arms (disk_of old)) (disk.arms (disk_of new)) runs.is.runs
-        breaks.1) as (λ _. ReopensSo pair machine (failed_by old) call) [
+        breaks.1)
+        as (λ _. CallIsStep pair machine (failed_by old) (ReopensSide pair machine) call) [
           | goes_on goes meets ↦
               let behind = settles.goes_on goes in
-              let next = with_device machine Halted arms_now 1 in
+              let next = with_device (side_kind pair) machine Halted arms_now 1 in
               let past = remembers pair (side_of old agent) machine runs in
               let made : ReopensSide pair machine next [] (why.Device ∷ []) =
-              reopen_fails breaks.0 arms_now 1 other (met breaks.0 Halted arms_now 1 meets) in
+              is_done _ _ _ other
+              (reopen_fails breaks.0 arms_now 1 (met breaks.0 Halted arms_now 1 meets)) in
               record {
                 next = next;
                 events = [];
-                reopens = subst (λ o. ReopensSide pair machine next [] (refused_in o))
+                step = subst (λ o. ReopensSide pair machine next [] (refused_in o))
                     (sym behind.0)
                     (subst (λ r. ReopensSide pair machine next [] r) (sym is_refused) made);
                 acknowledges = subst (λ o. Acknowledges o []) (sym behind.0) is_not;
@@ -280,16 +289,18 @@ module _ {D : Type 0} {disk : Ghosts D} (pair : ℕ) (old new : Replica D disk) 
         → (Stands old machine.journal.value → Stands new machine.journal.value)
         → (IsHalted old → IsHalted new) → failed_by new ≡ failed_by old → MadeReadsMeet
         → MakesAtLeast 1 (disk.arms (disk_of old)) (disk.arms (disk_of new))
-        → ReopensSo pair machine (failed_by old) call
+        → CallIsStep pair machine (failed_by old) (ReopensSide pair machine) call
     reopen_refused is_refused unchanged halted count reads makes =
         let found = reads 1 (disk.arms (disk_of old)) (disk.arms (disk_of new)) runs.is.runs
         makes in
-        elim found.2 as (λ _. ReopensSo pair machine (failed_by old) call) [
+        elim found.2
+        as (λ _. CallIsStep pair machine (failed_by old) (ReopensSide pair machine) call) [
           | goes_on goes meets ↦
               let behind = settles.goes_on goes in
-              let next = with_device machine machine.journal.status arms_now 0 in
+              let next = with_device (side_kind pair) machine machine.journal.status arms_now 0 in
               let made : ReopensSide pair machine next [] (why.Memory ∷ []) =
-              no_memory found.0 arms_now 0 other (met found.0 Up arms_now 0 meets) in
+              is_done _ _ _ other
+              (no_memory_to_reopen found.0 arms_now 0 (met found.0 Up arms_now 0 meets)) in
               let same : machine.journal.status ≡ Up → (left_shown new ≡ left_shown old)
               × (generation_shown new ≡ generation_shown old) =
               λ up. (let was = stands_up old machine.journal.value machine.journal.status up
@@ -298,7 +309,7 @@ module _ {D : Type 0} {disk : Ghosts D} (pair : ℕ) (old new : Replica D disk) 
               record {
                 next = next;
                 events = [];
-                reopens = subst (λ o. ReopensSide pair machine next [] (refused_in o))
+                step = subst (λ o. ReopensSide pair machine next [] (refused_in o))
                     (sym behind.0)
                     (subst (λ r. ReopensSide pair machine next [] r) (sym is_refused) made);
                 acknowledges = subst (λ o. Acknowledges o []) (sym behind.0) is_not;
@@ -326,21 +337,22 @@ none_less n = omega arith
 pub reopen_early : {D : Type 0} {disk : Ghosts D} (pair : ℕ) (replica : Replica D disk)
     (agent : Agent) (machine : SideMachine) → RunsAs pair (side_of replica agent) machine
     → (refusal : Code) (call : SideCall D disk) → IsRefused (side_of replica agent) refusal call
-    → cause_of refusal ≡ why.Memory → ReopensSo pair machine (failed_by replica) call
+    → cause_of refusal ≡ why.Memory → CallIsStep pair machine (failed_by replica)
+    (ReopensSide pair machine) call
 reopen_early pair replica agent machine runs refusal call refused is_memory =
     let arms = after_calls 0 machine.journal.arms in
     let same = ap₂ (λ f s. record { fail = f; stop = s }) (none_less machine.journal.arms.fail)
     (none_less machine.journal.arms.stop) in
-    let next = with_device machine machine.journal.status arms 0 in
+    let next = with_device (side_kind pair) machine machine.journal.status arms 0 in
     record {
       next = next;
       events = [];
-      reopens = subst (λ o. ReopensSide pair machine next [] (refused_in o))
+      step = subst (λ o. ReopensSide pair machine next [] (refused_in o))
           (sym refused.outcome_is)
           (subst (λ r. ReopensSide pair machine next [] (r ∷ [])) (sym is_memory)
-          (no_memory 0 arms 0 (not_down pair (side_of replica agent) machine runs)
-          (all_made (before_none machine.journal.arms.fail)
-          (before_none machine.journal.arms.stop))));
+          (is_done _ _ _ (not_down pair (side_of replica agent) machine runs)
+          (no_memory_to_reopen 0 arms 0 (all_made (before_none machine.journal.arms.fail)
+          (before_none machine.journal.arms.stop)))));
       acknowledges = subst (λ o. Acknowledges o []) (sym refused.outcome_is) refl;
       is = subst (λ s. IsHost pair s next) (sym refused.side_is)
           (still_runs pair replica replica agent machine arms 0 runs

@@ -9,7 +9,7 @@ use Rattle.syn_headline.specs.Network.{Message, Which}
 use Rattle.syn_headline.specs.Planning.{Planned}
 use Rattle.syn_headline.specs.Session.{Running}
 use Rattle.syn_headline.specs.Side.{Reply}
-use Rattle.syn_host.specs.CoordinatorSteps.{CallsSo, Settles, Unrefused, refuses_nothing}
+use Rattle.syn_host.specs.CoordinatorSteps.{CallIsStep, Settles, Unrefused, refuses_nothing}
 use Rattle.syn_host.specs.declared.coordinator.CoordinatorCall.{CoordinatorCall}
 use Rattle.syn_model.specs.Archive.{Kept}
 use Rattle.syn_model.specs.Refusal.{Refusal}
@@ -102,7 +102,7 @@ pub reply_call : {D : Type 0} {disk : Ghosts D} (old new : Session D disk) (pair
     }) refuses_nothing call
     → Does old new pair (CoordinatorTakes pair machine from session number reply) (written new)
     messages
-    → CallsSo pair (Unrefused (CoordinatorTakes pair machine from session number reply)) call
+    → CallIsStep pair (Unrefused (CoordinatorTakes pair machine from session number reply)) call
 reply_call old new pair machine stands call from session number reply messages settles does =
     does_call old new pair (CoordinatorTakes pair machine from session number reply)
     (record no_call { kept = written new; messages = messages; reports = ended_in old new })

@@ -1,56 +1,21 @@
 -- What a call of a coordinator does to its machine in the world.
-use Rattle.std.specs.Prelude.{◌≡◌, ◌≢◌, ℕ, true, List, [], ◌∷◌, map, Some, None, IfSome, option_map}
+use Rattle.std.specs.Prelude.{◌≡◌, ℕ, true, List, [], map, None, IfSome, option_map}
 use Rattle.syn_disk.specs.Arms.{is_stopped}
 use Rattle.syn_disk.specs.declared.disk.Disk.{Ghosts}
-use Rattle.syn_headline.specs.Coordinator.{Call, CoordinatorMachine, CoordinatorStarts}
-use Rattle.syn_headline.specs.Coordinator.{archive_layout, no_call, with_archive}
-use Rattle.syn_headline.specs.Machine.{Compacts, Down, Status, unarmed}
-use Rattle.syn_host.specs.Coordinators.{IsCoordinator}
+use Rattle.syn_headline.specs.Coordinator.{Call, CoordinatorMachine, no_call}
+use Rattle.syn_headline.specs.Machine.{Down, Status, unarmed}
+use Rattle.syn_host.specs.Coordinators.{CoordinatorStep, IsCoordinator}
 use Rattle.syn_host.specs.Outcomes.{Tells, causes_in}
-use Rattle.syn_host.specs.SideSteps.{refused_by}
 use Rattle.syn_host.specs.declared.coordinator.CoordinatorCall.{CoordinatorCall}
 use Rattle.syn_host.specs.declared.outcome.CoordinatorOutcome.{CoordinatorOutcome}
-use Rattle.syn_model.specs.Refusal.{Refusal, first_cause}
-use Rattle.syn_coordinator.specs.Coordinators.{Stands, all_causes, checkpoint_causes}
-use Rattle.syn_coordinator.specs.Coordinators.{checkpoint_refusals, device_of, in_report}
-use Rattle.syn_coordinator.specs.Coordinators.{refusals_of, tried_shown}
+use Rattle.syn_model.specs.Refusal.{Refusal}
+use Rattle.syn_coordinator.specs.Coordinators.{Stands, device_of, in_report, tried_shown}
 use Rattle.syn_keep.specs.Tries.{Tries}
-use Rattle.syn_keep.specs.Machines.{Journal, LeavesMachine}
+use Rattle.syn_keep.specs.Machines.{LeavesMachine}
 use Rattle.syn_session.specs.Reports.{report_model}
 use Rattle.syn_session.specs.Sendings.{messages_of}
 use Rattle.syn_coordinator.specs.declared.coordinator.Coordinator.{Coordinator}
 use Rattle.syn_image.specs.Archives.{kept_of}
-use Rattle.syn_model.specs.Which.{Which}
-use Rattle.std.specs.Prelude.{Option}
-
--- what a call may leave of the machine, what it gives, and what a user was refused
-abbrev pub CallStep : Type 1
-CallStep = CoordinatorMachine → Call → List Refusal → Type 0
-
--- a checkpoint: the machine is down; or a cause stands, or memory is wanted; or it is made
-pub data Checkpoints (pair : ℕ) (machine : CoordinatorMachine) : CoordinatorMachine → Call →
-    List Refusal → Type 0 where
-  is_down : machine.journal.status ≡ Down → Checkpoints pair machine machine no_call []
-  refuses : (reason : Refusal) → machine.journal.status ≢ Down →
-      first_cause (checkpoint_causes machine) ≡ Some reason →
-      Checkpoints pair machine machine no_call (reason ∷ [])
-  checkpoints : (journal : Journal) → machine.journal.status ≢ Down →
-      first_cause (checkpoint_refusals machine) ≡ None →
-      Compacts (archive_layout pair) machine.journal journal →
-      Checkpoints pair machine (with_archive machine journal) no_call
-      (refused_by journal.status)
-
--- a start: the same, and a session starts or its device fails
-pub data Starts (pair : ℕ) (preference : Option Which) (machine : CoordinatorMachine) :
-    CoordinatorMachine → Call → List Refusal → Type 0 where
-  is_down : machine.journal.status ≡ Down → Starts pair preference machine machine no_call []
-  refuses : (reason : Refusal) → machine.journal.status ≢ Down →
-      first_cause (all_causes pair machine) ≡ Some reason →
-      Starts pair preference machine machine no_call (reason ∷ [])
-  starts : (next : CoordinatorMachine) (made : Call) → machine.journal.status ≢ Down →
-      first_cause (refusals_of pair machine) ≡ None →
-      CoordinatorStarts pair preference machine next made →
-      Starts pair preference machine next made (refused_by next.journal.status)
 
 -- a step that refuses a user nothing
 pub record Unrefused (Step : CoordinatorMachine → Call → Type 0) (next : CoordinatorMachine)
@@ -58,8 +23,9 @@ pub record Unrefused (Step : CoordinatorMachine → Call → Type 0) (next : Coo
   pub step : Step next made
   pub none : refusals ≡ []
 
--- A call is a step of the machine, and what came of it is told; or memory for telling it is refused
-pub record CallsSo {D : Type 0} {disk : Ghosts D} (pair : ℕ) (Step : CallStep)
+-- A call is such a step of the machine, and what came of it is told; or memory for telling it is
+-- refused
+pub record CallIsStep {D : Type 0} {disk : Ghosts D} (pair : ℕ) (Step : CoordinatorStep)
     (call : CoordinatorCall D disk) : Type 0 where
   pub next : CoordinatorMachine
   pub made : Call

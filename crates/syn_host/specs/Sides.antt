@@ -8,8 +8,7 @@ use Rattle.syn_headline.specs.Machine.{Up, Down, unarmed}
 use Rattle.syn_headline.specs.Side.{Request}
 use Rattle.syn_headline.specs.SideMachine.{SideMachine}
 use Rattle.syn_host.specs.Outcomes.{Acknowledges, refused_in}
-use Rattle.syn_host.specs.SideSteps.{Answers, Checkpoints, Edits, Fails, OpensSide, ReopensSide}
-use Rattle.syn_host.specs.SideSteps.{StopsSide}
+use Rattle.syn_host.specs.SideSteps.{Answers, SideStep}
 use Rattle.syn_host.specs.declared.outcome.Outcome.{Outcome}
 use Rattle.syn_host.specs.declared.outcome.Outcome.TheVariants.{Nothing, Refused}
 use Rattle.syn_host.specs.declared.side.DownSide.{DownSide}
@@ -152,67 +151,26 @@ abbrev pub CountsFrom : {D : Type 0} → {disk : Ghosts D} → ℕ → SideHost 
 CountsFrom {D} {disk} before side machine next =
     CountsNoMore before (disk.failures (side_disk side)) machine.journal next.journal
 
--- an edit is a step of the machine
-pub record EditsSo {D : Type 0} {disk : Ghosts D} (pair : ℕ) (machine : SideMachine) (before : ℕ)
-    (event : Event) (call : SideCall D disk) : Type 0 where
+-- A call that leaves the side so is such a step of its machine, and the outcome tells what it
+-- acknowledged and refused
+pub record IsStep {D : Type 0} {disk : Ghosts D} (pair : ℕ) (machine : SideMachine) (before : ℕ)
+    (Step : SideStep) (side : SideHost D disk) (outcome : Outcome) : Type 0 where
   pub next : SideMachine
   pub events : List Event
-  pub edits : Edits pair machine event next events (refused_in call.outcome)
-  pub acknowledges : Acknowledges call.outcome events
-  pub is : IsHost pair call.side next
-  pub counts : CountsFrom before call.side machine next
-
--- and so is a checkpoint, which acknowledges nothing
-pub record CheckpointsSo {D : Type 0} {disk : Ghosts D} (pair : ℕ) (machine : SideMachine)
-    (before : ℕ) (call : SideCall D disk) : Type 0 where
-  pub next : SideMachine
-  pub checkpoints : Checkpoints pair machine next (refused_in call.outcome)
-  pub acknowledges : Acknowledges call.outcome []
-  pub is : IsHost pair call.side next
-  pub counts : CountsFrom before call.side machine next
-
--- an opening may give the event that was being written
-pub record OpensSo {D : Type 0} {disk : Ghosts D} (pair : ℕ) (machine : SideMachine)
-    (before : ℕ) (call : SideCall D disk) : Type 0 where
-  pub next : SideMachine
-  pub events : List Event
-  pub opens : OpensSide pair machine next events (refused_in call.outcome)
-  pub acknowledges : Acknowledges call.outcome events
-  pub is : IsHost pair call.side next
-  pub counts : CountsFrom before call.side machine next
-
-pub record ReopensSo {D : Type 0} {disk : Ghosts D} (pair : ℕ) (machine : SideMachine)
-    (before : ℕ) (call : SideCall D disk) : Type 0 where
-  pub next : SideMachine
-  pub events : List Event
-  pub reopens : ReopensSide pair machine next events (refused_in call.outcome)
-  pub acknowledges : Acknowledges call.outcome events
-  pub is : IsHost pair call.side next
-  pub counts : CountsFrom before call.side machine next
-
--- a request is taken, and refuses a user nothing
-pub record AnswersSo {D : Type 0} {disk : Ghosts D} (pair : ℕ) (machine : SideMachine) (before : ℕ)
-    (session : ℕ) (request : Request) (answer : SideAnswer D disk) : Type 0 where
-  pub next : SideMachine
-  pub events : List Event
-  pub answers : Answers pair machine session request next (option_map reply_of answer.reply) events
-  pub refuses : refused_in answer.call.outcome ≡ []
-  pub acknowledges : Acknowledges answer.call.outcome events
-  pub lawful : IfSome answer.reply (λ said. IsLawfulReply (reply_of said))
-  pub is : IsHost pair answer.call.side next
-  pub counts : CountsFrom before answer.call.side machine next
-
--- what is armed at it is a step of the machine
-pub record FailsSo {D : Type 0} {disk : Ghosts D} (pair : ℕ) (machine : SideMachine)
-    (before call : ℕ) (side : SideHost D disk) : Type 0 where
-  pub next : SideMachine
-  pub fails : Fails machine call next
+  pub step : Step next events (refused_in outcome)
+  pub acknowledges : Acknowledges outcome events
   pub is : IsHost pair side next
   pub counts : CountsFrom before side machine next
 
-pub record StopsSo {D : Type 0} {disk : Ghosts D} (pair : ℕ) (machine : SideMachine)
-    (before calls : ℕ) (side : SideHost D disk) : Type 0 where
-  pub next : SideMachine
-  pub stops : StopsSide machine calls next
-  pub is : IsHost pair side next
-  pub counts : CountsFrom before side machine next
+abbrev pub CallIsStep : {D : Type 0} → {disk : Ghosts D} → ℕ → SideMachine → ℕ → SideStep →
+    SideCall D disk → Type 0
+CallIsStep pair machine before Step call =
+    IsStep pair machine before Step call.side call.outcome
+
+-- and so is one that takes a request, whose reply is one that can be sent
+abbrev pub AnswerIsStep : {D : Type 0} → {disk : Ghosts D} → ℕ → SideMachine → ℕ → ℕ → Request →
+    SideAnswer D disk → Type 0
+AnswerIsStep pair machine before session request answer =
+    CallIsStep pair machine before
+    (Answers pair machine session request (option_map reply_of answer.reply)) answer.call
+    × IfSome answer.reply (λ said. IsLawfulReply (reply_of said))

@@ -1,11 +1,11 @@
 //! The coordinator of a world, whose machine is up or down.
-ghost use Rattle.std.specs.Prelude.{◌≡◌, ◌≢◌, ℕ, List, IfSome, false, true};
+ghost use Rattle.std.specs.Prelude.{◌≡◌, ◌≢◌, [], ℕ, List, IfSome, false, true};
 ghost use Rattle.syn_disk.specs.Armed.{armed};
 ghost use Rattle.syn_disk.specs.Arms.{is_stopped};
-ghost use Rattle.syn_headline.specs.Coordinator.{CoordinatorMachine, no_call};
-ghost use Rattle.syn_host.specs.CoordinatorSteps.{CallsSo, Checkpoints, Settles};
+ghost use Rattle.syn_headline.specs.Coordinator.{CoordinatorMachine, coordinator_kind, no_call};
+ghost use Rattle.syn_headline.specs.MachineSteps.{Checkpoint, Does, Fail, Stop, refused_by};
+ghost use Rattle.syn_host.specs.CoordinatorSteps.{CallIsStep, Settles};
 ghost use Rattle.syn_host.specs.Outcomes.{TellsRefused};
-ghost use Rattle.syn_host.specs.SideSteps.{refused_by};
 ghost use Rattle.syn_recovery.specs.Calls.{armed_at};
 ghost use Rattle.syn_recovery.specs.Machines.{of_archive};
 ghost use Rattle.syn_recovery.specs.Meaning.{MayBeOf};
@@ -51,7 +51,7 @@ pub struct CoordinatorCall<D: Disk> {
 }
 
 impl<D: SimulatedDisk> CoordinatorHost<D> {
-    ghost use Rattle.syn_host.specs.Coordinators.{FailsSo, IsCoordinator, StopsSo, archive_disk};
+    ghost use Rattle.syn_host.specs.Coordinators.{IsCoordinator, IsStep, archive_disk};
 
     /// The disk, as the last step left it.
     pub fn into_disk(self) -> D
@@ -69,7 +69,8 @@ impl<D: SimulatedDisk> CoordinatorHost<D> {
     /// The device call with this number from now on fails, and is not made; at 0 none does.
     pub fn fail(self, call: u64) -> CoordinatorHost<D>
         ensures { (pair : ℕ) (machine : CoordinatorMachine) → IsCoordinator pair self machine
-            → FailsSo pair machine call result }
+            → IsStep pair machine (D.Limit.failures (archive_disk self))
+            (Does (coordinator_kind pair) machine (Fail call)) result no_call [] }
     {
         match self {
             CoordinatorHost::Up(coordinator) => {
@@ -83,7 +84,8 @@ impl<D: SimulatedDisk> CoordinatorHost<D> {
     /// stops at once, and the session that runs is lost.
     pub fn stop(self, calls: u64) -> CoordinatorHost<D>
         ensures { (pair : ℕ) (machine : CoordinatorMachine) → IsCoordinator pair self machine
-            → StopsSo pair machine calls result }
+            → IsStep pair machine (D.Limit.failures (archive_disk self))
+            (Does (coordinator_kind pair) machine (Stop calls)) result no_call [] }
     {
         match self {
             CoordinatorHost::Up(coordinator) => {
@@ -101,7 +103,7 @@ impl<D: SimulatedDisk> CoordinatorHost<D> {
     /// checkpoint of the coordinator is.
     pub fn checkpoint(self, alloc: Global) -> CoordinatorCall<D>
         ensures { (pair : ℕ) (machine : CoordinatorMachine) → IsCoordinator pair self machine
-            → CallsSo pair (Checkpoints pair machine) result }
+            → CallIsStep pair (Does (coordinator_kind pair) machine Checkpoint) result }
     {
         match self {
             CoordinatorHost::Up(coordinator) => compact(alloc, coordinator),
@@ -128,6 +130,7 @@ fn armed_with<D: SimulatedDisk>(coordinator: Coordinator<D>, arm: Arm) -> Coordi
     ensures stands { (pair : ℕ) (machine : CoordinatorMachine) → Stands coordinator pair machine
         → is_stopped (D.Limit.arms (device_of result)) ≡ false
         → Stands result pair (with_arms machine (armed_at (D.Limit.arms (device_of result)))) }
+    ensures count { D.Limit.failures (device_of result) ≡ D.Limit.failures (device_of coordinator) }
 {
     let mut coordinator = coordinator;
     coordinator.arm(arm);
@@ -137,7 +140,7 @@ fn armed_with<D: SimulatedDisk>(coordinator: Coordinator<D>, arm: Arm) -> Coordi
 /// The checkpoint of a coordinator that is up.
 fn compact<D: SimulatedDisk>(alloc: Global, coordinator: Coordinator<D>) -> CoordinatorCall<D>
     ensures { (pair : ℕ) (machine : CoordinatorMachine) → Stands coordinator pair machine
-        → CallsSo pair (Checkpoints pair machine) result }
+        → CallIsStep pair (Does (coordinator_kind pair) machine Checkpoint) result }
 {
     let mut coordinator = coordinator;
     match coordinator.checkpoint(alloc) {

@@ -16,13 +16,15 @@
 //!   how many events were acknowledged, and what was sent to the disk last.
 //! - `IsHost`, `IsCoordinator`: a side or a coordinator, up or down, is the machine.
 //! - `SideHost` has the steps of a side: `edit`, `answer`, `checkpoint`, `open`, `reopen`, `fail`,
-//!   `stop`. Each is a step of any machine that the side is, and says what came of it (`Outcome`).
+//!   `stop`. Each is a step of any machine that the side is, and says what came of it (`Outcome`,
+//!   `IsStep`). The step is one of the model's machine (`UserEdits`, `Does`, `Answers`).
 //! - `CoordinatorHost` has those of the coordinator: `start`, `hear`, `tick`, `checkpoint`, `open`,
-//!   `reopen`, `fail`, `stop` (`CallsSo`). `CoordinatorOutcome` has what came of a call: what was
-//!   kept, what was sent, the report of a session that ended in it, and a refusal (`Tells`). Where
-//!   the machine stopped in the call, nothing is told but what was kept before (`Settles`).
-//! - An opening acknowledges what was being written, where the disk has it (`OpensSo`,
-//!   `ReopensSo`).
+//!   `reopen`, `fail`, `stop` (`CallIsStep`, `OpeningIsStep`). `CoordinatorOutcome` has what came
+//!   of a call: what was kept, what was sent, the report of a session that ended in it, and a
+//!   refusal (`Tells`). Where the machine stopped in the call, nothing is told but what was kept
+//!   before (`Settles`).
+//! - An opening acknowledges what was being written, where the disk has it (`OpensDown`,
+//!   `Reopens`).
 //! - `start_side` and `start_coordinator` open the disk of a machine of which nothing is known. Of
 //!   a disk that stands for something, with nothing armed at it (`CanStart`), they make the machine
 //!   that was just opened from it (`starts`), and refuse 9 or 11 alone (`refused`). On a refusal

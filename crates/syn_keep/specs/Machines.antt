@@ -1,14 +1,12 @@
 -- Which of the model's machines an archive is, and what its disk may be left with.
-use Rattle.std.specs.Prelude.{◌≡◌, ◌≤◌, ◌⊎◌, ℕ, false, List, [], None}
+use Rattle.std.specs.Prelude.{◌≡◌, ◌⊎◌, ℕ, false, List, None}
 use Rattle.syn_archive.specs.Archive.{Stands, IsHalted, pair_of, shown, disk_of, left_shown}
 use Rattle.syn_archive.specs.Archive.{generation_shown}
 use Rattle.syn_archive.specs.declared.archive.Archive.{Archive}
 use Rattle.syn_disk.specs.Arms.{is_stopped}
 use Rattle.syn_disk.specs.declared.disk.Disk.{Ghosts}
-use Rattle.syn_headline.specs.Coordinator.{archive_layout}
-use Rattle.syn_headline.specs.Machine.{Arms, Journaled, Up, Halted, Down, Meets, Opens, Status}
-use Rattle.syn_headline.specs.Machine.{after_device}
-use Rattle.syn_model.specs.Archive.{CanKeep, Kept}
+use Rattle.syn_headline.specs.Machine.{Journaled, Up, Halted}
+use Rattle.syn_model.specs.Archive.{Kept}
 use Rattle.syn_model.specs.Archive as model
 use Rattle.syn_recovery.specs.Calls.{armed_at}
 use Rattle.syn_recovery.specs.Machines.{of_archive}
@@ -49,18 +47,3 @@ pub record IsMachine {D : Type 0} {disk : Ghosts D} (archive : Archive D disk) (
   pub goes : is_stopped (disk.arms (disk_of archive)) ≡ false
   pub state : Runs archive machine ⊎ Fails archive machine
   pub leaves : LeavesMachine disk (disk_of archive) pair machine
-
--- The machine was opened again by so many device calls; or it went down among them
-pub data Reopened (pair : ℕ) (machine : Journal) : Journal → List Kept → Type 0 where
-  opened_again : (calls : ℕ) (new : Journal) (kept : List Kept) → 1 ≤ calls →
-      Opens (archive_layout pair) CanKeep machine calls new kept →
-      Reopened pair machine new kept
-  cut_off : (calls : ℕ) (arms : Arms) (failed : ℕ) → Meets machine.arms calls Down arms failed →
-      Reopened pair machine (after_device machine Down arms failed) []
-
--- Its device calls met this, and nothing was opened: it is left so; or it went down among them
-pub data NotReopened (machine : Journal) (met left : Status) : Journal → Type 0 where
-  stayed : (calls : ℕ) (arms : Arms) (failed : ℕ) → Meets machine.arms calls met arms failed →
-      NotReopened machine met left (after_device machine left arms failed)
-  went_down : (calls : ℕ) (arms : Arms) (failed : ℕ) → Meets machine.arms calls Down arms failed →
-      NotReopened machine met left (after_device machine Down arms failed)

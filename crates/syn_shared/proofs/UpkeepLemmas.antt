@@ -1,6 +1,6 @@
 -- A checkpoint and another opening in a hold are those of the world's side.
 use Rattle.std.proofs.Common.{◌≡◌, ◌⊎◌, ◌+◌, ◌-◌, ◌≤◌, ℕ, suc, List, length, refl, sym, ap, ap₂}
-use Rattle.std.proofs.Common.{◌∙◌, subst, inl, inr, true, Result, Ok, Err, arith}
+use Rattle.std.proofs.Common.{◌∙◌, subst, inl, inr, true, Ok, Err, arith}
 use Rattle.syn_agent.specs.Agents.{staging_of}
 use Rattle.syn_agent.specs.Machines.{IsOf, goes_on, stops, StandsAs, UpIsOf, CompactedIsOf}
 use Rattle.syn_agent.specs.declared.agent.Agent.{Agent}
@@ -11,21 +11,18 @@ use Rattle.syn_headline.specs.Machine.{Status, Up, Halted, Down, Arms, Journaled
 use Rattle.syn_headline.specs.Machine.{with_image, after_device, compacted, not_compacted}
 use Rattle.syn_headline.specs.Machine.{room_behind}
 use Rattle.syn_headline.specs.SideMachine.{SideMachine, side_layout, with_journal, staging_after}
-use Rattle.syn_headline.specs.World.{full_generation}
+use Rattle.syn_headline.specs.MachineSteps.{full_generation}
 use Rattle.syn_journal.specs.Journal as journal
-use Rattle.syn_journal.specs.Layout.{Value, HasJournal, image_alone, bytes_left, generation_at}
-use Rattle.syn_journal.specs.declared.half.Half.{Half}
+use Rattle.syn_journal.specs.Layout.{HasJournal, image_alone, bytes_left}
 use Rattle.syn_model.specs.Event.{Event}
 use Rattle.syn_model.specs.History.{History, standing_of}
 use Rattle.syn_model.specs.Image.{StandsFor, image_spelling}
-use Rattle.syn_model.specs.Path.{Bytes}
 use Rattle.syn_model.specs.Refusal.{Refusal}
 use Rattle.syn_model.specs.Refusal as why
 use Rattle.syn_recovery.specs.Calls.{armed_at, BrokenCallsMeet, MadeCallsMeet, MadeReadsMeet}
 use Rattle.syn_recovery.specs.Calls as calls
 use Rattle.syn_recovery.specs.Machines.{of_side, SidesOpen}
-use Rattle.syn_recovery.specs.Meaning.{MayBeOf, MayMean, as_kept, with_record}
-use Rattle.syn_recovery.specs.Meaning.{compacted as is_compacted}
+use Rattle.syn_recovery.specs.Meaning.{MayBeOf}
 use Rattle.syn_replica.specs.Disks.{DiskKeeps, DiskCompacted, DiskStands}
 use Rattle.syn_standing.specs.Refusals.{refusal_of}
 use Rattle.syn_replica.specs.Replica.{IsHalted, Stands, Remembers, SameMemory, KeepsReadings}

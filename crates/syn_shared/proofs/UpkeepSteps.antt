@@ -13,7 +13,7 @@ use Rattle.syn_disk.specs.Stops.{LeavesOnly, Untouched}
 use Rattle.syn_disk.specs.declared.disk.Disk.{Ghosts}
 use Rattle.syn_headline.specs.Machine.{Status, Up, Halted, Down, Journaled}
 use Rattle.syn_headline.specs.SideMachine.{SideMachine, staging_after}
-use Rattle.syn_headline.specs.World.{is_halted, full_generation}
+use Rattle.syn_headline.specs.MachineSteps.{is_halted, full_generation}
 use Rattle.syn_journal.specs.declared.error.JournalError.TheVariants as journal_error
 use Rattle.syn_model.specs.Event.{Event}
 use Rattle.syn_model.specs.History.{History}

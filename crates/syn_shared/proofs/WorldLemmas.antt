@@ -12,7 +12,7 @@ use Rattle.syn_disk.specs.Stops.{LeavesOnly}
 use Rattle.syn_disk.specs.declared.disk.Disk.{Ghosts}
 use Rattle.syn_headline.specs.Machine.{Status, Up, Halted, Down}
 use Rattle.syn_headline.specs.SideMachine.{SideMachine, causes_of}
-use Rattle.syn_headline.specs.World.{is_halted}
+use Rattle.syn_headline.specs.MachineSteps.{is_halted}
 use Rattle.syn_journal.specs.declared.error.JournalError.TheVariants as journal_error
 use Rattle.syn_model.specs.Event.{Edit, Event, Edited, Replaced, Token}
 use Rattle.syn_model.specs.History.{History}

@@ -1,18 +1,18 @@
 -- What refuses a start or a checkpoint.
-use Rattle.std.proofs.Common.{◌≡◌, ◌≢◌, ◌<◌, ◌⊎◌, ℕ, Some, Result, Ok, Err, inl, inr, refl}
-use Rattle.std.proofs.Common.{subst, sym}
+use Rattle.std.proofs.Common.{◌≡◌, ◌≢◌, ◌<◌, ◌⊎◌, ℕ, Some, Result, Ok, Err, inl, inr, refl, subst}
+use Rattle.std.proofs.Common.{sym}
 use Rattle.std.specs.Prelude.{IfErr, MatchResult, OnOk}
 use Rattle.syn_archive.specs.Refusals as kept
 use Rattle.syn_archive.specs.declared.error.ArchiveError.{ArchiveError}
 use Rattle.syn_archive.specs.declared.error.ArchiveError.TheVariants as archive
 use Rattle.syn_disk.specs.declared.disk.Disk.{Ghosts}
-use Rattle.syn_headline.specs.Coordinator.{Call, CoordinatorMachine}
+use Rattle.syn_headline.specs.Coordinator.{Call, CoordinatorMachine, coordinator_kind}
+use Rattle.syn_headline.specs.MachineSteps.{Checkpoints}
 use Rattle.syn_model.specs.Refusal as why
 use Rattle.syn_model.specs.Refusal.{first_cause}
 use Rattle.syn_refusal.specs.Refusals.{cause_of}
 use Rattle.syn_refusal.specs.declared.refusal.Refusal.{Refusal}
-use Rattle.syn_coordinator.specs.Coordinators.{Checkpoints, all_causes, checkpoint_causes}
-use Rattle.syn_coordinator.specs.Coordinators.{device_of}
+use Rattle.syn_coordinator.specs.Coordinators.{all_causes, checkpoint_causes, device_of}
 use Rattle.syn_session.specs.Refusals.{CountsFailures, refusal_of}
 use Rattle.syn_coordinator.specs.declared.coordinator.Coordinator.{Coordinator}
 use Rattle.syn_session.specs.declared.error.SessionError.{SessionError}
@@ -95,7 +95,8 @@ module _ {D : Type 0} {disk : Ghosts D} where
       (machine between : CoordinatorMachine) (call : Call) (e : SessionError)
       → (e ≡ session.Device) ⊎ (e ≢ session.Device)
       → first_cause (all_causes pair machine) ≡ Some why.JournalFull
-      → Checkpoints pair machine between call → failures_of middle ≡ failures_of old
+      → Checkpoints (coordinator_kind pair) machine between call
+      → failures_of middle ≡ failures_of old
       → CountsFailures e (failures_of middle) (failures_of new)
       → (e ≢ session.Device → first_cause (all_causes pair between) ≡ Some (refusal_of e))
       → Refuses old new pair machine (refusal_of e)
@@ -110,7 +111,8 @@ module _ {D : Type 0} {disk : Ghosts D} where
   pub behind_refused : (old middle new : Coordinator D disk) (pair : ℕ)
       (machine between : CoordinatorMachine) (call : Call) (e : SessionError)
       → first_cause (all_causes pair machine) ≡ Some why.JournalFull
-      → Checkpoints pair machine between call → failures_of middle ≡ failures_of old
+      → Checkpoints (coordinator_kind pair) machine between call
+      → failures_of middle ≡ failures_of old
       → CountsFailures e (failures_of middle) (failures_of new)
       → (e ≢ session.Device → first_cause (all_causes pair between) ≡ Some (refusal_of e))
       → Refuses old new pair machine (refusal_of e)

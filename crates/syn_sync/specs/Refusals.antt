@@ -2,10 +2,10 @@
 use Rattle.std.specs.Prelude.{◌≡◌, ◌<◌, ℕ, true, Some}
 use Rattle.syn_disk.specs.Arms.{is_stopped}
 use Rattle.syn_disk.specs.declared.disk.Disk.{Ghosts}
-use Rattle.syn_headline.specs.Coordinator.{Call, CoordinatorMachine}
+use Rattle.syn_headline.specs.Coordinator.{Call, CoordinatorMachine, coordinator_kind}
+use Rattle.syn_headline.specs.MachineSteps.{Checkpoints}
 use Rattle.syn_model.specs.Refusal.{Device, JournalFull, NoAnswer, Refusal, first_cause}
-use Rattle.syn_coordinator.specs.Coordinators.{Checkpoints, all_causes, checkpoint_causes}
-use Rattle.syn_coordinator.specs.Coordinators.{device_of, runs}
+use Rattle.syn_coordinator.specs.Coordinators.{all_causes, checkpoint_causes, device_of, runs}
 use Rattle.syn_coordinator.specs.declared.coordinator.Coordinator.{Coordinator}
 
 -- A start is refused so; or it is refused 8, and then the checkpoint is refused so, or the start
@@ -19,7 +19,8 @@ pub data Refuses {D : Type 0} {disk : Ghosts D} (old new : Coordinator D disk) (
       first_cause (checkpoint_causes machine) ≡ Some why → Refuses old new pair machine why
   no_start_behind : (why : Refusal) (between : CoordinatorMachine) (call : Call) →
       first_cause (all_causes pair machine) ≡ Some JournalFull →
-      Checkpoints pair machine between call → first_cause (all_causes pair between) ≡ Some why →
+      Checkpoints (coordinator_kind pair) machine between call →
+      first_cause (all_causes pair between) ≡ Some why →
       Refuses old new pair machine why
   fails : disk.failures (device_of old) < disk.failures (device_of new) →
       Refuses old new pair machine Device

@@ -5,13 +5,14 @@ use Rattle.std.specs.Prelude.{Option}
 use Rattle.syn_disk.specs.Arms.{is_stopped}
 use Rattle.syn_disk.specs.declared.disk.Disk.{Ghosts}
 use Rattle.syn_headline.specs.Coordinator.{Call, CoordinatorMachine, CoordinatorStarts}
-use Rattle.syn_headline.specs.Coordinator.{CoordinatorTakes, CoordinatorTicks}
+use Rattle.syn_headline.specs.Coordinator.{CoordinatorTakes, CoordinatorTicks, coordinator_kind}
 use Rattle.syn_headline.specs.Machine as status
+use Rattle.syn_headline.specs.MachineSteps.{Checkpoints}
 use Rattle.syn_headline.specs.Network.{Answers, Asks, Message, Which, is_side}
 use Rattle.syn_link.specs.Frames.{Bytes, frame_of}
 use Rattle.syn_message.specs.Replies.{Answering}
 use Rattle.syn_message.specs.Requests.{asking_spelling}
-use Rattle.syn_coordinator.specs.Coordinators.{Checkpoints, Stands, device_of, tried_shown}
+use Rattle.syn_coordinator.specs.Coordinators.{Stands, device_of, tried_shown}
 use Rattle.syn_keep.specs.Machines.{LeavesMachine}
 use Rattle.syn_keep.specs.Tries.{Tries}
 use Rattle.syn_coordinator.specs.declared.coordinator.Coordinator.{Coordinator}
@@ -38,7 +39,7 @@ Acts = List Done
 -- the step of the coordinator's machine
 abbrev pub step_of : ℕ → CoordinatorMachine → Act → CoordinatorMachine → Call → Type 0
 step_of pair machine (Starts preference) = CoordinatorStarts pair preference machine
-step_of pair machine Compacts = Checkpoints pair machine
+step_of pair machine Compacts = Checkpoints (coordinator_kind pair) machine
 step_of pair machine (Takes from answering) =
     CoordinatorTakes pair machine from answering.session answering.number answering.reply
 step_of pair machine Ticks = CoordinatorTicks machine

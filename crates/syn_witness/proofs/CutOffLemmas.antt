@@ -13,9 +13,10 @@ use Rattle.syn_headline.specs.SideMachine.{adds}
 use Rattle.syn_headline.specs.Network.{Right}
 use Rattle.syn_headline.specs.Acknowledged.{Happened, Kept_by}
 use Rattle.syn_headline.specs.Coordinator.{writes, start_breaks, stays, start_of, Advances}
-use Rattle.syn_headline.specs.Coordinator.{record_breaks, done, takes, stops}
-use Rattle.syn_headline.specs.World.{World, At, Coordinator, Deliver, Stop, Open, Steps, starts}
-use Rattle.syn_headline.specs.World.{to_side, to_coordinator, opens, opens_side, opens_archive}
+use Rattle.syn_headline.specs.Coordinator.{record_breaks, done, takes, stops, no_call}
+use Rattle.syn_headline.specs.World.{World, At, Coordinator, Deliver, Stop, Open, Steps, to_side}
+use Rattle.syn_headline.specs.World.{to_coordinator, side_does, coordinator_does}
+use Rattle.syn_headline.specs.MachineSteps.{is_done, makes, opens, arming}
 use Rattle.syn_witness.specs.Witness.{opened_world, new_journal, new_archive_room, a_path, one}
 use Rattle.syn_witness.specs.Witness.{up_to_replacement}
 use Rattle.syn_witness.specs.Short.{StartIsRecovered, ReplacementIsRecovered, RecordIsRecovered}
@@ -74,28 +75,19 @@ start_is_recovered = record {
   new = started_again;
   runs = (
     armed_start,
-    inr (up_not_down, refl),
+    coordinator_does armed_start.coordinator no_call [] (is_done _ _ _ up_not_down arming),
     (
       cut_start,
-      inr (
-        up_not_down,
-        inr (
-          refl,
-          cut_start,
-          starts cut_start.coordinator _ (start_breaks 1 cut_start.coordinator.journal [] refl
-              (writes cut_start.coordinator.journal
-              [] (unwritten Down unarmed 0 refl (inr refl) (one_stops 1 (omega arith) (inl refl)
-              refl))) (λ e. up_not_down (sym e))),
-          refl,
-        ),
-      ),
+      coordinator_does cut_start.coordinator no_call [] (is_done _ _ _ up_not_down
+          (makes cut_start.coordinator no_call refl (start_breaks 1 cut_start.coordinator.journal
+          [] refl (writes cut_start.coordinator.journal [] (unwritten Down unarmed 0 refl (inr refl)
+          (one_stops 1 (omega arith) (inl refl) refl))) (λ e. up_not_down (sym e))))),
       (
         started_again,
-        inr (
-          refl,
-          opens 0 started_again (opens_archive started_again.coordinator.journal (Session 1 ∷ [])
-              (recovered unarmed (Session 1) (meets_unarmed 0) refl can_keep_session)),
-        ),
+        coordinator_does started_again.coordinator
+            (record no_call { kept = Session 1 ∷ [] }) []
+            (opens 0 started_again.coordinator.journal (Session 1 ∷ []) refl
+            (recovered unarmed (Session 1) (meets_unarmed 0) refl can_keep_session)),
         refl,
       ),
     ),
@@ -170,18 +162,15 @@ replacement_is_recovered = record {
       runs_on_from opened_world replacing recovered_right up_to_replacement
       (Stop (At Right) 2 ∷ Deliver 12 ∷ Open (At Right) ∷ []) run_to_replacement (
         armed_right,
-        inr (up_not_down, refl),
+        side_does armed_right.right [] [] (is_done _ _ _ up_not_down arming),
         (
           cut_right,
           cuts_it,
           (
             recovered_right,
-            inr (
-              refl,
-              opens 0 recovered_right
-                  (opens_side Right recovered_right.right.journal (replacement ∷ [])
-                  (recovered unarmed replacement (meets_unarmed 0) refl replacement_allowed)),
-            ),
+            side_does recovered_right.right (replacement ∷ []) []
+                (opens 0 recovered_right.right.journal (replacement ∷ []) refl
+                (recovered unarmed replacement (meets_unarmed 0) refl replacement_allowed)),
             refl,
           ),
         ),
@@ -267,18 +256,17 @@ record_is_recovered = record {
         replaces,
         (
           armed_archive,
-          inr (up_not_down, refl),
+          coordinator_does armed_archive.coordinator no_call []
+              (is_done _ _ _ up_not_down arming),
           (
             cut_archive,
             cuts_record,
             (
               recovered_archive,
-              inr (
-                refl,
-                opens 0 recovered_archive
-                    (opens_archive recovered_archive.coordinator.journal (what_is_due ∷ [])
-                    (recovered unarmed what_is_due (meets_unarmed 0) refl can_record)),
-              ),
+              coordinator_does recovered_archive.coordinator
+                  (record no_call { kept = what_is_due ∷ [] }) []
+                  (opens 0 recovered_archive.coordinator.journal (what_is_due ∷ []) refl
+                  (recovered unarmed what_is_due (meets_unarmed 0) refl can_record)),
               refl,
             ),
           ),

@@ -10,8 +10,9 @@ use Rattle.syn_headline.specs.Machine.{Halted, Down, unarmed, room_behind, all_m
 use Rattle.syn_headline.specs.Machine.{one_stops, written, unwritten, not_compacted, opened}
 use Rattle.syn_headline.specs.Machine.{recovered}
 use Rattle.syn_headline.specs.SideMachine.{SideMachine}
-use Rattle.syn_headline.specs.World.{World, Step, At, Edits, Fail, Reopen, Steps, Runs}
-use Rattle.syn_headline.specs.World.{compacts_side, opens, opens_side, reopens}
+use Rattle.syn_headline.specs.MachineSteps.{is_done, makes, checkpoints, opens, reopens, arming}
+use Rattle.syn_headline.specs.MachineSteps as one
+use Rattle.syn_headline.specs.World.{World, Step, At, Edits, Fail, Reopen, Steps, Runs, side_does}
 use Rattle.syn_model.specs.Image.{image_spelling}
 use Rattle.syn_model.specs.History.{standing_of}
 use Rattle.syn_witness.specs.Witness.{CutCheckpoint, CheckpointIsCut, new_room, new_machine}
@@ -68,35 +69,34 @@ refuses : (steps : List Step) (new : World) → Runs twice_refused steps new →
 unfolding armed_world halted_world refused_world twice_refused
 refuses steps new more = (
   armed_world,
-  inr (up_not_down, refl),
+  side_does armed_world.left [] [] (is_done _ _ _ up_not_down arming),
   (
     refused_world,
     edits_so armed_world Left 1 put_one halted_world.left.journal
         [] refused_world refl refl edit_allowed (unwritten Halted unarmed 1 refl (inl refl)
         (one_fails 2 (omega arith) (inr (omega arith)) (inl refl))) refl,
-    (twice_refused, inr (halted_not_down, inl (Halted_before, refl, refl)), more),
+    (
+      twice_refused,
+      side_does refused_world.left [] (Halted_before ∷ [])
+          (is_done _ _ _ halted_not_down (one.refuses Halted_before refl)),
+      more,
+    ),
   ),
 )
 
 gives_back : Steps twice_refused (Reopen (At Left)) recovered_world
 unfolding halted_world twice_refused recovered_world
 gives_back =
-    inr (
-      halted_not_down,
-      reopens 1 recovered_world (omega arith)
-          (opens_side Left recovered_world.left.journal (Edited 1 put_one ∷ [])
-          (recovered unarmed (Edited 1 put_one) (meets_unarmed 1) refl edit_allowed)),
-    )
+    side_does recovered_world.left (Edited 1 put_one ∷ []) [] (is_done _ _ _ halted_not_down
+    (reopens 1 recovered_world.left.journal (Edited 1 put_one ∷ []) (omega arith)
+    (recovered unarmed (Edited 1 put_one) (meets_unarmed 1) refl edit_allowed)))
 
 loses : Steps twice_refused (Reopen (At Left)) lost_world
 unfolding halted_world twice_refused lost_world
 loses =
-    inr (
-      halted_not_down,
-      reopens 1 lost_world (omega arith) (opens_side Left
-          lost_world.left.journal
-          [] (opened new_room 1 unarmed (meets_unarmed 1) (inl (refl, refl)))),
-    )
+    side_does lost_world.left [] [] (is_done _ _ _ halted_not_down
+    (reopens 1 lost_world.left.journal [] (omega arith)
+    (opened new_room 1 unarmed (meets_unarmed 1) (inl (refl, refl)))))
 
 pub fail_is_refused : FailIsRefused
 unfolding halted_world twice_refused recovered_world lost_world
@@ -162,7 +162,7 @@ cuts room generation finds = record {
   new = found room generation;
   runs = (
     nine_ahead,
-    inr (up_not_down, refl),
+    side_does nine_ahead.left [] [] (is_done _ _ _ up_not_down arming),
     (
       five_ahead,
       edits_so nine_ahead Left 1 put_one five_ahead.left.journal
@@ -171,24 +171,15 @@ cuts room generation finds = record {
           refl,
       (
         cut_off_world,
-        inr (
-          up_not_down,
-          inr (
-            refl,
-            cut_off_world,
-            compacts_side Left cut_off_world.left.journal
-                (not_compacted Down unarmed 0 (inr refl) (one_stops 4 (omega arith)
-                (inl refl) refl)),
-            refl,
-          ),
-        ),
+        side_does cut_off_world.left [] [] (is_done _ _ _ up_not_down
+            (makes cut_off_world.left [] refl (checkpoints cut_off_world.left.journal
+            (not_compacted Down unarmed 0 (inr refl) (one_stops 4 (omega arith) (inl refl)
+            refl))))),
         (
           found room generation,
-          inr (
-            refl,
-            opens 0 (found room generation) (opens_side Left (found room generation).left.journal
-                [] (opened room generation unarmed (meets_unarmed 0) finds_it)),
-          ),
+          side_does (found room generation).left [] []
+              (opens 0 (found room generation).left.journal [] refl
+              (opened room generation unarmed (meets_unarmed 0) finds_it)),
           refl,
         ),
       ),

@@ -1,38 +1,35 @@
 -- A machine is halted only after one of its device calls failed.
-use Rattle.std.proofs.Common.{◌≤◌, ◌<◌, ◌+◌, zero, ◌≡◌, ◌≢◌, ℕ, suc, Bool, true, false}
-use Rattle.std.proofs.Common.{if◌then◌else◌, List, [], ◌∷◌, sym, ◌∙◌, subst, Option, arith, inl}
-use Rattle.std.proofs.Common.{inr, slice_get}
-use Rattle.syn_model.specs.Refusal.{Refusal, Device, Memory, Full, Cause}
+use Rattle.std.proofs.Common.{◌≤◌, ◌<◌, ◌+◌, ◌≡◌, ◌≢◌, ℕ, List, [], ◌∷◌, refl, sym, ◌∙◌, subst}
+use Rattle.std.proofs.Common.{Option, arith, slice_get}
+use Rattle.syn_model.specs.Refusal.{Refusal, Full, Cause}
 use Rattle.syn_model.specs.Event.{Event, Edited}
 use Rattle.syn_model.specs.Archive.{Archive, Kept, Session}
-use Rattle.syn_headline.specs.Machine.{unarmed, Status, Up, Halted, Down, Arms, Journaled, Layout}
-use Rattle.syn_headline.specs.Machine.{Meets, all_made, one_fails, one_stops, Writes, idle, written}
+use Rattle.syn_headline.specs.Machine.{Status, Up, Halted, Down, Arms, Journaled, Layout, Meets}
+use Rattle.syn_headline.specs.Machine.{all_made, one_fails, one_stops, Writes, idle, written}
 use Rattle.syn_headline.specs.Machine.{unwritten, Compacts, compacted, not_compacted, Opens, opened}
-use Rattle.syn_headline.specs.Machine.{recovered}
+use Rattle.syn_headline.specs.Machine.{recovered, after_device}
+use Rattle.syn_headline.specs.MachineSteps.{Kind, MachineCall, Does, Calls}
+use Rattle.syn_headline.specs.MachineSteps as one
 use Rattle.syn_headline.specs.Side.{Request, Reply}
 use Rattle.syn_headline.specs.SideMachine.{SideMachine, side_layout, SideTakes, answers, adds}
-use Rattle.syn_headline.specs.SideMachine.{causes_of}
+use Rattle.syn_headline.specs.SideMachine.{causes_of, side_kind, EditsSide, edits}
 use Rattle.syn_headline.specs.Network.{Which, Left, Right, Message}
 use Rattle.syn_headline.specs.Planning.{Planned}
 use Rattle.syn_headline.specs.Coordinator.{CoordinatorMachine, Call, Walk, Exchange, Running}
 use Rattle.syn_headline.specs.Coordinator.{archive_layout, past, refusing, making_room, start_of}
 use Rattle.syn_headline.specs.Coordinator.{Keeps, writes, cut_behind, Takes, CoordinatorTakes}
 use Rattle.syn_headline.specs.Coordinator.{CoordinatorStarts, CoordinatorTicks, Advances}
-use Rattle.syn_headline.specs.Coordinator.{start_causes}
+use Rattle.syn_headline.specs.Coordinator.{start_causes, coordinator_kind}
 use Rattle.syn_headline.specs.Coordinator as coordinator
 use Rattle.syn_headline.specs.World.{World, Machine, At, Coordinator, says, Step, Edits, Start}
 use Rattle.syn_headline.specs.World.{Deliver, Tick, Checkpoint, Fail, Stop, Open, Reopen, side_of}
-use Rattle.syn_headline.specs.World.{side_goes, side_writes, coordinator_goes, status_of, arms_of}
-use Rattle.syn_headline.specs.World.{refuses_with, is_halted, answered_by, UnlessDown, Calls}
-use Rattle.syn_headline.specs.World.{EditsSide, edits, Starts, CompactsMachine, compacts_side}
-use Rattle.syn_headline.specs.World.{compacts_archive, Delivers, no_message, to_no_side, to_side}
-use Rattle.syn_headline.specs.World.{to_coordinator, Ticks, ticks, OpensMachine, opens_side}
-use Rattle.syn_headline.specs.World.{opens_archive, set_device, FailsDevice, fails_device, Reopens}
-use Rattle.syn_headline.specs.World.{reopens, reopen_fails, reopen_is_cut, no_memory_to_reopen}
-use Rattle.syn_headline.specs.World.{full_generation, generation_of, Steps, Runs, failures_of}
-use Rattle.syn_headline.specs.World.{OpensDown, opens, open_fails, no_memory_to_open}
-use Rattle.syn_headline.specs.World as world
+use Rattle.syn_headline.specs.World.{side_goes, coordinator_goes, status_of, failures_of}
+use Rattle.syn_headline.specs.World.{refuses_with, side_does, coordinator_does, MachineDoes}
+use Rattle.syn_headline.specs.World.{Delivers, no_message, to_no_side, to_side, to_coordinator}
+use Rattle.syn_headline.specs.World.{Ticks, ticks, Steps, Runs}
 use Rattle.syn_headline.specs.Runs.{IsStart}
+use Rattle.syn_headline.proofs.MachineLemmas.{LeavesDevice, armed_to_fail, armed_to_stop, stopped}
+use Rattle.syn_headline.proofs.MachineLemmas.{unopened, halted, cut, stays, calls_leave, does_leave}
 use Rattle.syn_witness.specs.Forbidden.{HaltedAfterFailure}
 
 -- a machine has counted at least so many failures, and more where it is halted
@@ -64,10 +61,13 @@ meets_counted base arms calls failures _ _ _ least (one_fails made few fail stop
 meets_counted base arms calls failures _ _ _ least (one_stops made few fail stop) =
     (omega (arith, least), λ e. absurd (down_not_halted e))
 
-with_none : (base : ℕ) (status : Status) (failures : ℕ) → IsCounted base status failures →
-    IsCounted base status (failures + 0)
-with_none base status failures h =
-    (let least = h.0 in omega (arith, least), λ e. let more = h.1 e in omega (arith, more))
+still_counted : (base : ℕ) (status : Status) (failures failed : ℕ) →
+    IsCounted base status failures → IsCounted base status (failures + failed)
+still_counted base status failures failed h = (
+  let least = h.0 in omega (arith, least),
+  λ e. let more = h.1 e in
+      omega (arith, more),
+)
 
 -- What a journal's calls leave
 
@@ -143,7 +143,7 @@ takes_counted base pair old r taken _ _ h
     (coordinator.ends plan logged walk kept why fault has advances ends) =
     advances_counted base pair _ taken (start_of old r) walk kept h advances
 takes_counted base pair old r taken _ _ h (coordinator.goes_on plan logged walk kept left right
-    fault has advances rests stays moves asks) =
+    fault has advances rests unmoved moves asks) =
     advances_counted base pair _ taken (start_of old r) walk kept h advances
 
 answer_counted : (base pair : ℕ) (old : CoordinatorMachine) (from : Which) (session number : ℕ)
@@ -201,80 +201,92 @@ coordinator_counted base old h machine call s (At Left) = h (At Left)
 coordinator_counted base old h machine call s (At Right) = h (At Right)
 coordinator_counted base old h machine call s Coordinator = s
 
-device_counted : (base : Machine → ℕ) (old : World) →
-    AllCounted base old → (machine : Machine) (status : Status) (arms : Arms) (failed : ℕ) →
-    IsCounted (base machine) status (failures_of old machine + failed) →
-    AllCounted base (set_device old machine status arms failed)
-device_counted base old h (At Left) status arms failed s (At Left) = s
-device_counted base old h (At Left) status arms failed s (At Right) = h (At Right)
-device_counted base old h (At Left) status arms failed s Coordinator = h Coordinator
-device_counted base old h (At Right) status arms failed s (At Left) = h (At Left)
-device_counted base old h (At Right) status arms failed s (At Right) = s
-device_counted base old h (At Right) status arms failed s Coordinator = h Coordinator
-device_counted base old h Coordinator status arms failed s (At Left) = h (At Left)
-device_counted base old h Coordinator status arms failed s (At Right) = h (At Right)
-device_counted base old h Coordinator status arms failed s Coordinator = s
+refused_counted : (base : Machine → ℕ) (made : World) (reasons : List Refusal) →
+    AllCounted base made → AllCounted base (refuses_with made reasons)
+refused_counted base made reasons h (At Left) = h (At Left)
+refused_counted base made reasons h (At Right) = h (At Right)
+refused_counted base made reasons h Coordinator = h Coordinator
 
-refused_counted : (base : Machine → ℕ) (made : World) (reason : Refusal) → AllCounted base made →
-    AllCounted base (refuses_with made reason)
-refused_counted base made reason h (At Left) = h (At Left)
-refused_counted base made reason h (At Right) = h (At Right)
-refused_counted base made reason h Coordinator = h Coordinator
+-- A machine by itself, whichever kind it is of
 
-answered_counted : (base : Machine → ℕ) (machine : Machine) (made : World) → AllCounted base made →
-    AllCounted base (answered_by machine made)
-answered_counted base machine made h = told (is_halted (status_of made machine))
-  where
-    told : (b : Bool) → AllCounted base (if b then refuses_with made Device else made)
-    told true = refused_counted base made Device h
-    told false = h
+-- its journal is what it was left as
+abbrev pub GivesBack : {M A V W : Type 0} → Kind M A V W → Type 0
+GivesBack {M} {A} {V} {W} kind = (machine : M) (journal : Journaled V W) →
+    kind.journal_of (kind.with_journal machine journal) ≡ journal
+
+module _ {M A V W : Type 0} (kind : Kind M A V W) (back : GivesBack kind) (base : ℕ)
+    (machine : M) (h : IsCountedJournal base (kind.journal_of machine)) where
+  abbrev was : Journaled V W
+  was = kind.journal_of machine
+
+  abbrev IsCountedNext : M → Type 0
+  IsCountedNext next = IsCountedJournal base (kind.journal_of next)
+
+  left_counted : (new : Journaled V W) → IsCountedJournal base new →
+      IsCountedNext (kind.with_journal machine new)
+  left_counted new c = subst (IsCountedJournal base) (sym (back machine new)) c
+
+  -- it is halted only as a call failed, or as it was
+  device_counted : (call : MachineCall) (status : Status) (arms : Arms) (failed : ℕ) →
+      LeavesDevice was call status arms failed →
+      IsCountedJournal base (after_device was status arms failed)
+  device_counted _ _ _ _ (armed_to_fail call) = still_counted base was.status was.failures 0 h
+  device_counted _ _ _ _ (armed_to_stop calls) = still_counted base was.status was.failures 0 h
+  device_counted _ _ _ _ stopped =
+      (let least = h.0 in omega (arith, least), λ e. absurd (down_not_halted e))
+  device_counted _ _ _ _ (unopened calls arms failed down meets) =
+      ((meets_counted base was.arms calls was.failures Halted arms failed h.0 meets).0,
+      λ e. absurd (down_not_halted e))
+  device_counted _ _ _ _ (halted calls arms failed meets) =
+      meets_counted base was.arms calls was.failures Halted arms failed h.0 meets
+  device_counted _ _ _ _ (cut calls arms failed meets) =
+      meets_counted base was.arms calls was.failures Down arms failed h.0 meets
+  device_counted _ _ _ _ (stays calls arms failed meets) =
+      still_counted base was.status was.failures failed h
+
+  pub calls_counted : (causes : List Cause) (Made : M → A → Type 0) →
+      ((next : M) (given : A) → Made next given → IsCountedNext next) → (next : M) (given : A)
+      (refusals : List Refusal) → Calls kind machine causes Made next given refusals →
+      IsCountedNext next
+  calls_counted causes Made made next given refusals so =
+      calls_leave kind machine (λ next _. IsCountedNext next) h causes Made
+      (λ next given none up so. made next given so) next given refusals so
+
+  pub does_counted : (call : MachineCall) (next : M) (given : A) (refusals : List Refusal) →
+      Does kind machine call next given refusals → IsCountedNext next
+  does_counted call next given refusals so =
+      does_leave kind machine (λ next _. IsCountedNext next) h
+      (λ new c. left_counted new (compacts_counted base kind.layout was new h c))
+      (λ calls new kept o. left_counted new
+      (opens_counted base kind.layout kind.CanKeep was calls new kept h o)) call
+      (λ status arms failed left. left_counted (after_device was status arms failed)
+      (device_counted call status arms failed left)) next given refusals so
+
+edits_counted : (base pair : ℕ) (machine : SideMachine) → IsCountedJournal base machine.journal →
+    (event : Event) (next : SideMachine) (events : List Event) →
+    EditsSide pair machine event next events → IsCountedJournal base next.journal
+edits_counted base pair machine h event _ _ (edits journal events lawful w) =
+    writes_counted base (side_layout pair) machine.journal journal event events h w
+
+-- The steps
 
 module _ (base : Machine → ℕ) (old : World) (h : AllCounted base old) where
   side_journal : (side : Which) → IsCountedJournal (base (At side)) (side_of old side).journal
   side_journal Left = h (At Left)
   side_journal Right = h (At Right)
 
-  unless_down_counted : (machine : Machine) (IsDone : Type 0) (new : World) →
-      (IsDone → AllCounted base new) → UnlessDown old machine IsDone new → AllCounted base new
-  unless_down_counted machine IsDone new done (inl (down, e)) = subst (AllCounted base) (sym e) h
-  unless_down_counted machine IsDone new done (inr (up, is)) = done is
-
-  calls_counted : (machine : Machine) (causes : List Cause) (Made : World → Type 0) (new : World) →
-      ((made : World) → Made made → AllCounted base made) → Calls old machine causes Made new →
-      AllCounted base new
-  calls_counted machine causes Made new safe (inl (down, e)) = subst (AllCounted base) (sym e) h
-  calls_counted machine causes Made new safe (inr (up, inl (reason, first, e))) =
-      subst (AllCounted base) (sym e) (refused_counted base old reason h)
-  calls_counted machine causes Made new safe (inr (up, inr (none, made, g, e))) =
-      subst (AllCounted base) (sym e) (answered_counted base machine made (safe made g))
-
-  edits_counted : (side : Which) (event : Event) (made : World) → EditsSide old side event made →
-      AllCounted base made
-  edits_counted side event _ (edits journal events lawful w) =
-      side_counted base old h side _
-      [] events (writes_counted (base (At side)) (side_layout old.pair)
-      (side_of old side).journal journal event events (side_journal side) w)
-
-  compacts_machine_counted : (machine : Machine) (made : World) → CompactsMachine old machine made →
-      AllCounted base made
-  compacts_machine_counted _ _ (compacts_side side journal c) =
-      side_counted base old h side _ [] [] (compacts_counted (base (At side)) (side_layout old.pair)
-      (side_of old side).journal journal (side_journal side) c)
-  compacts_machine_counted _ _ (compacts_archive journal c) =
-      coordinator_counted base old h (coordinator.with_archive old.coordinator journal)
-      (record coordinator.no_call { kept = [] }) (compacts_counted (base Coordinator)
-      (archive_layout old.pair) old.coordinator.journal journal (h Coordinator) c)
-
-  opens_machine_counted : (calls : ℕ) (machine : Machine) (made : World) →
-      OpensMachine old calls machine made → AllCounted base made
-  opens_machine_counted calls _ _ (opens_side side journal events o) =
-      side_counted base old h side _
-      [] events (opens_counted (base (At side)) (side_layout old.pair) _
-      (side_of old side).journal calls journal events (side_journal side) o)
-  opens_machine_counted calls _ _ (opens_archive journal kept o) =
-      coordinator_counted base old h (coordinator.with_archive old.coordinator journal)
-      (record coordinator.no_call { kept = kept }) (opens_counted (base Coordinator)
-      (archive_layout old.pair) _ old.coordinator.journal calls journal kept (h Coordinator) o)
+  machine_counted : (machine : Machine) (call : MachineCall) (new : World) →
+      MachineDoes old machine call new → AllCounted base new
+  machine_counted (At side) call _ (side_does next events refusals so) =
+      refused_counted base (side_goes old side next [] events) refusals
+      (side_counted base old h side next [] events (does_counted (side_kind old.pair)
+      (λ machine journal. refl) (base (At side)) (side_of old side) (side_journal side) call next
+      events refusals so))
+  machine_counted Coordinator call _ (coordinator_does next given refusals so) =
+      refused_counted base (coordinator_goes old next given) refusals
+      (coordinator_counted base old h next given (does_counted (coordinator_kind old.pair)
+      (λ machine journal. refl) (base Coordinator) old.coordinator (h Coordinator) call next given
+      refusals so))
 
   delivers_counted : (message : Option Message) (new : World) → Delivers old message new →
       AllCounted base new
@@ -293,85 +305,30 @@ module _ (base : Machine → ℕ) (old : World) (h : AllCounted base old) where
       coordinator_counted base old h machine call
       (ticks_counted (base Coordinator) old.coordinator machine call (h Coordinator) g)
 
-  start_counted : {preference : Option Which} (new : World) → Starts old preference new → AllCounted
-      base new
-  start_counted _ (world.starts machine call g) =
-      coordinator_counted base old h machine call
-      (starts_counted (base Coordinator) old.pair old.coordinator machine call (h Coordinator) g)
-
-  fails_counted : (machine : Machine) (calls : ℕ) (status left : Status) (made : World) →
-      ((failures : ℕ) → IsCounted (base machine) status failures →
-      IsCounted (base machine) left failures) → FailsDevice old machine calls status left made →
-      AllCounted base made
-  fails_counted machine calls status left _ on (fails_device arms failed meets) =
-      device_counted base old h machine left arms failed
-      (on _ (meets_counted (base machine) (arms_of old machine) calls
-      (failures_of old machine) status arms failed (h machine).0 meets))
-
-  -- a call that failed at no device leaves the machine as it was
-  memory_counted : (machine : Machine) (calls : ℕ) (made : World) →
-      FailsDevice old machine calls Up (status_of old machine) made → AllCounted base made
-  memory_counted machine calls _ (fails_device arms failed meets) =
-      device_counted base old h machine (status_of old machine) arms failed (grown failed)
-    where
-      grown : (failed : ℕ) →
-          IsCounted (base machine) (status_of old machine) (failures_of old machine + failed)
-      grown failed = (
-        let least = (h machine).0 in omega (arith, least),
-        λ e. let more = (h machine).1 e in
-            omega (arith, more),
-      )
-
-  opens_down_counted : (machine : Machine) (new : World) → OpensDown old machine new →
-      AllCounted base new
-  opens_down_counted machine _ (opens calls new o) = opens_machine_counted calls machine new o
-  opens_down_counted machine _ (open_fails calls made f) =
-      refused_counted base made Device (fails_counted machine calls Halted Down made
-      (λ n c. (c.0, λ e. absurd (down_not_halted e))) f)
-  opens_down_counted machine _ no_memory_to_open = refused_counted base old Memory h
-
-  reopens_counted : (machine : Machine) (new : World) → Reopens old machine new →
-      AllCounted base new
-  reopens_counted machine _ (reopens calls new some o) = opens_machine_counted calls machine new o
-  reopens_counted machine _ (reopen_fails calls made f) =
-      refused_counted base made Device (fails_counted machine calls Halted Halted made (λ n c. c) f)
-  reopens_counted machine _ (reopen_is_cut calls made f) =
-      fails_counted machine calls Down Down made (λ n c. c) f
-  reopens_counted machine _ (no_memory_to_reopen calls made f) =
-      refused_counted base made Memory (memory_counted machine calls made f)
-
-  armed_counted : (machine : Machine) (arms : Arms) →
-      AllCounted base (set_device old machine (status_of old machine) arms 0)
-  armed_counted machine arms =
-      device_counted base old h machine (status_of old machine) arms 0
-      (with_none (base machine) (status_of old machine) (failures_of old machine) (h machine))
-
   step_counted : (step : Step) (new : World) → Steps old step new → AllCounted base new
-  step_counted (Edits side user edit) new g =
-      calls_counted (At side) (causes_of old.pair (side_of old side) (Edited user edit))
-      (EditsSide old side (Edited user edit)) new (edits_counted side (Edited user edit)) g
-  step_counted (Start preference) new g =
-      calls_counted Coordinator (start_causes old.pair old.coordinator)
-      (Starts old preference) new start_counted g
+  step_counted (Edits side user edit) _ (side_does next events refusals so) =
+      refused_counted base (side_goes old side next [] events) refusals
+      (side_counted base old h side next [] events (calls_counted (side_kind old.pair)
+      (λ machine journal. refl) (base (At side)) (side_of old side) (side_journal side)
+      (causes_of old.pair (side_of old side) (Edited user edit))
+      (EditsSide old.pair (side_of old side) (Edited user edit))
+      (edits_counted (base (At side)) old.pair (side_of old side) (side_journal side)
+      (Edited user edit)) next events refusals so))
+  step_counted (Start preference) _ (coordinator_does next call refusals so) =
+      refused_counted base (coordinator_goes old next call) refusals
+      (coordinator_counted base old h next call (calls_counted (coordinator_kind old.pair)
+      (λ machine journal. refl) (base Coordinator) old.coordinator (h Coordinator)
+      (start_causes old.pair old.coordinator)
+      (CoordinatorStarts old.pair preference old.coordinator)
+      (λ next call g. starts_counted (base Coordinator) old.pair old.coordinator next call
+      (h Coordinator) g) next call refusals so))
   step_counted (Deliver message) new g = delivers_counted (slice_get old.sent message) new g
   step_counted Tick new g = tick_counted new g
-  step_counted (Checkpoint machine) new g =
-      calls_counted machine (full_generation (generation_of old machine))
-      (CompactsMachine old machine) new (compacts_machine_counted machine) g
-  step_counted (Fail machine call) new g =
-      unless_down_counted machine _ new
-      (λ e. subst (AllCounted base) (sym e) (armed_counted machine _)) g
-  step_counted (Stop machine zero) new g =
-      unless_down_counted machine _ new
-      (λ e. subst (AllCounted base) (sym e) (device_counted base old h machine Down unarmed 0
-      (let least = (h machine).0 in omega (arith, least), λ e. absurd (down_not_halted e)))) g
-  step_counted (Stop machine (suc calls)) new g =
-      unless_down_counted machine _ new
-      (λ e. subst (AllCounted base) (sym e) (armed_counted machine _)) g
-  step_counted (Open machine) new (inl (up, e)) = subst (AllCounted base) (sym e) h
-  step_counted (Open machine) new (inr (down, o)) = opens_down_counted machine new o
-  step_counted (Reopen machine) new g =
-      unless_down_counted machine _ new (reopens_counted machine new) g
+  step_counted (Checkpoint machine) new g = machine_counted machine one.Checkpoint new g
+  step_counted (Fail machine call) new g = machine_counted machine (one.Fail call) new g
+  step_counted (Stop machine calls) new g = machine_counted machine (one.Stop calls) new g
+  step_counted (Open machine) new g = machine_counted machine one.Open new g
+  step_counted (Reopen machine) new g = machine_counted machine one.Reopen new g
 
 run_counted : (base : Machine → ℕ) (steps : List Step) (old new : World) → AllCounted base old →
     Runs old steps new → AllCounted base new

@@ -1,6 +1,6 @@
 -- A coordinator that stops before it takes what was done, and the session that marks it.
 use Rattle.std.proofs.Common.{◌≡◌, ℕ, false, nat_le, List, [], ◌∷◌, ◌++◌, map, take, refl, sym, ap}
-use Rattle.std.proofs.Common.{subst, Option, Some, None, arith, inl, inr}
+use Rattle.std.proofs.Common.{subst, Option, Some, None, arith, inl}
 use Rattle.std.proofs.lemmas.List.Elements.{All-nil, All-cons}
 use Rattle.sha2.specs.Sha256.{sha256}
 use Rattle.syn_model.specs.Path.{Path, root}
@@ -20,10 +20,11 @@ use Rattle.syn_headline.specs.Network.{Which, Left, Right, Asks, Answers, Sent}
 use Rattle.syn_headline.specs.Acknowledged.{Ack, Happened, Kept_by}
 use Rattle.syn_headline.specs.Planning.{Planned, SeesBoth, SessionPlan}
 use Rattle.syn_headline.specs.Coordinator.{Exchange, Running, MakesPlan, WasTaken, BothBegun}
-use Rattle.syn_headline.specs.Coordinator.{fault_of, hearing, start_of, makes, stands}
+use Rattle.syn_headline.specs.Coordinator.{fault_of, hearing, start_of, makes, stands, no_call}
 use Rattle.syn_headline.specs.Coordinator as coordinator
 use Rattle.syn_headline.specs.World.{World, Coordinator, Edits, Start, Deliver, Stop, Open, Steps}
-use Rattle.syn_headline.specs.World.{Runs, opens, opens_archive}
+use Rattle.syn_headline.specs.World.{Runs, coordinator_does}
+use Rattle.syn_headline.specs.MachineSteps.{is_done, opens, arming}
 use Rattle.syn_headline.specs.Runs.{stores_of}
 use Rattle.syn_headline.specs.Headline.{IsQuietSession, IsNoEdit, formatted}
 use Rattle.syn_witness.specs.Witness.{opened_world, a_path, put_one, one, marked_later, found_later}
@@ -176,15 +177,14 @@ marked =
 
 -- The coordinator stops, opens and starts again
 stops : Steps replaced (Stop Coordinator 0) stopped_world
-stops = inr (up_not_down, refl)
+stops =
+    coordinator_does stopped_world.coordinator no_call [] (is_done _ _ _ up_not_down arming)
 
 opens_it : Steps stopped_world (Open Coordinator) opened_again
 opens_it =
-    inr (
-      refl,
-      opens 0 opened_again (opens_archive opened_again.coordinator.journal [] (opened
-          opened_again.coordinator.journal.room 1 unarmed (meets_unarmed 0) (inl (refl, refl)))),
-    )
+    coordinator_does opened_again.coordinator no_call []
+    (opens 0 opened_again.coordinator.journal [] refl
+    (opened opened_again.coordinator.journal.room 1 unarmed (meets_unarmed 0) (inl (refl, refl))))
 
 begins_session : Steps opened_again (Start None) started
 begins_session =

@@ -13,9 +13,11 @@ use Rattle.syn_headline.specs.Side.{room_causes}
 use Rattle.syn_headline.specs.SideMachine.{has_room_for, causes_of}
 use Rattle.syn_headline.specs.Network.{Left}
 use Rattle.syn_headline.specs.Acknowledged.{Happened}
-use Rattle.syn_headline.specs.Coordinator.{writes, start_breaks}
-use Rattle.syn_headline.specs.World.{World, At, Edits, Start, Checkpoint, Reopen, Steps, starts}
-use Rattle.syn_headline.specs.World.{compacts_side, reopen_fails, fails_device}
+use Rattle.syn_headline.specs.Coordinator.{writes, start_breaks, no_call}
+use Rattle.syn_headline.specs.MachineSteps.{is_done, refuses, makes, checkpoints, reopen_fails}
+use Rattle.syn_headline.specs.MachineSteps.{arming}
+use Rattle.syn_headline.specs.World.{World, At, Edits, Start, Checkpoint, Reopen, Steps, side_does}
+use Rattle.syn_headline.specs.World.{coordinator_does}
 use Rattle.syn_headline.proofs.FormattedLemmas.{formatted_is_pair}
 use Rattle.syn_witness.specs.Witness.{opened_world, new_machine, new_journal, new_room, put_one}
 use Rattle.syn_witness.specs.Refused.{crowded_world, SecondStartIsBusy, FullIsCompacted, StartFails}
@@ -39,7 +41,16 @@ pub second_start_is_busy : SecondStartIsBusy
 unfolding busy_world begins_sent
 second_start_is_busy = record {
   new = busy_world;
-  runs = (waiting 0, start_waits, (busy_world, inr (up_not_down, inl (Busy, refl, refl)), refl));
+  runs = (
+    waiting 0,
+    start_waits,
+    (
+      busy_world,
+      coordinator_does busy_world.coordinator no_call (Busy ∷ [])
+          (is_done _ _ _ up_not_down (refuses Busy refl)),
+      refl,
+    ),
+  );
   sent = refl;
   acknowledged_then = refl;
   reported = refl;
@@ -87,16 +98,16 @@ is_full =
 
 refuses_it : Steps crowded_world (Edits Left 1 put_one) full_world
 unfolding full_world
-refuses_it = inr (up_not_down, inl (JournalFull, is_full, refl))
+refuses_it =
+    side_does crowded_world.left [] (JournalFull ∷ [])
+    (is_done _ _ _ up_not_down (refuses JournalFull is_full))
 
 makes_room : Steps full_world (Checkpoint (At Left)) (with_room new_room)
 unfolding full_world with_room
 makes_room =
     subst (λ room. Steps full_world (Checkpoint (At Left)) (with_room room)) new_room_is.0
-    (inr (
-      up_not_down,
-      inr (refl, _, compacts_side Left _ (compacted unarmed (meets_unarmed 6)), refl),
-    ))
+    (side_does _ [] [] (is_done _ _ _ up_not_down (makes _ [] refl
+    (checkpoints _ (compacted unarmed (meets_unarmed 6))))))
 
 edits_it : Steps (with_room new_room) (Edits Left 1 put_one) edited_world
 unfolding full_world with_room edited_world
@@ -155,17 +166,10 @@ refused_twice = record halted_start { refusals = Device ∷ Halted_before ∷ []
 fails_it : Steps armed_start (Start None) refused_start
 unfolding armed_start halted_start refused_start
 fails_it =
-    inr (
-      up_not_down,
-      inr (
-        refl,
-        halted_start,
-        starts halted_start.coordinator _ (start_breaks 1 halted_start.coordinator.journal [] refl
-            (writes halted_start.coordinator.journal [] (unwritten Halted unarmed 1 refl (inl refl)
-            (one_fails 1 (omega arith) (inr (omega arith)) (inl refl)))) halted_not_up),
-        refl,
-      ),
-    )
+    coordinator_does halted_start.coordinator no_call (Device ∷ []) (is_done _ _ _ up_not_down
+    (makes halted_start.coordinator no_call refl (start_breaks 1 halted_start.coordinator.journal
+    [] refl (writes halted_start.coordinator.journal [] (unwritten Halted unarmed 1 refl (inl refl)
+    (one_fails 1 (omega arith) (inr (omega arith)) (inl refl)))) halted_not_up)))
 
 pub start_fails : StartFails
 unfolding armed_start halted_start refused_start refused_twice
@@ -173,11 +177,16 @@ start_fails = record {
   new = refused_twice;
   runs = (
     armed_start,
-    inr (up_not_down, refl),
+    coordinator_does armed_start.coordinator no_call [] (is_done _ _ _ up_not_down arming),
     (
       refused_start,
       fails_it,
-      (refused_twice, inr (halted_not_down, inl (Halted_before, refl, refl)), refl),
+      (
+        refused_twice,
+        coordinator_does refused_start.coordinator no_call (Halted_before ∷ [])
+            (is_done _ _ _ halted_not_down (refuses Halted_before refl)),
+        refl,
+      ),
     ),
   );
   sent = refl;
@@ -208,17 +217,18 @@ unopened_left = record halted_left { refusals = Device ∷ [] }
 fails_to_open : Steps armed_left (Reopen (At Left)) unopened_left
 unfolding armed_left halted_left unopened_left
 fails_to_open =
-    inr (
-      up_not_down,
-      reopen_fails 1 halted_left
-          (fails_device unarmed 1 (one_fails 0 (omega arith) (inr (omega arith)) (inl refl))),
-    )
+    side_does halted_left.left [] (Device ∷ []) (is_done _ _ _ up_not_down
+    (reopen_fails 1 unarmed 1 (one_fails 0 (omega arith) (inr (omega arith)) (inl refl))))
 
 pub reopening_fails : ReopeningFails
 unfolding armed_left halted_left unopened_left
 reopening_fails = record {
   new = unopened_left;
-  runs = (armed_left, inr (up_not_down, refl), (unopened_left, fails_to_open, refl));
+  runs = (
+    armed_left,
+    side_does armed_left.left [] [] (is_done _ _ _ up_not_down arming),
+    (unopened_left, fails_to_open, refl),
+  );
   sent = refl;
   acknowledged_then = refl;
   reported = refl;

@@ -11,7 +11,8 @@ use Rattle.syn_headline.specs.Side.{Side, Replace, Done, Refused, Reads, answer,
 use Rattle.syn_headline.specs.Network.{Right, Answers}
 use Rattle.syn_headline.specs.Coordinator.{stays, side_refuses, refusing, stands, start_of}
 use Rattle.syn_headline.specs.Acknowledged.{Happened}
-use Rattle.syn_headline.specs.World.{World, At, Edits, Deliver, Fail, Steps, to_side}
+use Rattle.syn_headline.specs.MachineSteps.{is_done, arming}
+use Rattle.syn_headline.specs.World.{World, At, Edits, Deliver, Fail, Steps, to_side, side_does}
 use Rattle.syn_witness.specs.Witness.{opened_world, a_path, one, put_other, touched_report}
 use Rattle.syn_witness.specs.Witness.{failed_report, up_to_replacement, RepeatIsDone}
 use Rattle.syn_witness.specs.Witness.{TouchedIsRefused, ReplacementFails}
@@ -189,7 +190,7 @@ replacement_fails = record {
       runs_on_from opened_world replacing failed_world up_to_replacement
       (Fail (At Right) 2 ∷ map Deliver (12 ∷ 13 ∷ [])) run_to_replacement (
         armed_right,
-        inr (up_not_down, refl),
+        side_does armed_right.right [] [] (is_done _ _ _ up_not_down arming),
         (halted_right, fails_it, (failed_world, ends_failed, refl)),
       );
   sent = refl;

@@ -1,7 +1,6 @@
 -- The short runs with checkpoints, a request that is sent again, and a session that is over.
 use Rattle.std.proofs.lemmas.Option.{none-some, same_Some}
 use Rattle.std.proofs.Common.{ℕ, ◌++◌, [], ◌∷◌, map, refl, ap, ◌∙◌, subst, Some, None, arith, inl}
-use Rattle.std.proofs.Common.{inr}
 use Rattle.syn_model.specs.Tree.{empty_directory}
 use Rattle.syn_model.specs.Refusal.{OldSession}
 use Rattle.syn_model.specs.Event.{Edited, Began}
@@ -13,8 +12,9 @@ use Rattle.syn_headline.specs.Acknowledged.{Happened, Kept_by}
 use Rattle.syn_headline.specs.Coordinator.{Running, stays, stands, start_of, ignores, IsExpected}
 use Rattle.syn_headline.specs.Coordinator.{asked_of, no_call}
 use Rattle.syn_headline.specs.World.{World, coordinator_goes, Coordinator, Start, Deliver}
-use Rattle.syn_headline.specs.World.{Checkpoint, Stop, Open, Steps, to_coordinator, compacts_side}
-use Rattle.syn_headline.specs.World.{compacts_archive, opens, opens_archive, reopens}
+use Rattle.syn_headline.specs.World.{Checkpoint, Stop, Open, Steps, to_coordinator, side_does}
+use Rattle.syn_headline.specs.World.{coordinator_does}
+use Rattle.syn_headline.specs.MachineSteps.{is_done, makes, checkpoints, opens, reopens, arming}
 use Rattle.syn_witness.specs.Witness.{opened_world, new_journal, new_archive_room, a_path, put_one}
 use Rattle.syn_witness.specs.Witness.{one, up_to_replacement}
 use Rattle.syn_witness.specs.Short.{CheckpointIsMade, ArchiveIsReopened, ResendIsAnswered}
@@ -50,10 +50,8 @@ checkpoint_is_made = record {
         edited_world refl refl edit_allowed (written unarmed refl (meets_unarmed 4)) refl,
     (
       _,
-      inr (
-        up_not_down,
-        inr (refl, _, compacts_side Left _ (compacted unarmed (meets_unarmed 6)), refl),
-      ),
+      side_does _ [] [] (is_done _ _ _ up_not_down (makes _ [] refl
+          (checkpoints _ (compacted unarmed (meets_unarmed 6))))),
       refl,
     ),
   );
@@ -79,8 +77,8 @@ compacts_it =
           { journal = record opened_world.coordinator.journal { room = room; generation = 2 } };
     } in
     subst (λ room. Steps opened_world (Checkpoint Coordinator) (with_room room)) new_room_is.1
-    (inr
-    (up_not_down, inr (refl, _, compacts_archive _ (compacted unarmed (meets_unarmed 6)), refl)))
+    (coordinator_does _ no_call [] (is_done _ _ _ up_not_down (makes _ no_call refl
+    (checkpoints _ (compacted unarmed (meets_unarmed 6))))))
 
 pub archive_is_reopened : ArchiveIsReopened
 unfolding compacted_archive
@@ -91,12 +89,9 @@ archive_is_reopened = record {
     compacts_it,
     (
       compacted_archive,
-      inr (
-        up_not_down,
-        reopens 1 compacted_archive (omega arith)
-            (opens_archive compacted_archive.coordinator.journal
-            [] (opened new_archive_room 2 unarmed (meets_unarmed 1) (inl (refl, refl)))),
-      ),
+      coordinator_does compacted_archive.coordinator no_call [] (is_done _ _ _ up_not_down
+          (reopens 1 compacted_archive.coordinator.journal [] (omega arith)
+          (opened new_archive_room 2 unarmed (meets_unarmed 1) (inl (refl, refl))))),
       refl,
     ),
   );
@@ -250,15 +245,14 @@ late_is_old = record {
       runs_on_from opened_world replacing refused_late up_to_replacement (Stop Coordinator 0
       ∷ Open Coordinator ∷ Start None ∷ map Deliver (14 ∷ 12 ∷ [])) run_to_replacement (
         stopped_late,
-        inr (up_not_down, refl),
+        coordinator_does stopped_late.coordinator no_call []
+            (is_done _ _ _ up_not_down arming),
         (
           opened_late,
-          inr (
-            refl,
-            opens 0 opened_late (opens_archive opened_late.coordinator.journal [] (opened
-                opened_late.coordinator.journal.room 1 unarmed (meets_unarmed 0)
-                (inl (refl, refl)))),
-          ),
+          coordinator_does opened_late.coordinator no_call []
+              (opens 0 opened_late.coordinator.journal [] refl
+              (opened opened_late.coordinator.journal.room 1 unarmed (meets_unarmed 0)
+              (inl (refl, refl)))),
           (
             started_late,
             starts_late,

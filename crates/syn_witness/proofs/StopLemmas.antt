@@ -1,20 +1,21 @@
 -- Without a stop among the steps no machine goes down, and a device call that is armed comes.
-use Rattle.std.proofs.Common.{◌≡◌, ◌≢◌, ◌≤◌, ◌-◌, ℕ, suc, Bool, true, false, true≢false}
-use Rattle.std.proofs.Common.{if◌then◌else◌, List, [], ◌∷◌, ◌++◌, append-nil, map, refl, sym, ap}
-use Rattle.std.proofs.Common.{◌∙◌, subst, Option, arith, inl, inr, slice_get}
+use Rattle.std.proofs.Common.{◌≡◌, ◌≢◌, ◌≤◌, ◌-◌, ℕ, suc, true≢false, List, [], ◌∷◌, ◌++◌}
+use Rattle.std.proofs.Common.{append-nil, map, refl, sym, ap, ◌∙◌, subst, Option, arith, slice_get}
 use Rattle.std.specs.Prelude.{Contains}
 use Rattle.std.proofs.lemmas.List.Elements.{Contains-append_right}
-use Rattle.syn_model.specs.Refusal.{Refusal, Device, Memory, Full, Cause}
+use Rattle.syn_model.specs.Refusal.{Refusal, Full, Cause}
 use Rattle.syn_model.specs.Event.{Event, Edited}
 use Rattle.syn_model.specs.History.{History}
 use Rattle.syn_model.specs.Archive.{Archive, Kept, Session}
 use Rattle.syn_headline.specs.Machine.{Status, Up, Halted, Down, Arms, IsBefore, Journaled, Layout}
 use Rattle.syn_headline.specs.Machine.{Meets, all_made, one_fails, one_stops, Writes, idle, written}
 use Rattle.syn_headline.specs.Machine.{unwritten, Compacts, compacted, not_compacted, Opens, opened}
-use Rattle.syn_headline.specs.Machine.{recovered}
+use Rattle.syn_headline.specs.Machine.{recovered, after_device}
+use Rattle.syn_headline.specs.MachineSteps.{Kind, MachineCall, Does, Calls}
+use Rattle.syn_headline.specs.MachineSteps as one
 use Rattle.syn_headline.specs.Side.{Request, Reply}
 use Rattle.syn_headline.specs.SideMachine.{SideMachine, side_layout, SideTakes, answers, adds}
-use Rattle.syn_headline.specs.SideMachine.{causes_of}
+use Rattle.syn_headline.specs.SideMachine.{causes_of, side_kind, EditsSide, edits}
 use Rattle.syn_headline.specs.Network.{Which, Left, Right, Message}
 use Rattle.syn_headline.specs.Acknowledged.{Happened}
 use Rattle.syn_headline.specs.Planning.{Planned}
@@ -22,21 +23,23 @@ use Rattle.syn_headline.specs.Coordinator.{CoordinatorMachine, Call, Walk, Excha
 use Rattle.syn_headline.specs.Coordinator.{archive_layout, past, refusing, making_room, start_of}
 use Rattle.syn_headline.specs.Coordinator.{Keeps, writes, cut_behind, Takes, CoordinatorTakes}
 use Rattle.syn_headline.specs.Coordinator.{CoordinatorStarts, CoordinatorTicks, Advances}
-use Rattle.syn_headline.specs.Coordinator.{start_causes}
+use Rattle.syn_headline.specs.Coordinator.{start_causes, coordinator_kind}
 use Rattle.syn_headline.specs.Coordinator as coordinator
 use Rattle.syn_headline.specs.World.{World, Machine, At, Coordinator, says, Step, Edits, Start}
 use Rattle.syn_headline.specs.World.{Deliver, Tick, Checkpoint, Fail, Stop, Open, Reopen, side_of}
-use Rattle.syn_headline.specs.World.{side_goes, side_writes, coordinator_goes, status_of, arms_of}
-use Rattle.syn_headline.specs.World.{refuses_with, is_halted, answered_by, UnlessDown, Calls}
-use Rattle.syn_headline.specs.World.{EditsSide, edits, Starts, CompactsMachine, compacts_side}
-use Rattle.syn_headline.specs.World.{compacts_archive, Delivers, no_message, to_no_side, to_side}
-use Rattle.syn_headline.specs.World.{to_coordinator, Ticks, ticks, OpensMachine, opens_side}
-use Rattle.syn_headline.specs.World.{opens_archive, set_device, FailsDevice, fails_device, Reopens}
-use Rattle.syn_headline.specs.World.{reopens, reopen_fails, reopen_is_cut, no_memory_to_reopen}
-use Rattle.syn_headline.specs.World.{full_generation, generation_of, Steps, Runs}
-use Rattle.syn_headline.specs.World as world
+use Rattle.syn_headline.specs.World.{side_goes, coordinator_goes, status_of, refuses_with}
+use Rattle.syn_headline.specs.World.{side_does, coordinator_does, MachineDoes, Delivers, no_message}
+use Rattle.syn_headline.specs.World.{to_no_side, to_side, to_coordinator, Ticks, ticks, Steps, Runs}
 use Rattle.syn_headline.specs.Runs.{IsStart}
+use Rattle.syn_headline.proofs.MachineLemmas.{LeavesDevice, armed_to_fail, armed_to_stop, stopped}
+use Rattle.syn_headline.proofs.MachineLemmas.{unopened, halted, cut, stays, calls_leave, does_leave}
 use Rattle.syn_witness.specs.Forbidden.{StaysWithoutStop, StopsAsArmed, ArmedCallsCome}
+use Rattle.syn_witness.proofs.FailureLemmas.{GivesBack}
+
+-- what is armed at a machine
+abbrev arms_of : World → Machine → Arms
+arms_of world (At side) = (side_of world side).journal.arms
+arms_of world Coordinator = world.coordinator.journal.arms
 
 -- a machine that is not down and has no stop to come
 abbrev IsSafe : Status → Arms → Type 0
@@ -139,7 +142,7 @@ takes_safe pair old r taken _ _ h
     (coordinator.ends plan logged walk kept why fault has advances ends) =
     advances_safe pair _ taken (start_of old r) walk kept h advances
 takes_safe pair old r taken _ _ h (coordinator.goes_on plan logged walk kept left right fault has
-    advances rests stays moves asks) =
+    advances rests unmoved moves asks) =
     advances_safe pair _ taken (start_of old r) walk kept h advances
 
 answer_safe : (pair : ℕ) (old : CoordinatorMachine) (from : Which) (session number : ℕ)
@@ -189,74 +192,81 @@ coordinator_safe old h machine call s (At Left) = h (At Left)
 coordinator_safe old h machine call s (At Right) = h (At Right)
 coordinator_safe old h machine call s Coordinator = s
 
-device_safe : (old : World) → AllSafe old → (machine : Machine) (status : Status) (arms : Arms)
-    (failed : ℕ) → IsSafe status arms → AllSafe (set_device old machine status arms failed)
-device_safe old h (At Left) status arms failed s (At Left) = s
-device_safe old h (At Left) status arms failed s (At Right) = h (At Right)
-device_safe old h (At Left) status arms failed s Coordinator = h Coordinator
-device_safe old h (At Right) status arms failed s (At Left) = h (At Left)
-device_safe old h (At Right) status arms failed s (At Right) = s
-device_safe old h (At Right) status arms failed s Coordinator = h Coordinator
-device_safe old h Coordinator status arms failed s (At Left) = h (At Left)
-device_safe old h Coordinator status arms failed s (At Right) = h (At Right)
-device_safe old h Coordinator status arms failed s Coordinator = s
+refused_safe : (made : World) (reasons : List Refusal) → AllSafe made →
+    AllSafe (refuses_with made reasons)
+refused_safe made reasons h (At Left) = h (At Left)
+refused_safe made reasons h (At Right) = h (At Right)
+refused_safe made reasons h Coordinator = h Coordinator
 
-refused_safe : (made : World) (reason : Refusal) → AllSafe made → AllSafe (refuses_with made reason)
-refused_safe made reason h (At Left) = h (At Left)
-refused_safe made reason h (At Right) = h (At Right)
-refused_safe made reason h Coordinator = h Coordinator
+-- A machine by itself, whichever kind it is of
+module _ {M A V W : Type 0} (kind : Kind M A V W) (back : GivesBack kind) (machine : M)
+    (h : IsSafeJournal (kind.journal_of machine)) where
+  abbrev was : Journaled V W
+  was = kind.journal_of machine
 
-answered_safe : (machine : Machine) (made : World) → AllSafe made →
-    AllSafe (answered_by machine made)
-answered_safe machine made h = told (is_halted (status_of made machine))
-  where
-    told : (b : Bool) → AllSafe (if b then refuses_with made Device else made)
-    told true = refused_safe made Device h
-    told false = h
+  abbrev IsSafeNext : M → Type 0
+  IsSafeNext next = IsSafeJournal (kind.journal_of next)
+
+  left_safe : (new : Journaled V W) → IsSafeJournal new →
+      IsSafeNext (kind.with_journal machine new)
+  left_safe new c = subst IsSafeJournal (sym (back machine new)) c
+
+  device_safe : (call : MachineCall) → ((calls : ℕ) → call ≡ one.Stop calls → ⊥) →
+      (status : Status) (arms : Arms) (failed : ℕ) → LeavesDevice was call status arms failed →
+      IsSafe status arms
+  device_safe _ none _ _ _ (armed_to_fail call) = h
+  device_safe _ none _ _ _ (armed_to_stop calls) = absurd (none (suc calls) refl)
+  device_safe _ none _ _ _ stopped = absurd (none 0 refl)
+  device_safe _ none _ _ _ (unopened calls arms failed down meets) = absurd (h.0 down)
+  device_safe _ none _ _ _ (halted calls arms failed meets) =
+      meets_safe was.arms calls Halted arms failed h.1 meets
+  device_safe _ none _ _ _ (cut calls arms failed meets) =
+      meets_safe was.arms calls Down arms failed h.1 meets
+  device_safe _ none _ _ _ (stays calls arms failed meets) =
+      (h.0, (meets_safe was.arms calls Up arms failed h.1 meets).1)
+
+  calls_safe : (causes : List Cause) (Made : M → A → Type 0) →
+      ((next : M) (given : A) → Made next given → IsSafeNext next) → (next : M) (given : A)
+      (refusals : List Refusal) → Calls kind machine causes Made next given refusals →
+      IsSafeNext next
+  calls_safe causes Made made next given refusals so =
+      calls_leave kind machine (λ next _. IsSafeNext next) h causes Made
+      (λ next given none up so. made next given so) next given refusals so
+
+  does_safe : (call : MachineCall) → ((calls : ℕ) → call ≡ one.Stop calls → ⊥) → (next : M)
+      (given : A) (refusals : List Refusal) → Does kind machine call next given refusals →
+      IsSafeNext next
+  does_safe call none next given refusals so =
+      does_leave kind machine (λ next _. IsSafeNext next) h
+      (λ new c. left_safe new (compacts_safe kind.layout was new h c))
+      (λ calls new kept o. left_safe new
+      (opens_safe kind.layout kind.CanKeep was calls new kept h o)) call
+      (λ status arms failed left. left_safe (after_device was status arms failed)
+      (device_safe call none status arms failed left)) next given refusals so
+
+edits_safe : (pair : ℕ) (machine : SideMachine) → IsSafeJournal machine.journal →
+    (event : Event) (next : SideMachine) (events : List Event) →
+    EditsSide pair machine event next events → IsSafeJournal next.journal
+edits_safe pair machine h event _ _ (edits journal events lawful w) =
+    writes_safe (side_layout pair) machine.journal journal event events h w
 
 module _ (old : World) (h : AllSafe old) where
   side_journal : (side : Which) → IsSafeJournal (side_of old side).journal
   side_journal Left = h (At Left)
   side_journal Right = h (At Right)
 
-  unless_down_safe : (machine : Machine) (IsDone : Type 0) (new : World) → (IsDone → AllSafe new) →
-      UnlessDown old machine IsDone new → AllSafe new
-  unless_down_safe machine IsDone new done (inl (down, e)) = subst AllSafe (sym e) h
-  unless_down_safe machine IsDone new done (inr (up, is)) = done is
-
-  calls_safe : (machine : Machine) (causes : List Cause) (Made : World → Type 0) (new : World) →
-      ((made : World) → Made made → AllSafe made) → Calls old machine causes Made new → AllSafe new
-  calls_safe machine causes Made new safe (inl (down, e)) = subst AllSafe (sym e) h
-  calls_safe machine causes Made new safe (inr (up, inl (reason, first, e))) =
-      subst AllSafe (sym e) (refused_safe old reason h)
-  calls_safe machine causes Made new safe (inr (up, inr (none, made, g, e))) =
-      subst AllSafe (sym e) (answered_safe machine made (safe made g))
-
-  edits_safe : (side : Which) (event : Event) (made : World) → EditsSide old side event made →
-      AllSafe made
-  edits_safe side event _ (edits journal events lawful w) =
-      side_safe old h side _ [] events (writes_safe (side_layout old.pair)
-      (side_of old side).journal journal event events (side_journal side) w)
-
-  compacts_machine_safe : (machine : Machine) (made : World) → CompactsMachine old machine made →
-      AllSafe made
-  compacts_machine_safe _ _ (compacts_side side journal c) =
-      side_safe old h side _ [] [] (compacts_safe (side_layout old.pair)
-      (side_of old side).journal journal (side_journal side) c)
-  compacts_machine_safe _ _ (compacts_archive journal c) =
-      coordinator_safe old h (coordinator.with_archive old.coordinator journal)
-      (record coordinator.no_call { kept = [] })
-      (compacts_safe (archive_layout old.pair) old.coordinator.journal journal (h Coordinator) c)
-
-  opens_machine_safe : (calls : ℕ) (machine : Machine) (made : World) →
-      OpensMachine old calls machine made → AllSafe made
-  opens_machine_safe calls _ _ (opens_side side journal events o) =
-      side_safe old h side _ [] events (opens_safe (side_layout old.pair) _
-      (side_of old side).journal calls journal events (side_journal side) o)
-  opens_machine_safe calls _ _ (opens_archive journal kept o) =
-      coordinator_safe old h (coordinator.with_archive old.coordinator journal)
-      (record coordinator.no_call { kept = kept }) (opens_safe
-      (archive_layout old.pair) _ old.coordinator.journal calls journal kept (h Coordinator) o)
+  machine_safe : (machine : Machine) (call : MachineCall) →
+      ((calls : ℕ) → call ≡ one.Stop calls → ⊥) → (new : World) →
+      MachineDoes old machine call new → AllSafe new
+  machine_safe (At side) call none _ (side_does next events refusals so) =
+      refused_safe (side_goes old side next [] events) refusals
+      (side_safe old h side next [] events (does_safe (side_kind old.pair)
+      (λ machine journal. refl) (side_of old side) (side_journal side) call none next events
+      refusals so))
+  machine_safe Coordinator call none _ (coordinator_does next given refusals so) =
+      refused_safe (coordinator_goes old next given) refusals
+      (coordinator_safe old h next given (does_safe (coordinator_kind old.pair)
+      (λ machine journal. refl) old.coordinator (h Coordinator) call none next given refusals so))
 
   delivers_safe : (message : Option Message) (new : World) → Delivers old message new → AllSafe new
   delivers_safe _ _ no_message = h
@@ -273,48 +283,33 @@ module _ (old : World) (h : AllSafe old) where
       coordinator_safe old h machine call
       (ticks_safe old.coordinator machine call (h Coordinator) g)
 
-  start_safe : {preference : Option Which} (new : World) → Starts old preference new → AllSafe new
-  start_safe _ (world.starts machine call g) =
-      coordinator_safe old h machine call
-      (starts_safe old.pair old.coordinator machine call (h Coordinator) g)
-
-  fails_safe : (machine : Machine) (calls : ℕ) (status left : Status) (made : World) →
-      (status ≢ Down → left ≢ Down) → FailsDevice old machine calls status left made → AllSafe made
-  fails_safe machine calls status left _ safe (fails_device arms failed meets) =
-      let after = meets_safe (arms_of old machine) calls status arms failed (h machine).1 meets in
-      device_safe old h machine left arms failed (safe after.0, after.1)
-
-  reopens_safe : (machine : Machine) (new : World) → Reopens old machine new → AllSafe new
-  reopens_safe machine _ (reopens calls new some o) = opens_machine_safe calls machine new o
-  reopens_safe machine _ (reopen_fails calls made f) =
-      refused_safe made Device (fails_safe machine calls Halted Halted made (λ same. same) f)
-  reopens_safe machine _ (reopen_is_cut calls made f) =
-      fails_safe machine calls Down Down made (λ same. same) f
-  reopens_safe machine _ (no_memory_to_reopen calls made f) =
-      refused_safe made Memory
-      (fails_safe machine calls Up (status_of old machine) made (λ _. (h machine).0) f)
-
   step_safe : (step : Step) → ((machine : Machine) (call : ℕ) → step ≡ Stop machine call → ⊥) →
       (new : World) → Steps old step new → AllSafe new
-  step_safe (Edits side user edit) none new g =
-      calls_safe (At side) (causes_of old.pair (side_of old side) (Edited user edit))
-      (EditsSide old side (Edited user edit)) new (edits_safe side (Edited user edit)) g
-  step_safe (Start preference) none new g =
-      calls_safe Coordinator (start_causes old.pair old.coordinator) (Starts old preference) new
-      start_safe g
+  step_safe (Edits side user edit) none _ (side_does next events refusals so) =
+      refused_safe (side_goes old side next [] events) refusals
+      (side_safe old h side next [] events (calls_safe (side_kind old.pair)
+      (λ machine journal. refl) (side_of old side) (side_journal side)
+      (causes_of old.pair (side_of old side) (Edited user edit))
+      (EditsSide old.pair (side_of old side) (Edited user edit))
+      (edits_safe old.pair (side_of old side) (side_journal side) (Edited user edit))
+      next events refusals so))
+  step_safe (Start preference) none _ (coordinator_does next call refusals so) =
+      refused_safe (coordinator_goes old next call) refusals
+      (coordinator_safe old h next call (calls_safe (coordinator_kind old.pair)
+      (λ machine journal. refl) old.coordinator (h Coordinator)
+      (start_causes old.pair old.coordinator)
+      (CoordinatorStarts old.pair preference old.coordinator)
+      (λ next call g. starts_safe old.pair old.coordinator next call (h Coordinator) g)
+      next call refusals so))
   step_safe (Deliver message) none new g = delivers_safe (slice_get old.sent message) new g
   step_safe Tick none new g = tick_safe new g
   step_safe (Checkpoint machine) none new g =
-      calls_safe machine (full_generation (generation_of old machine))
-      (CompactsMachine old machine) new (compacts_machine_safe machine) g
+      machine_safe machine one.Checkpoint (λ calls e. cc) new g
   step_safe (Fail machine call) none new g =
-      unless_down_safe machine _ new (λ e. subst AllSafe (sym e)
-      (device_safe old h machine (status_of old machine) _ 0 (h machine))) g
+      machine_safe machine (one.Fail call) (λ calls e. cc) new g
   step_safe (Stop machine calls) none new g = absurd (none machine calls refl)
-  step_safe (Open machine) none new (inl (up, e)) = subst AllSafe (sym e) h
-  step_safe (Open machine) none new (inr (down, o)) = absurd ((h machine).0 down)
-  step_safe (Reopen machine) none new g =
-      unless_down_safe machine _ new (reopens_safe machine new) g
+  step_safe (Open machine) none new g = machine_safe machine one.Open (λ calls e. cc) new g
+  step_safe (Reopen machine) none new g = machine_safe machine one.Reopen (λ calls e. cc) new g
 
 abbrev HasNoStop : List Step → Type 0
 HasNoStop steps = (machine : Machine) (call : ℕ) → Contains steps (Stop machine call) → ⊥
@@ -348,15 +343,6 @@ passed arms _ _ _ (one_fails made few fail stop) e = absurd (let x : Halted ≡ 
 passed arms _ _ _ (one_stops made few fail stop) e =
     absurd (let x : Down ≡ Up = e in cc)
 
-answered_acknowledged : (machine : Machine) (made : World) →
-    (answered_by machine made).acknowledged ≡ made.acknowledged
-answered_acknowledged machine made = told (is_halted (status_of made machine))
-  where
-    told : (b : Bool) →
-        (if b then refuses_with made Device else made).acknowledged ≡ made.acknowledged
-    told true = refl
-    told false = refl
-
 unwritten_then : (pair : ℕ) (old new : Journaled History Event) (event : Event)
     (events : List Event) → (IsBefore 4 old.arms.fail × IsBefore 4 old.arms.stop → ⊥) →
     Writes (side_layout pair) old event new events → events ≡ []
@@ -365,28 +351,29 @@ unwritten_then pair old _ event _ armed (written arms is meets) =
     absurd (armed (passed old.arms Up arms 0 meets refl))
 unwritten_then pair old _ event _ armed (unwritten status arms failed is broken meets) = refl
 
-side_acknowledged : (old : World) (side : Which) (journal : Journaled History Event)
-    (events : List Event) → (side_writes old side journal events).acknowledged
-    ≡ old.acknowledged ++ map (λ event. Happened side event) events
-side_acknowledged old Left journal events = refl
-side_acknowledged old Right journal events = refl
+made_acknowledges : (pair : ℕ) (machine : SideMachine) (event : Event) (next : SideMachine)
+    (events : List Event) →
+    (IsBefore 4 machine.journal.arms.fail × IsBefore 4 machine.journal.arms.stop → ⊥) →
+    EditsSide pair machine event next events → events ≡ []
+made_acknowledges pair machine event _ _ armed (edits journal events lawful w) =
+    unwritten_then pair machine.journal journal event events armed w
 
-made_acknowledges : (old : World) (side : Which) (event : Event) (made : World) → (IsBefore 4
-    (side_of old side).journal.arms.fail × IsBefore 4 (side_of old side).journal.arms.stop → ⊥) →
-    EditsSide old side event made → made.acknowledged ≡ old.acknowledged
-made_acknowledges old side event _ armed (edits journal events lawful w) =
-    side_acknowledged old side journal events
-    ∙ (ap (λ es. old.acknowledged ++ map (λ event. Happened side event) es)
-    (unwritten_then old.pair (side_of old side).journal journal event events armed w)
-    ∙ append-nil old.acknowledged)
+side_acknowledged : (old : World) (side : Which) (next : SideMachine) (events : List Event) →
+    (side_goes old side next [] events).acknowledged
+    ≡ old.acknowledged ++ map (λ event. Happened side event) events
+side_acknowledged old Left next events = refl
+side_acknowledged old Right next events = refl
 
 pub armed_calls_come : ArmedCallsCome
-armed_calls_come old new side user edit armed (inl (down, e)) = ap (λ w. w.acknowledged) e
-armed_calls_come old new side user edit armed (inr (up, inl (reason, first, e))) =
-    ap (λ w. w.acknowledged) e
-armed_calls_come old new side user edit armed (inr (up, inr (none, made, g, e))) =
-    ap (λ w. w.acknowledged) e ∙ (answered_acknowledged (At side) made
-    ∙ made_acknowledges old side (Edited user edit) made armed g)
+armed_calls_come old _ side user edit armed (side_does next events refusals so) =
+    side_acknowledged old side next events
+    ∙ (ap (λ es. old.acknowledged ++ map (λ event. Happened side event) es)
+    (calls_leave (side_kind old.pair) (side_of old side) (λ next events. events ≡ []) refl
+    (causes_of old.pair (side_of old side) (Edited user edit))
+    (EditsSide old.pair (side_of old side) (Edited user edit))
+    (λ next events none up made.
+    made_acknowledges old.pair (side_of old side) (Edited user edit) next events armed made)
+    next events refusals so) ∙ append-nil old.acknowledged)
 
 -- A stop within the calls of an edit
 
@@ -409,40 +396,27 @@ written_within pair old _ event _ up (written arms is meets) e = absurd (up e)
 written_within pair old _ event _ up (unwritten status arms failed is broken meets) e =
     stopped_within old.arms status arms failed meets e
 
-refused_status : (made : World) (reason : Refusal) (machine : Machine) →
-    status_of (refuses_with made reason) machine ≡ status_of made machine
-refused_status made reason (At Left) = refl
-refused_status made reason (At Right) = refl
-refused_status made reason Coordinator = refl
+edited_within : (pair : ℕ) (machine : SideMachine) (event : Event) (next : SideMachine)
+    (events : List Event) → machine.journal.status ≢ Down →
+    EditsSide pair machine event next events → next.journal.status ≡ Down →
+    IsWithin machine.journal.arms.stop
+edited_within pair machine event _ _ up (edits journal events lawful w) e =
+    written_within pair machine.journal journal event events up w e
 
-answered_status : (machine : Machine) (made : World) →
-    status_of (answered_by machine made) machine ≡ status_of made machine
-answered_status machine made = told (is_halted (status_of made machine))
-  where
-    told : (b : Bool) →
-        status_of (if b then refuses_with made Device else made) machine ≡ status_of made machine
-    told true = refused_status made Device machine
-    told false = refl
-
-side_status : (old : World) (side : Which)
-    (journal : Journaled History Event) (events : List Event) →
-    status_of (side_writes old side journal events) (At side) ≡ journal.status
-side_status old Left journal events = refl
-side_status old Right journal events = refl
-
-edited_within : (old : World) (side : Which) (event : Event) (made : World) →
-    status_of old (At side) ≢ Down → EditsSide old side event made →
-    status_of made (At side) ≡ Down → IsWithin (side_of old side).journal.arms.stop
-edited_within old side event _ up (edits journal events lawful w) e =
-    written_within old.pair (side_of old side).journal journal event events up w
-    (sym (side_status old side journal events) ∙ e)
+side_status : (old : World) (side : Which) (next : SideMachine) (events : List Event)
+    (refusals : List Refusal) →
+    status_of (refuses_with (side_goes old side next [] events) refusals) (At side)
+    ≡ next.journal.status
+side_status old Left next events refusals = refl
+side_status old Right next events refusals = refl
 
 pub stops_as_armed : StopsAsArmed
 unfolding IsWithin
-stops_as_armed old new side user edit (inl (down, e)) up stopped = absurd (up down)
-stops_as_armed old new side user edit (inr (_, inl (reason, first, e))) up stopped =
-    absurd (up (sym (refused_status old reason (At side))
-    ∙ (sym (ap (λ w. status_of w (At side)) e) ∙ stopped)))
-stops_as_armed old new side user edit (inr (_, inr (none, made, g, e))) up stopped =
-    edited_within old side (Edited user edit) made up g
-    (sym (answered_status (At side) made) ∙ (sym (ap (λ w. status_of w (At side)) e) ∙ stopped))
+stops_as_armed old _ side user edit (side_does next events refusals so) up stops =
+    calls_leave (side_kind old.pair) (side_of old side)
+    (λ next events. next.journal.status ≡ Down → IsWithin (side_of old side).journal.arms.stop)
+    (λ down. absurd (up down)) (causes_of old.pair (side_of old side) (Edited user edit))
+    (EditsSide old.pair (side_of old side) (Edited user edit))
+    (λ next events none other made e.
+    edited_within old.pair (side_of old side) (Edited user edit) next events up made e)
+    next events refusals so (sym (side_status old side next events refusals) ∙ stops)

@@ -14,8 +14,8 @@ use Rattle.syn_headline.specs.Network.{Left, Right, Asks, Sent}
 use Rattle.syn_headline.specs.Acknowledged.{Happened, Kept_by}
 use Rattle.syn_headline.specs.Machine.{Down, unarmed, one_stops, unwritten, recovered}
 use Rattle.syn_headline.specs.Coordinator.{most_resends, Outstanding, Running, resends, gives_up}
-use Rattle.syn_headline.specs.World.{World, Step, Start, Tick, Steps, Runs, opens, opens_side}
-use Rattle.syn_headline.specs.World.{ticks}
+use Rattle.syn_headline.specs.World.{World, Step, Start, Tick, Steps, Runs, side_does, ticks}
+use Rattle.syn_headline.specs.MachineSteps.{is_done, opens, arming}
 use Rattle.syn_witness.specs.Witness.{NewRoomIs, new_archive_room, new_journal, new_machine}
 use Rattle.syn_witness.specs.Witness.{opened_world, OpenedIsStart, StopIsRecovered, SilenceEnds}
 use Rattle.syn_witness.specs.Witness.{a_path, put_one, one, unanswered}
@@ -82,7 +82,7 @@ stop_is_recovered = record {
   new = recovered_world;
   runs = (
     armed_world,
-    inr (up_not_down, refl),
+    side_does armed_world.left [] [] (is_done _ _ _ up_not_down arming),
     (
       cut_world,
       edits_so armed_world Left 1 put_one cut_world.left.journal [] cut_world refl refl edit_allowed
@@ -90,12 +90,9 @@ stop_is_recovered = record {
           (inl refl) refl)) refl,
       (
         recovered_world,
-        inr (
-          refl,
-          opens 0 recovered_world
-              (opens_side Left recovered_world.left.journal (Edited 1 put_one ∷ [])
-              (recovered unarmed (Edited 1 put_one) (meets_unarmed 0) refl edit_allowed)),
-        ),
+        side_does recovered_world.left (Edited 1 put_one ∷ []) []
+            (opens 0 recovered_world.left.journal (Edited 1 put_one ∷ []) refl
+            (recovered unarmed (Edited 1 put_one) (meets_unarmed 0) refl edit_allowed)),
         refl,
       ),
     ),

@@ -1,10 +1,10 @@
 -- Steps of a witness run, built from what each is about: where no device fails and no machine
 -- stops.
 use Rattle.std.specs.Option.{option_map_or}
-use Rattle.std.proofs.Common.{fold, filter_map, ◌≤◌, ◌^◌, ◌||◌, not, nat_le, true≢false, inr, ◌-◌}
-use Rattle.std.proofs.Common.{◌≡◌, ◌≢◌, ℕ, true, List, [], ◌∷◌, ◌++◌, take, length, if◌then◌else◌}
-use Rattle.std.proofs.Common.{refl, sym, ap, ◌∙◌, subst, Option, Some, None, arith, inl, ◌+◌, false}
-use Rattle.std.proofs.Common.{slice_get}
+use Rattle.std.proofs.Common.{fold, filter_map, ◌≤◌, ◌^◌, ◌||◌, not, nat_le, true≢false, ◌-◌, ◌≡◌}
+use Rattle.std.proofs.Common.{◌≢◌, ℕ, true, List, [], ◌∷◌, ◌++◌, take, length, if◌then◌else◌, refl}
+use Rattle.std.proofs.Common.{sym, ap, ◌∙◌, subst, Option, Some, None, arith, inl, ◌+◌, false}
+use Rattle.std.proofs.Common.{slice_get, append-nil}
 use Rattle.std.specs.List.{AllByRecursion}
 use Rattle.std.specs.FinMap.{get, len}
 use Rattle.std.proofs.lemmas.List.Elements.{All-from_recursion}
@@ -17,7 +17,7 @@ use Rattle.syn_model.specs.History.{History, tree_of, IsAllowed, event_causes}
 use Rattle.syn_model.specs.Archive.{Archive, Kept, Session, CanKeep}
 use Rattle.syn_model.specs.Spelling.{content_spelling, spelling_within, event_spelling}
 use Rattle.syn_model.specs.MarkSpelling.{kept_spelling}
-use Rattle.syn_model.specs.Refusal.{first_cause, Device, JournalFull, Halted as Halted_before}
+use Rattle.syn_model.specs.Refusal.{first_cause, JournalFull}
 use Rattle.syn_model.proofs.HistoryLemmas.{append-none}
 use Rattle.syn_headline.specs.Machine.{Up, Down, Journaled, unarmed, after_calls, Meets, all_made}
 use Rattle.syn_headline.specs.Machine.{record_size, with_record, Writes, written}
@@ -25,6 +25,8 @@ use Rattle.syn_headline.specs.Side.{room_causes, Side, Request, Begin, Reply, Li
 use Rattle.syn_headline.specs.Side.{answer, serve, list_at, staged_bytes, IsLawfulRequest}
 use Rattle.syn_headline.specs.SideMachine.{SideMachine, side_layout, side_now, with_journal}
 use Rattle.syn_headline.specs.SideMachine.{has_room_for, causes_of, said, ServesAs, answers, adds}
+use Rattle.syn_headline.specs.SideMachine.{edits}
+use Rattle.syn_headline.specs.MachineSteps.{causes_at, refused_by, is_done, makes}
 use Rattle.syn_headline.specs.Network.{Which, Left, Right, Asks, Answers, Sent}
 use Rattle.syn_headline.specs.Acknowledged.{Ack, kept_in}
 use Rattle.syn_headline.specs.Planning.{Planned, Log}
@@ -36,10 +38,9 @@ use Rattle.syn_headline.specs.Coordinator.{asked_count, asking, hearing, advance
 use Rattle.syn_headline.specs.Coordinator.{sent_now, fault_of, is_last, report_of, new_session}
 use Rattle.syn_headline.specs.Coordinator.{begins, start_causes, takes, ends, goes_on}
 use Rattle.syn_headline.specs.Coordinator.{starts as session_starts}
-use Rattle.syn_headline.specs.World.{World, At, Step, Edits, Start, Steps, Runs, side_of, side_goes}
-use Rattle.syn_headline.specs.World.{side_writes, coordinator_goes, says, is_halted, answered_by}
-use Rattle.syn_headline.specs.World.{refuses_with, edits, starts, Delivers, to_side, to_coordinator}
-use Rattle.syn_model.specs.Contents.{Contents, contents_spelling}
+use Rattle.syn_headline.specs.World.{World, Step, Edits, Start, Steps, Runs, side_of, side_goes}
+use Rattle.syn_headline.specs.World.{side_does, coordinator_goes, coordinator_does, says}
+use Rattle.syn_headline.specs.World.{refuses_with, Delivers, to_side, to_coordinator}
 use Rattle.syn_witness.specs.Witness.{new_room, new_archive_room, new_journal}
 use Rattle.syn_witness.proofs.WitnessMessages.{AreNumbered, asks_once}
 
@@ -137,7 +138,8 @@ pub edits_so : (old : World) (which : Which) (user : ℕ) (edit : Edit)
     has_room_for old.pair (side_of old which) (Edited user edit) ≡ true →
     IsAllowed (side_of old which).journal.value (Edited user edit) →
     Writes (side_layout old.pair) (side_of old which).journal (Edited user edit) journal events →
-    new ≡ answered_by (At which) (side_writes old which journal events) →
+    new ≡ refuses_with (side_goes old which (with_journal (side_of old which) journal) [] events)
+    (refused_by journal.status) →
     Steps old (Edits which user edit) new
 edits_so old which user edit journal events new up room allowed written_so says =
     let here = side_of old which in
@@ -147,16 +149,13 @@ edits_so old which user edit journal events new up room allowed written_so says 
     let none : first_cause (causes_of old.pair here event) ≡ None =
     append-none (event_causes here.journal.value event)
     (room_causes (has_room_for old.pair here) event) allowed.not_refused fits in
-    inr (
-      λ e. up_not_down (sym up ∙ e),
-      inr (
-        ap (λ status. first_cause
-            ((is_halted status, Halted_before) ∷ causes_of old.pair here event)) up ∙ none,
-        side_writes old which journal events,
-        edits journal events allowed.lawful written_so,
-        says,
-      ),
-    )
+    let next = with_journal here journal in
+    let refusals = refused_by journal.status in
+    subst (Steps old (Edits which user edit)) (sym says)
+    (side_does next events refusals (is_done next events refusals (λ e. up_not_down (sym up ∙ e))
+    (makes next events
+    (ap (λ status. first_cause (causes_at status (causes_of old.pair here event))) up ∙ none)
+    (edits journal events allowed.lawful written_so))))
 
 -- Steps of the coordinator
 
@@ -234,17 +233,16 @@ starts_so old session up arms none next lawful new is =
     (Session session ∷ []) =
     writes journal (Session session ∷ []) (written unarmed refl
     (subst (λ arms. Meets arms 4 Up unarmed 0) (sym arms) (meets_unarmed 4))) in
-    inr (
-      λ e. up_not_down (sym up ∙ e),
-      inr (
-        ap (λ status. first_cause
-            ((is_halted status, Halted_before) ∷ start_causes old.pair old.coordinator)) up ∙ none,
-        coordinator_goes old machine call,
-        starts machine call (session_starts session journal next lawful keeps up),
-        is ∙ sym (ap (λ status. if is_halted status then refuses_with
-            (coordinator_goes old machine call) Device else coordinator_goes old machine call) up),
-      ),
-    )
+    let refusals = refused_by old.coordinator.journal.status in
+    let same : refuses_with (coordinator_goes old machine call) refusals
+    ≡ coordinator_goes old machine call =
+    ap (λ refusals. record (coordinator_goes old machine call) { refusals = refusals })
+    (ap (λ status. old.refusals ++ refused_by status) up ∙ append-nil old.refusals) in
+    subst (Steps old (Start None)) (same ∙ sym is)
+    (coordinator_does machine call refusals (is_done machine call refusals
+    (λ e. up_not_down (sym up ∙ e)) (makes machine call
+    (ap (λ status. first_cause (causes_at status (start_causes old.pair old.coordinator))) up
+    ∙ none) (session_starts session journal next lawful keeps up))))
 
 -- what is asked for next
 pub asks_several : (archive : Archive) (running : Running) (left right : List Request) →

@@ -1,31 +1,23 @@
 -- What is armed at a coordinator, and a stop of it, are steps of the world.
-use Rattle.std.proofs.Common.{ℕ, zero, suc, inl, inr, refl}
+use Rattle.std.proofs.Common.{[], subst}
 use Rattle.syn_disk.specs.declared.disk.Disk.{Ghosts}
-use Rattle.syn_headline.specs.Coordinator.{CoordinatorMachine}
-use Rattle.syn_headline.specs.World.{World as ModelWorld, Steps, Coordinator, Fail, Stop}
-use Rattle.syn_host.specs.Coordinators.{Fails, IsCoordinator, StopsMachine}
-use Rattle.syn_host.specs.Coordinators as step
+use Rattle.syn_headline.specs.Coordinator.{CoordinatorMachine, no_call}
+use Rattle.syn_headline.specs.World.{World as ModelWorld, CoordinatorDoes}
+use Rattle.syn_host.specs.Coordinators.{CoordinatorStep, IsCoordinator}
 use Rattle.syn_host.specs.declared.coordinator.CoordinatorHost.{CoordinatorHost}
 use Rattle.syn_world.specs.Worlds.{IsWorld}
 use Rattle.syn_world.specs.declared.world.World.{World}
+use Rattle.syn_world.proofs.SessionLemmas.{eq_same, lift_coordinator}
 
 -- the world goes so
 abbrev pub coordinator_is : ModelWorld → CoordinatorMachine → ModelWorld
 coordinator_is old machine = record old { coordinator = machine }
 
-pub lift_fail : (old : ModelWorld) (call : ℕ) (next : CoordinatorMachine)
-    → Fails old.coordinator call next → Steps old (Fail Coordinator call) (coordinator_is old next)
-lift_fail old call _ (step.is_down down) = inl (down, refl)
-lift_fail old call _ (step.fails other) = inr (other, refl)
-
-pub lift_stop : (old : ModelWorld) (calls : ℕ) (next : CoordinatorMachine)
-    → StopsMachine old.coordinator calls next
-    → Steps old (Stop Coordinator calls) (coordinator_is old next)
-lift_stop old zero _ (step.is_down calls down) = inl (down, refl)
-lift_stop old (suc n) _ (step.is_down calls down) = inl (down, refl)
-lift_stop old _ _ (step.at_once other) = inr (other, refl)
-lift_stop old zero _ (step.behind calls other some) = absurd (some refl)
-lift_stop old (suc n) _ (step.behind calls other some) = inr (other, refl)
+pub lift_device : (old : ModelWorld) (So : CoordinatorStep) (next : CoordinatorMachine)
+    → So next no_call [] → CoordinatorDoes old So (coordinator_is old next)
+lift_device old So next step =
+    subst (CoordinatorDoes old So) (eq_same (coordinator_is old next))
+    (lift_coordinator old So next no_call [] step)
 
 pub stays_coordinator : {D : Type 0} {disk : Ghosts D} (world : World D disk)
     (model : ModelWorld) → IsWorld world model → (coordinator : CoordinatorHost D disk)

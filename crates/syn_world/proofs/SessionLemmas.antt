@@ -1,27 +1,22 @@
 -- A call of the coordinator is a step of the world, and its lists grow so.
-use Rattle.std.proofs.Common.{◌≡◌, ◌∙◌, ◌++◌, ◌∷◌, [], ℕ, List, Some, ap, ap₂, if◌then◌else◌}
-use Rattle.std.proofs.Common.{inl, inr, refl, subst, sym, Option}
+use Rattle.std.proofs.Common.{◌≡◌, ◌∙◌, ◌++◌, [], ℕ, List, Some, ap, ap₂, refl, subst, sym}
 use Rattle.std.proofs.lemmas.List.{append-nil}
 use Rattle.std.specs.Prelude.{IfSome, Result, slice_get}
 use Rattle.syn_disk.specs.declared.disk.Disk.{Ghosts}
 use Rattle.syn_headline.specs.Coordinator.{Call, CoordinatorMachine, CoordinatorTakes}
-use Rattle.syn_headline.specs.Coordinator.{CoordinatorTicks, no_call, with_archive}
-use Rattle.syn_headline.specs.Machine.{Status, Up, Halted, Down}
+use Rattle.syn_headline.specs.Coordinator.{CoordinatorTicks, no_call}
 use Rattle.syn_headline.specs.Network.{Answers, Which}
 use Rattle.syn_headline.specs.Side.{Reply}
-use Rattle.syn_headline.specs.World.{World as ModelWorld, Checkpoint, Coordinator, Deliver}
-use Rattle.syn_headline.specs.World.{Delivers}
-use Rattle.syn_headline.specs.World.{Start, Steps, Tick, Ticks, answered_by, compacts_archive}
-use Rattle.syn_headline.specs.World.{coordinator_goes, is_halted, refuses_with, starts, ticks}
+use Rattle.syn_headline.specs.World.{World as ModelWorld, CoordinatorDoes, Deliver, Delivers, Steps}
+use Rattle.syn_headline.specs.World.{Tick, Ticks, coordinator_does, coordinator_goes, ticks}
 use Rattle.syn_headline.specs.World.{to_coordinator}
-use Rattle.syn_host.specs.CoordinatorSteps.{CallStep, CallsSo, Checkpoints, Starts, Unrefused}
-use Rattle.syn_host.specs.CoordinatorSteps as steps
-use Rattle.syn_host.specs.Outcomes.{Tells}
-use Rattle.syn_host.specs.SideSteps.{refused_by}
-use Rattle.syn_host.specs.declared.coordinator.CoordinatorCall.{CoordinatorCall}
-use Rattle.syn_model.specs.Refusal.{Refusal, Device}
-use Rattle.syn_world.specs.Worlds.{EndsSo, Goes, GoesSo, IsListed, IsWorld, RunsMachines}
 use Rattle.syn_headline.specs.World as model
+use Rattle.syn_host.specs.CoordinatorSteps.{CallIsStep, Unrefused}
+use Rattle.syn_host.specs.Coordinators.{CoordinatorStep}
+use Rattle.syn_host.specs.Outcomes.{Tells}
+use Rattle.syn_host.specs.declared.coordinator.CoordinatorCall.{CoordinatorCall}
+use Rattle.syn_model.specs.Refusal.{Refusal}
+use Rattle.syn_world.specs.Worlds.{EndsSo, Goes, GoesSo, IsListed, IsWorld, RunsMachines}
 use Rattle.syn_world.specs.declared.world.Disks.{Disks}
 use Rattle.syn_world.specs.declared.world.World.{World}
 
@@ -53,29 +48,11 @@ pub eq_same : (old : ModelWorld) → coordinator_next old old.coordinator no_cal
 eq_same old = same_lists old (old.refusals ++ [])
     ∙ ap (λ r. record old { refusals = r }) (append-nil old.refusals)
 
--- a user was refused
-pub eq_refused : (old : ModelWorld) (reason : Refusal)
-    → coordinator_next old old.coordinator no_call (reason ∷ []) ≡ refuses_with old reason
-eq_refused old reason = same_lists old (old.refusals ++ reason ∷ [])
-
--- no user was
-pub eq_goes : (old : ModelWorld) (next : CoordinatorMachine) (made : Call)
+-- no user was refused
+eq_goes : (old : ModelWorld) (next : CoordinatorMachine) (made : Call)
     → coordinator_next old next made [] ≡ coordinator_goes old next made
 eq_goes old next made =
     ap (λ r. record (coordinator_goes old next made) { refusals = r }) (append-nil old.refusals)
-
--- a call that leaves the machine halted is refused so
-eq_answered : (old : ModelWorld) (next : CoordinatorMachine) (made : Call)
-    → coordinator_next old next made (refused_by next.journal.status)
-    ≡ answered_by Coordinator (coordinator_goes old next made)
-eq_answered old next made = by next.journal.status
-  where
-    by : (status : Status) → coordinator_next old next made (refused_by status)
-        ≡ (if is_halted status then refuses_with (coordinator_goes old next made) Device
-        else coordinator_goes old next made)
-    by Up = eq_goes old next made
-    by Halted = refl
-    by Down = eq_goes old next made
 
 module _ (old : ModelWorld) (next : CoordinatorMachine) (made : Call)
     (refusals : List Refusal) where
@@ -101,46 +78,15 @@ module _ (old : ModelWorld) (next : CoordinatorMachine) (made : Call)
       (sym (unrefused taken.none))
       (to_coordinator from session number reply next made taken.step))
 
-pub lift_start : (preference : Option Which) (old : ModelWorld) (next : CoordinatorMachine)
-    (made : Call)
-    (refusals : List Refusal) → Starts old.pair preference old.coordinator next made refusals
-    → Steps old (Start preference) (coordinator_next old next made refusals)
-lift_start preference old _ _ _ (steps.Starts.is_down down) = inl (down, eq_same old)
-lift_start preference old _ _ _ (steps.Starts.refuses reason other some) =
-    inr (other, inl (reason, some, eq_refused old reason))
-lift_start preference old _ _ _ (steps.Starts.starts next made other none started) =
-    inr (
-      other,
-      inr (
-        none,
-        coordinator_goes old next made,
-        starts next made started,
-        eq_answered old next made,
-      ),
-    )
-
-pub lift_checkpoint : (old : ModelWorld) (next : CoordinatorMachine) (made : Call)
-    (refusals : List Refusal) → Checkpoints old.pair old.coordinator next made refusals
-    → Steps old (Checkpoint Coordinator) (coordinator_next old next made refusals)
-lift_checkpoint old _ _ _ (steps.Checkpoints.is_down down) = inl (down, eq_same old)
-lift_checkpoint old _ _ _ (steps.Checkpoints.refuses reason other some) =
-    inr (other, inl (reason, some, eq_refused old reason))
-lift_checkpoint old _ _ _ (steps.Checkpoints.checkpoints journal other none compacts) =
-    let next = with_archive old.coordinator journal in
-    inr (
-      other,
-      inr (
-        none,
-        coordinator_goes old next no_call,
-        compacts_archive journal compacts,
-        eq_answered old next no_call,
-      ),
-    )
+pub lift_coordinator : (old : ModelWorld) (So : CoordinatorStep) (next : CoordinatorMachine)
+    (made : Call) (refusals : List Refusal) → So next made refusals
+    → CoordinatorDoes old So (coordinator_next old next made refusals)
+lift_coordinator old So next made refusals step = coordinator_does next made refusals step
 
 -- the world behind a call is one of the model's
 module _ {D : Type 0} {disk : Ghosts D} (world : World D disk) (old : ModelWorld)
-    (is : IsWorld world old) (Whole : CallStep) (call : CoordinatorCall D disk)
-    (so : CallsSo old.pair Whole call) (result : Result (World D disk) (Disks D)) where
+    (is : IsWorld world old) (Whole : CoordinatorStep) (call : CoordinatorCall D disk)
+    (so : CallIsStep old.pair Whole call) (result : Result (World D disk) (Disks D)) where
   pub goes_coordinator : (step : model.Step)
       → (Whole so.next so.made so.refusals
       → Steps old step (coordinator_next old so.next so.made so.refusals))

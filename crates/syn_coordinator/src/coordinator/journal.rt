@@ -6,8 +6,8 @@ ghost use Rattle.syn_coordinator.specs.Coordinators.{with_arms};
 ghost use Rattle.syn_disk.specs.Armed.{armed};
 ghost use Rattle.syn_disk.specs.Arms.{is_stopped};
 ghost use Rattle.syn_disk.specs.Disk.{SameOutcomes};
-ghost use Rattle.syn_headline.specs.Coordinator.{CoordinatorMachine};
-ghost use Rattle.syn_headline.specs.Machine.{Halted, Up};
+ghost use Rattle.syn_headline.specs.Coordinator.{CoordinatorMachine, coordinator_kind};
+ghost use Rattle.syn_headline.specs.MachineSteps.{Checkpoints, Reopens};
 ghost use Rattle.syn_model.specs.Refusal.{first_cause};
 ghost use Rattle.syn_recovery.specs.Calls.{armed_at};
 
@@ -21,9 +21,8 @@ use syn_model::archive_laws;
 use syn_recovery::{device_laws, opening_laws};
 
 impl<D: Disk> Coordinator<D> {
-    ghost use Rattle.syn_coordinator.specs.Coordinators.{Checkpoints, Does, KeepsReadings, Stands};
+    ghost use Rattle.syn_coordinator.specs.Coordinators.{Does, KeepsReadings, Stands, device_of};
     ghost use Rattle.syn_coordinator.specs.Coordinators.{checkpoint_causes, checkpoint_refusals};
-    ghost use Rattle.syn_coordinator.specs.Coordinators.{device_of};
 
     /// Writes the archive as one image, so that its journal has room again. A session that runs
     /// goes on.
@@ -35,9 +34,9 @@ impl<D: Disk> Coordinator<D> {
         // It is a checkpoint of the machine, also where its device fails or is stopped.
         ensures step { (pair : ℕ) (machine : CoordinatorMachine) → Stands self.old pair machine
             → MatchResult result
-            (λ _. Does self.old self.new pair (Checkpoints pair machine) [] [])
+            (λ _. Does self.old self.new pair (Checkpoints (coordinator_kind pair) machine) [] [])
             (λ e. e ≡ ArchiveError.Device
-            → Does self.old self.new pair (Checkpoints pair machine) [] []) }
+            → Does self.old self.new pair (Checkpoints (coordinator_kind pair) machine) [] []) }
 
         // Any other refusal is the first cause that stands, and changes nothing.
         ensures refused { (pair : ℕ) (machine : CoordinatorMachine) → Stands self.old pair machine
@@ -70,9 +69,9 @@ impl<D: Disk> Coordinator<D> {
 }
 
 impl<D: Limit> Coordinator<D> {
-    ghost use Rattle.syn_coordinator.specs.Coordinators.{Does, KeepsReadings, Reopens, ReopensNot};
-    ghost use Rattle.syn_coordinator.specs.Coordinators.{Stands, archive_of, device_of};
-    ghost use Rattle.syn_coordinator.specs.Coordinators.{report_shown, runs, tried_shown, written};
+    ghost use Rattle.syn_coordinator.specs.Coordinators.{Does, KeepsReadings, ReopensNot, Stands};
+    ghost use Rattle.syn_coordinator.specs.Coordinators.{archive_of, device_of, report_shown, runs};
+    ghost use Rattle.syn_coordinator.specs.Coordinators.{tried_shown, written};
     ghost use Rattle.syn_keep.specs.Tries.{found_in, listed};
     ghost use Rattle.syn_image.specs.Archives.{kept_of};
 
@@ -86,15 +85,17 @@ impl<D: Limit> Coordinator<D> {
     pub fn reopen(&mut self, alloc: Global) -> Result<Option<Kept>, ArchiveError>
         // It is another opening of the machine, and answers the record that it found.
         ensures ok { (pair : ℕ) (machine : CoordinatorMachine) → Stands self.old pair machine
-            → IfOk result (λ found. Does self.old self.new pair (Reopens pair machine)
+            → IfOk result (λ found. Does self.old self.new pair
+            (λ next call. Reopens (coordinator_kind pair) machine next call [])
             (listed (option_map kept_of found)) []) }
         ensures device { (pair : ℕ) (machine : CoordinatorMachine) → Stands self.old pair machine
             → result ≡ Err ArchiveError.Device
-            → Does self.old self.new pair (ReopensNot machine Halted Halted) [] [] }
+            → Does self.old self.new pair
+            (ReopensNot pair machine (refusal_of ArchiveError.Device)) [] [] }
         ensures memory { (pair : ℕ) (machine : CoordinatorMachine) → Stands self.old pair machine
             → IfErr result (λ e. e ≢ ArchiveError.Device → (e ≡ ArchiveError.Memory)
             × Does self.old self.new pair
-            (ReopensNot machine Up machine.journal.status) [] []) }
+            (ReopensNot pair machine (refusal_of ArchiveError.Memory)) [] []) }
         ensures same { IfErr result (λ _. KeepsReadings self.old self.new) }
         ensures again { OnOk result ((report_shown self.new ≡ report_shown self.old)
             × (written self.new ≡ written self.old) × (runs self.new ≡ runs self.old)) }

@@ -1,9 +1,9 @@
 //! The machine of a coordinator is started again.
 ghost use Rattle.std.specs.Prelude.{◌≡◌, IfErr, IfOk, MatchResult, option_map};
-ghost use Rattle.syn_archive.specs.Refusals.{CountsFailures};
+ghost use Rattle.syn_archive.specs.Refusals.{CountsFailures, refusal_of};
 ghost use Rattle.syn_coordinator.specs.Coordinators.{device_of};
 ghost use Rattle.syn_coordinator.specs.Openings.{OpensAs, RestsStill, RestsWith};
-ghost use Rattle.syn_keep.specs.Machines.{Journal};
+ghost use Rattle.syn_headline.specs.Coordinator.{CoordinatorMachine};
 ghost use Rattle.syn_keep.specs.Tries.{listed};
 ghost use Rattle.syn_image.specs.Archives.{kept_of};
 
@@ -28,12 +28,14 @@ impl<D: Disk> Coordinator<D> {
         pair: u64,
         tried: Option<Tried>,
     ) -> Result<(Coordinator<D>, Option<Kept>), (ArchiveError, D, Option<Tried>)>
-        ensures opens { (machine : Journal) → RestsWith D.arms D.may_leave pair disk tried
-            machine → IfOk result (λ made. OpensAs made.0 pair machine
+        ensures opens { (machine : CoordinatorMachine)
+            → RestsWith D.arms D.may_leave pair disk tried machine
+            → IfOk result (λ made. OpensAs made.0 pair machine
             (listed (option_map kept_of made.1))) }
-        ensures rests { (machine : Journal) → RestsWith D.arms D.may_leave pair disk tried
-            machine → IfErr result (λ refused. RestsStill D.arms D.may_leave pair refused.1
-            refused.2 machine refused.0) }
+        ensures rests { (machine : CoordinatorMachine)
+            → RestsWith D.arms D.may_leave pair disk tried machine
+            → IfErr result (λ refused. RestsStill D.arms D.may_leave pair refused.1 refused.2
+            machine (refusal_of refused.0)) }
         ensures failures { MatchResult result
             (λ made. D.failures (device_of made.0) ≡ D.failures disk)
             (λ refused. CountsFailures refused.0 (D.failures disk) (D.failures refused.1)) }

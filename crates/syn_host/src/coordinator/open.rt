@@ -1,14 +1,16 @@
 //! A coordinator is opened: from its disk alone, behind a stop of its machine, or again.
 ghost use Rattle.std.specs.Prelude.{◌≡◌, ℕ, IfErr, IfOk, MatchResult, Some};
 ghost use Rattle.syn_disk.specs.Disk.{NothingNew};
-ghost use Rattle.syn_headline.specs.Coordinator.{CoordinatorMachine};
-ghost use Rattle.syn_host.specs.CoordinatorOpenings.{OpensSo, ReopensSo, SettlesFound};
-ghost use Rattle.syn_host.specs.Coordinators.{IsCoordinator, Rests, archive_disk};
+ghost use Rattle.syn_headline.specs.Coordinator.{CoordinatorMachine, coordinator_kind};
+ghost use Rattle.syn_headline.specs.MachineSteps.{Does, Open, Reopen};
+ghost use Rattle.syn_host.specs.CoordinatorOpenings.{OpeningIsStep, SettlesFound};
+ghost use Rattle.syn_host.specs.Coordinators.{IsCoordinator, archive_disk};
 ghost use Rattle.syn_host.specs.Starts.{CanStart, CountsFailure, HoldsArchive, IsFromOutside};
 ghost use Rattle.syn_host.specs.Starts.{RefusesArchive, StartsCoordinator};
 ghost use Rattle.syn_model.specs.Archive.{Archive as KeptArchive};
 ghost use Rattle.syn_recovery.specs.Machines.{of_archive};
 ghost use Rattle.syn_coordinator.specs.Coordinators.{Stands, device_of};
+ghost use Rattle.syn_coordinator.specs.Openings.{RestsWith};
 
 use super::settle::down;
 use super::{CoordinatorHost, DownCoordinator};
@@ -74,7 +76,8 @@ impl<D: SimulatedDisk> CoordinatorHost<D> {
     /// Refused 9 where a device call fails, and 11 where memory is refused. Then it stays down.
     pub fn open(self, alloc: Global, pair: u64) -> CoordinatorOpening<D>
         ensures { (machine : CoordinatorMachine) → IsCoordinator pair self machine
-            → OpensSo pair machine (D.Limit.failures (archive_disk self)) result }
+            → OpeningIsStep pair machine (D.Limit.failures (archive_disk self))
+            (Does (coordinator_kind pair) machine Open) result }
     {
         match self {
             CoordinatorHost::Up(coordinator) => CoordinatorOpening {
@@ -93,7 +96,8 @@ impl<D: SimulatedDisk> CoordinatorHost<D> {
     /// Refused 9 where a device call fails, and 11 where memory is refused. After 9 it is halted.
     pub fn reopen(self, alloc: Global) -> CoordinatorOpening<D>
         ensures { (pair : ℕ) (machine : CoordinatorMachine) → IsCoordinator pair self machine
-            → ReopensSo pair machine result }
+            → OpeningIsStep pair machine (D.Limit.failures (archive_disk self))
+            (Does (coordinator_kind pair) machine Reopen) result }
     {
         match self {
             CoordinatorHost::Up(coordinator) => reopen_up(alloc, coordinator),
@@ -113,8 +117,9 @@ fn open_down<D: SimulatedDisk>(
     pair: u64,
 ) -> CoordinatorOpening<D>
     ensures { (machine : CoordinatorMachine)
-        → Rests D.Limit.arms D.Limit.may_leave pair down machine
-        → OpensSo pair machine (D.Limit.failures down.disk) result }
+        → RestsWith D.Limit.arms D.Limit.may_leave pair down.disk down.tried machine
+        → OpeningIsStep pair machine (D.Limit.failures down.disk)
+        (Does (coordinator_kind pair) machine Open) result }
 {
     let DownCoordinator { disk, tried } = down;
     match Coordinator::open(alloc, disk, pair, tried) {
@@ -134,7 +139,8 @@ fn open_down<D: SimulatedDisk>(
 /// Another opening of a machine that is up.
 fn reopen_up<D: SimulatedDisk>(alloc: Global, coordinator: Coordinator<D>) -> CoordinatorOpening<D>
     ensures { (pair : ℕ) (machine : CoordinatorMachine) → Stands coordinator pair machine
-        → ReopensSo pair machine result }
+        → OpeningIsStep pair machine (D.Limit.failures (device_of coordinator))
+        (Does (coordinator_kind pair) machine Reopen) result }
 {
     let mut coordinator = coordinator;
     match coordinator.reopen(alloc) {

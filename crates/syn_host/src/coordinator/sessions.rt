@@ -1,9 +1,9 @@
 //! The coordinator's sessions: it starts one, takes the answers of the sides, and waits for them.
 ghost use Rattle.std.specs.Prelude.{◌≡◌, ◌≢◌, ℕ, false, true, option_map};
 ghost use Rattle.syn_headline.specs.Coordinator.{CoordinatorMachine, CoordinatorTakes};
-ghost use Rattle.syn_headline.specs.Coordinator.{CoordinatorTicks, no_call};
-ghost use Rattle.syn_host.specs.CoordinatorSteps.{CallsSo, Settles, Starts, Unrefused};
-ghost use Rattle.syn_host.specs.SideSteps.{refused_by};
+ghost use Rattle.syn_headline.specs.Coordinator.{CoordinatorTicks, Starts, no_call};
+ghost use Rattle.syn_headline.specs.MachineSteps.{refused_by};
+ghost use Rattle.syn_host.specs.CoordinatorSteps.{CallIsStep, Settles, Unrefused};
 ghost use Rattle.syn_message.specs.Replies.{IsLawfulReply, reply_of};
 ghost use Rattle.syn_path.specs.Sides.{which_of};
 ghost use Rattle.syn_coordinator.specs.Coordinators.{Stands, written};
@@ -29,7 +29,7 @@ impl<D: SimulatedDisk> CoordinatorHost<D> {
     /// memory is refused, and 9 where a device call fails.
     pub fn start(self, alloc: Global, preference: Option<Side>) -> CoordinatorCall<D>
         ensures { (pair : ℕ) (machine : CoordinatorMachine) → IsCoordinator pair self machine
-            → CallsSo pair (Starts pair (option_map which_of preference) machine) result }
+            → CallIsStep pair (Starts pair (option_map which_of preference) machine) result }
     {
         match self {
             CoordinatorHost::Up(coordinator) => begin(alloc, coordinator, preference),
@@ -50,8 +50,8 @@ impl<D: SimulatedDisk> CoordinatorHost<D> {
     ) -> CoordinatorCall<D>
         requires lawful { IsLawfulReply (reply_of reply) }
         ensures { (pair : ℕ) (machine : CoordinatorMachine) → IsCoordinator pair self machine
-            → CallsSo pair (Unrefused (CoordinatorTakes pair machine (which_of from) session number
-            (reply_of reply))) result }
+            → CallIsStep pair (Unrefused (CoordinatorTakes pair machine (which_of from) session
+            number (reply_of reply))) result }
     {
         match self {
             CoordinatorHost::Up(coordinator) => {
@@ -66,7 +66,7 @@ impl<D: SimulatedDisk> CoordinatorHost<D> {
     /// Without a session nothing is done.
     pub fn tick(self, alloc: Global) -> CoordinatorCall<D>
         ensures { (pair : ℕ) (machine : CoordinatorMachine) → IsCoordinator pair self machine
-            → CallsSo pair (Unrefused (CoordinatorTicks machine)) result }
+            → CallIsStep pair (Unrefused (CoordinatorTicks machine)) result }
     {
         match self {
             CoordinatorHost::Up(coordinator) => resend(alloc, coordinator),
@@ -82,7 +82,7 @@ fn begin<D: SimulatedDisk>(
     preference: Option<Side>,
 ) -> CoordinatorCall<D>
     ensures { (pair : ℕ) (machine : CoordinatorMachine) → Stands coordinator pair machine
-        → CallsSo pair (Starts pair (option_map which_of preference) machine) result }
+        → CallIsStep pair (Starts pair (option_map which_of preference) machine) result }
 {
     let mut coordinator = coordinator;
     match coordinator.start(alloc, preference) {
@@ -132,7 +132,7 @@ fn take<D: SimulatedDisk>(
 ) -> CoordinatorCall<D>
     requires lawful { IsLawfulReply (reply_of reply) }
     ensures { (pair : ℕ) (machine : CoordinatorMachine) → Stands coordinator pair machine
-        → CallsSo pair (Unrefused (CoordinatorTakes pair machine (which_of from) session number
+        → CallIsStep pair (Unrefused (CoordinatorTakes pair machine (which_of from) session number
         (reply_of reply))) result }
 {
     let mut coordinator = coordinator;
@@ -146,7 +146,7 @@ fn take<D: SimulatedDisk>(
 /// The tick of a coordinator that is up.
 fn resend<D: SimulatedDisk>(alloc: Global, coordinator: Coordinator<D>) -> CoordinatorCall<D>
     ensures { (pair : ℕ) (machine : CoordinatorMachine) → Stands coordinator pair machine
-        → CallsSo pair (Unrefused (CoordinatorTicks machine)) result }
+        → CallIsStep pair (Unrefused (CoordinatorTicks machine)) result }
 {
     let mut coordinator = coordinator;
     let ran = coordinator.is_running();

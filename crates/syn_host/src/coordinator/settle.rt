@@ -2,12 +2,13 @@
 ghost use Rattle.std.specs.Prelude.{◌≡◌, ◌&&◌, [], ℕ, List, IfSome, if◌then◌else◌, not, option_map};
 ghost use Rattle.syn_headline.specs.Coordinator.{Call, CoordinatorMachine};
 ghost use Rattle.syn_headline.specs.Machine.{Status};
+ghost use Rattle.syn_headline.specs.MachineSteps.{refused_by};
 ghost use Rattle.syn_host.specs.CoordinatorSteps.{IsToTell, Settles, StopsAs};
-ghost use Rattle.syn_host.specs.Coordinators.{IsCoordinator};
+ghost use Rattle.syn_host.specs.Coordinators.{IsCoordinator, archive_disk};
 ghost use Rattle.syn_host.specs.Outcomes.{TellsKeptOf, causes_in};
-ghost use Rattle.syn_host.specs.SideSteps.{refused_by};
 ghost use Rattle.syn_model.specs.Refusal.{Refusal as Cause};
-ghost use Rattle.syn_coordinator.specs.Coordinators.{Stands, in_report, report_shown, runs};
+ghost use Rattle.syn_coordinator.specs.Coordinators.{Stands, device_of, in_report, report_shown};
+ghost use Rattle.syn_coordinator.specs.Coordinators.{runs};
 ghost use Rattle.syn_session.specs.Reports.{report_model};
 
 use super::{CoordinatorCall, CoordinatorHost, DownCoordinator};
@@ -21,8 +22,10 @@ use syn_session::Report;
 
 /// The machine stopped. What is in memory is lost, and so is a session that ran.
 pub(crate) fn down<D: SimulatedDisk>(coordinator: Coordinator<D>) -> CoordinatorHost<D>
-    ensures { (pair : ℕ) (machine : CoordinatorMachine) → StopsAs coordinator pair machine
+    ensures stops { (pair : ℕ) (machine : CoordinatorMachine) → StopsAs coordinator pair machine
         → IsCoordinator pair result machine }
+    ensures count { D.Limit.failures (archive_disk result)
+        ≡ D.Limit.failures (device_of coordinator) }
 {
     let (archive, tried) = coordinator.into_parts();
     let disk = archive.into_disk();

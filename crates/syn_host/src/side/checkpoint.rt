@@ -1,6 +1,7 @@
 //! A checkpoint of a side.
 ghost use Rattle.std.specs.Prelude.{◌<◌, ◌+◌, ◌^◌, ℕ};
-ghost use Rattle.syn_headline.specs.SideMachine.{SideMachine};
+ghost use Rattle.syn_headline.specs.MachineSteps.{Checkpoint, Does};
+ghost use Rattle.syn_headline.specs.SideMachine.{SideMachine, side_kind};
 ghost use Rattle.syn_replica.specs.Replica.{IsHalted, disk_of, generation_shown};
 
 use super::{SideCall, SideHost, UpSide};
@@ -12,7 +13,7 @@ use syn_recovery::device_laws;
 use syn_refusal::Refusal;
 
 impl<D: SimulatedDisk> UpSide<D> {
-    ghost use Rattle.syn_host.specs.Sides.{CheckpointsSo, IsRefused, RunsAs};
+    ghost use Rattle.syn_host.specs.Sides.{CallIsStep, IsRefused, RunsAs};
 
     /// The side's journal is written anew as one image.
     ///
@@ -20,7 +21,8 @@ impl<D: SimulatedDisk> UpSide<D> {
     /// memory is refused, and 9 where a device call fails.
     pub fn checkpoint(self, alloc: Global) -> SideCall<D>
         ensures { (pair : ℕ) (machine : SideMachine) → RunsAs pair self machine
-            → CheckpointsSo pair machine (D.Limit.failures (disk_of self.replica)) result }
+            → CallIsStep pair machine (D.Limit.failures (disk_of self.replica))
+            (Does (side_kind pair) machine Checkpoint) result }
     {
         if self.replica.is_halted() {
             return self.refused(Refusal::Halted);
@@ -36,7 +38,8 @@ impl<D: SimulatedDisk> UpSide<D> {
         requires running { ¬ IsHalted self.replica }
         requires less { generation_shown self.replica + 1 < 2 ^ 64 }
         ensures { (pair : ℕ) (machine : SideMachine) → RunsAs pair self machine
-            → CheckpointsSo pair machine (D.Limit.failures (disk_of self.replica)) result }
+            → CallIsStep pair machine (D.Limit.failures (disk_of self.replica))
+            (Does (side_kind pair) machine Checkpoint) result }
     {
         device_laws();
         let mut side = self;

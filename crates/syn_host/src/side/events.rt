@@ -1,6 +1,6 @@
 //! A side takes a user's edit, or a request of a session: either may add an event.
 ghost use Rattle.std.specs.Prelude.{◌≡◌, ◌≢◌, ℕ};
-ghost use Rattle.syn_headline.specs.SideMachine.{SideMachine};
+ghost use Rattle.syn_headline.specs.SideMachine.{SideMachine, UserEdits};
 ghost use Rattle.syn_host.specs.declared.outcome.Outcome.TheVariants as outcomes;
 ghost use Rattle.syn_message.specs.Requests.{request_of};
 ghost use Rattle.syn_model.specs.Event.{AreBytes, IsLawfulEvent};
@@ -20,13 +20,13 @@ use syn_refusal::Refusal;
 use syn_tree::Edit;
 
 impl<D: SimulatedDisk> UpSide<D> {
-    ghost use Rattle.syn_host.specs.Sides.{AnswersSo, EditsSo, RunsAs, Settles, SettlesAdded};
+    ghost use Rattle.syn_host.specs.Sides.{AnswerIsStep, CallIsStep, RunsAs, Settles, SettlesAdded};
 
     /// The user makes the edit. Refused as an edit of the replica is.
     pub fn edit(self, alloc: Global, user: u32, edit: Edit) -> SideCall<D>
         ensures { (pair : ℕ) (machine : SideMachine) → RunsAs pair self machine
-            → EditsSo pair machine (D.Limit.failures (disk_of self.replica)) (event_by user edit)
-            result }
+            → CallIsStep pair machine (D.Limit.failures (disk_of self.replica))
+            (UserEdits pair machine (event_by user edit)) result }
     {
         if self.replica.is_halted() {
             return self.refused(Refusal::Halted);
@@ -40,8 +40,8 @@ impl<D: SimulatedDisk> UpSide<D> {
         requires running { ¬ IsHalted self.replica }
         requires lawful { IsLawfulEvent (event_by user edit) }
         ensures { (pair : ℕ) (machine : SideMachine) → RunsAs pair self machine
-            → EditsSo pair machine (D.Limit.failures (disk_of self.replica)) (event_by user edit)
-            result }
+            → CallIsStep pair machine (D.Limit.failures (disk_of self.replica))
+            (UserEdits pair machine (event_by user edit)) result }
     {
         device_laws();
         let mut side = self;
@@ -61,7 +61,7 @@ impl<D: SimulatedDisk> UpSide<D> {
     /// The agent answers the request. Where the machine stops in it, nothing is said.
     pub fn answer(self, alloc: Global, session: u64, request: Request) -> SideAnswer<D>
         ensures { (pair : ℕ) (machine : SideMachine) → RunsAs pair self machine
-            → AnswersSo pair machine (D.Limit.failures (disk_of self.replica)) session
+            → AnswerIsStep pair machine (D.Limit.failures (disk_of self.replica)) session
             (request_of request) result }
     {
         let mut side = self;

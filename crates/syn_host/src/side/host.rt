@@ -1,6 +1,7 @@
 //! A side of the world, up or down, and each kind of step.
 ghost use Rattle.std.specs.Prelude.{◌≡◌, ℕ, List};
-ghost use Rattle.syn_headline.specs.SideMachine.{SideMachine};
+ghost use Rattle.syn_headline.specs.MachineSteps.{Checkpoint, Does, Fail, Open, Reopen, Stop};
+ghost use Rattle.syn_headline.specs.SideMachine.{SideMachine, UserEdits, side_kind};
 ghost use Rattle.syn_host.specs.declared.outcome.Outcome.TheVariants as outcomes;
 ghost use Rattle.syn_message.specs.Requests.{request_of};
 ghost use Rattle.syn_recovery.specs.Machines.{of_side};
@@ -15,14 +16,13 @@ use syn_message::Request;
 use syn_tree::Edit;
 
 impl<D: SimulatedDisk> SideHost<D> {
-    ghost use Rattle.syn_host.specs.Sides.{AnswersSo, CheckpointsSo, EditsSo, FailsSo, IsHost};
-    ghost use Rattle.syn_host.specs.Sides.{OpensSo, ReopensSo, StopsSo, side_disk};
+    ghost use Rattle.syn_host.specs.Sides.{AnswerIsStep, CallIsStep, IsHost, IsStep, side_disk};
 
     /// The user makes the edit, unless the machine is down.
     pub fn edit(self, alloc: Global, user: u32, edit: Edit) -> SideCall<D>
         ensures { (pair : ℕ) (machine : SideMachine) → IsHost pair self machine
-            → EditsSo pair machine (D.Limit.failures (side_disk self)) (event_by user edit)
-            result }
+            → CallIsStep pair machine (D.Limit.failures (side_disk self))
+            (UserEdits pair machine (event_by user edit)) result }
     {
         match self {
             SideHost::Up(side) => side.edit(alloc, user, edit),
@@ -33,7 +33,7 @@ impl<D: SimulatedDisk> SideHost<D> {
     /// A request is delivered. A machine that is down takes none.
     pub fn answer(self, alloc: Global, session: u64, request: Request) -> SideAnswer<D>
         ensures { (pair : ℕ) (machine : SideMachine) → IsHost pair self machine
-            → AnswersSo pair machine (D.Limit.failures (side_disk self)) session
+            → AnswerIsStep pair machine (D.Limit.failures (side_disk self)) session
             (request_of request) result }
     {
         match self {
@@ -48,7 +48,8 @@ impl<D: SimulatedDisk> SideHost<D> {
     /// A checkpoint, unless the machine is down.
     pub fn checkpoint(self, alloc: Global) -> SideCall<D>
         ensures { (pair : ℕ) (machine : SideMachine) → IsHost pair self machine
-            → CheckpointsSo pair machine (D.Limit.failures (side_disk self)) result }
+            → CallIsStep pair machine (D.Limit.failures (side_disk self))
+            (Does (side_kind pair) machine Checkpoint) result }
     {
         match self {
             SideHost::Up(side) => side.checkpoint(alloc),
@@ -59,7 +60,8 @@ impl<D: SimulatedDisk> SideHost<D> {
     /// The device call with this number from now on fails, and is not made; at 0 none does.
     pub fn fail(self, call: u64) -> SideHost<D>
         ensures { (pair : ℕ) (machine : SideMachine) → IsHost pair self machine
-            → FailsSo pair machine (D.Limit.failures (side_disk self)) call result }
+            → IsStep pair machine (D.Limit.failures (side_disk self))
+            (Does (side_kind pair) machine (Fail call)) result outcomes.Nothing }
     {
         match self {
             SideHost::Up(side) => SideHost::Up(side.fail(call)),
@@ -71,7 +73,8 @@ impl<D: SimulatedDisk> SideHost<D> {
     /// stops at once.
     pub fn stop(self, calls: u64) -> SideHost<D>
         ensures { (pair : ℕ) (machine : SideMachine) → IsHost pair self machine
-            → StopsSo pair machine (D.Limit.failures (side_disk self)) calls result }
+            → IsStep pair machine (D.Limit.failures (side_disk self))
+            (Does (side_kind pair) machine (Stop calls)) result outcomes.Nothing }
     {
         match self {
             SideHost::Up(side) => {
@@ -88,7 +91,8 @@ impl<D: SimulatedDisk> SideHost<D> {
     /// The machine is started again, unless it is up.
     pub fn open(self, alloc: Global, pair: u64) -> SideCall<D>
         ensures { (machine : SideMachine) → IsHost pair self machine
-            → OpensSo pair machine (D.Limit.failures (side_disk self)) result }
+            → CallIsStep pair machine (D.Limit.failures (side_disk self))
+            (Does (side_kind pair) machine Open) result }
     {
         match self {
             SideHost::Up(side) => SideHost::Up(side).unchanged(),
@@ -99,7 +103,8 @@ impl<D: SimulatedDisk> SideHost<D> {
     /// The replica opens its disk again, unless the machine is down.
     pub fn reopen(self, alloc: Global) -> SideCall<D>
         ensures { (pair : ℕ) (machine : SideMachine) → IsHost pair self machine
-            → ReopensSo pair machine (D.Limit.failures (side_disk self)) result }
+            → CallIsStep pair machine (D.Limit.failures (side_disk self))
+            (Does (side_kind pair) machine Reopen) result }
     {
         match self {
             SideHost::Up(side) => side.reopen(alloc),

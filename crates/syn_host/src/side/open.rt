@@ -1,6 +1,7 @@
 //! A side is opened behind a stop of its machine, or again.
 ghost use Rattle.std.specs.Prelude.{◌≡◌, ℕ, IfOk, option_map};
-ghost use Rattle.syn_headline.specs.SideMachine.{SideMachine};
+ghost use Rattle.syn_headline.specs.MachineSteps.{Does, Open, Reopen};
+ghost use Rattle.syn_headline.specs.SideMachine.{SideMachine, side_kind};
 ghost use Rattle.syn_host.specs.Sides.{Gains};
 ghost use Rattle.syn_replica.specs.Replica.{disk_of, tried_shown};
 
@@ -14,7 +15,7 @@ use syn_refusal::Refusal;
 use syn_replica::{Replica, disk_laws};
 
 impl<D: SimulatedDisk> DownSide<D> {
-    ghost use Rattle.syn_host.specs.Sides.{OpensSo, RestsAs};
+    ghost use Rattle.syn_host.specs.Sides.{CallIsStep, RestsAs};
 
     /// The machine is started again, and opens its disk. It may find there the event that was being
     /// written as it stopped or its device failed, and that is acknowledged then.
@@ -22,7 +23,8 @@ impl<D: SimulatedDisk> DownSide<D> {
     /// Refused 9 where a device call fails, and 11 where memory is refused. Then it stays down.
     pub fn open(self, alloc: Global, pair: u64) -> SideCall<D>
         ensures { (machine : SideMachine) → RestsAs D.Limit.arms D.Limit.may_leave pair self machine
-            → OpensSo pair machine (D.Limit.failures self.disk) result }
+            → CallIsStep pair machine (D.Limit.failures self.disk)
+            (Does (side_kind pair) machine Open) result }
     {
         device_laws();
         opening_laws();
@@ -55,7 +57,7 @@ impl<D: SimulatedDisk> DownSide<D> {
 }
 
 impl<D: SimulatedDisk> UpSide<D> {
-    ghost use Rattle.syn_host.specs.Sides.{ReopensSo, RunsAs, SettlesOpened};
+    ghost use Rattle.syn_host.specs.Sides.{CallIsStep, RunsAs, SettlesOpened};
 
     /// The replica opens its own disk again, and runs again where it was halted. It may find there
     /// the event that was being written as its device failed, and that is acknowledged then.
@@ -63,7 +65,8 @@ impl<D: SimulatedDisk> UpSide<D> {
     /// Refused 9 where a device call fails, and 11 where memory is refused.
     pub fn reopen(self, alloc: Global) -> SideCall<D>
         ensures { (pair : ℕ) (machine : SideMachine) → RunsAs pair self machine
-            → ReopensSo pair machine (D.Limit.failures (disk_of self.replica)) result }
+            → CallIsStep pair machine (D.Limit.failures (disk_of self.replica))
+            (Does (side_kind pair) machine Reopen) result }
     {
         match self.copied(alloc) {
             Ok(tried) => self.reopen_with(alloc, tried),
@@ -86,7 +89,8 @@ impl<D: SimulatedDisk> UpSide<D> {
     fn reopen_with(self, alloc: Global, tried: Option<Vec<u8>>) -> SideCall<D>
         requires { option_map (λ spelled. spelled.items) tried ≡ tried_shown self.replica }
         ensures { (pair : ℕ) (machine : SideMachine) → RunsAs pair self machine
-            → ReopensSo pair machine (D.Limit.failures (disk_of self.replica)) result }
+            → CallIsStep pair machine (D.Limit.failures (disk_of self.replica))
+            (Does (side_kind pair) machine Reopen) result }
     {
         device_laws();
         opening_laws();

@@ -2,8 +2,9 @@
 ghost use Rattle.std.specs.Prelude.{◌≡◌, ◌≢◌, ℕ, false};
 ghost use Rattle.syn_disk.specs.Armed.{armed};
 ghost use Rattle.syn_disk.specs.Arms.{is_stopped};
-ghost use Rattle.syn_headline.specs.SideMachine.{SideMachine};
-ghost use Rattle.syn_host.specs.SideSteps.{stopped, with_arms};
+ghost use Rattle.syn_headline.specs.Machine.{Down, unarmed};
+ghost use Rattle.syn_headline.specs.MachineSteps.{with_device};
+ghost use Rattle.syn_headline.specs.SideMachine.{SideMachine, side_kind};
 ghost use Rattle.syn_recovery.specs.Calls.{armed_at};
 ghost use Rattle.syn_replica.specs.Replica.{disk_of, tried_shown};
 
@@ -19,7 +20,8 @@ impl<D: SimulatedDisk> UpSide<D> {
     pub fn fail(self, call: u64) -> UpSide<D>
         ensures runs { (pair : ℕ) (machine : SideMachine) → RunsAs pair self machine
             → RunsAs pair result
-            (with_arms machine (record machine.journal.arms { fail = call })) }
+            (with_device (side_kind pair) machine machine.journal.status
+            (record machine.journal.arms { fail = call }) 0) }
         ensures count { D.Limit.failures (disk_of result.replica)
             ≡ D.Limit.failures (disk_of self.replica) }
     {
@@ -31,7 +33,8 @@ impl<D: SimulatedDisk> UpSide<D> {
         requires { calls ≢ 0 }
         ensures runs { (pair : ℕ) (machine : SideMachine) → RunsAs pair self machine
             → RunsAs pair result
-            (with_arms machine (record machine.journal.arms { stop = calls })) }
+            (with_device (side_kind pair) machine machine.journal.status
+            (record machine.journal.arms { stop = calls }) 0) }
         ensures count { D.Limit.failures (disk_of result.replica)
             ≡ D.Limit.failures (disk_of self.replica) }
     {
@@ -44,7 +47,8 @@ impl<D: SimulatedDisk> UpSide<D> {
             ≡ armed (D.Limit.arms (disk_of self.replica)) arm }
         ensures runs { is_stopped (D.Limit.arms (disk_of result.replica)) ≡ false
             → (pair : ℕ) (machine : SideMachine) → RunsAs pair self machine → RunsAs pair result
-            (with_arms machine (armed_at (D.Limit.arms (disk_of result.replica)))) }
+            (with_device (side_kind pair) machine machine.journal.status
+            (armed_at (D.Limit.arms (disk_of result.replica))) 0) }
         ensures count { D.Limit.failures (disk_of result.replica)
             ≡ D.Limit.failures (disk_of self.replica) }
     {
@@ -56,7 +60,8 @@ impl<D: SimulatedDisk> UpSide<D> {
     /// The machine stops at once. What is in memory is lost, and so is what is staged.
     pub fn stop(self) -> DownSide<D>
         ensures rests { (pair : ℕ) (machine : SideMachine) → RunsAs pair self machine
-            → RestsAs D.Limit.arms D.Limit.may_leave pair result (stopped machine) }
+            → RestsAs D.Limit.arms D.Limit.may_leave pair result
+            (with_device (side_kind pair) machine Down unarmed 0) }
         ensures count { D.Limit.failures result.disk ≡ D.Limit.failures (disk_of self.replica) }
     {
         let position = self.replica.position();

@@ -1,5 +1,6 @@
 use Rattle.std.proofs.Common.{◌≡◌, ◌∷◌, [], false, ap, true}
-use Rattle.syn_host.specs.CoordinatorSteps.{Checkpoints, refuses}
+use Rattle.syn_headline.specs.Coordinator.{coordinator_kind}
+use Rattle.syn_headline.specs.MachineSteps.{Checkpoint, Does, is_done, refuses}
 use Rattle.syn_host.proofs.CallLemmas.{checkpoint_call, refused_call}
 use Rattle.syn_host.proofs.CoordinatorLemmas.{is_not_down}
 use Rattle.syn_host.proofs.coordinator.compact.Goals as goal
@@ -24,7 +25,8 @@ returns-else-is_device g c pair machine stands =
     let told : c.is_device.result ≡ false = cc in
     let refused = c.in-Err.ensures.refused pair machine stands
     (c.is_device.ensures.other told) in
-    refused_call pair machine _ c.refused.result _ _ (Checkpoints pair machine) refused.1
+    refused_call pair machine _ c.refused.result _ _
+    (Does (coordinator_kind pair) machine Checkpoint) refused.1
     c.refused.ensures.coordinator c.refused.ensures.outcome
     (ap (λ r. r ∷ []) c.refusal.ensures)
-    (refuses _ (is_not_down pair c.args.coordinator machine stands) refused.0)
+    (is_done _ _ _ (is_not_down pair c.args.coordinator machine stands) (refuses _ refused.0))

@@ -23,7 +23,7 @@ pub returns-in-Err-clause-rests : goal.returns-in-Err-clause-rests
 returns-in-Err-clause-rests g c machine rests =
     let fits : c.args.pair < 2 ^ 64 = omega arith in
     let bytes = g.D.Disk.seen c.args.disk in
-    let there = some_stands c.args.pair machine bytes
+    let there = some_stands c.args.pair machine.journal bytes
     (rests.leaves bytes (g.met.D.Disk.seen_may_stay c.args.disk)) in
     open_not g.D.Disk c.args.pair c.args.disk c.args.tried machine rests g.met.D.Disk.seen_may_stay
     c.device_laws.ensures.reads c.in-Err.disk c.in-Err.ensures.untouched

@@ -3,7 +3,7 @@ use Rattle.syn_headline.specs.Machine.{Up}
 use Rattle.std.specs.Prelude.{option_map}
 use Rattle.syn_image.specs.Archives.{kept_of}
 use Rattle.syn_model.specs.Archive.{Kept}
-use Rattle.syn_keep.specs.Machines.{Reopened}
+use Rattle.syn_headline.specs.MachineSteps.{no_memory_to_reopen, reopen_fails}
 use Rattle.syn_keep.specs.Steps.{Moves}
 use Rattle.syn_archive.specs.Archive.{disk_of}
 use Rattle.syn_archive.specs.Disks.{IsReopenRefusal}
@@ -11,7 +11,7 @@ use Rattle.syn_archive.specs.Refusals.{AfterReads}
 use Rattle.syn_coordinator.proofs.RefusedLemmas.{reopen_does, not_reopened, halted_not_down}
 use Rattle.syn_coordinator.proofs.RefusedLemmas.{halted_not_up, not_down, error_is}
 use Rattle.syn_coordinator.proofs.ReopenLemmas.{no_memory, reopen_ok, reopen_failed, reopen_stayed}
-use Rattle.syn_coordinator.proofs.ReopenLemmas.{only_memory}
+use Rattle.syn_coordinator.proofs.ReopenLemmas.{Reopened, only_memory}
 use Rattle.syn_coordinator.proofs.coordinator.Coordinator.reopen.Goals as goal
 
 pub returns-in-Ok-clause-ok : goal.returns-in-Ok-clause-ok
@@ -28,8 +28,8 @@ returns-in-Ok-clause-ok g c pair machine stands =
 pub returns-in-Err-clause-device : goal.returns-in-Err-clause-device
 returns-in-Err-clause-device g c pair machine stands is_device =
     let device = error_is c.in-Err.error _ is_device in
-    not_reopened c.args.self.now _ pair machine stands refl refl _ _ halted_not_down
-    (λ _. halted_not_up)
+    not_reopened c.args.self.now _ pair machine stands refl refl _ _ _ halted_not_down
+    (λ _. halted_not_up) (λ calls arms failures meets. reopen_fails calls arms failures meets)
     (reopen_failed c.args.self.now.archive c.reopen.new.self pair machine.journal stands.journal
     c.in-Err.ensures.pair c.in-Err.ensures.untouched g.met.D.Disk.seen_may_stay
     c.keeps_on_disk-in-Err.ensures c.in-Err.ensures.memory
@@ -45,8 +45,9 @@ returns-in-Err-clause-memory g c pair machine stands other =
     let memory = only_memory pair machine.journal (g.D.Disk.seen (disk_of c.args.self.now.archive))
     (is.leaves _ (g.met.D.Disk.seen_may_stay _)) c.in-Err.error other why in (
       memory,
-      not_reopened c.args.self.now _ pair machine stands refl refl _ _
+      not_reopened c.args.self.now _ pair machine stands refl refl _ _ _
           (not_down c.args.self.now.archive machine.journal is.state) (λ up. up)
+          (λ calls arms failures meets. no_memory_to_reopen calls arms failures meets)
           (reopen_stayed c.args.self.now.archive c.reopen.new.self pair machine.journal is
           c.in-Err.ensures.pair c.in-Err.ensures.untouched g.met.D.Disk.seen_may_stay
           c.keeps_on_disk-in-Err.ensures c.in-Err.ensures.memory c.in-Err.ensures.halted

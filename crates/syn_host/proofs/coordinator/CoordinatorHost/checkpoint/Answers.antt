@@ -1,7 +1,7 @@
 use Rattle.std.proofs.Common.{refl, subst}
 use Rattle.syn_host.specs.Coordinators.{IsCoordinator}
-use Rattle.syn_host.specs.CoordinatorSteps.{Checkpoints}
-use Rattle.syn_host.specs.CoordinatorSteps as steps
+use Rattle.syn_headline.specs.Coordinator.{coordinator_kind}
+use Rattle.syn_headline.specs.MachineSteps.{Checkpoint, Does, is_down}
 use Rattle.syn_host.proofs.CallLemmas.{refused_call}
 use Rattle.syn_host.proofs.coordinator.CoordinatorHost.checkpoint.Goals as goal
 
@@ -12,6 +12,6 @@ returns-in-Up g c pair machine is =
 pub returns-in-Down : goal.returns-in-Down
 returns-in-Down g c pair machine is =
     let rests = subst (λ s. IsCoordinator pair s machine) c.in-Down.is is in
-    refused_call pair machine _ c.refused.result _ _ (Checkpoints pair machine) rests
-    c.refused.ensures.coordinator c.refused.ensures.outcome refl
-    (steps.Checkpoints.is_down rests.down)
+    refused_call pair machine _ c.refused.result _ _
+    (Does (coordinator_kind pair) machine Checkpoint) rests c.refused.ensures.coordinator
+    c.refused.ensures.outcome refl (is_down rests.down)

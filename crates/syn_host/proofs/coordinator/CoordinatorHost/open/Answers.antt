@@ -1,5 +1,7 @@
 use Rattle.std.proofs.Common.{ap, arith, subst, sym}
-use Rattle.syn_host.specs.CoordinatorOpenings.{OpensSo, is_open}
+use Rattle.syn_headline.specs.Coordinator.{coordinator_kind}
+use Rattle.syn_headline.specs.MachineSteps.{OpensDown, is_open}
+use Rattle.syn_host.specs.CoordinatorOpenings.{OpeningIsStep}
 use Rattle.syn_host.specs.Coordinators.{IsCoordinator, archive_disk}
 use Rattle.syn_host.proofs.CoordinatorLemmas.{is_not_down}
 use Rattle.syn_host.proofs.coordinator.CoordinatorHost.open.Goals as goal
@@ -9,14 +11,15 @@ returns-in-Up g c machine is =
     let stands = subst (λ s. IsCoordinator c.args.pair s machine) c.in-Up.is is in
     record {
       next = machine;
-      opens = is_open (is_not_down c.args.pair c.in-Up.coordinator machine stands);
+      step = is_open (is_not_down c.args.pair c.in-Up.coordinator machine stands);
       is = stands;
       counts = omega (arith, ap (λ s. g.D.Disk.failures (archive_disk s)) c.in-Up.is);
     }
 
 pub returns-in-Down : goal.returns-in-Down
 returns-in-Down g c machine is =
-    subst (λ n. OpensSo c.args.pair machine n c.open_down.result)
+    subst (λ n. OpeningIsStep c.args.pair machine n
+    (OpensDown (coordinator_kind c.args.pair) machine) c.open_down.result)
     (sym (ap (λ s. g.D.Disk.failures (archive_disk s)) c.in-Down.is))
     (c.open_down.ensures machine
     (subst (λ s. IsCoordinator c.args.pair s machine) c.in-Down.is is))

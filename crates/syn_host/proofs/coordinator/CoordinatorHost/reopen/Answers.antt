@@ -1,17 +1,22 @@
-use Rattle.std.proofs.Common.{subst}
-use Rattle.syn_host.specs.CoordinatorOpenings as step
-use Rattle.syn_host.specs.Coordinators.{IsCoordinator}
+use Rattle.std.proofs.Common.{ap, arith, subst, sym}
+use Rattle.syn_headline.specs.Coordinator.{coordinator_kind}
+use Rattle.syn_headline.specs.MachineSteps.{Does, Reopen, is_down}
+use Rattle.syn_host.specs.CoordinatorOpenings.{OpeningIsStep}
+use Rattle.syn_host.specs.Coordinators.{IsCoordinator, archive_disk}
 use Rattle.syn_host.proofs.coordinator.CoordinatorHost.reopen.Goals as goal
 
 pub returns-in-Up : goal.returns-in-Up
 returns-in-Up g c pair machine is =
-    c.reopen_up.ensures pair machine (subst (λ s. IsCoordinator pair s machine) c.in-Up.is is)
+    subst (λ n. OpeningIsStep pair machine n (Does (coordinator_kind pair) machine Reopen)
+    c.reopen_up.result) (sym (ap (λ s. g.D.Disk.failures (archive_disk s)) c.in-Up.is))
+    (c.reopen_up.ensures pair machine (subst (λ s. IsCoordinator pair s machine) c.in-Up.is is))
 
 pub returns-in-Down : goal.returns-in-Down
 returns-in-Down g c pair machine is =
     let rests = subst (λ s. IsCoordinator pair s machine) c.in-Down.is is in
     record {
       next = machine;
-      reopens = step.is_down rests.down;
+      step = is_down rests.down;
       is = rests;
+      counts = omega (arith, ap (λ s. g.D.Disk.failures (archive_disk s)) c.in-Down.is);
     }

@@ -1,7 +1,7 @@
 use Rattle.std.proofs.Common.{refl, subst, option_map}
 use Rattle.syn_host.specs.Coordinators.{IsCoordinator}
-use Rattle.syn_host.specs.CoordinatorSteps.{Starts}
-use Rattle.syn_host.specs.CoordinatorSteps as steps
+use Rattle.syn_headline.specs.Coordinator.{Starts}
+use Rattle.syn_headline.specs.MachineSteps.{is_down}
 use Rattle.syn_host.proofs.CallLemmas.{refused_call}
 use Rattle.syn_host.proofs.coordinator.CoordinatorHost.start.Goals as goal
 use Rattle.syn_path.specs.Sides.{which_of}
@@ -16,4 +16,4 @@ returns-in-Down g c pair machine is =
     refused_call pair machine _ c.refused.result _ _ (Starts pair
     (option_map which_of c.args.preference) machine) rests
     c.refused.ensures.coordinator c.refused.ensures.outcome refl
-    (steps.Starts.is_down rests.down)
+    (is_down rests.down)

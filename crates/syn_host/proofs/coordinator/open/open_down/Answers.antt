@@ -1,34 +1,37 @@
-use Rattle.std.proofs.Common.{arith, subst}
-use Rattle.syn_host.specs.CoordinatorOpenings.{opens}
-use Rattle.syn_coordinator.specs.Coordinators.{Stands}
-use Rattle.syn_headline.specs.Coordinator.{archive_layout, with_archive}
-use Rattle.syn_model.specs.Archive.{CanKeep}
-use Rattle.syn_host.proofs.OpenLemmas.{opens_counts}
-use Rattle.syn_host.proofs.CoordinatorLemmas.{with_journal_alone}
-use Rattle.syn_host.proofs.CoordinatorOpenLemmas.{rests_with, stays_down}
+use Rattle.std.proofs.Common.{[], ◌∷◌, arith, subst, sym}
+use Rattle.syn_archive.specs.Refusals.{refusal_of}
+use Rattle.syn_headline.specs.Coordinator.{coordinator_kind, no_call}
+use Rattle.syn_headline.specs.MachineSteps.{OpensDown}
+use Rattle.syn_host.proofs.CauseLemmas.{archive_failed}
+use Rattle.syn_host.proofs.CoordinatorOpenLemmas.{counts_by, never_less, not_nine, opening_counts}
+use Rattle.syn_host.proofs.CoordinatorOpenLemmas.{which_nine}
 use Rattle.syn_host.proofs.coordinator.open.open_down.Goals as goal
 
 pub returns-in-Ok : goal.returns-in-Ok
 returns-in-Ok g c machine rests =
-    let made = c.in-Ok.ensures.opens machine.journal
-    (rests_with g.D.Disk.arms g.D.Disk.may_leave c.args.pair c.args.down machine rests) in
+    let made = c.in-Ok.ensures.opens machine rests in
     record {
-      next = with_archive machine made.journal;
-      opens = opens made.calls made.journal _ rests.down made.opens;
-      is = subst (λ m. Stands c.in-Ok.coordinator c.args.pair m)
-          (with_journal_alone machine made.journal rests.idle) made.stands;
-      counts =
-          omega (
-            arith,
-            c.in-Ok.ensures.failures,
-            opens_counts (archive_layout c.args.pair) CanKeep
-                machine.journal made.calls made.journal _ made.opens,
-          );
+      next = made.next;
+      step = made.opens;
+      is = made.stands;
+      counts = counts_by machine.journal.failures made.next.journal.failures _ _ []
+          (opening_counts c.args.pair machine made.next _ [] made.opens)
+          (omega (arith, c.in-Ok.ensures.failures)) (λ nine. absurd (not_nine nine));
     }
 
 pub returns-in-Err : goal.returns-in-Err
 returns-in-Err g c machine rests =
-    stays_down g.D.Disk c.args.pair c.args.down machine rests c.in-Err.disk c.in-Err.tried
-    c.in-Err.error c.refusal.result c.refusal.ensures (c.in-Err.ensures.rests machine.journal
-    (rests_with g.D.Disk.arms g.D.Disk.may_leave c.args.pair c.args.down machine rests))
-    c.in-Err.ensures.failures
+    let still = c.in-Err.ensures.rests machine rests in
+    let e = c.in-Err.error in
+    record {
+      next = still.next;
+      step = subst (λ r. OpensDown (coordinator_kind c.args.pair) machine still.next no_call
+          (r ∷ [])) (sym c.refusal.ensures) still.opens;
+      is = still.rests;
+      counts = counts_by machine.journal.failures still.next.journal.failures _ _
+          (refusal_of e ∷ [])
+          (opening_counts c.args.pair machine still.next no_call (refusal_of e ∷ []) still.opens)
+          (never_less e _ _ c.in-Err.ensures.failures)
+          (λ nine. archive_failed e _ _ (which_nine (refusal_of e) nine)
+          c.in-Err.ensures.failures);
+    }

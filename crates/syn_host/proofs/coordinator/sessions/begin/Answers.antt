@@ -1,7 +1,6 @@
 use Rattle.std.proofs.Common.{◌≡◌, ◌∷◌, [], ◌∙◌, Err, false, ap, subst, sym, true, option_map}
-use Rattle.syn_headline.specs.Coordinator.{CoordinatorStarts}
-use Rattle.syn_host.specs.CoordinatorSteps.{Starts}
-use Rattle.syn_host.specs.CoordinatorSteps as steps
+use Rattle.syn_headline.specs.Coordinator.{CoordinatorStarts, Starts}
+use Rattle.syn_headline.specs.MachineSteps.{is_done, refuses}
 use Rattle.syn_coordinator.specs.Coordinators.{Does, written}
 use Rattle.syn_session.specs.Sendings.{messages_of}
 use Rattle.syn_host.proofs.CallLemmas.{refused_call, start_call}
@@ -42,4 +41,4 @@ returns-else-is_device g c pair machine stands =
     (option_map which_of c.args.preference) machine) refused.1
     c.refused.ensures.coordinator c.refused.ensures.outcome
     (ap (λ r. r ∷ []) c.refusal.ensures)
-    (steps.Starts.refuses _ (is_not_down pair c.args.coordinator machine stands) refused.0)
+    (is_done _ _ _ (is_not_down pair c.args.coordinator machine stands) (refuses _ refused.0))

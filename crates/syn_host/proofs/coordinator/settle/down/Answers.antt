@@ -5,8 +5,8 @@ use Rattle.syn_recovery.specs.Calls.{armed_at}
 use Rattle.syn_keep.specs.Tries.{Tries}
 use Rattle.syn_host.proofs.coordinator.settle.down.Goals as goal
 
-pub returns : goal.returns
-returns g c pair machine stops = record {
+pub returns-clause-stops : goal.returns-clause-stops
+returns-clause-stops g c pair machine stops = record {
   down = stops.down;
   unarmed_is = stops.unarmed_is;
   idle = stops.idle;

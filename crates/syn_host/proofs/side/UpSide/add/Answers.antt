@@ -1,7 +1,7 @@
-use Rattle.std.proofs.Common.{◌≡◌, ◌⊎◌, ◌∙◌, ◌-◌, Some, ap, arith, inl, inr, refl, subst, sym}
-use Rattle.std.proofs.Common.{[], ◌∷◌}
-use Rattle.syn_headline.specs.SideMachine.{causes_of}
-use Rattle.syn_host.specs.Sides.{EditsSo}
+use Rattle.std.proofs.Common.{◌≡◌, ◌⊎◌, ◌∙◌, ◌-◌, Some, ap, arith, inl, inr, refl, subst, sym, []}
+use Rattle.std.proofs.Common.{◌∷◌}
+use Rattle.syn_headline.specs.SideMachine.{UserEdits, causes_of}
+use Rattle.syn_host.specs.Sides.{CallIsStep}
 use Rattle.syn_model.specs.Refusal.{Refusal, first_cause}
 use Rattle.syn_model.specs.Refusal as why
 use Rattle.syn_replica.specs.Edits.{event_by}
@@ -11,8 +11,8 @@ use Rattle.syn_replica.specs.Replica.{Stands, disk_of, left_shown, room_shown}
 use Rattle.syn_replica.specs.Steps.{add_refusal}
 use Rattle.syn_tree.specs.Edits.{edit_of}
 use Rattle.syn_agent.proofs.CauseLemmas.{device_is, edit_never, none_of, outside}
-use Rattle.syn_host.proofs.CauseLemmas.{causes_are, causes_none, causes_some}
-use Rattle.syn_host.proofs.CauseLemmas.{has_failed, no_calls, none_failed, reason_is}
+use Rattle.syn_host.proofs.CauseLemmas.{causes_are, causes_none, causes_some, has_failed, no_calls}
+use Rattle.syn_host.proofs.CauseLemmas.{none_failed, reason_is}
 use Rattle.syn_host.proofs.EditLemmas.{edit_failed, edit_ok, edit_refused, failed_by}
 use Rattle.syn_host.proofs.SideLemmas.{position_is, when_up}
 use Rattle.syn_host.proofs.side.UpSide.add.Goals as goal
@@ -49,7 +49,8 @@ returns-in-Err g c pair machine runs =
     (edit_of c.args.edit) machine room_is (runs.is.room is_up.0) in
     let position_now = c.position-position.ensures ∙ position_is pair c.args.self machine runs in
     elim c.in-Err.ensures.tried
-    as (λ _. EditsSo pair machine (failed_by old) event c.settle.result) [
+    as (λ _. CallIsStep pair machine (failed_by old) (UserEdits pair machine event)
+    c.settle.result) [
       | inl device ↦
           let none = causes_none machine (causes_of pair machine event) is_up.0 (sym same
           ∙ none_of (add_refusal (room_shown old) value event)

@@ -1,8 +1,9 @@
 use Rattle.std.proofs.Common.{◌≡◌, ◌∙◌, ◌+◌, ◌<◌, ◌∷◌, [], Some, Err, ap, arith, inl, inr, refl}
 use Rattle.std.proofs.Common.{subst, sym, true}
 use Rattle.std.specs.Prelude.{◌^◌}
-use Rattle.syn_headline.specs.World.{full_generation}
-use Rattle.syn_host.specs.Sides.{CheckpointsSo}
+use Rattle.syn_headline.specs.MachineSteps.{Checkpoint, Does, full_generation}
+use Rattle.syn_headline.specs.SideMachine.{side_kind}
+use Rattle.syn_host.specs.Sides.{CallIsStep}
 use Rattle.syn_model.specs.Refusal.{first_cause}
 use Rattle.syn_model.specs.Refusal as why
 use Rattle.syn_replica.specs.Refusals.{MakesIfDevice}
@@ -10,8 +11,8 @@ use Rattle.syn_standing.specs.Refusals.{refusal_of}
 use Rattle.syn_replica.specs.Replica.{disk_of, journal_of}
 use Rattle.syn_agent.proofs.CauseLemmas.{device_is}
 use Rattle.syn_agent.proofs.ReadingLemmas.{halted_is}
-use Rattle.syn_host.proofs.CauseLemmas.{causes_none, causes_some, no_calls}
-use Rattle.syn_host.proofs.CauseLemmas.{has_failed, memory_not_device, none_failed, of_checkpoint}
+use Rattle.syn_host.proofs.CauseLemmas.{causes_none, causes_some, no_calls, has_failed}
+use Rattle.syn_host.proofs.CauseLemmas.{memory_not_device, none_failed, of_checkpoint}
 use Rattle.syn_host.proofs.EditLemmas.{failed_by}
 use Rattle.syn_host.proofs.CheckpointLemmas.{compact_failed, compact_ok, compact_refused, is_less}
 use Rattle.syn_replica.proofs.GrowthLemmas.{stands_still}
@@ -45,7 +46,8 @@ returns-in-Err g c pair machine runs =
     (is_less machine.journal.generation less) in
     let none = causes_none machine (full_generation machine.journal.generation) is_up.0 full in
     elim (of_checkpoint e c.in-Err.ensures.refusals)
-    as (λ _. CheckpointsSo pair machine (failed_by old) c.settle-in-Err.result) [
+    as (λ _. CallIsStep pair machine (failed_by old) (Does (side_kind pair) machine Checkpoint)
+    c.settle-in-Err.result) [
       | inl halted ↦ absurd (c.requires.running
           (c.in-Err.ensures.halted.0 (ap (λ x. Err x) (halted_is e halted))))
       | inr (inl is_full) ↦

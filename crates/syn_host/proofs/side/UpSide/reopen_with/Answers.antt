@@ -1,5 +1,7 @@
 use Rattle.std.proofs.Common.{◌∙◌, ◌∷◌, [], ap, inl, inr, refl, subst, sym}
-use Rattle.syn_host.specs.Sides.{ReopensSo}
+use Rattle.syn_headline.specs.MachineSteps.{Does, Reopen}
+use Rattle.syn_headline.specs.SideMachine.{side_kind}
+use Rattle.syn_host.specs.Sides.{CallIsStep}
 use Rattle.syn_replica.specs.Refusals.{AfterReads}
 use Rattle.syn_replica.specs.Replica.{Stands, disk_of}
 use Rattle.syn_agent.proofs.CauseLemmas.{device_is, outside}
@@ -29,7 +31,8 @@ returns-in-Err g c pair machine runs =
     let position_now = c.position-position.ensures ∙ position_is pair c.args.self machine runs in
     elim (outside e (c.in-Err.ensures.keeps_up value (keeps_up pair old c.args.self.agent machine
     runs g.met.D.Disk.seen_may_stay)))
-    as (λ _. ReopensSo pair machine (failed_by old) c.settle.result) [
+    as (λ _. CallIsStep pair machine (failed_by old) (Does (side_kind pair) machine Reopen)
+    c.settle.result) [
       | inl memory ↦
           let unchanged : Stands old value → Stands new value =
           λ stands. elim (c.in-Err.ensures.unchanged value stands) as (λ _. Stands new value) [

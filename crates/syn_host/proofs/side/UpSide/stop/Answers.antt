@@ -1,13 +1,15 @@
 use Rattle.std.proofs.Common.{◌∙◌, refl}
 use Rattle.syn_headline.specs.Machine.{Down, unarmed}
-use Rattle.syn_host.specs.SideSteps.{stopped}
+use Rattle.syn_headline.specs.MachineSteps.{with_device}
+use Rattle.syn_headline.specs.SideMachine.{side_kind}
 use Rattle.syn_recovery.proofs.DiskLemmas.{may_be_still}
 use Rattle.syn_recovery.specs.Machines.{of_side}
 use Rattle.syn_host.proofs.SideLemmas.{position_is}
 use Rattle.syn_host.proofs.side.UpSide.stop.Goals as goal
 
 pub returns-clause-rests : goal.returns-clause-rests
-returns-clause-rests g c pair machine runs = c.stop_at.ensures.rests pair (stopped machine)
+returns-clause-rests g c pair machine runs = c.stop_at.ensures.rests pair
+    (with_device (side_kind pair) machine Down unarmed 0)
     (record {
       down = refl;
       unarmed_is = refl;

@@ -1,6 +1,6 @@
 use Rattle.syn_headline.specs.World.{Start}
-use Rattle.syn_host.specs.CoordinatorSteps.{Starts}
-use Rattle.syn_world.proofs.SessionLemmas.{goes_coordinator, lift_start}
+use Rattle.syn_headline.specs.Coordinator.{Starts}
+use Rattle.syn_world.proofs.SessionLemmas.{goes_coordinator, lift_coordinator}
 use Rattle.syn_world.proofs.world.World.start.Goals as goal
 use Rattle.std.proofs.Common.{option_map}
 use Rattle.syn_path.specs.Sides.{which_of}
@@ -12,4 +12,5 @@ returns g c model is =
     c.start-call.result
     (c.start-call.ensures model.pair model.coordinator is.machines.coordinator)
     c.told.result (Start (option_map which_of c.args.preference))
-    (lift_start (option_map which_of c.args.preference) model _ _ _) c.told.ensures
+    (lift_coordinator model (Starts model.pair (option_map which_of c.args.preference)
+    model.coordinator) _ _ _) c.told.ensures

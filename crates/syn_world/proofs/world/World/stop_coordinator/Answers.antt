@@ -1,4 +1,6 @@
-use Rattle.syn_world.proofs.CoordinatorLemmas.{coordinator_is, lift_stop, stays_coordinator}
+use Rattle.syn_headline.specs.Coordinator.{coordinator_kind}
+use Rattle.syn_headline.specs.MachineSteps.{Does, Stop}
+use Rattle.syn_world.proofs.CoordinatorLemmas.{coordinator_is, lift_device, stays_coordinator}
 use Rattle.syn_world.proofs.world.World.stop_coordinator.Goals as goal
 
 pub returns : goal.returns
@@ -6,6 +8,8 @@ returns g c model is =
     let so = c.stop.ensures model.pair model.coordinator is.machines.coordinator in
     record {
       new = coordinator_is model so.next;
-      steps = lift_stop model c.args.calls so.next so.stops;
+      steps = lift_device model
+          (Does (coordinator_kind model.pair) model.coordinator (Stop c.args.calls)) so.next
+          so.step;
       is = stays_coordinator c.args.self model is c.stop.result so.next so.is;
     }
