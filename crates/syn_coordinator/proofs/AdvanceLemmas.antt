@@ -1,6 +1,6 @@
 -- What becomes of a record that is due is a step of the session through its plan.
 use Rattle.std.proofs.Common.{◌≡◌, ◌≢◌, ℕ, Bool, true, false, List, [], ◌∷◌, ◌++◌, Option, Some}
-use Rattle.std.proofs.Common.{None, refl, sym, ap, ◌∙◌, subst, inr}
+use Rattle.std.proofs.Common.{None, refl, sym, ap, ◌∙◌, subst, inr, is_some}
 use Rattle.std.specs.List.{slice_get}
 use Rattle.syn_archive.specs.declared.archive.Archive.{Archive}
 use Rattle.syn_disk.specs.declared.disk.Disk.{Ghosts}
@@ -21,6 +21,7 @@ use Rattle.syn_coordinator.proofs.TriedLemmas.{compact_writes, failed_at, fits_i
 use Rattle.syn_coordinator.proofs.TriedLemmas.{tries_held, tries_none}
 use Rattle.std.proofs.lemmas.Option.{none-some}
 use Rattle.syn_coordinator.specs.inner.Advancing.{Advanced, kept_it, refused_it, ended, stopped}
+use Rattle.syn_coordinator.specs.inner.Advancing.{Remembers}
 use Rattle.syn_keep.specs.Due as due
 use Rattle.syn_keep.specs.Due.{IsReady, MakesRoom, TriesBy, has_some, makes_some, Settles}
 use Rattle.syn_keep.specs.Steps.{moves_on, moves_down}
@@ -92,6 +93,26 @@ not_up down up = cc
 
 halted_not_up : {s : Status} → s ≡ Halted → s ≢ Up
 halted_not_up halted up = cc
+
+-- ---- what is remembered
+
+module _ (pair : ℕ) (before : Status) (tried : Option Tried) (journal : Journal)
+    (tries : Tries pair tried journal) where
+  -- the machine is as it was
+  pub remembers_still : journal.status ≡ before → Remembers pair before tried journal
+  remembers_still same = record {
+    tries = tries;
+    some = λ up halted. absurd (halted_not_up halted (same ∙ up));
+  }
+
+  -- its device failed, and the record was not kept
+  remembers_held : {D : Type 0} {disk : Ghosts D} (new : Archive D disk) (what : Kept) →
+      HoldsTried new what tried → Remembers pair before tried journal
+  remembers_held new what held = record { tries = tries; some = λ _ _. by tried held }
+    where
+      by : (tried : Option Tried) → HoldsTried new what tried → is_some tried ≡ true
+      by None never = absurd never
+      by (Some there) held = refl
 
 -- ---- a step
 
@@ -190,13 +211,15 @@ module _ {D : Type 0} {disk : Ghosts D} (new : Archive D disk) (tried : Option T
       ended refusal.Halted walk (model.stands walk) refl refl
       (λ running same. model.failed_before planned what
       (subst (λ p. slice_get p walk.cursor ≡ Some planned) (sym same) at) is_due halted halted) is
-      (tries_none pair tried _ tries quiet)
+      (remembers_still pair walk.journal.status tried walk.journal
+      (tries_none pair tried _ tries quiet) refl)
   advanced became (due.checkpoint_breaks ready none less
       (moves_on journal (compacts, shown) halted is)) quiet tries =
       ended refusal.Device (record walk { journal = journal }) (model.checkpoint_breaks walk what
       journal fresh (no_room ready none) less compacts (halted_not_up halted)) refl refl
       (λ running same. model.fails ready.up halted) is
-      (tries_unmade journal compacts shown quiet (halted_not_up halted) tries)
+      (remembers_held pair walk.journal.status tried journal
+      (tries_unmade journal compacts shown quiet (halted_not_up halted) tries) new what tries)
   advanced became (due.checkpoint_breaks ready none less
       (moves_down journal (compacts, shown) cut down leaves)) quiet tries =
       stopped _ (record walk { journal = journal }) (model.checkpoint_breaks walk what journal fresh
@@ -207,15 +230,19 @@ module _ {D : Type 0} {disk : Ghosts D} (new : Archive D disk) (tried : Option T
       ended refusal.Device (record walk { journal = journal }) (model.record_breaks walk what
       [] journal (to_keep ready) has keeps (halted_not_up halted)) refl refl
       (λ running same. model.fails ready.up halted) is
-      (tries_failed walk.journal journal keeps shown enough quiet (halted_not_up halted) tries)
+      (remembers_held pair walk.journal.status tried journal
+      (tries_failed walk.journal journal keeps shown enough quiet (halted_not_up halted) tries) new
+      what tries)
   advanced became (due.record_breaks true between ready room has
       (moves_on journal (keeps, shown) halted is)) quiet tries =
       ended refusal.Device (record (making_room walk between) { journal = journal })
       (behind_room ready between room [] (record (making_room walk between) { journal = journal })
       (model.record_breaks (making_room walk between) what
       [] journal (room_made ready between room) has keeps (halted_not_up halted))) refl refl
-      (λ running same. model.fails ready.up halted) is (tries_failed between journal keeps shown has
-      (quiet_between true between room quiet) (halted_not_up halted) tries)
+      (λ running same. model.fails ready.up halted) is
+      (remembers_held pair walk.journal.status tried journal
+      (tries_failed between journal keeps shown has (quiet_between true between room quiet)
+      (halted_not_up halted) tries) new what tries)
   advanced became (due.record_breaks false between ready (has_some enough) has
       (moves_down journal (keeps, shown) cut down leaves)) quiet tries =
       stopped _ (record walk { journal = journal })
@@ -234,12 +261,18 @@ module _ {D : Type 0} {disk : Ghosts D} (new : Archive D disk) (tried : Option T
       (λ running same. model.no_room_left what
       (subst (λ p. HasNoRoom pair p taken (making_room walk between) what) (sym same)
       (record { to_keep = room_made ready between room; no_room = none })) refl) is
+      (remembers_still pair walk.journal.status tried between
       (tries_none pair tried _ tries (quiet_between true between room quiet))
+      ((room_made ready between room).up ∙ sym ready.up))
   advanced became (due.no_memory is) quiet tries =
       ended refusal.Memory walk (model.stands walk) refl refl
-      (λ running same. model.no_memory refl) is (tries_none pair tried _ tries quiet)
+      (λ running same. model.no_memory refl) is
+      (remembers_still pair walk.journal.status tried walk.journal
+      (tries_none pair tried _ tries quiet) refl)
   advanced became (due.no_memory_behind between ready room is) quiet tries =
       ended refusal.Memory (making_room walk between) (behind_room ready between room
       [] (making_room walk between) (model.stands (making_room walk between))) refl refl
       (λ running same. model.no_memory ((room_made ready between room).up ∙ sym ready.up)) is
+      (remembers_still pair walk.journal.status tried between
       (tries_none pair tried _ tries (quiet_between true between room quiet))
+      ((room_made ready between room).up ∙ sym ready.up))

@@ -21,3 +21,4 @@ pub mod PassLemmas
 pub mod OnwardLemmas
 pub mod BeginLemmas
 pub mod BreakLemmas
+pub mod HaltLemmas

@@ -33,6 +33,7 @@ use Rattle.syn_session.specs.Plans.{Plan}
 use Rattle.syn_coordinator.specs.inner.Settling.{AsksSo, EndsSo, HasCome, IsPast, IsQuiet, PassesOn}
 use Rattle.syn_coordinator.specs.inner.Settling.{nothing_asked}
 use Rattle.syn_keep.specs.declared.tried.Tried.{Tried}
+use Rattle.syn_coordinator.proofs.AdvanceLemmas.{remembers_still}
 use Rattle.syn_coordinator.proofs.TriedLemmas.{tries_none}
 use Rattle.syn_session.specs.Stages.{AreAskedBefore, Carries, IsCarriageOf, IsCourse, Reached}
 use Rattle.syn_session.specs.Stages.{plan_in}
@@ -98,7 +99,8 @@ module _ {D : Type 0} {disk : Ghosts D} (pair : ℕ) (taken : Exchange) (journal
       (λ running same. settled (subst IsSome (sym (same ∙ course_is.plan)) refl)
       (ap (λ p. slice_get (option_map_or (λ plan. plan) p []) before.cursor) (same ∙ course_is.plan)
       ∙ (ap (slice_get (plan_in course left right)) course_is.cursor ∙ none)) refl)
-      is course_is (tries_none pair tried journal untried quiet)
+      is course_is (remembers_still pair journal.status tried journal
+      (tries_none pair tried journal untried quiet) refl)
 
   module _ (old new : Coordinator D disk) (was later : Course) (all : List Exchange)
       (at : IsAtItem was left right all before) where

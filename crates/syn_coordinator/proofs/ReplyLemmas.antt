@@ -179,12 +179,12 @@ module _ (pair : ℕ) (machine : CoordinatorMachine) (running : Running) (taken 
         (no_session new pair machine.journal is is_over tries)
         (sym nothing) refl (report_is running (Some (cause_of why)) (told running tells))
     ends_now session kept _
-        (taking.ends ended walk after walks cursor refused why is tells tries) told =
+        (taking.ends ended walk after walks cursor refused why is tells remembers) told =
         let same = come_to after kept walk walks cursor refused in
         goes_on _ _ (model.ends after.plan walks.logged walk kept
         (ended_by ended) walks.fault walks.has walks.goes (subst
         (λ r. EndsFor pair r taken machine.journal.status walk (ended_by ended)) (sym same) why))
-        (no_session new pair walk.journal is is_over tries) refl refl
+        (no_session new pair walk.journal is is_over remembers.tries) refl refl
         (ap (λ r. report_of r (ended_by ended) ∷ []) same
         ∙ report_is (reaching running taken after) (ended_by ended) (told _ tells))
     ends_now session kept _

@@ -38,7 +38,7 @@ use Rattle.syn_session.specs.Passing.{kept_at, refused_at}
 use Rattle.syn_keep.specs.Due.{Settles, TriesBy, recorded}
 use Rattle.syn_session.specs.Stages.{AreAskedBefore, IsCarriedFor, IsCourse, Reached, plan_in}
 use Rattle.syn_coordinator.specs.inner.Walking.{Comes, Ends, ends, goes_down, plan_at, walk_at}
-use Rattle.syn_coordinator.proofs.AdvanceLemmas.{advanced}
+use Rattle.syn_coordinator.proofs.AdvanceLemmas.{advanced, remembers_still}
 use Rattle.syn_keep.proofs.DueLemmas.{when_up}
 use Rattle.syn_session.proofs.PlanLemmas.{named_once}
 use Rattle.syn_coordinator.proofs.WalkLemmas.{ends_at, keeps_none, passes_by}
@@ -67,7 +67,9 @@ module _ {D : Type 0} {disk : Ghosts D} (new : Archive D disk) (tried : Option T
   ends_for_memory course left right is untried quiet course_is =
       ends (walk_at journal before) before
       (stands (walk_at journal before)) refl refl (keeps_none before)
-      (λ running same. no_memory refl) is course_is (tries_none pair tried journal untried quiet)
+      (λ running same. no_memory refl) is course_is
+      (remembers_still pair journal.status tried journal
+      (tries_none pair tried journal untried quiet) refl)
 
   module _ (course : Course) (left right : Found)
       (is : IsCourse course left right before) (planned : Planned)

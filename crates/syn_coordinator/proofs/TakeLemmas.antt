@@ -19,6 +19,7 @@ use Rattle.syn_session.specs.Stages.{reached_by}
 use Rattle.syn_coordinator.specs.inner.Taking.{TakesEnd, TakesOn, Walks, reaching}
 use Rattle.syn_coordinator.specs.inner.Taking as taking
 use Rattle.syn_coordinator.specs.inner.Walking.{walk_at}
+use Rattle.syn_coordinator.proofs.AdvanceLemmas.{remembers_still}
 use Rattle.syn_session.proofs.TellingLemmas.{tells_heard}
 
 module _ {D : Type 0} {disk : Ghosts D} (new : Archive D disk) (pair : ℕ) (journal : Journal)
@@ -66,4 +67,4 @@ module _ {D : Type 0} {disk : Ghosts D} (new : Archive D disk) (pair : ℕ) (jou
       (walks_none fault) refl refl
       (subst (λ w. EndsFor pair (reaching running taken (reached_by running)) taken journal.status
       (walk_at journal (reached_by running)) (Some w)) (sym memory) (no_memory refl)) is tells
-      tries)
+      (remembers_still pair journal.status tried journal tries refl))

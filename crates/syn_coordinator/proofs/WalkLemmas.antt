@@ -26,7 +26,8 @@ use Rattle.syn_keep.specs.declared.due.Due.TheVariants as due
 use Rattle.syn_coordinator.specs.declared.ended.Ended.{Ended}
 use Rattle.syn_coordinator.specs.declared.ended.Ended.TheVariants.{Early}
 use Rattle.syn_keep.specs.declared.tried.Tried.{Tried}
-use Rattle.syn_coordinator.specs.inner.Advancing.{Advanced, ended, kept_it, refused_it, stopped}
+use Rattle.syn_coordinator.specs.inner.Advancing.{Advanced, Remembers, ended, kept_it, refused_it}
+use Rattle.syn_coordinator.specs.inner.Advancing.{stopped}
 use Rattle.syn_session.specs.Passing.{kept_at, past_at, refused_at}
 use Rattle.syn_session.specs.Stages.{IsCourse, Reached}
 use Rattle.syn_coordinator.specs.inner.Walking.{Comes, Ends, HasKept, Passes, ends, goes_down}
@@ -109,7 +110,8 @@ module _ (pair : ℕ) (taken : Exchange) where
           ends walk after (led walk more advances) cursor refused
           (keeps_more before between after kept more first.has has)
           (λ running same. subst (λ s. EndsFor pair running taken s walk (ended_by how))
-          first.status (why running (same ∙ sym first.has.plan))) is course_is tries
+          first.status (why running (same ∙ sym first.has.plan))) is course_is
+          (subst (λ s. Remembers pair s tried walk.journal) first.status tries)
       ends_behind tried how (goes_down walk advances cut down leaves tries) =
           goes_down walk (led walk more advances) cut down leaves tries
 

@@ -3,7 +3,7 @@ use Rattle.std.specs.Option.{option_map_or}
 use Rattle.std.specs.Prelude.{◌≡◌, ◌⊎◌, ◌<◌, ◌++◌, ℕ, Result, MatchResult, nat_lt, Bool, true}
 use Rattle.std.specs.Prelude.{false, not, ◌&&◌, List, [], ◌∷◌, map, Option, Some, None, length}
 use Rattle.std.specs.Prelude.{option_map, is_some, if◌then◌else◌}
-use Rattle.syn_archive.specs.Archive.{disk_of}
+use Rattle.syn_archive.specs.Archive.{IsHalted, disk_of}
 use Rattle.syn_archive.specs.declared.archive.Archive.{Archive}
 use Rattle.syn_coordinator.specs.declared.coordinator.Coordinator.{Coordinator}
 use Rattle.syn_disk.specs.Arms.{is_stopped}
@@ -106,6 +106,14 @@ module _ {D : Type 0} {disk : Ghosts D} (old new : Coordinator D disk) where
     pub counted : (disk.failures (device_of old) < disk.failures (device_of new))
         ⊎ ((is_stopped (disk.arms (device_of new)) ≡ true)
         × (disk.failures (device_of new) ≡ disk.failures (device_of old)))
+
+  -- where the archive of a machine that was up is halted now, a device call failed, unless the
+  -- machine stopped
+  abbrev pub HaltsByFailure : Type 0
+  HaltsByFailure = (pair : ℕ) (machine : CoordinatorMachine) → Stands old pair machine →
+      machine.journal.status ≡ Up → IsHalted (archive_of new) →
+      (disk.failures (device_of old) < disk.failures (device_of new))
+      ⊎ (is_stopped (disk.arms (device_of new)) ≡ true)
 
   -- A call goes through the plan of its session. As long as it goes on nothing breaks
   abbrev pub Breaks : {A E : Type 0} → Result A E → Type 0

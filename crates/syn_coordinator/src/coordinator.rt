@@ -53,7 +53,8 @@ pub struct Coordinator<D: Disk> {
 }
 
 impl<D: Disk> Coordinator<D> {
-    ghost use Rattle.syn_coordinator.specs.Coordinators.{Does, Stands, all_causes, archive_of};
+    ghost use Rattle.syn_coordinator.specs.Coordinators.{Does, HaltsByFailure, Stands, all_causes};
+    ghost use Rattle.syn_coordinator.specs.Coordinators.{archive_of};
     ghost use Rattle.syn_coordinator.specs.Coordinators.{broken, device_of, refusals_of};
     ghost use Rattle.syn_coordinator.specs.Coordinators.{is_waiting, report_shown, runs};
     ghost use Rattle.syn_coordinator.specs.Coordinators.{items_planned};
@@ -209,6 +210,7 @@ impl<D: Disk> Coordinator<D> {
             (λ _. D.failures (device_of self.new) ≡ D.failures (device_of self.old))
             (λ e. CountsFailures e (D.failures (device_of self.old))
             (D.failures (device_of self.new))) }
+        ensures halts { HaltsByFailure self.old self.new }
 
         // What `report` and `kept` answer then.
         ensures report { MatchResult result (λ _. report_shown self.new ≡ None)

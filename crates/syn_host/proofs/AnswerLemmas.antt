@@ -149,8 +149,7 @@ module _ {D : Type 0} {disk : Ghosts D} (pair : ℕ) (old new : Replica D disk)
         | goes_on goes ↦ absurd (false≢true (sym goes.runs ∙ stopped))
         | stops rests ↦
             let down = becomes.down rests.down in
-            let behind = settles.stops stopped in
-            (
+            let behind = settles.stops stopped in (
               record {
                 next = takes_so.next;
                 events = takes_so.events;
@@ -217,8 +216,7 @@ module _ {D : Type 0} {disk : Ghosts D} (pair : ℕ) (old new : Replica D disk)
               | inl stays ↦
                   let settled = same (position_now
                   ∙ (ap length (sym stays.1) ∙ sym shown)) in
-                  let behind = settled.goes_on goes in
-                  (
+                  let behind = settled.goes_on goes in (
                     record {
                       next = takes_so.next;
                       events = takes_so.events;
@@ -233,8 +231,7 @@ module _ {D : Type 0} {disk : Ghosts D} (pair : ℕ) (old new : Replica D disk)
               | inr grown ↦
                   let settled = added (λ is. one_longer machine.journal.value grown.0
                   (ap length (sym grown.2) ∙ (sym shown ∙ (sym is ∙ position_now)))) in
-                  let behind = settled.goes_on goes grown.0 (takes_so.added grown.0 grown.1) in
-                  (
+                  let behind = settled.goes_on goes grown.0 (takes_so.added grown.0 grown.1) in (
                     record {
                       next = takes_so.next;
                       events = takes_so.events;

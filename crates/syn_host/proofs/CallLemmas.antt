@@ -1,21 +1,23 @@
 -- A call of a coordinator that was made is a step of its machine, and what came of it is told.
 use Rattle.std.proofs.Common.{◌≡◌, ◌≢◌, ◌∙◌, ℕ, List, [], None, Option, Some, IfSome, refl, sym, ap}
-use Rattle.std.proofs.Common.{map, option_map, subst}
+use Rattle.std.proofs.Common.{map, option_map, subst, ◌⊎◌, ◌≤◌, arith, inl, inr}
+use Rattle.std.proofs.lemmas.Option.{none-some}
 use Rattle.std.specs.Global.{Vec}
 use Rattle.syn_disk.specs.declared.disk.Disk.{Ghosts}
 use Rattle.syn_headline.specs.Coordinator.{Call, CoordinatorMachine, CoordinatorStarts}
 use Rattle.syn_headline.specs.Coordinator.{CoordinatorTicks, Keeps, archive_layout, cut_behind}
 use Rattle.syn_headline.specs.Coordinator.{gives_up, no_call, no_session, resends, running_after}
-use Rattle.syn_headline.specs.Coordinator.{Starts, coordinator_kind, start_breaks, writes}
-use Rattle.syn_headline.specs.MachineSteps.{Checkpoint, Checkpoints, Does as MachineDoes}
-use Rattle.syn_headline.specs.MachineSteps.{checkpoints, is_done, makes, refused_by}
+use Rattle.syn_headline.specs.Coordinator.{Starts, coordinator_kind, start_breaks, start_causes}
+use Rattle.syn_headline.specs.Coordinator.{writes}
+use Rattle.syn_headline.specs.MachineSteps.{Checkpoint, Checkpoints, Does as MachineDoes, causes_at}
+use Rattle.syn_headline.specs.MachineSteps.{checkpoints, full_generation, is_done, makes, refused_by}
 use Rattle.syn_headline.specs.Coordinator as walk
-use Rattle.syn_headline.specs.Machine.{Status, Down, Compacts, compacted, not_compacted, unarmed}
-use Rattle.syn_headline.specs.Machine.{Writes, idle, unwritten}
+use Rattle.syn_headline.specs.Machine.{Status, Up, Halted, Down, Compacts, compacted, not_compacted}
+use Rattle.syn_headline.specs.Machine.{unarmed, Writes, idle, unwritten}
 use Rattle.syn_headline.specs.Machine as kinds
 use Rattle.syn_headline.specs.Network.{Message}
 use Rattle.syn_headline.specs.Report.{Report}
-use Rattle.syn_host.specs.Coordinators.{CoordinatorStep, IsCoordinator}
+use Rattle.syn_host.specs.Coordinators.{CoordinatorStep, IsCoordinator, archive_disk}
 use Rattle.syn_host.specs.CoordinatorSteps.{CallIsStep, IsToTell, Settles, Unrefused}
 use Rattle.syn_host.specs.CoordinatorSteps.{refuses_nothing}
 use Rattle.syn_host.specs.Outcomes.{Tells, TellsRefused, causes_in}
@@ -23,10 +25,11 @@ use Rattle.syn_host.specs.declared.coordinator.CoordinatorCall.{CoordinatorCall}
 use Rattle.syn_host.specs.declared.coordinator.CoordinatorHost.{CoordinatorHost}
 use Rattle.syn_host.specs.declared.outcome.CoordinatorOutcome.{CoordinatorOutcome}
 use Rattle.syn_model.specs.Archive.{Kept}
-use Rattle.syn_model.specs.Refusal.{Refusal, first_cause}
+use Rattle.syn_model.specs.Refusal.{Cause, Refusal, first_cause}
 use Rattle.syn_refusal.specs.declared.refusal.Refusal.{Refusal as Refused}
-use Rattle.syn_coordinator.specs.Coordinators.{Does, Stands, checkpoint_refusals, ended_in}
-use Rattle.syn_coordinator.specs.Coordinators.{goes_down, goes_on, in_report, refusals_of, written}
+use Rattle.syn_coordinator.specs.Coordinators.{Does, HaltsByFailure, Stands, checkpoint_refusals}
+use Rattle.syn_coordinator.specs.Coordinators.{device_of, ended_in, goes_down, goes_on, in_report}
+use Rattle.syn_coordinator.specs.Coordinators.{refusals_of, written}
 use Rattle.syn_keep.specs.Machines.{Journal}
 use Rattle.syn_session.specs.Reports.{report_model}
 use Rattle.syn_session.specs.Sendings.{messages_of}
@@ -36,8 +39,10 @@ use Rattle.syn_image.specs.Archives.{kept_of}
 use Rattle.syn_image.specs.declared.kept.Kept.{Kept as Record}
 use Rattle.syn_host.proofs.AnswerLemmas.{meets_down}
 use Rattle.syn_host.proofs.CoordinatorLemmas.{is_not_down}
+use Rattle.syn_host.proofs.CountLemmas.{checkpoint_once, counts_so, start_once, tick_once}
 use Rattle.syn_host.proofs.SideLemmas.{up_not_down}
 use Rattle.syn_model.specs.Which.{Which}
+use Rattle.syn_recovery.specs.Calls.{CountsNoMore}
 
 -- a machine that a call left down: nothing is armed, no session runs, and nothing was said
 pub record IsCut (next : CoordinatorMachine) (made : Call) : Type 0 where
@@ -73,18 +78,36 @@ module _ {D : Type 0} {disk : Ghosts D} (old new : Session D disk) (pair : ℕ)
     → made.reports ≡ ended_in old new → made.reports ≡ told.reports)
     (Whole : CoordinatorStep)
     (lift : (next : CoordinatorMachine) (made : Call) → Step next made
-    → Whole next made (refusals_at next.journal.status)) where
-  pub does_call : Does old new pair Step told.kept told.messages → CallIsStep pair Whole call
+    → Whole next made (refusals_at next.journal.status))
+    (machine : CoordinatorMachine)
+    (counts : (next : CoordinatorMachine) (made : Call) → Step next made
+    → Stands new pair next ⊎ (next.journal.status ≡ Down)
+    → CountsNoMore (disk.failures (device_of old)) (disk.failures (device_of new)) machine.journal
+    next.journal) where
+  -- its disk has counted as many failed calls as the coordinator's
+  counts_on : (next : CoordinatorMachine) (made : Call) → Step next made
+      → Stands new pair next ⊎ (next.journal.status ≡ Down)
+      → CountsNoMore (disk.failures (device_of old)) (disk.failures (archive_disk call.coordinator))
+      machine.journal next.journal
+  counts_on next made step either =
+      subst (λ after. CountsNoMore (disk.failures (device_of old)) after machine.journal
+      next.journal) (sym settles.counted) (counts next made step either)
+
+  pub does_call : Does old new pair Step told.kept told.messages
+      → CallIsStep pair machine (disk.failures (device_of old)) Whole call
   does_call (goes_on next made step now kept messages reports) =
       let behind = settles.goes_on pair next now in
       record {
-        next = next;
         made = made;
         refusals = refusals_at next.journal.status;
-        step = lift next made step;
+        goes = record {
+          next = next;
+          step = lift next made step;
+          is = behind.1;
+          counts = counts_on next made step (inl now);
+        };
         tells = retell call.outcome told made _ _ (sym kept) (sym messages)
             (sym (same next made step reports)) refl behind.0;
-        is = behind.1;
       }
   does_call (goes_down next made step stopped down leaves kept tried) =
       let cut = cuts next made step down in
@@ -96,13 +119,16 @@ module _ {D : Type 0} {disk : Ghosts D} (old new : Session D disk) (pair : ℕ)
         tries = tried;
       }) in
       record {
-        next = next;
         made = made;
         refusals = refusals_at next.journal.status;
-        step = lift next made step;
+        goes = record {
+          next = next;
+          step = lift next made step;
+          is = behind.1;
+          counts = counts_on next made step (inr down);
+        };
         tells = retell call.outcome (record no_call { kept = told.kept }) made _ _ (sym kept)
             (sym cut.silent) (sym cut.reportless) (sym (ap refusals_at down ∙ none)) behind.0;
-        is = behind.1;
       }
 
 -- Which calls are cut
@@ -189,10 +215,19 @@ gathered_tells coordinator (Some o) kept sent ended refused told refusals_at kee
       refusals = λ pair machine stands. ap causes_in refuses ∙ c pair machine stands;
     }
 
+-- a machine that is not down and refuses nothing first is up
+none_up : (status : Status) (causes : List Cause) → first_cause (causes_at status causes) ≡ None
+    → status ≢ Down → status ≡ Up
+none_up Up causes none other = refl
+none_up Halted causes none other = absurd (none-some _ (sym none))
+none_up Down causes none other = absurd (other refl)
+
 -- The calls
 
 module _ {D : Type 0} {disk : Ghosts D} (old new : Session D disk) (pair : ℕ)
     (machine : CoordinatorMachine) (stands : Stands old pair machine)
+    (halts : HaltsByFailure old new)
+    (grew : disk.failures (device_of old) ≤ disk.failures (device_of new))
     (call : CoordinatorCall D disk) where
   abbrev other : machine.journal.status ≢ Down
   other = is_not_down pair old machine stands
@@ -200,12 +235,16 @@ module _ {D : Type 0} {disk : Ghosts D} (old new : Session D disk) (pair : ℕ)
   pub checkpoint_call : Settles new no_call refused_by call
       → first_cause (checkpoint_refusals machine) ≡ None
       → Does old new pair (Checkpoints (coordinator_kind pair) machine) [] []
-      → CallIsStep pair (MachineDoes (coordinator_kind pair) machine Checkpoint) call
+      → CallIsStep pair machine (disk.failures (device_of old))
+      (MachineDoes (coordinator_kind pair) machine Checkpoint) call
   checkpoint_call settles none does =
       does_call old new pair (Checkpoints (coordinator_kind pair) machine) no_call refused_by refl
       call settles
       (checkpoint_is_cut pair machine other) same
-      (MachineDoes (coordinator_kind pair) machine Checkpoint) lift does
+      (MachineDoes (coordinator_kind pair) machine Checkpoint) lift machine
+      (λ next made step. counts_so old new pair machine stands halts grew next
+      (checkpoint_once pair machine (none_up machine.journal.status
+      (full_generation machine.journal.generation) none other) next made step)) does
     where
       same : (next : CoordinatorMachine) (made : Call)
           → Checkpoints (coordinator_kind pair) machine next made
@@ -222,41 +261,55 @@ module _ {D : Type 0} {disk : Ghosts D} (old new : Session D disk) (pair : ℕ)
       → Settles new (record no_call { kept = written new; messages = messages }) refused_by call
       → first_cause (refusals_of pair machine) ≡ None
       → Does old new pair (CoordinatorStarts pair preference machine) (written new) messages
-      → CallIsStep pair (Starts pair preference machine) call
+      → CallIsStep pair machine (disk.failures (device_of old)) (Starts pair preference machine)
+      call
   start_call preference messages settles none does =
       does_call old new pair (CoordinatorStarts pair preference machine)
       (record no_call { kept = written new; messages = messages }) refused_by refl call settles
       (start_is_cut pair machine other preference)
       (λ next made step is. start_reports pair machine other preference next made step)
       (Starts pair preference machine)
-      (λ next made step. is_done _ _ _ other (makes next made none step)) does
+      (λ next made step. is_done _ _ _ other (makes next made none step)) machine
+      (λ next made step. counts_so old new pair machine stands halts grew next
+      (start_once pair machine (none_up machine.journal.status (start_causes pair machine) none other)
+      preference next made step)) does
 
   pub tick_call : (messages : List Message)
       → Settles new (record no_call { messages = messages; reports = ended_in old new })
       refuses_nothing call
       → Does old new pair (CoordinatorTicks machine) [] messages
-      → CallIsStep pair (Unrefused (CoordinatorTicks machine)) call
+      → CallIsStep pair machine (disk.failures (device_of old))
+      (Unrefused (CoordinatorTicks machine)) call
   tick_call messages settles does =
       does_call old new pair (CoordinatorTicks machine)
       (record no_call { messages = messages; reports = ended_in old new }) refuses_nothing refl
       call settles (tick_is_cut pair machine other) (λ next made step is. is)
       (Unrefused (CoordinatorTicks machine))
-      (λ next made step. record { step = step; none = refl }) does
+      (λ next made step. record { step = step; none = refl }) machine
+      (λ next made step. counts_so old new pair machine stands halts grew next
+      (tick_once machine next made step)) does
 
 -- A call that was not made
 pub refused_call : {D : Type 0} {disk : Ghosts D} (pair : ℕ) (machine : CoordinatorMachine)
-    (was : CoordinatorHost D disk) (call : CoordinatorCall D disk) (refused : Option Refused)
+    (was : CoordinatorHost D disk) (before : ℕ) → before ≤ disk.failures (archive_disk was)
+    → (call : CoordinatorCall D disk) (refused : Option Refused)
     (refusals : List Refusal) (Whole : CoordinatorStep) → IsCoordinator pair was machine
     → call.coordinator ≡ was → IfSome call.outcome (λ told. TellsRefused told refused)
-    → causes_in refused ≡ refusals → Whole machine no_call refusals → CallIsStep pair Whole call
-refused_call pair machine was call refused refusals Whole is same told causes step = record {
-  next = machine;
-  made = no_call;
-  refusals = refusals;
-  step = step;
-  tells = by call.outcome told;
-  is = subst (λ host. IsCoordinator pair host machine) (sym same) is;
-}
+    → causes_in refused ≡ refusals → Whole machine no_call refusals
+    → CallIsStep pair machine before Whole call
+refused_call {D} {disk} pair machine was before grew call refused refusals Whole is same told causes
+    step = record {
+      made = no_call;
+      refusals = refusals;
+      goes = record {
+        next = machine;
+        step = step;
+        is = subst (λ host. IsCoordinator pair host machine) (sym same) is;
+        counts = subst (λ host. CountsNoMore before (disk.failures (archive_disk host))
+            machine.journal machine.journal) (sym same) (omega (arith, grew));
+      };
+      tells = by call.outcome told;
+    }
   where
     by : (outcome : Option CoordinatorOutcome) → IfSome outcome (λ o. TellsRefused o refused)
         → IfSome outcome (λ o. Tells o no_call refusals)

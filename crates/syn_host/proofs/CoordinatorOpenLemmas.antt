@@ -65,8 +65,11 @@ module _ (pair : ℕ) (machine : CoordinatorMachine) where
   opening_counts _ _ _ (opens calls journal kept down so) =
       inl (opens_counts (archive_layout pair) CanKeep machine.journal calls journal kept so)
   opening_counts _ _ _ (open_fails calls arms failed down meets) =
-      inr (refl, ap (λ n. machine.journal.failures + n)
-      (halts_by_one machine.journal.arms calls Halted arms failed meets refl))
+      inr (
+        refl,
+        ap (λ n. machine.journal.failures + n)
+            (halts_by_one machine.journal.arms calls Halted arms failed meets refl),
+      )
   opening_counts _ _ _ (no_memory_to_open down) = inl refl
 
   pub reopening_counts : (next : CoordinatorMachine) (made : Call) (refusals : List Refusal)
@@ -75,8 +78,11 @@ module _ (pair : ℕ) (machine : CoordinatorMachine) where
   reopening_counts _ _ _ (reopens calls journal kept least so) =
       inl (opens_counts (archive_layout pair) CanKeep machine.journal calls journal kept so)
   reopening_counts _ _ _ (reopen_fails calls arms failed meets) =
-      inr (refl, ap (λ n. machine.journal.failures + n)
-      (halts_by_one machine.journal.arms calls Halted arms failed meets refl))
+      inr (
+        refl,
+        ap (λ n. machine.journal.failures + n)
+            (halts_by_one machine.journal.arms calls Halted arms failed meets refl),
+      )
   reopening_counts _ _ _ (reopen_is_cut calls arms failed meets) =
       inl (none_more failed
       (else_none machine.journal.arms calls Down arms failed meets down_not_halted))

@@ -14,3 +14,4 @@ mod ReplyLemmas
 mod CoordinatorOpenLemmas
 mod CoordinatorReopenLemmas
 mod StartLemmas
+mod CountLemmas

@@ -1,5 +1,5 @@
 -- A call of a coordinator that takes an answer, and leaves its machine down.
-use Rattle.std.proofs.Common.{◌≡◌, ◌≢◌, ◌∙◌, ℕ, List, None, Option, Some, refl, sym}
+use Rattle.std.proofs.Common.{◌≡◌, ◌≢◌, ◌≤◌, ◌∙◌, ℕ, List, None, Option, Some, refl, sym}
 use Rattle.syn_disk.specs.declared.disk.Disk.{Ghosts}
 use Rattle.syn_headline.specs.Coordinator.{Advances, CoordinatorMachine, CoordinatorTakes, EndsFor}
 use Rattle.syn_headline.specs.Coordinator.{Exchange, Takes, Walk, ignores, no_call, takes}
@@ -13,10 +13,12 @@ use Rattle.syn_host.specs.CoordinatorSteps.{CallIsStep, Settles, Unrefused, refu
 use Rattle.syn_host.specs.declared.coordinator.CoordinatorCall.{CoordinatorCall}
 use Rattle.syn_model.specs.Archive.{Kept}
 use Rattle.syn_model.specs.Refusal.{Refusal}
-use Rattle.syn_coordinator.specs.Coordinators.{Does, Stands, ended_in, written}
+use Rattle.syn_coordinator.specs.Coordinators.{Does, HaltsByFailure, Stands, device_of, ended_in}
+use Rattle.syn_coordinator.specs.Coordinators.{written}
 use Rattle.syn_coordinator.specs.declared.coordinator.Coordinator.{Coordinator as Session}
 use Rattle.syn_host.proofs.CallLemmas.{IsCutSo, compacts_down, does_call, keeps_down}
 use Rattle.syn_host.proofs.CoordinatorLemmas.{is_not_down}
+use Rattle.syn_host.proofs.CountLemmas.{counts_so, reply_once}
 use Rattle.syn_host.proofs.SideLemmas.{halted_not_down, up_not_down}
 
 module _ (pair : ℕ) (plan : List Planned) (taken : Exchange) where
@@ -93,7 +95,9 @@ takes_none pair machine from session number reply idle = ignores
     never running e = cc
 
 pub reply_call : {D : Type 0} {disk : Ghosts D} (old new : Session D disk) (pair : ℕ)
-    (machine : CoordinatorMachine) → Stands old pair machine → (call : CoordinatorCall D disk)
+    (machine : CoordinatorMachine) → Stands old pair machine → HaltsByFailure old new
+    → disk.failures (device_of old) ≤ disk.failures (device_of new)
+    → (call : CoordinatorCall D disk)
     (from : Which) (session number : ℕ) (reply : Reply) (messages : List Message)
     → Settles new (record no_call {
       kept = written new;
@@ -102,12 +106,16 @@ pub reply_call : {D : Type 0} {disk : Ghosts D} (old new : Session D disk) (pair
     }) refuses_nothing call
     → Does old new pair (CoordinatorTakes pair machine from session number reply) (written new)
     messages
-    → CallIsStep pair (Unrefused (CoordinatorTakes pair machine from session number reply)) call
-reply_call old new pair machine stands call from session number reply messages settles does =
+    → CallIsStep pair machine (disk.failures (device_of old))
+    (Unrefused (CoordinatorTakes pair machine from session number reply)) call
+reply_call old new pair machine stands halts grew call from session number reply messages settles
+    does =
     does_call old new pair (CoordinatorTakes pair machine from session number reply)
     (record no_call { kept = written new; messages = messages; reports = ended_in old new })
     refuses_nothing refl call settles
     (reply_is_cut pair machine (is_not_down pair old machine stands) from session number reply)
     (λ next made step is. is)
     (Unrefused (CoordinatorTakes pair machine from session number reply))
-    (λ next made step. record { step = step; none = refl }) does
+    (λ next made step. record { step = step; none = refl }) machine
+    (λ next made step. counts_so old new pair machine stands halts grew next
+    (reply_once pair machine from session number reply next made step)) does

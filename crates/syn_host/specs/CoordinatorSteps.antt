@@ -4,7 +4,7 @@ use Rattle.syn_disk.specs.Arms.{is_stopped}
 use Rattle.syn_disk.specs.declared.disk.Disk.{Ghosts}
 use Rattle.syn_headline.specs.Coordinator.{Call, CoordinatorMachine, no_call}
 use Rattle.syn_headline.specs.Machine.{Down, Status, unarmed}
-use Rattle.syn_host.specs.Coordinators.{CoordinatorStep, IsCoordinator}
+use Rattle.syn_host.specs.Coordinators.{CoordinatorStep, IsCoordinator, IsStep, archive_disk}
 use Rattle.syn_host.specs.Outcomes.{Tells, causes_in}
 use Rattle.syn_host.specs.declared.coordinator.CoordinatorCall.{CoordinatorCall}
 use Rattle.syn_host.specs.declared.outcome.CoordinatorOutcome.{CoordinatorOutcome}
@@ -25,14 +25,12 @@ pub record Unrefused (Step : CoordinatorMachine → Call → Type 0) (next : Coo
 
 -- A call is such a step of the machine, and what came of it is told; or memory for telling it is
 -- refused
-pub record CallIsStep {D : Type 0} {disk : Ghosts D} (pair : ℕ) (Step : CoordinatorStep)
-    (call : CoordinatorCall D disk) : Type 0 where
-  pub next : CoordinatorMachine
+pub record CallIsStep {D : Type 0} {disk : Ghosts D} (pair : ℕ) (machine : CoordinatorMachine)
+    (before : ℕ) (Step : CoordinatorStep) (call : CoordinatorCall D disk) : Type 0 where
   pub made : Call
   pub refusals : List Refusal
-  pub step : Step next made refusals
+  pub goes : IsStep pair machine before Step call.coordinator made refusals
   pub tells : IfSome call.outcome (λ outcome. Tells outcome made refusals)
-  pub is : IsCoordinator pair call.coordinator next
 
 -- the coordinator's machine stopped in a call, and its disk is left so
 pub record StopsAs {D : Type 0} {disk : Ghosts D} (coordinator : Coordinator D disk) (pair : ℕ)
@@ -66,6 +64,8 @@ pub record Settles {D : Type 0} {disk : Ghosts D} (coordinator : Coordinator D d
       (machine : CoordinatorMachine) → StopsAs coordinator pair machine →
       IfSome call.outcome (λ outcome. Tells outcome (record no_call { kept = told.kept }) [])
       × IsCoordinator pair call.coordinator machine
+  pub counted : disk.failures (archive_disk call.coordinator)
+      ≡ disk.failures (device_of coordinator)
 
 -- calls that refuse a user nothing, whatever they left
 abbrev pub refuses_nothing : Status → List Refusal

@@ -103,7 +103,8 @@ impl<D: SimulatedDisk> CoordinatorHost<D> {
     /// checkpoint of the coordinator is.
     pub fn checkpoint(self, alloc: Global) -> CoordinatorCall<D>
         ensures { (pair : ℕ) (machine : CoordinatorMachine) → IsCoordinator pair self machine
-            → CallIsStep pair (Does (coordinator_kind pair) machine Checkpoint) result }
+            → CallIsStep pair machine (D.Limit.failures (archive_disk self))
+            (Does (coordinator_kind pair) machine Checkpoint) result }
     {
         match self {
             CoordinatorHost::Up(coordinator) => compact(alloc, coordinator),
@@ -140,7 +141,8 @@ fn armed_with<D: SimulatedDisk>(coordinator: Coordinator<D>, arm: Arm) -> Coordi
 /// The checkpoint of a coordinator that is up.
 fn compact<D: SimulatedDisk>(alloc: Global, coordinator: Coordinator<D>) -> CoordinatorCall<D>
     ensures { (pair : ℕ) (machine : CoordinatorMachine) → Stands coordinator pair machine
-        → CallIsStep pair (Does (coordinator_kind pair) machine Checkpoint) result }
+        → CallIsStep pair machine (D.Limit.failures (device_of coordinator))
+        (Does (coordinator_kind pair) machine Checkpoint) result }
 {
     let mut coordinator = coordinator;
     match coordinator.checkpoint(alloc) {

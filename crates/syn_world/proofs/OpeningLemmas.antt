@@ -20,7 +20,7 @@ use Rattle.syn_world.specs.Worlds.{EndsSo, Goes, GoesSo, IsListed, IsWorld, Runs
 use Rattle.syn_world.specs.Worlds.{TellsFound}
 use Rattle.syn_world.specs.declared.world.Disks.{Disks}
 use Rattle.syn_world.specs.declared.world.World.{World}
-use Rattle.syn_world.proofs.SessionLemmas.{coordinator_next, goes_coordinator}
+use Rattle.syn_world.proofs.SessionLemmas.{coordinator_next, goes_so}
 
 -- what is told of an opening is what it kept and was refused
 found_tells : (outcome : Option CoordinatorOutcome) (found : Option Record)
@@ -50,15 +50,8 @@ module _ {D : Type 0} {disk : Ghosts D} (world : World D disk) (old : ModelWorld
       → Goes was new made refusals → EndsSo result new)
       → GoesSo old step result
   goes_found step next host steps told =
-      goes_coordinator world old is
-      (λ n made refusals. Steps old step (coordinator_next old n made refusals)) (record {
+      goes_so world old is (record {
         coordinator = opening.coordinator;
         outcome = outcome;
-      }) (record {
-        next = next;
-        made = gives_found opening.found;
-        refusals = causes_in opening.refused;
-        step = steps;
-        tells = found_tells outcome opening.found opening.refused tells;
-        is = host;
-      }) result step (λ s. s) told
+      }) result step next (gives_found opening.found) (causes_in opening.refused) host
+      (found_tells outcome opening.found opening.refused tells) steps told

@@ -12,7 +12,7 @@ use Rattle.syn_headline.specs.World.{Tick, Ticks, coordinator_does, coordinator_
 use Rattle.syn_headline.specs.World.{to_coordinator}
 use Rattle.syn_headline.specs.World as model
 use Rattle.syn_host.specs.CoordinatorSteps.{CallIsStep, Unrefused}
-use Rattle.syn_host.specs.Coordinators.{CoordinatorStep}
+use Rattle.syn_host.specs.Coordinators.{CoordinatorStep, IsCoordinator}
 use Rattle.syn_host.specs.Outcomes.{Tells}
 use Rattle.syn_host.specs.declared.coordinator.CoordinatorCall.{CoordinatorCall}
 use Rattle.syn_model.specs.Refusal.{Refusal}
@@ -85,28 +85,43 @@ lift_coordinator old So next made refusals step = coordinator_does next made ref
 
 -- the world behind a call is one of the model's
 module _ {D : Type 0} {disk : Ghosts D} (world : World D disk) (old : ModelWorld)
-    (is : IsWorld world old) (Whole : CoordinatorStep) (call : CoordinatorCall D disk)
-    (so : CallIsStep old.pair Whole call) (result : Result (World D disk) (Disks D)) where
-  pub goes_coordinator : (step : model.Step)
-      → (Whole so.next so.made so.refusals
-      → Steps old step (coordinator_next old so.next so.made so.refusals))
-      → ((was new : ModelWorld) (made : Call) (refusals : List Refusal)
+    (is : IsWorld world old) (call : CoordinatorCall D disk)
+    (result : Result (World D disk) (Disks D)) where
+  -- what came of it is told so
+  abbrev ToldBy : Type 0
+  ToldBy = (was new : ModelWorld) (made : Call) (refusals : List Refusal)
       → RunsMachines (record world { coordinator = call.coordinator }) new
       → IsListed world.lists was → IfSome call.outcome (λ told. Tells told made refusals)
-      → Goes was new made refusals → EndsSo result new)
-      → GoesSo old step result
-  goes_coordinator step lift told = record {
-    new = coordinator_next old so.next so.made so.refusals;
-    steps = lift so.step;
-    ends = told old (coordinator_next old so.next so.made so.refusals) so.made so.refusals (record {
+      → Goes was new made refusals → EndsSo result new
+
+  pub goes_so : (step : model.Step) (next : CoordinatorMachine) (made : Call)
+      (refusals : List Refusal) → IsCoordinator old.pair call.coordinator next
+      → IfSome call.outcome (λ told. Tells told made refusals)
+      → Steps old step (coordinator_next old next made refusals) → ToldBy → GoesSo old step result
+  goes_so step next made refusals host tells steps told = record {
+    new = coordinator_next old next made refusals;
+    steps = steps;
+    ends = told old (coordinator_next old next made refusals) made refusals (record {
       pair = is.machines.pair;
       left = is.machines.left;
       right = is.machines.right;
-      coordinator = so.is;
-    }) is.lists so.tells (record {
+      coordinator = host;
+    }) is.lists tells (record {
       sent = refl;
       acknowledged = refl;
       reports = refl;
       refusals_are = refl;
     });
   }
+
+pub goes_coordinator : {D : Type 0} {disk : Ghosts D} {before : ℕ} (world : World D disk)
+    (old : ModelWorld) (is : IsWorld world old) (Whole : CoordinatorStep)
+    (call : CoordinatorCall D disk)
+    (so : CallIsStep old.pair old.coordinator before Whole call)
+    (result : Result (World D disk) (Disks D)) (step : model.Step)
+    → (Whole so.goes.next so.made so.refusals
+    → Steps old step (coordinator_next old so.goes.next so.made so.refusals))
+    → ToldBy world old is call result → GoesSo old step result
+goes_coordinator world old is Whole call so result step lift told =
+    goes_so world old is call result step so.goes.next so.made so.refusals so.goes.is so.tells
+    (lift so.goes.step) told

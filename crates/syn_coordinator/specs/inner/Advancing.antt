@@ -1,5 +1,5 @@
 -- What a record that is due does to the walk of a session through its plan.
-use Rattle.std.specs.Prelude.{◌≡◌, ℕ, true, List, [], ◌∷◌, Option, Some}
+use Rattle.std.specs.Prelude.{◌≡◌, ℕ, true, List, [], ◌∷◌, Option, Some, is_some}
 use Rattle.syn_archive.specs.Archive.{disk_of}
 use Rattle.syn_archive.specs.declared.archive.Archive.{Archive}
 use Rattle.syn_coordinator.specs.Coordinators.{BreaksNothing, BreaksOff}
@@ -8,7 +8,7 @@ use Rattle.syn_disk.specs.Arms.{is_stopped}
 use Rattle.syn_disk.specs.declared.disk.Disk.{Ghosts}
 use Rattle.syn_headline.specs.Coordinator.{Advances, EndsFor, Exchange, Running, Walk, past}
 use Rattle.syn_headline.specs.Coordinator.{plan_of, refusing}
-use Rattle.syn_headline.specs.Machine.{Down, Up}
+use Rattle.syn_headline.specs.Machine.{Down, Halted, Status, Up}
 use Rattle.syn_headline.specs.Planning.{Planned}
 use Rattle.syn_keep.specs.Machines.{IsMachine, Journal, LeavesMachine}
 use Rattle.syn_keep.specs.Tries.{Tries}
@@ -19,6 +19,12 @@ use Rattle.syn_model.specs.Archive.{Kept}
 use Rattle.syn_refusal.specs.Refusals.{cause_of}
 use Rattle.syn_refusal.specs.declared.refusal.Refusal.{Refusal}
 use Rattle.syn_refusal.specs.declared.refusal.Refusal.TheVariants as refusal
+
+-- it remembers what could not be kept, and so it does where it was up before and is halted
+pub record Remembers (pair : ℕ) (before : Status) (tried : Option Tried) (journal : Journal)
+    : Type 0 where
+  pub tries : Tries pair tried journal
+  pub some : before ≡ Up → journal.status ≡ Halted → is_some tried ≡ true
 
 -- what was kept then
 abbrev pub kept_by : Kept → Due → List Kept
@@ -48,7 +54,8 @@ pub data Advanced {D : Type 0} {disk : Ghosts D} (new : Archive D disk) (tried :
       later.cursor ≡ walk.cursor → later.refused ≡ walk.refused →
       ((running : Running) → plan_of running ≡ plan →
       EndsFor pair running taken walk.journal.status later (Some (cause_of why))) →
-      IsMachine new pair later.journal → Tries pair tried later.journal →
+      IsMachine new pair later.journal →
+      Remembers pair walk.journal.status tried later.journal →
       Advanced new tried pair plan taken walk planned what (Ends why)
   stopped : (due : Due) (later : Walk) →
       Advances pair plan taken walk (kept_by what due) later → later.journal.status ≡ Down →

@@ -6,6 +6,7 @@ use Rattle.syn_archive.specs.Archive.{disk_of}
 use Rattle.syn_archive.specs.declared.archive.Archive.{Archive}
 use Rattle.syn_coordinator.specs.declared.ended.Ended.{Ended}
 use Rattle.syn_coordinator.specs.declared.ended.Ended.TheVariants.{Early}
+use Rattle.syn_coordinator.specs.inner.Advancing.{Remembers}
 use Rattle.syn_coordinator.specs.inner.Walking.{ended_by, walk_at}
 use Rattle.syn_disk.specs.Arms.{is_stopped}
 use Rattle.syn_disk.specs.declared.disk.Disk.{Ghosts}
@@ -77,7 +78,7 @@ pub data TakesEnd {D : Type 0} {disk : Ghosts D} (new : Archive D disk) (tried :
       walk.cursor ≡ after.cursor → walk.refused ≡ after.refused →
       EndsFor pair (reaching running taken after) taken journal.status walk (ended_by ended) →
       IsMachine new pair walk.journal → Tells session (reaching running taken after) →
-      Tries pair tried walk.journal →
+      Remembers pair journal.status tried walk.journal →
       TakesEnd new tried pair journal running taken session kept ended
   goes_down : (ended : Ended) (walk : Walk) (after : Reached) →
       Walks pair journal running taken after kept walk →

@@ -5,6 +5,7 @@ use Rattle.syn_archive.specs.Archive.{disk_of}
 use Rattle.syn_archive.specs.declared.archive.Archive.{Archive}
 use Rattle.syn_coordinator.specs.declared.ended.Ended.{Ended}
 use Rattle.syn_coordinator.specs.declared.ended.Ended.TheVariants.{Early, Settled}
+use Rattle.syn_coordinator.specs.inner.Advancing.{Remembers}
 use Rattle.syn_disk.specs.Arms.{is_stopped}
 use Rattle.syn_disk.specs.declared.disk.Disk.{Ghosts}
 use Rattle.syn_headline.specs.Coordinator.{Advances, EndsFor, Exchange, Running, Walk}
@@ -76,7 +77,7 @@ pub data Ends {D : Type 0} {disk : Ghosts D} (new : Archive D disk) (tried : Opt
       ((running : Running) → running.plan ≡ before.plan →
       EndsFor pair running taken old.status walk (ended_by ended)) →
       IsMachine new pair walk.journal → IsCourse course left right after →
-      Tries pair tried walk.journal →
+      Remembers pair old.status tried walk.journal →
       Ends new tried pair taken old before kept course left right ended
   goes_down : (walk : Walk) →
       Advances pair (plan_at before) taken (walk_at old before) kept walk →

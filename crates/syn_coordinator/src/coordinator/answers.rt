@@ -31,6 +31,7 @@ use syn_session::{Asks, Course, Sending, Session};
 
 impl<D: Limit> Coordinator<D> {
     ghost use Rattle.syn_coordinator.specs.Coordinators.{Breaks, BreaksNothing, BreaksOff, Does};
+    ghost use Rattle.syn_coordinator.specs.Coordinators.{HaltsByFailure};
     ghost use Rattle.syn_coordinator.specs.Coordinators.{Stands, archive_of, broken, device_of};
     ghost use Rattle.syn_coordinator.specs.Coordinators.{report_shown, runs, tried_shown, written};
     ghost use Rattle.syn_coordinator.specs.inner.Settling.{IsQuiet};
@@ -66,6 +67,7 @@ impl<D: Limit> Coordinator<D> {
         ensures breaks { ((broken self.new ≡ None) × (tried_shown self.new ≡ tried_shown self.old)
             × (D.Disk.failures (device_of self.new) ≡ D.Disk.failures (device_of self.old)))
             ⊎ BreaksOff self.old self.new }
+        ensures halts { HaltsByFailure self.old self.new }
     {
         self.written = Vec::new(alloc);
         self.broke = false;

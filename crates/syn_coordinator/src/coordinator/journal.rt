@@ -22,7 +22,8 @@ use syn_recovery::{device_laws, opening_laws};
 
 impl<D: Disk> Coordinator<D> {
     ghost use Rattle.syn_coordinator.specs.Coordinators.{Does, KeepsReadings, Stands, device_of};
-    ghost use Rattle.syn_coordinator.specs.Coordinators.{checkpoint_causes, checkpoint_refusals};
+    ghost use Rattle.syn_coordinator.specs.Coordinators.{HaltsByFailure, checkpoint_causes};
+    ghost use Rattle.syn_coordinator.specs.Coordinators.{checkpoint_refusals};
 
     /// Writes the archive as one image, so that its journal has room again. A session that runs
     /// goes on.
@@ -53,6 +54,7 @@ impl<D: Disk> Coordinator<D> {
             (λ _. D.failures (device_of self.new) ≡ D.failures (device_of self.old))
             (λ e. CountsFailures e (D.failures (device_of self.old))
             (D.failures (device_of self.new))) }
+        ensures halts { HaltsByFailure self.old self.new }
     {
         device_laws();
         archive_laws();

@@ -6,7 +6,7 @@ ghost use Rattle.syn_headline.specs.MachineSteps.{refused_by};
 ghost use Rattle.syn_host.specs.CoordinatorSteps.{CallIsStep, Settles, Unrefused};
 ghost use Rattle.syn_message.specs.Replies.{IsLawfulReply, reply_of};
 ghost use Rattle.syn_path.specs.Sides.{which_of};
-ghost use Rattle.syn_coordinator.specs.Coordinators.{Stands, written};
+ghost use Rattle.syn_coordinator.specs.Coordinators.{Stands, device_of, written};
 ghost use Rattle.syn_session.specs.Sendings.{messages_of};
 
 use super::settle::{ended, halted, settle};
@@ -19,7 +19,7 @@ use syn_message::{Reply, Side};
 use syn_session::{Sending, SessionError};
 
 impl<D: SimulatedDisk> CoordinatorHost<D> {
-    ghost use Rattle.syn_host.specs.Coordinators.{IsCoordinator};
+    ghost use Rattle.syn_host.specs.Coordinators.{IsCoordinator, archive_disk};
 
     /// A session starts, which prefers a side or none, unless the machine is down. Its number is
     /// acknowledged, and both sides are asked to begin it.
@@ -29,7 +29,8 @@ impl<D: SimulatedDisk> CoordinatorHost<D> {
     /// memory is refused, and 9 where a device call fails.
     pub fn start(self, alloc: Global, preference: Option<Side>) -> CoordinatorCall<D>
         ensures { (pair : ℕ) (machine : CoordinatorMachine) → IsCoordinator pair self machine
-            → CallIsStep pair (Starts pair (option_map which_of preference) machine) result }
+            → CallIsStep pair machine (D.Limit.failures (archive_disk self))
+            (Starts pair (option_map which_of preference) machine) result }
     {
         match self {
             CoordinatorHost::Up(coordinator) => begin(alloc, coordinator, preference),
@@ -50,8 +51,9 @@ impl<D: SimulatedDisk> CoordinatorHost<D> {
     ) -> CoordinatorCall<D>
         requires lawful { IsLawfulReply (reply_of reply) }
         ensures { (pair : ℕ) (machine : CoordinatorMachine) → IsCoordinator pair self machine
-            → CallIsStep pair (Unrefused (CoordinatorTakes pair machine (which_of from) session
-            number (reply_of reply))) result }
+            → CallIsStep pair machine (D.Limit.failures (archive_disk self))
+            (Unrefused (CoordinatorTakes pair machine (which_of from) session number
+            (reply_of reply))) result }
     {
         match self {
             CoordinatorHost::Up(coordinator) => {
@@ -66,7 +68,8 @@ impl<D: SimulatedDisk> CoordinatorHost<D> {
     /// Without a session nothing is done.
     pub fn tick(self, alloc: Global) -> CoordinatorCall<D>
         ensures { (pair : ℕ) (machine : CoordinatorMachine) → IsCoordinator pair self machine
-            → CallIsStep pair (Unrefused (CoordinatorTicks machine)) result }
+            → CallIsStep pair machine (D.Limit.failures (archive_disk self))
+            (Unrefused (CoordinatorTicks machine)) result }
     {
         match self {
             CoordinatorHost::Up(coordinator) => resend(alloc, coordinator),
@@ -82,7 +85,8 @@ fn begin<D: SimulatedDisk>(
     preference: Option<Side>,
 ) -> CoordinatorCall<D>
     ensures { (pair : ℕ) (machine : CoordinatorMachine) → Stands coordinator pair machine
-        → CallIsStep pair (Starts pair (option_map which_of preference) machine) result }
+        → CallIsStep pair machine (D.Limit.failures (device_of coordinator))
+        (Starts pair (option_map which_of preference) machine) result }
 {
     let mut coordinator = coordinator;
     match coordinator.start(alloc, preference) {
@@ -132,8 +136,9 @@ fn take<D: SimulatedDisk>(
 ) -> CoordinatorCall<D>
     requires lawful { IsLawfulReply (reply_of reply) }
     ensures { (pair : ℕ) (machine : CoordinatorMachine) → Stands coordinator pair machine
-        → CallIsStep pair (Unrefused (CoordinatorTakes pair machine (which_of from) session number
-        (reply_of reply))) result }
+        → CallIsStep pair machine (D.Limit.failures (device_of coordinator))
+        (Unrefused (CoordinatorTakes pair machine (which_of from) session number (reply_of reply)))
+        result }
 {
     let mut coordinator = coordinator;
     let ran = coordinator.is_running();
@@ -146,7 +151,8 @@ fn take<D: SimulatedDisk>(
 /// The tick of a coordinator that is up.
 fn resend<D: SimulatedDisk>(alloc: Global, coordinator: Coordinator<D>) -> CoordinatorCall<D>
     ensures { (pair : ℕ) (machine : CoordinatorMachine) → Stands coordinator pair machine
-        → CallIsStep pair (Unrefused (CoordinatorTicks machine)) result }
+        → CallIsStep pair machine (D.Limit.failures (device_of coordinator))
+        (Unrefused (CoordinatorTicks machine)) result }
 {
     let mut coordinator = coordinator;
     let ran = coordinator.is_running();

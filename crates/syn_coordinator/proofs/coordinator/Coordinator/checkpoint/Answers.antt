@@ -1,12 +1,14 @@
 use Rattle.std.proofs.Common.{◌<◌, ◌^◌, Err, ap, subst, refl, inl, inr}
 use Rattle.syn_archive.specs.Archive.{disk_of}
-use Rattle.syn_archive.specs.Refusals.{MakesIfDevice}
+use Rattle.syn_archive.specs.Refusals.{CountsFailures, MakesIfDevice}
 use Rattle.syn_keep.proofs.CheckpointLemmas.{compact_ok, compact_failed}
 use Rattle.syn_coordinator.proofs.RefusedLemmas.{checkpoint_does, refused_for, when_up, up_not_down}
 use Rattle.syn_coordinator.proofs.RefusedLemmas.{halted_not_down, none_stands}
 use Rattle.syn_keep.proofs.OutcomeLemmas.{device_not_halted, ok_not_halted, device_not_full}
 use Rattle.syn_keep.proofs.OutcomeLemmas.{ok_not_full}
+use Rattle.syn_keep.proofs.DueLemmas.{when_up as runs_up}
 use Rattle.syn_keep.proofs.StayLemmas.{same_machine}
+use Rattle.syn_coordinator.proofs.HaltLemmas.{stands_not_halted, up_not_halted}
 use Rattle.syn_coordinator.proofs.coordinator.Coordinator.checkpoint.Goals as goal
 
 pub returns-in-Ok-clause-step : goal.returns-in-Ok-clause-step
@@ -72,3 +74,20 @@ returns-in-Err-clause-allowed g c pair machine stands device =
     (subst (λ n. n < 2 ^ 64) c.generation-generation.ensures c.is_long.ensures)
     (λ h. device_not_halted _ _ device (c.in-Err.ensures.halted.1 h))
     (λ e. device_not_full _ _ device ((c.in-Err.ensures.greatest _ was.stands).1 e))
+
+pub returns-in-Ok-clause-halts : goal.returns-in-Ok-clause-halts
+returns-in-Ok-clause-halts g c pair machine stands up halted =
+    let was = runs_up c.args.self.now.archive pair machine.journal stands.journal up in
+    absurd (stands_not_halted c.checkpoint.new.self _
+    (c.in-Ok.ensures.acknowledged _ was.stands) halted)
+
+pub returns-in-Err-clause-halts : goal.returns-in-Err-clause-halts
+returns-in-Err-clause-halts g c pair machine stands up halted =
+    elim c.in-Err.ensures.unchanged [
+      | inl device ↦ inl (subst (λ e. CountsFailures e
+          (g.D.Disk.failures (disk_of c.args.self.now.archive))
+          (g.D.Disk.failures (disk_of c.checkpoint.new.self))) device c.in-Err.ensures.failures)
+      | inr same ↦ absurd (up_not_halted c.checkpoint.new.self pair machine.journal
+          (same_machine c.args.self.now.archive c.checkpoint.new.self same
+          c.in-Err.ensures.readings pair machine.journal stands.journal) up halted)
+    ]

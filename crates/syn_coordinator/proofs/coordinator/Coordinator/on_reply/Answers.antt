@@ -9,9 +9,10 @@ use Rattle.syn_session.specs.Sendings.{messages_of}
 use Rattle.syn_session.specs.Answering.{exchange_of}
 use Rattle.syn_keep.specs.Machines.{IsMachine}
 use Rattle.syn_image.specs.Archives.{kept_of}
-use Rattle.syn_archive.specs.Archive.{disk_of}
+use Rattle.syn_archive.specs.Archive.{IsHalted, disk_of}
 use Rattle.syn_coordinator.proofs.BreakLemmas.{nothing_told, off_before, off_then, still_breaks}
 use Rattle.syn_coordinator.proofs.BreakLemmas.{then_nothing, told_nothing}
+use Rattle.syn_coordinator.proofs.HaltLemmas.{ends_by_failure, fails_or_stops, up_not_halted}
 use Rattle.syn_coordinator.proofs.ReplyLemmas.{answered_does, ends_so, expects, ignored_does}
 use Rattle.syn_coordinator.proofs.ReplyLemmas.{none_expected}
 use Rattle.syn_coordinator.proofs.coordinator.Coordinator.on_reply.Goals as goal
@@ -33,6 +34,9 @@ returns-in_default g c = record {
     c.expecting.ensures.kept.2,
     ap (λ a. g.D.Disk.failures (disk_of a)) c.expecting.ensures.archive,
   );
+  halts = λ pair machine stands up halted. absurd (up_not_halted c.args.self.now.archive pair
+      machine.journal stands.journal up
+      (subst (λ a. IsHalted a) c.expecting.ensures.archive halted));
 }
 
 pub returns-in-Ok : goal.returns-in-Ok
@@ -66,6 +70,19 @@ returns-in-Ok g c = record {
       (then_nothing c.expecting.new.self c.take.new.self c.ask.new.self c.in-Ok.ensures.breaks
       (still_breaks c.take.new.self c.ask.new.self c.ask.ensures.kept.0 c.ask.ensures.kept.1
       c.ask.ensures.archive)));
+  halts = λ pair machine stands up halted.
+      let waits = c.in-Some.ensures.some in
+      let it = expects c.args.self.now c.args.self.now pair machine (which_of c.args.from)
+      c.args.session c.args.number (reply_of c.args.reply) stands waits.0 c.in-Some.running
+      (request_of c.in-Some.request) waits.1 waits.2 waits.3 in
+      let on = c.in-Ok.ensures.step pair c.args.number machine.journal waits.0 it.0 (subst
+      (λ a. IsMachine a pair machine.journal) (sym c.expecting.ensures.archive) stands.journal) (
+        c.expecting.ensures.kept.2 ∙ stands.untried (ap is_some it.1.runs),
+        stands.quiet (ap is_some it.1.runs),
+      ) it.2 waits.3 (ap (λ w. map kept_of w.items)
+      c.expecting.ensures.kept.0 ∙ ap (map kept_of) c.new.ensures.items) in
+      absurd (up_not_halted c.take.new.self.archive pair on.0.now on.0.is (on.0.status ∙ up)
+      (subst (λ a. IsHalted a) c.ask.ensures.archive halted));
 }
 
 pub returns-in-Err : goal.returns-in-Err
@@ -107,4 +124,20 @@ returns-in-Err g c = record {
             c.expecting.ensures.archive (off_then c.expecting.new.self c.take.new.self
             c.finish.new.self off still c.finish.ensures.archive))
       ];
+  halts = λ pair machine stands up halted.
+      let waits = c.in-Some.ensures.some in
+      let it = expects c.args.self.now c.args.self.now pair machine (which_of c.args.from)
+      c.args.session c.args.number (reply_of c.args.reply) stands waits.0 c.in-Some.running
+      (request_of c.in-Some.request) waits.1 waits.2 waits.3 in
+      let quiet = stands.quiet (ap is_some it.1.runs) in
+      let untried = c.expecting.ensures.kept.2 ∙ stands.untried (ap is_some it.1.runs) in
+      let ends = c.in-Err.ensures.step pair c.args.number machine.journal waits.0 it.0 (subst
+      (λ a. IsMachine a pair machine.journal) (sym c.expecting.ensures.archive) stands.journal)
+      (untried, quiet) it.2 waits.3 (ap (λ w. map kept_of w.items)
+      c.expecting.ensures.kept.0 ∙ ap (map kept_of) c.new.ensures.items) in
+      fails_or_stops c.args.self.now c.expecting.new.self c.take.new.self c.finish.new.self
+      c.expecting.ensures.archive c.finish.ensures.archive
+      (ends_by_failure c.expecting.new.self c.take.new.self pair machine.journal up it.0 _ _ _ _
+      untried ends c.in-Err.ensures.breaks
+      (subst (λ a. IsHalted a) c.finish.ensures.archive halted));
 }

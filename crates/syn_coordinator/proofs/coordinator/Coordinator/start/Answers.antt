@@ -7,8 +7,9 @@ use Rattle.syn_headline.specs.Machine.{Up, Halted}
 use Rattle.syn_model.specs.Archive.{Session}
 use Rattle.syn_model.specs.Refusal as why
 use Rattle.syn_model.specs.Refusal.{first_cause}
-use Rattle.syn_coordinator.specs.Coordinators.{Does, Stands, all_causes, archive_of, refusals_of}
-use Rattle.syn_session.specs.Refusals.{refusal_of}
+use Rattle.syn_coordinator.specs.Coordinators.{Does, Stands, all_causes, archive_of, device_of}
+use Rattle.syn_coordinator.specs.Coordinators.{refusals_of}
+use Rattle.syn_session.specs.Refusals.{CountsFailures, refusal_of}
 use Rattle.syn_session.specs.Sendings.{messages_of}
 use Rattle.syn_session.specs.declared.error.SessionError.TheVariants.{Device}
 use Rattle.syn_model.specs.Archive as model
@@ -17,6 +18,7 @@ use Rattle.syn_keep.specs.Steps.{KeepsSo}
 use Rattle.syn_keep.specs.Tries.{HoldsTried}
 use Rattle.syn_keep.proofs.DueLemmas.{when_runs}
 use Rattle.syn_coordinator.proofs.ErrorLemmas.{passed, refused_so}
+use Rattle.syn_coordinator.proofs.HaltLemmas.{keeps_not_halted, up_not_halted}
 use Rattle.syn_coordinator.proofs.TickLemmas.{is_none}
 use Rattle.syn_coordinator.proofs.StartLemmas.{room_for, started, start_failed, still_first}
 use Rattle.syn_coordinator.proofs.StartLemmas.{then_memory}
@@ -139,3 +141,31 @@ returns-in_err-keep_session-clause-allowed g c pair machine stands =
     passed (λ e. e ≡ Device → first_cause (refusals_of pair machine) ≡ None) _
     c.from_residual-in_err-keep_session.result _ c.from_residual-in_err-keep_session.ensures.1
     (λ e. c.in_ok-check_start.ensures.refused pair machine stands)
+
+pub returns-clause-halts : goal.returns-clause-halts
+returns-clause-halts g c pair machine stands up halted =
+    inr (keeps_not_halted c.keep_session.new.self.archive pair machine.journal _ _
+    (c.in_ok-keep_session.ensures.ok pair machine stands) halted)
+
+pub returns-in_err-check_start-clause-halts : goal.returns-in_err-check_start-clause-halts
+returns-in_err-check_start-clause-halts g c pair machine stands up halted =
+    absurd (up_not_halted c.args.self.now.archive pair machine.journal stands.journal up halted)
+
+pub returns-in_err-session-clause-halts : goal.returns-in_err-session-clause-halts
+returns-in_err-session-clause-halts g c pair machine stands up halted =
+    absurd (up_not_halted c.args.self.now.archive pair machine.journal stands.journal up halted)
+
+pub returns-in_err-push-clause-halts : goal.returns-in_err-push-clause-halts
+returns-in_err-push-clause-halts g c pair machine stands up halted =
+    absurd (up_not_halted c.args.self.now.archive pair machine.journal stands.journal up halted)
+
+pub returns-in_err-keep_session-clause-halts : goal.returns-in_err-keep_session-clause-halts
+returns-in_err-keep_session-clause-halts g c pair machine stands up halted =
+    elim (c.in_err-keep_session.ensures.memory pair machine stands) [
+      | inl device ↦ inl (subst (λ e. CountsFailures e
+          (g.D.Disk.failures (device_of c.args.self.now))
+          (g.D.Disk.failures (device_of c.keep_session.new.self))) device
+          c.in_err-keep_session.ensures.failures)
+      | inr memory ↦ absurd (up_not_halted c.keep_session.new.self.archive pair machine.journal
+          memory.1.journal up halted)
+    ]

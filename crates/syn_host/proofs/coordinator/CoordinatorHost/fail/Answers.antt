@@ -15,7 +15,7 @@ returns-in-Up g c pair machine is =
     let other = is_not_down pair c.in-Up.coordinator machine stands in
     let goes = ap is_stopped c.armed_with.ensures.arms ∙ stands.journal.goes in
     let left = λ (arms : Arms).
-        with_device (coordinator_kind pair) machine machine.journal.status arms 0 in
+    with_device (coordinator_kind pair) machine machine.journal.status arms 0 in
     record {
       next = left (record machine.journal.arms { fail = c.args.call });
       step = is_done _ _ _ other arming;

@@ -52,7 +52,7 @@ returns-else-calls-eq0 g c pair machine is =
     ∙ ap (λ b. if b then was else record was { stop = Some c.args.calls })
     stands.journal.goes in
     let left = λ (arms : Arms).
-        with_device (coordinator_kind pair) machine machine.journal.status arms 0 in
+    with_device (coordinator_kind pair) machine machine.journal.status arms 0 in
     record {
       next = left (record machine.journal.arms { stop = c.args.calls });
       step = stops_behind (coordinator_kind pair) machine c.args.calls some other;

@@ -5,6 +5,7 @@ use Rattle.syn_host.specs.CoordinatorSteps.{refuses_nothing}
 use Rattle.syn_coordinator.specs.Coordinators.{ended_in, in_report, report_shown, runs}
 use Rattle.syn_session.specs.Sendings.{messages_of}
 use Rattle.syn_host.proofs.CallLemmas.{gathered_tells, tick_call}
+use Rattle.syn_host.proofs.CountLemmas.{still_grew, still_halts}
 use Rattle.syn_host.proofs.coordinator.sessions.resend.Goals as goal
 
 pub returns : goal.returns
@@ -16,7 +17,9 @@ returns g c pair machine stands =
     let over = c.ended-report.ensures
     ∙ ap (λ ran. if ran && not (runs new) then in_report (report_shown new) else [])
     c.is_running-ran.ensures in
-    tick_call c.args.coordinator new pair machine stands c.settle.result messages
+    tick_call c.args.coordinator new pair machine stands
+    (still_halts c.args.coordinator new c.on_tick-sent.ensures.archive)
+    (still_grew c.args.coordinator new c.on_tick-sent.ensures.archive) c.settle.result messages
     (c.settle.ensures told refuses_nothing (gathered_tells new c.gathered-outcome.result []
     c.on_tick-sent.result _ _ told refuses_nothing is.kept is.sent is.ended is.refused refl refl
     over (λ pair machine stands. refl)))

@@ -7,6 +7,7 @@ use Rattle.syn_path.specs.Sides.{which_of}
 use Rattle.syn_coordinator.specs.Coordinators.{ended_in, in_report, report_shown, runs, written}
 use Rattle.syn_session.specs.Sendings.{messages_of}
 use Rattle.syn_host.proofs.CallLemmas.{gathered_tells}
+use Rattle.syn_host.proofs.CountLemmas.{reply_grew}
 use Rattle.syn_host.proofs.ReplyLemmas.{reply_call}
 use Rattle.syn_host.proofs.coordinator.sessions.take.Goals as goal
 
@@ -23,7 +24,9 @@ returns g c pair machine stands =
     let over = c.ended-report.ensures
     ∙ ap (λ ran. if ran && not (runs new) then in_report (report_shown new) else [])
     c.is_running-ran.ensures in
-    reply_call c.args.coordinator new pair machine stands c.settle.result (which_of c.args.from)
+    reply_call c.args.coordinator new pair machine stands c.on_reply-sent.ensures.halts
+    (reply_grew c.args.coordinator new c.on_reply-sent.ensures.breaks) c.settle.result
+    (which_of c.args.from)
     c.args.session c.args.number (reply_of c.args.reply) messages
     (c.settle.ensures told refuses_nothing (gathered_tells new c.gathered-outcome.result
     c.kept.result.0.now c.on_reply-sent.result _ _ told refuses_nothing is.kept is.sent is.ended

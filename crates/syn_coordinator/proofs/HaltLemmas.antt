@@ -1,0 +1,74 @@
+-- An archive is halted behind a call only where a device call failed in it, or the machine stopped.
+use Rattle.std.proofs.Common.{◌≡◌, ◌⊎◌, ◌<◌, ◌∙◌, ℕ, true, List, None, ap, inl, inr, is_some, subst}
+use Rattle.std.proofs.Common.{sym}
+use Rattle.std.proofs.lemmas.Bool.{false≢true}
+use Rattle.syn_archive.specs.Archive.{IsHalted, Stands, disk_of}
+use Rattle.syn_archive.specs.declared.archive.Archive.{Archive}
+use Rattle.syn_coordinator.specs.Coordinators.{BreaksNothing, BreaksOff, device_of, tried_shown}
+use Rattle.syn_coordinator.specs.declared.coordinator.Coordinator.{Coordinator}
+use Rattle.syn_coordinator.specs.declared.ended.Ended.{Ended}
+use Rattle.syn_coordinator.specs.inner.Taking.{TakesEnd, at_once, ends, goes_down}
+use Rattle.syn_disk.specs.Arms.{is_stopped}
+use Rattle.syn_disk.specs.declared.disk.Disk.{Ghosts}
+use Rattle.syn_headline.specs.Coordinator.{Exchange, Running}
+use Rattle.syn_headline.specs.Machine.{Up}
+use Rattle.syn_keep.specs.Machines.{IsMachine, Journal}
+use Rattle.syn_keep.specs.Steps.{KeepsSo, moves_down, moves_on}
+use Rattle.syn_keep.proofs.DueLemmas.{not_halted, when_halted, when_up}
+use Rattle.syn_model.specs.Archive.{Kept}
+use Rattle.syn_model.specs.Archive as model
+use Rattle.syn_session.specs.declared.session.Session.{Session}
+
+-- a machine that is up is not halted
+pub up_not_halted : {D : Type 0} {disk : Ghosts D} (new : Archive D disk) (pair : ℕ)
+    (journal : Journal) → IsMachine new pair journal → journal.status ≡ Up → IsHalted new → ⊥
+up_not_halted new pair journal is up halted =
+    not_halted new pair journal is (when_up new pair journal is up) halted
+
+-- nor is an archive that stands for something
+pub stands_not_halted : {D : Type 0} {disk : Ghosts D} (new : Archive D disk)
+    (kept : model.Archive) → Stands new kept → IsHalted new → ⊥
+stands_not_halted new kept stands halted = false≢true (sym stands.runs.running ∙ halted)
+
+-- where something was kept and the archive is halted, the machine stopped
+pub keeps_not_halted : {D : Type 0} {disk : Ghosts D} (new : Archive D disk) (pair : ℕ)
+    (machine : Journal) (kept : Kept) (done : List Kept) →
+    KeepsSo new pair machine kept done Up → IsHalted new →
+    is_stopped (disk.arms (disk_of new)) ≡ true
+keeps_not_halted new pair machine kept done (moves_on journal keeps up is) halted =
+    absurd (up_not_halted new pair journal is up halted)
+keeps_not_halted new pair machine kept done (moves_down journal keeps stopped down leaves) halted =
+    stopped
+
+module _ {D : Type 0} {disk : Ghosts D} (old new : Coordinator D disk) where
+  abbrev FailsOrStops : Type 0
+  FailsOrStops = (disk.failures (device_of old) < disk.failures (device_of new))
+      ⊎ (is_stopped (disk.arms (device_of new)) ≡ true)
+
+  -- the session ended in the call, before which nothing was remembered
+  pub ends_by_failure : (pair : ℕ) (journal : Journal) → journal.status ≡ Up → (running : Running)
+      (taken : Exchange) (session : Session) (kept : List Kept) (ended : Ended) →
+      tried_shown old ≡ None →
+      TakesEnd new.archive new.tried pair journal running taken session kept ended →
+      BreaksNothing old new ⊎ BreaksOff old new → IsHalted new.archive → FailsOrStops
+  ends_by_failure pair journal up running taken session kept _ none how (inr off) halted =
+      elim off.counted as (λ _. FailsOrStops) [ inl grew ↦ inl grew | inr stopped ↦ inr stopped.0 ]
+  ends_by_failure pair journal up running taken session kept _ none
+      (at_once why fault tells is nothing tries) (inl still) halted =
+      absurd (up_not_halted new.archive pair journal is up halted)
+  ends_by_failure pair journal up running taken session kept _ none
+      (ends ended walk after walks cursor refused why is tells remembers) (inl still) halted =
+      absurd (false≢true (sym (ap is_some (still.tried_is ∙ none))
+      ∙ remembers.some up (when_halted new.archive pair walk.journal is halted)))
+  ends_by_failure pair journal up running taken session kept _ none
+      (goes_down ended walk after walks stopped down leaves tries) (inl still) halted = inr stopped
+
+-- and so it was where the calls before and behind it left the archive
+pub fails_or_stops : {D : Type 0} {disk : Ghosts D} (first old new last : Coordinator D disk) →
+    old.archive ≡ first.archive → last.archive ≡ new.archive → FailsOrStops old new →
+    FailsOrStops first last
+fails_or_stops {D} {disk} first old new last before behind how =
+    subst (λ a. (disk.failures (disk_of a) < disk.failures (device_of last))
+    ⊎ (is_stopped (disk.arms (device_of last)) ≡ true)) before
+    (subst (λ b. (disk.failures (device_of old) < disk.failures (disk_of b))
+    ⊎ (is_stopped (disk.arms (disk_of b)) ≡ true)) (sym behind) how)
