@@ -10,7 +10,8 @@ use Rattle.syn_headline.specs.Coordinator.{gives_up, no_call, no_session, resend
 use Rattle.syn_headline.specs.Coordinator.{Starts, coordinator_kind, start_breaks, start_causes}
 use Rattle.syn_headline.specs.Coordinator.{writes}
 use Rattle.syn_headline.specs.MachineSteps.{Checkpoint, Checkpoints, Does as MachineDoes, causes_at}
-use Rattle.syn_headline.specs.MachineSteps.{checkpoints, full_generation, is_done, makes, refused_by}
+use Rattle.syn_headline.specs.MachineSteps.{checkpoints, full_generation, is_done, makes}
+use Rattle.syn_headline.specs.MachineSteps.{refused_by}
 use Rattle.syn_headline.specs.Coordinator as walk
 use Rattle.syn_headline.specs.Machine.{Status, Up, Halted, Down, Compacts, compacted, not_compacted}
 use Rattle.syn_headline.specs.Machine.{unarmed, Writes, idle, unwritten}
@@ -271,8 +272,8 @@ module _ {D : Type 0} {disk : Ghosts D} (old new : Session D disk) (pair : ℕ)
       (Starts pair preference machine)
       (λ next made step. is_done _ _ _ other (makes next made none step)) machine
       (λ next made step. counts_so old new pair machine stands halts grew next
-      (start_once pair machine (none_up machine.journal.status (start_causes pair machine) none other)
-      preference next made step)) does
+      (start_once pair machine (none_up machine.journal.status (start_causes pair machine) none
+      other) preference next made step)) does
 
   pub tick_call : (messages : List Message)
       → Settles new (record no_call { messages = messages; reports = ended_in old new })

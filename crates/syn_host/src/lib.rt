@@ -31,7 +31,7 @@
 //!   nothing new may be left on the disk (`left`). Of any disk they say what it holds (`holds`,
 //!   `wanted`), or the cause of the refusal that lies in it (`cause`), and that 9 comes with a
 //!   failed call (`failures`).
-//! - A side counts no more failed calls in a call than its disk does (`counts`: `CountsFrom`).
+//! - A machine counts no more failed calls in a call than its disk does (`counts`: `CountsNoMore`).
 //! - `into_disk` gives the disk of a machine, up or down (`side_disk`, `archive_disk`). Whatever a
 //!   stop may leave on it may be the machine's (`left`).
 #![tactic(auto)]
