@@ -1,7 +1,8 @@
 pub mod StandLemmas
 pub mod FormatLemmas
-pub mod ExitLemmas
-pub mod DirLemmas
 pub mod AlikeLemmas
 pub mod OpeningLemmas
 pub mod MeaningLemmas
+pub mod EndLemmas
+pub mod KeepLemmas
+pub mod WriteLemmas

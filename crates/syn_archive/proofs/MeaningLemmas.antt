@@ -1,16 +1,25 @@
 -- Why a disk is not opened, and what an opened archive stands for.
 use Rattle.std.proofs.Common.{◌⊎◌, ◌≡◌, ◌<◌, ◌^◌, ℕ, List, refl, sym, ap, ◌∙◌, subst, Option}
-use Rattle.std.proofs.Common.{Result, Ok, Err, inl, inr, Bool, true, false, true≢false}
+use Rattle.std.proofs.Common.{Result, Ok, Err, inl, inr, Bool, true, false, true≢false, ap₂}
 use Rattle.std.proofs.lemmas.Option.{none-some, same_Some}
 use Rattle.syn_disk.specs.declared.disk.Disk.{Ghosts}
 use Rattle.syn_model.specs.Archive as model
 use Rattle.syn_model.specs.ArchiveImage.{ArchiveStandsFor}
 use Rattle.syn_journal.specs.Journal as journal
 use Rattle.syn_journal.specs.Layout.{Value, Fault, meaning}
-use Rattle.syn_archive.specs.Archive.{Stands, shown, pair_of, journal_of, disk_of}
+use Rattle.syn_journal.specs.Refusals as journal_refusals
+use Rattle.syn_journal.specs.declared.error.JournalError.{JournalError}
+use Rattle.syn_journal.specs.declared.error.JournalError.TheVariants as refused_by
+use Rattle.syn_journaled.specs.Journaled.{Opened as IsOpened}
+use Rattle.syn_journaled.specs.Openings.{NotOpened}
+use Rattle.syn_model.specs.Path.{Bytes}
+use Rattle.syn_archive.specs.Archive.{Stands, shown, pair_of, journal_of}
 use Rattle.syn_archive.specs.Disks.{DiskKeeps, DiskStands, IsOpenRefusal, IsReopenRefusal}
 use Rattle.syn_archive.specs.Disks.{StandsForNone, StandsForOther, IsWanted}
+use Rattle.syn_archive.specs.Refusals.{of_journal}
+use Rattle.syn_archive.specs.inner.Agreements.{Gives, IsUnread, IsUnreadAgain, agreed_archive}
 use Rattle.syn_archive.specs.inner.Openings.{IsOfMeaning, IsOfPayload, OneStands}
+use Rattle.syn_archive.specs.declared.agreed.Agreed.{Agreed}
 use Rattle.syn_archive.specs.declared.archive.Archive.{Archive}
 use Rattle.syn_archive.specs.declared.error.ArchiveError.{ArchiveError}
 use Rattle.syn_archive.specs.declared.error.ArchiveError.TheVariants.{NoParent, Root, Full}
@@ -18,36 +27,97 @@ use Rattle.syn_archive.specs.declared.error.ArchiveError.TheVariants.{JournalFul
 use Rattle.syn_archive.specs.declared.error.ArchiveError.TheVariants.{Memory, NoImage, Damaged}
 use Rattle.syn_archive.specs.declared.error.ArchiveError.TheVariants.{WrongPair}
 
--- what an image and its payloads refuse
-pub meaning_refusal : (e : ArchiveError) (wanted : Option ℕ) (bytes : List ℕ) (value : Value) →
-    meaning bytes ≡ Ok value → IsOfMeaning e →
-    (e ≡ Damaged → StandsForNone value.image value.payloads) →
-    (e ≡ WrongPair → StandsForOther wanted value.image value.payloads) →
-    IsOpenRefusal e wanted bytes
-meaning_refusal NoParent wanted bytes value means h damaged other = absurd h
-meaning_refusal Root wanted bytes value means h damaged other = absurd h
-meaning_refusal Full wanted bytes value means h damaged other = absurd h
-meaning_refusal JournalFull wanted bytes value means h damaged other = absurd h
-meaning_refusal Device wanted bytes value means h damaged other = absurd h
-meaning_refusal Halted wanted bytes value means h damaged other = absurd h
-meaning_refusal Memory wanted bytes value means h damaged other = tt
-meaning_refusal NoImage wanted bytes value means h damaged other = absurd h
-meaning_refusal Damaged wanted bytes value means h damaged other = inr (value, means, damaged refl)
-meaning_refusal WrongPair wanted bytes value means h damaged other = (value, means, other refl)
+-- what the journal refuses, as an archive refuses it
+by_journal : (by : JournalError) (wanted : Option ℕ) (bytes : List ℕ) →
+    journal_refusals.IsOpenRefusal by (meaning bytes) → IsOpenRefusal (of_journal by) wanted bytes
+by_journal refused_by.Full wanted bytes h = absurd h
+by_journal refused_by.JournalFull wanted bytes h = absurd h
+by_journal refused_by.Device wanted bytes h = tt
+by_journal refused_by.Halted wanted bytes h = absurd h
+by_journal refused_by.Memory wanted bytes h = tt
+by_journal refused_by.NoImage wanted bytes h = h
+by_journal refused_by.Damaged wanted bytes h = inl h
 
-pub own_refusal : (e : ArchiveError) (pair : ℕ) (bytes : List ℕ) (value : Value) →
-    meaning bytes ≡ Ok value → IsOfPayload e → (e ≡ Damaged → (archive : model.Archive) →
-    ¬ ArchiveStandsFor pair value.image value.payloads archive) → IsReopenRefusal e pair bytes
-own_refusal NoParent pair bytes value means h damaged = absurd h
-own_refusal Root pair bytes value means h damaged = absurd h
-own_refusal Full pair bytes value means h damaged = absurd h
-own_refusal JournalFull pair bytes value means h damaged = absurd h
-own_refusal Device pair bytes value means h damaged = absurd h
-own_refusal Halted pair bytes value means h damaged = absurd h
-own_refusal Memory pair bytes value means h damaged = tt
-own_refusal NoImage pair bytes value means h damaged = absurd h
-own_refusal Damaged pair bytes value means h damaged = inr (value, means, damaged refl)
-own_refusal WrongPair pair bytes value means h damaged = absurd h
+-- and what an image and its payloads refuse
+by_meaning : (e : ArchiveError) (wanted : Option ℕ) (bytes : List ℕ) (value : Value) →
+    meaning bytes ≡ Ok value → IsUnread e wanted value.image value.payloads →
+    IsOpenRefusal e wanted bytes
+by_meaning NoParent wanted bytes value means h = absurd h
+by_meaning Root wanted bytes value means h = absurd h
+by_meaning Full wanted bytes value means h = absurd h
+by_meaning JournalFull wanted bytes value means h = absurd h
+by_meaning Device wanted bytes value means h = absurd h
+by_meaning Halted wanted bytes value means h = absurd h
+by_meaning Memory wanted bytes value means h = tt
+by_meaning NoImage wanted bytes value means h = absurd h
+by_meaning Damaged wanted bytes value means h = inr (value, means, h)
+by_meaning WrongPair wanted bytes value means h = (value, means, h)
+
+pub open_refusal : (e : ArchiveError) (wanted : Option ℕ) (bytes : List ℕ) →
+    NotOpened of_journal (IsUnread e wanted) e bytes → IsOpenRefusal e wanted bytes
+open_refusal e wanted bytes (inl h) =
+    subst (λ x. IsOpenRefusal x wanted bytes) (sym h.1) (by_journal h.0 wanted bytes h.2)
+open_refusal e wanted bytes (inr h) = by_meaning e wanted bytes h.0 h.1 h.2
+
+by_journal_again : (by : JournalError) (pair : ℕ) (bytes : List ℕ) →
+    journal_refusals.IsOpenRefusal by (meaning bytes) → IsReopenRefusal (of_journal by) pair bytes
+by_journal_again refused_by.Full pair bytes h = absurd h
+by_journal_again refused_by.JournalFull pair bytes h = absurd h
+by_journal_again refused_by.Device pair bytes h = tt
+by_journal_again refused_by.Halted pair bytes h = absurd h
+by_journal_again refused_by.Memory pair bytes h = tt
+by_journal_again refused_by.NoImage pair bytes h = h
+by_journal_again refused_by.Damaged pair bytes h = inl h
+
+by_own : (e : ArchiveError) (agreed : Agreed) (bytes : List ℕ) (value : Value) →
+    meaning bytes ≡ Ok value → IsUnreadAgain e agreed value.image value.payloads →
+    IsReopenRefusal e agreed.pair bytes
+by_own NoParent agreed bytes value means h = absurd h
+by_own Root agreed bytes value means h = absurd h
+by_own Full agreed bytes value means h = absurd h
+by_own JournalFull agreed bytes value means h = absurd h
+by_own Device agreed bytes value means h = absurd h
+by_own Halted agreed bytes value means h = absurd h
+by_own Memory agreed bytes value means h = tt
+by_own NoImage agreed bytes value means h = absurd h
+by_own Damaged agreed bytes value means h = inr (value, means, h)
+by_own WrongPair agreed bytes value means h = absurd h
+
+pub reopen_refusal : (e : ArchiveError) (agreed : Agreed) (bytes : List ℕ) →
+    NotOpened of_journal (IsUnreadAgain e agreed) e bytes → IsReopenRefusal e agreed.pair bytes
+reopen_refusal e agreed bytes (inl h) =
+    subst (λ x. IsReopenRefusal x agreed.pair bytes) (sym h.1)
+    (by_journal_again h.0 agreed.pair bytes h.2)
+reopen_refusal e agreed bytes (inr h) = by_own e agreed bytes h.0 h.1 h.2
+
+-- what is unread of an image and its payloads, and of those of the same pair
+pub unread : (e : ArchiveError) (wanted : Option ℕ) (image : Bytes) (payloads : List Bytes) →
+    IsOfMeaning e → (e ≡ Damaged → StandsForNone image payloads) →
+    (e ≡ WrongPair → StandsForOther wanted image payloads) → IsUnread e wanted image payloads
+unread NoParent wanted image payloads h damaged other = absurd h
+unread Root wanted image payloads h damaged other = absurd h
+unread Full wanted image payloads h damaged other = absurd h
+unread JournalFull wanted image payloads h damaged other = absurd h
+unread Device wanted image payloads h damaged other = absurd h
+unread Halted wanted image payloads h damaged other = absurd h
+unread Memory wanted image payloads h damaged other = tt
+unread NoImage wanted image payloads h damaged other = absurd h
+unread Damaged wanted image payloads h damaged other = damaged refl
+unread WrongPair wanted image payloads h damaged other = other refl
+
+pub unread_again : (e : ArchiveError) (agreed : Agreed) (image : Bytes) (payloads : List Bytes) →
+    IsOfPayload e → (e ≡ Damaged → (archive : model.Archive) →
+    ¬ ArchiveStandsFor agreed.pair image payloads archive) → IsUnreadAgain e agreed image payloads
+unread_again NoParent agreed image payloads h damaged = absurd h
+unread_again Root agreed image payloads h damaged = absurd h
+unread_again Full agreed image payloads h damaged = absurd h
+unread_again JournalFull agreed image payloads h damaged = absurd h
+unread_again Device agreed image payloads h damaged = absurd h
+unread_again Halted agreed image payloads h damaged = absurd h
+unread_again Memory agreed image payloads h damaged = tt
+unread_again NoImage agreed image payloads h damaged = absurd h
+unread_again Damaged agreed image payloads h damaged = damaged refl
+unread_again WrongPair agreed image payloads h damaged = absurd h
 
 -- what is refused of a payload that is not damaged
 pub memory_alone : (e : ArchiveError) → IsOfPayload e → ¬ (e ≡ Damaged) → e ≡ Memory
@@ -62,14 +132,23 @@ memory_alone NoImage of whole = absurd of
 memory_alone Damaged of whole = absurd (whole refl)
 memory_alone WrongPair of whole = absurd of
 
--- what shows that it is halted does not show it where it runs
-pub runs_on : (shown halted : Bool) → (shown ≡ true → halted ≡ true) → halted ≡ false →
-    shown ≡ false
-runs_on true halted is runs = absurd (true≢false (sym (is refl) ∙ runs))
-runs_on false halted is runs = refl
+-- one archive of one pair is given
+same_agreed : (a b : Agreed) → a.pair ≡ b.pair → agreed_archive a ≡ agreed_archive b → a ≡ b
+same_agreed a b pair same =
+    ap₂ (λ (p : ℕ) (k : model.Archive). record {
+      pair = p;
+      last_session = k.last_session;
+      marks = k.marks;
+    }) pair same
+
+pub one_given : OneStands → (image : Bytes) (payloads : List Bytes) (a b : Agreed) →
+    a.pair < 2 ^ 64 → b.pair < 2 ^ 64 → Gives image payloads a → Gives image payloads b → a ≡ b
+one_given one image payloads a b h k s t =
+    let both = one image payloads a.pair b.pair (agreed_archive a) (agreed_archive b) h k s t in
+    same_agreed a b both.0 both.1
 
 -- a disk means one value
-pub one_value : (d : Result Value Fault) (a b : Value) → d ≡ Ok a → d ≡ Ok b → a ≡ b
+one_value : (d : Result Value Fault) (a b : Value) → d ≡ Ok a → d ≡ Ok b → a ≡ b
 one_value d a b x y = ap (λ r. value_or r a) (sym x ∙ y)
   where
     value_or : Result Value Fault → Value → Value
@@ -85,36 +164,23 @@ stands_shown archive value runs means =
     record { remembers = refl; value = value; runs = runs; means = means }
 
 -- and for each archive that the disk stands for
-pub stands_for_each : OneStands → {D : Type 0} {disk : Ghosts D} (archive : Archive D disk)
-    (value : Value) (bytes : List ℕ) (number : ℕ) (kept : model.Archive) →
-    journal.Stands (journal_of archive) value → disk.seen (disk_of archive) ≡ bytes →
-    pair_of archive < 2 ^ 64 →
-    ArchiveStandsFor (pair_of archive) value.image value.payloads (shown archive) →
+pub stands_for_each : {D : Type 0} {disk : Ghosts D} (archive : Archive D disk)
+    (bytes : List ℕ) (number : ℕ) (kept : model.Archive) →
+    IsOpened (λ a. a.pair) Gives bytes archive.machine →
     number < 2 ^ 64 → DiskStands number bytes kept →
     (number ≡ pair_of archive) × Stands archive kept
-stands_for_each one archive value bytes number kept runs seen fits means h d =
-    let same = one_value _ d.value value d.means (ap meaning (sym seen) ∙ runs.holds.means) in
-    let stands = subst (λ v. ArchiveStandsFor number v.image v.payloads kept) same d.stands in
-    let both = one value.image value.payloads number (pair_of archive) kept
-    (shown archive) h fits stands means in
-    (both.0, subst (Stands archive) (sym both.1) (stands_shown archive value runs means))
-
--- an archive whose journal was read anew stands as it did
-pub stands_as_before : {D : Type 0} {disk : Ghosts D} (old new : Archive D disk) (value : Value)
-    (kept : model.Archive) → Stands old kept → journal.Stands (journal_of new) value →
-    disk.seen (disk_of new) ≡ disk.seen (disk_of old) → pair_of new ≡ pair_of old →
-    shown new ≡ shown old → Stands new kept
-stands_as_before old new value kept stands runs seen pair same_shown =
-    let same = one_value _ value stands.value
-    (ap meaning (sym seen) ∙ runs.holds.means) stands.runs.holds.means in
-    record {
-      remembers = same_shown ∙ stands.remembers;
-      value = value;
-      runs = runs;
-      means =
-          subst (λ n. ArchiveStandsFor n value.image value.payloads kept) (sym pair) (subst
-          (λ v. ArchiveStandsFor (pair_of old) v.image v.payloads kept) (sym same) stands.means);
-    }
+stands_for_each archive bytes number kept opened fits d =
+    let other : Agreed = record {
+      pair = number;
+      last_session = kept.last_session;
+      marks = kept.marks;
+    } in
+    let same = opened.one other fits
+    (record { value = d.value; means = d.means; given = d.stands }) in (
+      ap (λ a. a.pair) same,
+      subst (Stands archive) (sym (ap agreed_archive same))
+          (stands_shown archive opened.value opened.runs opened.given),
+    )
 
 -- a disk that keeps an archive stands for it
 pub keeps_stands : {pair : ℕ} {archive : model.Archive} {left generation : ℕ} {bytes : List ℕ} →

@@ -11,7 +11,7 @@ use Rattle.syn_disk.specs.Stops.{LeavesOnly}
 use Rattle.syn_model.specs.Path.{Bytes}
 use Rattle.syn_model.specs.Limits.{greatest}
 use Rattle.syn_model.specs.Refusal.{Full, BadMessage}
-use Rattle.syn_model.specs.Archive.{Archive, Kept, Session, CanKeep, after_kept, kept_refusal}
+use Rattle.syn_model.specs.Archive.{Archive, Kept, Session, CanKeep, after_kept}
 use Rattle.syn_model.specs.MarkSpelling.{archive_spelling, kept_spelling}
 use Rattle.syn_model.specs.ArchiveImage.{ArchiveStandsFor, RecordGoesOn, StandsForSound}
 use Rattle.syn_model.specs.ArchiveImage.{ArchiveImageStands}
@@ -91,16 +91,6 @@ can_begin archive h = record {
       + 1) then Some BadMessage else None)) (below archive.last_session h)
       ∙ ap (λ b. if not b then Some BadMessage else None) (same (archive.last_session + 1));
 }
-
-at_greatest : (n : ℕ) → n ≡ 2 ^ 64 - 1 → nat_le greatest n ≡ true
-at_greatest n h = ap (λ k. nat_le greatest k) h
-
--- and is refused from then on
-pub cannot_begin : (archive : Archive) → archive.last_session ≡ 2 ^ 64 - 1 →
-    kept_refusal archive (Session (archive.last_session + 1)) ≡ Some Full
-cannot_begin archive h =
-    ap (λ b. if b then Some Full else (if not (archive.last_session + 1 == archive.last_session + 1)
-    then Some BadMessage else None)) (at_greatest archive.last_session h)
 
 -- the image of what an archive shows stands for it
 pub image_keeps : StandsForSound → ArchiveImageStands → (pair : ℕ) (value : Value) (image : Bytes)

@@ -3,6 +3,7 @@ use Rattle.std.specs.Prelude.{◌≡◌, ◌⊎◌, ◌+◌, ◌-◌, List, ℕ}
 use Rattle.syn_disk.specs.declared.disk.Disk.{Ghosts}
 use Rattle.syn_journal.specs.Journal as journal
 use Rattle.syn_journal.specs.declared.journal.Journal.{Journal}
+use Rattle.syn_journaled.specs.Journaled as machine
 use Rattle.syn_journal.specs.Layout.{Value, HasJournal, bytes_left}
 use Rattle.syn_model.specs.Tree.{Tree}
 use Rattle.syn_model.specs.Archive as model
@@ -13,38 +14,38 @@ use Rattle.syn_archive.specs.declared.archive.Archive.{Archive}
 
 module _ {D : Type 0} {disk : Ghosts D} (archive : Archive D disk) where
   abbrev pub pair_of : ℕ
-  pair_of = archive.pair
+  pair_of = (machine.state_of archive.machine).pair
 
   abbrev pub marks_shown : Tree
-  marks_shown = archive.marks
+  marks_shown = (machine.state_of archive.machine).marks
 
   abbrev pub session_shown : ℕ
-  session_shown = archive.last_session
+  session_shown = (machine.state_of archive.machine).last_session
 
   -- what it has in memory, as the model has it
   abbrev pub shown : model.Archive
   shown = record { marks = marks_shown; last_session = session_shown }
 
   abbrev pub journal_of : Journal D disk
-  journal_of = archive.journal
+  journal_of = machine.journal_of archive.machine
 
   abbrev pub disk_of : D
-  disk_of = journal.disk_of archive.journal
+  disk_of = journal.disk_of journal_of
 
   -- how many bytes of its journal are left for records
   abbrev pub left_shown : ℕ
-  left_shown = journal.left_of archive.journal
+  left_shown = journal.left_of journal_of
 
   -- the length of the longest payload that its journal still takes
   abbrev pub room_shown : ℕ
-  room_shown = journal.room_of archive.journal
+  room_shown = journal.room_of journal_of
 
   abbrev pub generation_shown : ℕ
-  generation_shown = journal.generation_of archive.journal
+  generation_shown = journal.generation_of journal_of
 
   -- a device call failed, and the archive was not opened again since
   abbrev pub IsHalted : Type 0
-  IsHalted = journal.IsHalted archive.journal
+  IsHalted = journal.IsHalted journal_of
 
 -- what it has in memory is the archive, and so is its disk, whatever stop comes
 pub record Stands {D : Type 0} {disk : Ghosts D} (archive : Archive D disk)

@@ -20,16 +20,19 @@ ghost use Rattle.syn_disk.specs.Stops.{LeavesOnly};
 ghost use Rattle.syn_archive.specs.Refusals.{refusal_of, refusal_in, CountsFailures, MakesIfDevice};
 ghost use Rattle.syn_archive.specs.Refusals.{IsOfFormat, IsOfSession, IsOfRecord, IsOfCheckpoint};
 ghost use Rattle.syn_archive.specs.Refusals.{IsOutside};
+ghost use Rattle.syn_archive.specs.inner.Agreements.{IsReady, agreed_archive, after_update};
+ghost use Rattle.syn_archive.specs.inner.Keepings.{kept_in, IsNews, NotPrepared};
+ghost use Rattle.syn_archive.specs.inner.Openings.{Keeps};
 ghost use Rattle.syn_journal.specs.Journal as journal;
 ghost use Rattle.syn_journal.specs.Layout.{image_alone};
 
+use crate::agreed::Agreed;
 use crate::error::ArchiveError;
+use crate::keeping::{Keeping, Prepared};
 use std::alloc::Global;
 use syn_disk::{Arm, Disk, Limit};
-use syn_image::{
-    dir_length, encode_archive, encode_dir, encode_record, encode_session, record_length,
-};
-use syn_journal::{Journal, layout_laws};
+use syn_journal::layout_laws;
+use syn_journaled::Journaled;
 use syn_mark::{Mark, MarkTree};
 use syn_model::archive_laws;
 use syn_path::Path;
@@ -37,17 +40,11 @@ use syn_path::Path;
 mod checkpoint;
 mod open;
 
-/// How many bytes spell a session that begins.
-const SESSION_LENGTH: usize = 9;
-
 /// The marks that both sides last agreed on, and the number of the last session. It outlives stops
 /// of its machine.
 #[derive(Drop)]
 pub struct Archive<D: Disk> {
-    journal: Journal<D>,
-    pair: u64,
-    last_session: u64,
-    marks: MarkTree,
+    machine: Journaled<D, Agreed>,
 }
 
 impl<D: Disk> Archive<D> {
@@ -80,18 +77,18 @@ impl<D: Disk> Archive<D> {
             (λ refused. MakesIfDevice refused.0 7 (D.arms disk) (D.arms refused.1)) }
     {
         archive_laws();
-        let (image, marks) = match blank(alloc, pair) {
-            Ok(made) => made,
-            Err(error) => return Err((error, disk)),
+        let marks = match MarkTree::of_mark(alloc, Mark::Dir) {
+            Ok(marks) => marks,
+            Err(error) => return Err((ArchiveError::from(error), disk)),
         };
-        match Journal::format(alloc, disk, &image) {
-            Ok(journal) => Ok(Archive {
-                journal,
-                pair,
-                last_session: 0,
-                marks,
-            }),
-            Err((error, disk)) => Err((ArchiveError::from(error), disk)),
+        let agreed = Agreed {
+            pair,
+            last_session: 0,
+            marks,
+        };
+        match Journaled::format(alloc, disk, agreed) {
+            Ok(machine) => Ok(Archive { machine }),
+            Err(refused) => Err(refused),
         }
     }
 
@@ -99,49 +96,49 @@ impl<D: Disk> Archive<D> {
     pub fn pair(&self) -> u64
         ensures { result ≡ pair_of self.now }
     {
-        self.pair
+        self.machine.state().pair
     }
 
     /// The number of the last session; 0 before the first.
     pub fn last_session(&self) -> u64
         ensures { result ≡ session_shown self.now }
     {
-        self.last_session
+        self.machine.state().last_session
     }
 
     /// The marks, as they stand in memory.
     pub fn tree(&self) -> &MarkTree
         ensures { result.now ≡ marks_shown self.now }
     {
-        &self.marks
+        &self.machine.state().marks
     }
 
     /// The generation of the journal's current half: 1 after `format`.
     pub fn generation(&self) -> u64
         ensures { result ≡ generation_shown self.now }
     {
-        self.journal.generation()
+        self.machine.generation()
     }
 
     /// The length of the longest payload that still fits in the journal, or 0 where none does.
     pub fn room(&self) -> usize
         ensures { result ≡ room_shown self.now }
     {
-        self.journal.room()
+        self.machine.room()
     }
 
     /// Whether a call was refused 9 since the archive was formatted or opened.
     pub fn is_halted(&self) -> bool
         ensures { (result ≡ true) ↔ IsHalted self.now }
     {
-        self.journal.is_halted()
+        self.machine.is_halted()
     }
 
     /// The disk, as the last call left it.
     pub fn into_disk(self) -> D
         ensures { result ≡ disk_of self }
     {
-        self.journal.into_disk()
+        self.machine.into_disk()
     }
 
     /// Does nothing. It says of an archive that stands for what is kept that a stop leaves that on
@@ -160,7 +157,7 @@ impl<D: Disk> Archive<D> {
         ensures memory { IfErr result (λ e. (e ≡ ArchiveError.Memory)
             × (get (marks_shown self.now) path.now ≢ None)) }
     {
-        Ok(self.marks.subtree(alloc, path)?)
+        Ok(self.tree().subtree(alloc, path)?)
     }
 
     /// Takes the next number of a session, and answers it; the first is 1.
@@ -211,22 +208,10 @@ impl<D: Disk> Archive<D> {
         ensures unchanged { IfErr result
             (λ e. (e ≡ ArchiveError.Device) ⊎ (journal_of self.new ≡ journal_of self.old)) }
     {
-        archive_laws();
-        layout_laws();
-        if self.journal.is_halted() {
-            return Err(ArchiveError::Halted);
+        match self.keep(alloc, Keeping::Session) {
+            Ok(()) => Ok(self.last_session()),
+            Err(error) => Err(error),
         }
-        if self.last_session == u64::MAX {
-            return Err(ArchiveError::Full);
-        }
-        if SESSION_LENGTH > self.journal.room() {
-            return Err(ArchiveError::JournalFull);
-        }
-        let session = self.last_session + 1;
-        let payload = encode_session(alloc, session)?;
-        self.journal.append(alloc, &payload)?;
-        self.last_session = session;
-        Ok(session)
     }
 
     /// Why the marks, or that nothing is there, cannot be recorded at the path; it takes no memory.
@@ -237,7 +222,7 @@ impl<D: Disk> Archive<D> {
         ensures { refusal_in result ≡ kept_refusal (shown self.now)
             (Recorded path.now (or_absent (option_map (λ there. there.now) marks.entry))) }
     {
-        Ok(self.marks.check_replace(path, marks)?)
+        Ok(self.tree().check_replace(path, marks)?)
     }
 
     /// Records the marks at and below the path, or that nothing is there.
@@ -295,20 +280,7 @@ impl<D: Disk> Archive<D> {
         ensures unchanged { IfErr result
             (λ e. (e ≡ ArchiveError.Device) ⊎ (journal_of self.new ≡ journal_of self.old)) }
     {
-        archive_laws();
-        layout_laws();
-        if self.journal.is_halted() {
-            return Err(ArchiveError::Halted);
-        }
-        self.fits(path, marks.as_ref())?;
-        if record_length(path, marks.as_ref()) > self.journal.room() {
-            return Err(ArchiveError::JournalFull);
-        }
-        let payload = encode_record(alloc, path, marks.as_ref())?;
-        let change = self.marks.prepare_replace(alloc, path, marks)?;
-        self.journal.append(alloc, &payload)?;
-        self.marks.make(change);
-        Ok(())
+        self.keep(alloc, Keeping::Record(path, marks))
     }
 
     /// Records a directory at the path, with what the archive has below it; nothing where a
@@ -366,50 +338,54 @@ impl<D: Disk> Archive<D> {
             (λ e. (e ≡ ArchiveError.Device) ⊎ (journal_of self.new ≡ journal_of self.old)) }
     {
         archive_laws();
-        if self.journal.is_halted() {
+        if self.is_halted() {
             return Err(ArchiveError::Halted);
         }
         if path.names().is_empty() {
             return Err(ArchiveError::Root);
         }
-        match self.marks.get(path) {
+        match self.tree().get(path) {
             Some(Mark::Dir) => Ok(()),
-            _ => self.record_new_dir(alloc, path),
+            _ => self.keep(alloc, Keeping::Dir(path)),
         }
     }
 
-    // Records a directory where none is.
-    fn record_new_dir(&mut self, alloc: Global, path: &Path) -> Result<(), ArchiveError>
-        requires { is_directory (marks_shown self.old) path.now ≡ false }
+    /// Keeps it, where it is news.
+    fn keep(&mut self, alloc: Global, what: Keeping<'_>) -> Result<(), ArchiveError>
+        requires { IsNews (shown self.old) what }
         ensures acknowledged { (kept : KeptArchive) → Stands self.old kept
-            → OnOk result (Stands self.new (after_kept kept (RecordedDir path.now))) }
+            → OnOk result (Stands self.new
+            (after_kept kept (kept_in (session_shown self.old) what.entry))) }
         ensures any_moment { (kept : KeptArchive) → Stands self.old kept
             → LeavesOnly D.moment D.left_since (disk_of self.old) (disk_of self.new)
-            (KeepsBeforeOrAfter self.old kept (RecordedDir path.now)) }
-        ensures record { OnOk result (HasRecord self.old self.new (RecordedDir path.now)) }
+            (KeepsBeforeOrAfter self.old kept (kept_in (session_shown self.old) what.entry)) }
+        ensures record { OnOk result
+            (HasRecord self.old self.new (kept_in (session_shown self.old) what.entry)) }
         ensures seen { (kept : KeptArchive) → Stands self.old kept
-            → KeepsBeforeOrAfter self.old kept (RecordedDir path.now)
+            → KeepsBeforeOrAfter self.old kept (kept_in (session_shown self.old) what.entry)
             (D.seen (disk_of self.new)) }
-        ensures no_room { result ≡ Err ArchiveError.JournalFull
-            → room_shown self.old < length (kept_spelling (RecordedDir path.now)) }
-        ensures full { ¬ IsHalted self.old
-            → kept_refusal (shown self.old) (RecordedDir path.now) ≡ None
-            → room_shown self.old < length (kept_spelling (RecordedDir path.now))
-            → result ≡ Err ArchiveError.JournalFull }
-        ensures cause { IfErr result (λ e. IsOutside e
-            ⊎ (kept_refusal (shown self.old) (RecordedDir path.now) ≡ Some (refusal_of e))) }
+        ensures session { OnOk result (shown self.new
+            ≡ after_kept (shown self.old) (kept_in (session_shown self.old) what.entry)) }
         ensures refused { (why : Refusal) → ¬ IsHalted self.old
-            → kept_refusal (shown self.old) (RecordedDir path.now) ≡ Some why
+            → kept_refusal (shown self.old) (kept_in (session_shown self.old) what.entry) ≡ Some why
             → IsErrAnd result (λ e. refusal_of e ≡ why) }
+        ensures cause { IfErr result (λ e. IsOutside e
+            ⊎ (kept_refusal (shown self.old) (kept_in (session_shown self.old) what.entry)
+            ≡ Some (refusal_of e))) }
+        ensures no_room { result ≡ Err ArchiveError.JournalFull → room_shown self.old
+            < length (kept_spelling (kept_in (session_shown self.old) what.entry)) }
+        ensures full { ¬ IsHalted self.old
+            → kept_refusal (shown self.old) (kept_in (session_shown self.old) what.entry) ≡ None
+            → room_shown self.old
+            < length (kept_spelling (kept_in (session_shown self.old) what.entry))
+            → result ≡ Err ArchiveError.JournalFull }
         ensures refusals { IfErr result IsOfRecord }
-        ensures halted { result ≡ Err ArchiveError.Halted → IsHalted self.old }
+        ensures halted { (result ≡ Err ArchiveError.Halted) ↔ IsHalted self.old }
         ensures halts { result ≡ Err ArchiveError.Device → IsHalted self.new }
         ensures failures { MatchResult result
             (λ _. D.failures (disk_of self.new) ≡ D.failures (disk_of self.old))
             (λ e. CountsFailures e (D.failures (disk_of self.old))
             (D.failures (disk_of self.new))) }
-
-        // Four device calls where it succeeds. After 9 the last that was made failed.
         ensures calls { MatchResult result
             (λ _. Makes 4 (D.arms (disk_of self.old)) (D.arms (disk_of self.new)))
             (λ e. MakesIfDevice e 4 (D.arms (disk_of self.old)) (D.arms (disk_of self.new))) }
@@ -419,16 +395,36 @@ impl<D: Disk> Archive<D> {
     {
         archive_laws();
         layout_laws();
-        self.marks.check_dir(path)?;
-        if dir_length(path) > self.journal.room() {
+        let Prepared { payload, update } = self.prepare(alloc, what)?;
+        self.machine.write(alloc, &payload, update)
+    }
+
+    /// Its payload and its update, where it can be kept. It is refused as `keep` refuses it, but
+    /// for a device call.
+    fn prepare(&self, alloc: Global, what: Keeping<'_>) -> Result<Prepared, ArchiveError>
+        requires { IsNews (shown self.now) what }
+        ensures running { OnOk result (¬ IsHalted self.now) }
+        ensures fits { OnOk result
+            (length (kept_spelling (kept_in (session_shown self.now) what.entry))
+            ≤ room_shown self.now) }
+        ensures payload { IfOk result (λ prepared. prepared.payload.items
+            ≡ kept_spelling (kept_in (session_shown self.now) what.entry)) }
+        ensures ready { IfOk result (λ prepared. IsReady self.now.machine.state prepared.update) }
+        ensures keeps { IfOk result (λ prepared. Keeps (shown self.now)
+            (kept_in (session_shown self.now) what.entry)
+            (agreed_archive (after_update self.now.machine.state prepared.update))) }
+        ensures refused { IfErr result (NotPrepared (IsHalted self.now) (room_shown self.now)
+            (shown self.now) (kept_in (session_shown self.now) what.entry)) }
+    {
+        if self.is_halted() {
+            return Err(ArchiveError::Halted);
+        }
+        let agreed = self.machine.state();
+        agreed.check(&what)?;
+        if what.length() > self.room() {
             return Err(ArchiveError::JournalFull);
         }
-        let directory = MarkTree::of_mark(alloc, Mark::Dir)?;
-        let payload = encode_dir(alloc, path)?;
-        let change = self.marks.prepare_replace(alloc, path, Some(directory))?;
-        self.journal.append(alloc, &payload)?;
-        self.marks.make(change);
-        Ok(())
+        agreed.prepare(alloc, what)
     }
 }
 
@@ -451,24 +447,13 @@ impl<D: Limit> Archive<D> {
         ensures memory { SameMemory self.old self.new }
         ensures readings { SameReadings (journal_of self.old) (journal_of self.new) }
     {
-        self.journal.arm(arm);
+        self.machine.arm(arm);
     }
 
     /// Whether all the device calls before a stop are made.
     pub fn is_cut(&self) -> bool
         ensures { result ≡ is_stopped (D.Disk.arms (disk_of self.now)) }
     {
-        self.journal.is_cut()
+        self.machine.is_cut()
     }
-}
-
-// The image of an archive whose root is an empty directory, with no session, and its marks.
-fn blank(alloc: Global, pair: u64) -> Result<(Vec<u8>, MarkTree), ArchiveError>
-    ensures image { IfOk result (λ made. made.0.items ≡ archive_spelling pair new_archive) }
-    ensures marks { IfOk result (λ made. made.1 ≡ empty_directory) }
-    ensures memory { IfErr result (λ e. e ≡ ArchiveError.Memory) }
-{
-    let marks = MarkTree::of_mark(alloc, Mark::Dir)?;
-    let image = encode_archive(alloc, pair, 0, &marks)?;
-    Ok((image, marks))
 }

@@ -42,8 +42,10 @@
 //!   halted (`remembers`).
 #![tactic(auto)]
 
+mod agreed;
 mod archive;
 mod error;
+mod keeping;
 mod laws;
 mod opening;
 

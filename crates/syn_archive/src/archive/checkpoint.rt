@@ -13,7 +13,6 @@ use super::Archive;
 use crate::error::ArchiveError;
 use std::alloc::Global;
 use syn_disk::Disk;
-use syn_image::encode_archive;
 use syn_model::archive_laws;
 
 impl<D: Disk> Archive<D> {
@@ -64,14 +63,6 @@ impl<D: Disk> Archive<D> {
             (λ e. (e ≡ ArchiveError.Device) ⊎ (journal_of self.new ≡ journal_of self.old)) }
     {
         archive_laws();
-        if self.journal.is_halted() {
-            return Err(ArchiveError::Halted);
-        }
-        if self.journal.generation() == u64::MAX {
-            return Err(ArchiveError::Full);
-        }
-        let image = encode_archive(alloc, self.pair, self.last_session, &self.marks)?;
-        self.journal.checkpoint(alloc, &image)?;
-        Ok(())
+        self.machine.checkpoint(alloc)
     }
 }

@@ -7,16 +7,13 @@ ghost use Rattle.syn_model.specs.Archive.{Archive as KeptArchive, Kept, after_ke
 ghost use Rattle.syn_archive.specs.Disks.{DiskStands, IsOpenRefusal, IsReopenRefusal, IsWanted};
 ghost use Rattle.syn_archive.specs.Refusals.{AfterReads, CountsFailures, refusal_of};
 ghost use Rattle.syn_model.specs.Refusal.{Memory};
-ghost use Rattle.syn_journal.specs.Places.{Shows};
 
 use super::Archive;
 use crate::error::ArchiveError;
 use crate::laws::opening_laws;
-use crate::opening::{read_archive, read_own};
 use std::alloc::Global;
 use syn_disk::Disk;
-use syn_image::ArchiveImage;
-use syn_journal::{Journal, Opened, Place};
+use syn_journaled::Journaled;
 
 impl<D: Disk> Archive<D> {
     ghost use Rattle.syn_archive.specs.Archive.{pair_of, shown, disk_of};
@@ -60,29 +57,9 @@ impl<D: Disk> Archive<D> {
             (λ refused. AfterReads 1 refused.0 (D.arms disk) (D.arms refused.1)) }
     {
         opening_laws();
-        let opened = match Journal::open(alloc, disk) {
-            Ok(opened) => opened,
-            Err((error, disk)) => return Err((ArchiveError::from(error), disk)),
-        };
-        let Opened {
-            journal,
-            image,
-            records,
-        } = opened;
-        match read_archive(alloc, &image, pair, &records) {
-            Ok(
-                ArchiveImage {
-                    pair,
-                    last_session,
-                    marks,
-                },
-            ) => Ok(Archive {
-                journal,
-                pair,
-                last_session,
-                marks,
-            }),
-            Err(error) => Err((error, journal.into_disk())),
+        match Journaled::open(alloc, disk, pair) {
+            Ok(machine) => Ok(Archive { machine }),
+            Err(refused) => Err(refused),
         }
     }
 
@@ -137,40 +114,6 @@ impl<D: Disk> Archive<D> {
             (λ e. AfterReads 1 e (D.arms (disk_of self.old)) (D.arms (disk_of self.new))) }
     {
         opening_laws();
-        let was_halted = self.journal.is_halted();
-        let place = self.journal.place();
-        let found = self.journal.reopen(alloc)?;
-        match read_own(alloc, &found.image, self.pair, &found.records) {
-            Ok(read) => {
-                self.last_session = read.last_session;
-                self.marks = read.marks;
-                Ok(())
-            }
-            Err(error) => {
-                self.settle(was_halted, place, error);
-                Err(error)
-            }
-        }
-    }
-
-    /// Halts the archive where it was halted, as it was at the place, or where its disk means none
-    /// of the pair. Where memory was refused, one that ran goes on.
-    fn settle(&mut self, was_halted: bool, place: Place, error: ArchiveError)
-        ensures halted { was_halted ≡ true → IsHalted self.new }
-        ensures halts { refusal_of error ≢ Memory → IsHalted self.new }
-        ensures goes_on { was_halted ≡ false → error ≡ ArchiveError.Memory → self.new ≡ self.old }
-        ensures disk { disk_of self.new ≡ disk_of self.old }
-        ensures memory { SameMemory self.old self.new }
-        ensures shows { was_halted ≡ true → Shows self.new.journal place }
-        ensures readings { was_halted ≡ false → KeepsReadings self.old self.new }
-    {
-        if was_halted {
-            self.journal.halt_at(place);
-            return;
-        }
-        match error {
-            ArchiveError::Memory => {}
-            _ => self.journal.halt(),
-        }
+        self.machine.reopen(alloc)
     }
 }

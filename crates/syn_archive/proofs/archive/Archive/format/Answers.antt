@@ -1,11 +1,41 @@
-use Rattle.std.proofs.Common.{sym, ◌∙◌, subst}
+use Rattle.std.proofs.Common.{◌∙◌, inl, inr, sym, ap, subst, []}
+use Rattle.syn_journal.specs.Journal as journal
+use Rattle.syn_journal.specs.Layout.{image_alone}
+use Rattle.syn_model.specs.Archive.{new_archive}
+use Rattle.syn_model.specs.ArchiveImage.{ArchiveStandsFor}
+use Rattle.syn_model.specs.MarkSpelling.{archive_spelling}
+use Rattle.syn_model.specs.Tree.{Tree}
 use Rattle.syn_archive.specs.Refusals.{IsOfFormat}
+use Rattle.syn_archive.specs.declared.error.ArchiveError.TheVariants.{Memory}
+use Rattle.syn_archive.specs.inner.Agreements.{agreed_archive}
+use Rattle.syn_archive.proofs.EndLemmas.{same_error}
 use Rattle.syn_archive.proofs.FormatLemmas.{image_fits, format_refusal}
 use Rattle.syn_archive.proofs.archive.Archive.format.Goals as goal
 
-pub returns-clause-refusals : goal.returns-clause-refusals
-returns-clause-refusals g c =
-    let image = c.deref.ensures.value ∙ c.in-Ok.ensures.image in
-    subst IsOfFormat (sym c.from.ensures)
-    (format_refusal c.in-Err-format.error c.in-Err-format.ensures.refusals
-    (λ e. image_fits c.args.pair c.deref.result.now image (c.in-Err-format.ensures.full e)))
+pub returns-in-Ok-format-clause-formatted : goal.returns-in-Ok-format-clause-formatted
+returns-in-Ok-format-clause-formatted g c =
+    let machine = c.in-Ok-format.machine in
+    let pair = c.args.pair in
+    let shown = ap (λ (m : Tree). record { marks = m; last_session = 0 }) c.in-Ok.ensures.ok in
+    let image = archive_spelling pair new_archive in
+    record {
+      remembers = ap agreed_archive c.in-Ok-format.ensures.state ∙ shown;
+      value = image_alone image;
+      runs = subst (λ i. journal.Stands machine.journal (image_alone i))
+          (ap (archive_spelling pair) shown) c.in-Ok-format.ensures.formatted;
+      means = subst (λ n. ArchiveStandsFor n image [] new_archive)
+          (sym (ap (λ a. a.pair) c.in-Ok-format.ensures.state))
+          (c.archive_laws.ensures.formatted pair);
+    }
+
+pub returns-in-Err-format-clause-refusals : goal.returns-in-Err-format-clause-refusals
+returns-in-Err-format-clause-refusals g c =
+    let shown = ap (λ (m : Tree). record { marks = m; last_session = 0 }) c.in-Ok.ensures.ok in
+    elim c.in-Err-format.ensures.refusals as (λ _. IsOfFormat c.in-Err-format.refused.0) [
+      | inl memory ↦ subst IsOfFormat
+          (sym (same_error c.in-Err-format.refused.0 Memory memory)) tt
+      | inr h ↦ subst IsOfFormat (sym h.1) (format_refusal h.0 h.2
+          (λ full. image_fits c.args.pair
+          (archive_spelling c.args.pair (record { marks = c.in-Ok.marks; last_session = 0 }))
+          (ap (archive_spelling c.args.pair) shown) (h.3 full)))
+    ]

@@ -1,63 +1,110 @@
-use Rattle.std.proofs.Common.{refl, sym, ap, ◌∙◌, subst, inl, inr}
-use Rattle.syn_journal.specs.Layout.{meaning}
-use Rattle.syn_journal.specs.Opened.{value_read}
+use Rattle.std.proofs.Common.{◌<◌, ◌^◌, ◌∙◌, inl, inr, sym, ap, subst}
+use Rattle.std.proofs.lemmas.Result.{IfErr-weaker, on_ok_weaker}
 use Rattle.syn_model.specs.Archive.{after_kept}
 use Rattle.syn_model.specs.ArchiveImage.{ArchiveStandsFor}
-use Rattle.syn_archive.specs.Archive.{disk_of, Stands}
-use Rattle.syn_archive.specs.inner.Openings.{archive_read, bytes_of_each}
-use Rattle.syn_archive.proofs.MeaningLemmas.{keeps_stands, memory_alone, one_value, own_refusal}
-use Rattle.syn_archive.proofs.MeaningLemmas.{runs_on, stands_for_each, stands_as_before}
+use Rattle.syn_archive.specs.Archive.{disk_of, pair_of}
+use Rattle.syn_archive.specs.declared.error.ArchiveError.TheVariants.{Device}
+use Rattle.syn_archive.specs.inner.Agreements.{agreed_archive}
+use Rattle.syn_archive.proofs.EndLemmas.{failures_of, from_both, if_err_both, on_ok_both, reads_of}
+use Rattle.syn_archive.proofs.EndLemmas.{same_error}
+use Rattle.syn_archive.proofs.MeaningLemmas.{keeps_stands, reopen_refusal, stands_for_each}
 use Rattle.syn_archive.proofs.archive.Archive.reopen.Goals as goal
 
-pub returns-in-Ok-clause-each : goal.returns-in-Ok-clause-each
-returns-in-Ok-clause-each g c kept d =
-    let old = c.args.self.now in
-    let found = c.in_ok-found.found in
-    let value = value_read found.image found.records in
-    let read = c.in-Ok.ensures in
-    let shown = archive_read c.in-Ok.read in
-    let means = subst (λ p. ArchiveStandsFor old.pair found.image.items p shown)
-    (ap bytes_of_each c.deref-2.ensures.value)
-    (subst (λ i. ArchiveStandsFor old.pair i (bytes_of_each c.deref-2.result.now) shown)
-    c.deref.ensures.value read.stands) in
-    (stands_for_each c.opening_laws.ensures.one _ value (g.D.Disk.seen (disk_of old)) old.pair kept
-    c.in_ok-found.ensures.reopened c.reopen.ensures.untouched.same read.fits means read.fits d).1
+pub returns-clause-given : goal.returns-clause-given
+returns-clause-given g c =
+    on_ok_weaker c.reopen.result (λ opened. record {
+      value = opened.value;
+      means = opened.means;
+      stands = opened.given;
+    }) c.reopen.ensures.opened
 
-pub returns-in-Ok-clause-before_or_after : goal.returns-in-Ok-clause-before_or_after
-returns-in-Ok-clause-before_or_after g c kept what (inl d) =
-    inl (returns-in-Ok-clause-each g c kept (keeps_stands d))
-returns-in-Ok-clause-before_or_after g c kept what (inr d) =
-    inr (returns-in-Ok-clause-each g c (after_kept kept what) (keeps_stands d))
+pub returns-clause-each : goal.returns-clause-each
+returns-clause-each g c =
+    on_ok_weaker c.reopen.result (λ opened kept d. (stands_for_each _
+    (g.D.Disk.seen (disk_of c.args.self.now)) _ kept opened opened.fits d).1)
+    c.reopen.ensures.opened
+
+pub returns-clause-pair : goal.returns-clause-pair
+returns-clause-pair g c =
+    from_both c.reopen.result c.reopen.ensures.follows
+    (IfErr-weaker c.reopen.result _ _ (λ e same. ap (λ a. a.pair) same) c.reopen.ensures.state)
+
+pub returns-clause-before_or_after : goal.returns-clause-before_or_after
+returns-clause-before_or_after g c kept what (inl d) =
+    on_ok_both c.reopen.result c.reopen.ensures.opened c.reopen.ensures.follows
+    (λ opened pair. inl (stands_for_each _ (g.D.Disk.seen (disk_of c.args.self.now))
+    (pair_of c.args.self.now) kept opened (subst (λ n. n < 2 ^ 64) pair opened.fits)
+    (keeps_stands d)).1)
+returns-clause-before_or_after g c kept what (inr d) =
+    on_ok_both c.reopen.result c.reopen.ensures.opened c.reopen.ensures.follows
+    (λ opened pair. inr (stands_for_each _ (g.D.Disk.seen (disk_of c.args.self.now))
+    (pair_of c.args.self.now) (after_kept kept what) opened
+    (subst (λ n. n < 2 ^ 64) pair opened.fits) (keeps_stands d)).1)
 
 pub returns-clause-refusals : goal.returns-clause-refusals
 returns-clause-refusals g c =
-    let old = c.args.self.now in
-    let value = value_read c.in_ok-found.found.image c.in_ok-found.found.records in
-    let refused = c.in-Err in
-    own_refusal refused.error old.pair (g.D.Disk.seen (disk_of old)) value
-    (ap meaning (sym c.reopen.ensures.untouched.same)
-    ∙ c.in_ok-found.ensures.reopened.holds.means) refused.ensures.refusals
-    (λ damaged archive stands. refused.ensures.damaged damaged archive
-    (subst (λ p. ArchiveStandsFor old.pair c.deref.result.now p archive)
-    (ap bytes_of_each (sym c.deref-2.ensures.value)) (subst (λ i.
-    ArchiveStandsFor old.pair i value.payloads archive) (sym c.deref.ensures.value) stands)))
+    IfErr-weaker c.reopen.result _ _ (λ e refused. reopen_refusal e c.args.self.now.machine.state
+    (g.D.Disk.seen (disk_of c.args.self.now)) refused) c.reopen.ensures.refused
+
+pub returns-clause-memory : goal.returns-clause-memory
+returns-clause-memory g c =
+    IfErr-weaker c.reopen.result _ _
+    (λ e same. record { pair = ap (λ a. a.pair) same; archive = ap agreed_archive same })
+    c.reopen.ensures.state
+
+pub returns-clause-readings : goal.returns-clause-readings
+returns-clause-readings g c =
+    if_err_both c.reopen.result (returns-clause-memory g c) c.reopen.ensures.readings
+    (λ e memory readings. elim readings [
+      | inl keeps ↦ inl (record {
+        memory = memory;
+        left_is = keeps.left_is;
+        generation = keeps.generation;
+      })
+      | inr shows ↦ inr (record {
+        value = shows.value;
+        journal = shows.journal;
+        left_is = shows.left_is;
+      })
+    ])
+
+pub returns-clause-room : goal.returns-clause-room
+returns-clause-room g c kept stands =
+    if_err_both c.reopen.result (returns-clause-memory g c)
+    (c.reopen.ensures.room stands.value stands.runs) (λ e memory keeps. record {
+      memory = memory;
+      left_is = keeps.left_is;
+      generation = keeps.generation;
+    })
+
+pub returns-clause-remembers : goal.returns-clause-remembers
+returns-clause-remembers g c halted =
+    if_err_both c.reopen.result (returns-clause-memory g c) (c.reopen.ensures.remembers halted)
+    (λ e memory keeps. record {
+      memory = memory;
+      left_is = keeps.left_is;
+      generation = keeps.generation;
+    })
 
 pub returns-clause-unchanged : goal.returns-clause-unchanged
 returns-clause-unchanged g c kept stands =
     let old = c.args.self.now in
-    let value = value_read c.in_ok-found.found.image c.in_ok-found.found.records in
-    let refused = c.in-Err in
-    let same = one_value _ value stands.value (ap meaning (sym c.reopen.ensures.untouched.same)
-    ∙ c.in_ok-found.ensures.reopened.holds.means) stands.runs.holds.means in
-    let means = subst (λ v. ArchiveStandsFor old.pair v.image v.payloads kept)
-    (sym same) stands.means in
-    let memory = memory_alone refused.error refused.ensures.refusals
-    (λ damaged. refused.ensures.damaged damaged kept
-    (subst (λ p. ArchiveStandsFor old.pair c.deref.result.now p kept)
-    (ap bytes_of_each (sym c.deref-2.ensures.value)) (subst
-    (λ i. ArchiveStandsFor old.pair i value.payloads kept) (sym c.deref.ensures.value) means))) in
-    let ran = runs_on c.is_halted-was_halted.result old.journal.halted
-    c.is_halted-was_halted.ensures.halted.0 stands.runs.running in
-    inr (subst (λ r. Stands r kept) (sym (c.settle.ensures.goes_on ran memory))
-    (stands_as_before old _ value kept stands c.in_ok-found.ensures.reopened
-    c.reopen.ensures.untouched.same refl refl))
+    if_err_both c.reopen.result c.reopen.ensures.state
+    (c.reopen.ensures.unchanged stands.value stands.runs (subst (λ a. ArchiveStandsFor (pair_of old)
+    stands.value.image stands.value.payloads a) (sym stands.remembers) stands.means))
+    (λ e same h. elim h [
+      | inl device ↦ inl (same_error e Device device)
+      | inr runs ↦ inr (record {
+        remembers = ap agreed_archive same ∙ stands.remembers;
+        value = stands.value;
+        runs = runs;
+        means = subst (λ n. ArchiveStandsFor n stands.value.image stands.value.payloads kept)
+            (sym (ap (λ a. a.pair) same)) stands.means;
+      })
+    ])
+
+pub returns-clause-failures : goal.returns-clause-failures
+returns-clause-failures g c = failures_of c.reopen.result _ _ c.reopen.ensures.device.failures
+
+pub returns-clause-calls : goal.returns-clause-calls
+returns-clause-calls g c = reads_of c.reopen.result 1 _ _ c.reopen.ensures.device.arms

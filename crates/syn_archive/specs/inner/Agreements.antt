@@ -1,0 +1,56 @@
+-- What an archive has in memory, and what a record makes of it.
+use Rattle.std.specs.Prelude.{ℕ, List, Option}
+use Rattle.syn_model.specs.Path.{Bytes}
+use Rattle.syn_model.specs.Tree.{Tree}
+use Rattle.syn_model.specs.Archive.{Archive}
+use Rattle.syn_model.specs.ArchiveImage.{ArchiveStandsFor}
+use Rattle.syn_mark.specs.Changes.{IsPreparedFor, after_change}
+use Rattle.syn_archive.specs.Disks.{StandsForNone, StandsForOther}
+use Rattle.syn_archive.specs.declared.agreed.Agreed.{Agreed}
+use Rattle.syn_archive.specs.declared.agreed.Update.{Update}
+use Rattle.syn_archive.specs.declared.agreed.Update.TheVariants.{Session, Marks}
+use Rattle.syn_archive.specs.declared.error.ArchiveError.{ArchiveError}
+use Rattle.syn_archive.specs.declared.error.ArchiveError.TheVariants.{Memory, Damaged, WrongPair}
+
+-- the archive of the model
+abbrev pub agreed_archive : Agreed → Archive
+agreed_archive agreed = record { marks = agreed.marks; last_session = agreed.last_session }
+
+abbrev pub session_after : ℕ → Update → ℕ
+session_after last (Session session) = session
+session_after last (Marks change) = last
+
+abbrev pub marks_after : Tree → Update → Tree
+marks_after marks (Session session) = marks
+marks_after marks (Marks change) = after_change marks change
+
+abbrev pub after_update : Agreed → Update → Agreed
+after_update agreed update = record {
+  pair = agreed.pair;
+  last_session = session_after agreed.last_session update;
+  marks = marks_after agreed.marks update;
+}
+
+-- the update may be made
+abbrev pub IsReady : Agreed → Update → Type 0
+IsReady agreed (Session session) = Unit {0}
+IsReady agreed (Marks change) = IsPreparedFor agreed.marks change
+
+-- the image with the payloads stands for the archive, of its pair
+abbrev pub Gives : Bytes → List Bytes → Agreed → Type 0
+Gives image payloads agreed =
+    ArchiveStandsFor agreed.pair image payloads (agreed_archive agreed)
+
+-- why it stands for none of the wanted pair
+abbrev pub IsUnread : ArchiveError → Option ℕ → Bytes → List Bytes → Type 0
+IsUnread Memory wanted image payloads = Unit {0}
+IsUnread Damaged wanted image payloads = StandsForNone image payloads
+IsUnread WrongPair wanted image payloads = StandsForOther wanted image payloads
+IsUnread _ wanted image payloads = ⊥
+
+-- and why for none of the same pair
+abbrev pub IsUnreadAgain : ArchiveError → Agreed → Bytes → List Bytes → Type 0
+IsUnreadAgain Memory agreed image payloads = Unit {0}
+IsUnreadAgain Damaged agreed image payloads =
+    (archive : Archive) → ¬ ArchiveStandsFor agreed.pair image payloads archive
+IsUnreadAgain _ agreed image payloads = ⊥

@@ -1,0 +1,45 @@
+-- What is to be kept in an archive, and why it is not.
+use Rattle.std.specs.Prelude.{◌≡◌, ◌<◌, ◌≤◌, ◌+◌, ℕ, Bool, true, false, Some, None, length}
+use Rattle.syn_model.specs.Archive.{Archive, Kept, Session, Recorded, RecordedDir, kept_refusal}
+use Rattle.syn_model.specs.MarkSpelling.{kept_spelling}
+use Rattle.syn_model.specs.Tree.{is_directory}
+use Rattle.syn_mark.specs.Marks.{or_absent}
+use Rattle.syn_archive.specs.Refusals.{refusal_of}
+use Rattle.syn_archive.specs.declared.error.ArchiveError.{ArchiveError}
+use Rattle.syn_archive.specs.declared.error.ArchiveError.TheVariants.{NoParent, Root, Full}
+use Rattle.syn_archive.specs.declared.error.ArchiveError.TheVariants.{JournalFull, Halted, Memory}
+use Rattle.syn_archive.specs.declared.keeping.Keeping.{Keeping}
+use Rattle.syn_archive.specs.declared.keeping.Keeping.TheVariants as keeping
+
+-- as the model has it, of an archive with this last session
+abbrev pub kept_in : ℕ → Keeping → Kept
+kept_in last keeping.Session = Session (last + 1)
+kept_in last (keeping.Record path marks) = Recorded path.now (or_absent marks)
+kept_in last (keeping.Dir path) = RecordedDir path.now
+
+-- a directory is recorded where none is
+abbrev pub IsNews : Archive → Keeping → Type 0
+IsNews archive keeping.Session = Unit {0}
+IsNews archive (keeping.Record path marks) = Unit {0}
+IsNews archive (keeping.Dir path) = is_directory archive.marks path.now ≡ false
+
+-- a refusal of the marks
+abbrev pub is_inner : ArchiveError → Bool
+is_inner NoParent = true
+is_inner Root = true
+is_inner Full = true
+is_inner Memory = true
+is_inner _ = false
+
+-- Why it is not kept, before any device call, with so much room in the journal: one cause alone
+-- holds, but for want of memory
+pub data NotPrepared (halted : Type 0) (room : ℕ) (archive : Archive) (kept : Kept) : ArchiveError →
+    Type 0 where
+  not_running : halted → NotPrepared halted room archive kept Halted
+  refused : (error : ArchiveError) → ¬ halted →
+      kept_refusal archive kept ≡ Some (refusal_of error) → is_inner error ≡ true →
+      NotPrepared halted room archive kept error
+  no_room : ¬ halted → kept_refusal archive kept ≡ None → room < length (kept_spelling kept) →
+      NotPrepared halted room archive kept JournalFull
+  no_memory : ¬ halted → kept_refusal archive kept ≡ None → length (kept_spelling kept) ≤ room →
+      NotPrepared halted room archive kept Memory

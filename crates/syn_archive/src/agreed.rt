@@ -1,0 +1,127 @@
+//! What an archive has in memory, and how its disk spells it.
+ghost use Rattle.std.specs.Prelude.{◌≡◌};
+ghost use Rattle.syn_archive.specs.inner.Agreements.{Gives, IsReady, IsUnread, IsUnreadAgain};
+ghost use Rattle.syn_archive.specs.inner.Agreements.{agreed_archive, after_update};
+ghost use Rattle.syn_archive.specs.Refusals.{refusal_of, of_journal};
+ghost use Rattle.syn_model.specs.MarkSpelling.{archive_spelling};
+
+use crate::error::ArchiveError;
+use crate::laws::opening_laws;
+use crate::opening::{read_archive, read_own};
+use std::alloc::Global;
+use syn_image::{ArchiveImage, encode_archive};
+use syn_journal::JournalError;
+use syn_journaled::State;
+use syn_mark::{MarkChange, MarkTree};
+use syn_refusal::Refusal;
+
+/// What both sides last agreed on, for one pair.
+#[derive(Drop)]
+pub(crate) struct Agreed {
+    /// The number of the pair.
+    pub(crate) pair: u64,
+    /// The number of the last session; 0 before the first.
+    pub(crate) last_session: u64,
+    /// The marks.
+    pub(crate) marks: MarkTree,
+}
+
+/// What a record changes of it, with all memory for it.
+#[derive(Drop)]
+pub(crate) enum Update {
+    /// The session that begins.
+    Session(u64),
+    /// Marks that stand at a path.
+    Marks(MarkChange),
+}
+
+impl State for Agreed {
+    type Update = Update;
+
+    type Error = ArchiveError;
+
+    ghost why = { λ error. refusal_of error };
+
+    ghost of_journal = { λ error. of_journal error };
+
+    ghost pair = { λ agreed. agreed.pair };
+
+    ghost spelling = { λ agreed. archive_spelling agreed.pair (agreed_archive agreed) };
+
+    ghost gives = { Gives };
+
+    ghost unread = { IsUnread };
+
+    ghost follows = { λ old new. new.pair ≡ old.pair };
+
+    ghost unread_again = { IsUnreadAgain };
+
+    ghost ready = { IsReady };
+
+    ghost makes = { λ old update new. new ≡ after_update old update };
+
+    fn refused(error: JournalError) -> ArchiveError {
+        ArchiveError::from(error)
+    }
+
+    fn refusal(error: &ArchiveError) -> Refusal {
+        error.refusal()
+    }
+
+    fn image(&self, alloc: Global) -> Result<Vec<u8>, ArchiveError> {
+        Ok(encode_archive(alloc, self.pair, self.last_session, &self.marks)?)
+    }
+
+    fn read(
+        alloc: Global,
+        image: &[u8],
+        payloads: &[Vec<u8>],
+        wanted: Option<u64>,
+    ) -> Result<Agreed, ArchiveError> {
+        opening_laws();
+        match read_archive(alloc, image, wanted, payloads) {
+            Ok(
+                ArchiveImage {
+                    pair,
+                    last_session,
+                    marks,
+                },
+            ) => Ok(Agreed {
+                pair,
+                last_session,
+                marks,
+            }),
+            Err(error) => Err(error),
+        }
+    }
+
+    fn read_again(
+        &self,
+        alloc: Global,
+        image: &[u8],
+        payloads: &[Vec<u8>],
+    ) -> Result<Agreed, ArchiveError> {
+        opening_laws();
+        match read_own(alloc, image, self.pair, payloads) {
+            Ok(
+                ArchiveImage {
+                    pair: _,
+                    last_session,
+                    marks,
+                },
+            ) => Ok(Agreed {
+                pair: self.pair,
+                last_session,
+                marks,
+            }),
+            Err(error) => Err(error),
+        }
+    }
+
+    fn make(&mut self, update: Update) {
+        match update {
+            Update::Session(session) => self.last_session = session,
+            Update::Marks(change) => self.marks.make(change),
+        }
+    }
+}
