@@ -7,15 +7,16 @@
 //! behind it, and how an update that was prepared is made. `Journaled` keeps one on a disk.
 //!
 //! - `format` writes the image of a state, with no payload (`formatted`).
-//! - `write` appends the payload of an update and then makes the update (`journal`: `Appends`). After
-//!   any refusal the state is as it was (`state`).
+//! - `write` appends the payload of an update, and then makes the update (`journal`: `Appends`).
+//!   After any refusal the state is as it was (`state`).
 //! - `checkpoint` writes the image of the state in the place of the payloads (`journal`:
 //!   `Compacts`), and leaves the state (`state`).
-//! - `open` has in memory what the disk gives, and nothing else is given by it (`opened`: `Opened`).
-//!   It is refused as the journal is, or as the state is not read (`refused`: `NotOpened`).
+//! - `open` has in memory what the disk gives, and the disk gives nothing else (`opened`:
+//!   `Opened`). It is refused as the journal is, or as the state is not read (`refused`:
+//!   `NotOpened`).
 //! - `reopen` does the same with the machine's own disk, where what is read may follow the state
-//!   (`follows`). After any refusal the state is as it was. After one for want of memory the machine
-//!   goes on, and after any other it is halted (`halts`).
+//!   (`follows`). After any refusal the state is as it was. After one for want of memory the
+//!   machine goes on, and after any other it is halted (`halts`).
 //! - What the device sees of a call is one fact: how many device calls were made, and whether the
 //!   last of them failed (`Spends`, `Reads`).
 #![tactic(auto)]

@@ -58,7 +58,8 @@ impl<D: Disk, S: State + Drop> Journaled<D, S> {
     /// the machine is as it was, halted or not; after any other refusal it is halted. One that was
     /// halted then shows what it showed. Nothing is written.
     pub fn reopen(&mut self, alloc: Global) -> Result<(), S::Error>
-        ensures opened { OnOk result (IsOpened S.pair S.gives (D.seen (disk_of self.old)) self.new) }
+        ensures opened { OnOk result
+            (IsOpened S.pair S.gives (D.seen (disk_of self.old)) self.new) }
         ensures follows { OnOk result (S.follows (state_of self.old) (state_of self.new)) }
         ensures refused { IfErr result (λ e. NotOpened S.of_journal
             (S.unread_again e (state_of self.old)) e (D.seen (disk_of self.old))) }

@@ -103,8 +103,8 @@ returns-in_err-payload-clause-unchanged g c =
 
 pub returns-clause-acknowledged : goal.returns-clause-acknowledged
 returns-clause-acknowledged g c kept stands =
-    on_ok_of c.write.result _ (λ none. written_stands c.args.self.now (record { machine = c.write.new.self })
-    c.deref.result.now _ _
+    on_ok_of c.write.result _ (λ none. written_stands c.args.self.now
+    (record { machine = c.write.new.self }) c.deref.result.now _ _
     c.write.ensures.journal (c.deref.ensures.value ∙ c.in_ok-payload.ensures.payload)
     c.in_ok-payload.field-0.update none
     (ok_part c.write.result _ _ c.write.ensures.state none) c.in_ok-payload.ensures.keeps
@@ -112,24 +112,24 @@ returns-clause-acknowledged g c kept stands =
 
 pub returns-clause-record : goal.returns-clause-record
 returns-clause-record g c =
-    on_ok_of c.write.result _ (λ none. written_record c.args.self.now (record { machine = c.write.new.self })
-    c.deref.result.now _ _
+    on_ok_of c.write.result _ (λ none. written_record c.args.self.now
+    (record { machine = c.write.new.self }) c.deref.result.now _ _
     c.write.ensures.journal (c.deref.ensures.value ∙ c.in_ok-payload.ensures.payload)
     c.in_ok-payload.field-0.update none
     (ok_part c.write.result _ _ c.write.ensures.state none) c.in_ok-payload.ensures.keeps)
 
 pub returns-clause-session : goal.returns-clause-session
 returns-clause-session g c =
-    on_ok_of c.write.result _ (λ none. written_shown c.args.self.now (record { machine = c.write.new.self })
-    c.deref.result.now _ _
+    on_ok_of c.write.result _ (λ none. written_shown c.args.self.now
+    (record { machine = c.write.new.self }) c.deref.result.now _ _
     c.write.ensures.journal (c.deref.ensures.value ∙ c.in_ok-payload.ensures.payload)
     c.in_ok-payload.field-0.update none
     (ok_part c.write.result _ _ c.write.ensures.state none) c.in_ok-payload.ensures.keeps)
 
 pub returns-clause-any_moment : goal.returns-clause-any_moment
 returns-clause-any_moment g c kept stands =
-    written_moment c.args.self.now (record { machine = c.write.new.self })
-    c.deref.result.now _ _ c.write.ensures.journal
+    written_moment c.args.self.now (record { machine = c.write.new.self }) c.deref.result.now _ _
+    c.write.ensures.journal
     (c.deref.ensures.value ∙ c.in_ok-payload.ensures.payload) c.archive_laws.ensures.record
     c.layout_laws.ensures.left _ c.in_ok-payload.ensures.keeps kept stands
 
@@ -138,7 +138,8 @@ returns-clause-seen g c kept stands =
     seen_is_left g.D.Disk.seen g.D.Disk.may_leave g.D.Disk.moment g.D.Disk.left_since
     g.met.D.Disk.seen_may_stay g.met.D.Disk.counts_now _ _
     (KeepsBeforeOrAfter c.args.self.now kept
-    (kept_in (session_shown c.args.self.now) c.args.what)) (returns-clause-any_moment g c kept stands)
+    (kept_in (session_shown c.args.self.now) c.args.what))
+    (returns-clause-any_moment g c kept stands)
 
 pub returns-clause-refused : goal.returns-clause-refused
 returns-clause-refused g c why running some =
@@ -149,8 +150,8 @@ returns-clause-cause g c = cause_of_write c.write.result _ c.write.ensures.journ
 
 pub returns-clause-no_room : goal.returns-clause-no_room
 returns-clause-no_room g c is =
-    write_lacks_room c.args.self.now (record { machine = c.write.new.self })
-    c.deref.result.now _ _ c.write.ensures.journal
+    write_lacks_room c.args.self.now
+    (record { machine = c.write.new.self }) c.deref.result.now _ _ c.write.ensures.journal
     (c.deref.ensures.value ∙ c.in_ok-payload.ensures.payload) c.in_ok-payload.ensures.fits
     (ap (ended refusal_of) is)
 
@@ -176,8 +177,8 @@ returns-clause-calls g c = calls_of c.write.result 4 _ _ c.write.ensures.journal
 
 pub returns-clause-readings : goal.returns-clause-readings
 returns-clause-readings g c =
-    written_readings c.args.self.now (record { machine = c.write.new.self })
-    c.deref.result.now
+    written_readings c.args.self.now
+    (record { machine = c.write.new.self }) c.deref.result.now
     (kept_in (session_shown c.args.self.now) c.args.what) c.write.result
     c.write.ensures.journal (c.deref.ensures.value ∙ c.in_ok-payload.ensures.payload)
     (err_part c.write.result _ _ c.write.ensures.state)

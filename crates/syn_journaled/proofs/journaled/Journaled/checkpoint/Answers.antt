@@ -8,7 +8,12 @@ pub returns-in-Err-clause-journal : goal.returns-in-Err-clause-journal
 returns-in-Err-clause-journal g c =
     not_begun g.met.D.Disk.only_now (journal_of c.args.self.now) _
     (λ halted. true≢false (sym (c.is_halted.ensures.halted.1 halted) ∙ c.if-is_halted.false))
-    (λ last. omega (arith, c.if-generation-eq18446744073709551615.false, c.generation.ensures, last))
+    (λ last. omega (
+      arith,
+      c.if-generation-eq18446744073709551615.false,
+      c.generation.ensures,
+      last,
+    ))
     _ c.in-Err.ensures.memory
 
 pub returns-clause-journal : goal.returns-clause-journal
@@ -22,7 +27,12 @@ returns-clause-journal g c =
     (Some (refusal_of c.in-Err-checkpoint.error))) spelled
     (not_compacted (journal_of c.args.self.now) c.checkpoint.new.self c.deref.result.now
     (λ halted. true≢false (sym (c.is_halted.ensures.halted.1 halted) ∙ c.if-is_halted.false))
-    (λ last. omega (arith, c.if-generation-eq18446744073709551615.false, c.generation.ensures, last))
+    (λ last. omega (
+      arith,
+      c.if-generation-eq18446744073709551615.false,
+      c.generation.ensures,
+      last,
+    ))
     c.in-Err-checkpoint.error refused.any_moment
     (λ is. refused.halted.0 (ap (λ x. Err x) is))
     (λ is. (refused.full.0 (ap (λ x. Err x) is)).1) (λ is. refused.halts (ap (λ x. Err x) is))
