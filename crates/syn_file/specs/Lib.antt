@@ -1,5 +1,6 @@
 pub mod FileDisk
 pub mod Lock
+pub mod Locked
 pub mod Extent
 pub mod Mirror
 pub mod Mirrored

@@ -10,14 +10,14 @@ ghost use Rattle.syn_file.specs.declared.file.host.Access.{Access};
 
 use crate::error::OpenError;
 use std::alloc::Global;
-use std::fs::{Files, OpenOptions};
 use syn_disk::{DeviceFailed, Disk, Tally};
 
 pub mod host;
 mod image;
+pub mod locked;
 pub mod mirror;
 
-use host::{Access, HostFile, take_lock};
+use host::{Access, HostFile};
 use mirror::MirroredFile;
 
 /// A file of `DISK_SIZE` bytes, by what each call on it leaves.
@@ -114,65 +114,11 @@ impl<H: HostFile> FileDisk<MirroredFile<H>> {
     ghost use Rattle.syn_file.specs.FileDisk.{file_of, failures_of};
     ghost use Rattle.syn_file.specs.Mirrored.{seen_of, MayBeLeft, host_of};
 
-    /// Opens the file at the path for this access, and takes the system's lock on it. Nothing of it
-    /// is read; `of_file` makes it a disk.
-    ///
-    /// It is refused 12 where another process has the file open, to write where this one reads; 9
-    /// where the file is missing or cannot be locked; and 11 for want of memory.
-    pub fn lock<R: Files<File = H>>(files: &R, path: &str, access: Access) -> Result<H, OpenError>
-        ensures held { IfOk result (λ file. H.is_held file access) }
-    {
-        let writes = access == Access::Write;
-        let file = OpenOptions::new()
-            .read(true)
-            .write(writes)
-            .open(files, path)?;
-        take_lock(&file, access)?;
-        Ok(file)
-    }
-
-    /// The disk in the file at the path, which no other process may open as long as this one has
-    /// it.
-    ///
-    /// It is refused 12 where another process has the file open, 9 where the file is missing or of
-    /// another length than a disk, or cannot be locked, read or synced, and 11 for want of memory.
-    pub fn open<R: Files<File = H>>(
-        alloc: Global,
-        files: &R,
-        path: &str,
-    ) -> Result<FileDisk<MirroredFile<H>>, OpenError>
-        ensures settled { IfOk result
-            (λ disk. Only (seen_of (file_of disk)) (MayBeLeft (file_of disk))) }
-        ensures held { IfOk result (λ disk. H.is_held (host_of (file_of disk)) Access.Write) }
-        ensures failures { IfOk result (λ disk. failures_of disk ≡ 0) }
-    {
-        let file = FileDisk::lock(files, path, Access::Write)?;
-        FileDisk::of_file(alloc, file, Access::Write)
-    }
-
-    /// The disk in the file at the path, to be read. A file and a folder that cannot be written
-    /// will do. Other processes may read the file meanwhile, and none may write it. Each write
-    /// fails.
-    ///
-    /// It is refused as `open` is, but 12 only where another process has the file open to write.
-    pub fn open_to_read<R: Files<File = H>>(
-        alloc: Global,
-        files: &R,
-        path: &str,
-    ) -> Result<FileDisk<MirroredFile<H>>, OpenError>
-        ensures settled { IfOk result
-            (λ disk. Only (seen_of (file_of disk)) (MayBeLeft (file_of disk))) }
-        ensures held { IfOk result (λ disk. H.is_held (host_of (file_of disk)) Access.Read) }
-        ensures failures { IfOk result (λ disk. failures_of disk ≡ 0) }
-    {
-        let file = FileDisk::lock(files, path, Access::Read)?;
-        FileDisk::of_file(alloc, file, Access::Read)
-    }
-
     /// The disk in a file that was opened, which is locked if it was not before. It is synced
     /// first, so that a stop leaves what a read gives.
     ///
-    /// It is refused as `open` is.
+    /// It is refused 12 where another process has the lock, 9 where the file is of another length
+    /// than a disk, or cannot be locked, read or synced, and 11 for want of memory.
     pub fn of_file(
         alloc: Global,
         file: H,

@@ -11,13 +11,14 @@
 //! of each way to open one), and fails each call once a write or a sync failed. `MirroredFile` is a
 //! `DiskFile` over a file of the system, with its bytes in memory.
 //!
-//! Where a disk is opened, the system's lock on its file was taken and is held (`held`): to write
-//! by `open`, to read by `open_to_read`, for the access that is named by `of_file`. `lock` takes it
-//! alone, and reads nothing. A read, a write and a sync of a `DiskFile` let no lock go (`lock` of
-//! each). `HostFile` says of a file which lock is held on it (`is_held`). An opening beside a
-//! writer is refused 12, and so is one to write beside readers. Two things are taken as given: what
-//! the system's lock keeps out, and that the system's file follows the memory. Which file a path
-//! opens no clause says, since the standard library's say nothing of it.
+//! `LockedFile::open` opens a file and takes the system's lock on it, for the access that is named
+//! (`locked`). Nothing is read. `into_disk` reads it, and needs no `Files`, so that it may run in
+//! another thread. Where a disk is opened, that lock is held (`held`, of `into_disk` and of
+//! `of_file`). A read, a write and a sync of a `DiskFile` let no lock go (`lock` of each).
+//! `HostFile` says of a file which lock is held on it (`is_held`). An opening beside a writer is
+//! refused 12, and so is one to write beside readers. Two things are taken as given: what the
+//! system's lock keeps out, and that the system's file follows the memory. Which file a path opens
+//! no clause says, since the standard library's say nothing of it.
 #![tactic(auto)]
 
 mod error;
@@ -25,5 +26,6 @@ mod file;
 
 pub use error::OpenError;
 pub use file::host::{Access, HostFile};
+pub use file::locked::{LockedDisk, LockedFile};
 pub use file::mirror::MirroredFile;
 pub use file::{DiskFile, FileDisk};

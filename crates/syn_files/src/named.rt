@@ -1,12 +1,11 @@
 //! Disks that are opened by their names, and the images on them.
 ghost use Rattle.std.specs.Prelude.{IfOk};
-ghost use Rattle.syn_file.specs.declared.file.host.Access.{Access};
 
 use std::alloc::Global;
 use syn_archive::Archive;
 use syn_command::{CommandError, Image, open_image};
 use syn_disk::{Cut, Disk};
-use syn_file::{Access, OpenError};
+use syn_file::{Access, LockedDisk, OpenError};
 use syn_replica::Replica;
 
 /// Disks that have names.
@@ -14,22 +13,17 @@ pub trait NamedDisks {
     /// A disk that is open.
     type Disk: Disk + Drop + Send;
 
-    /// The lock for this access is held on the disk.
-    ghost is_held: { Self.Disk → Access → Type 0 };
+    /// A disk that is locked, and of which nothing was read yet.
+    type Locked: LockedDisk<Disk = Self::Disk> + Drop + Send;
 
-    /// The disk of that name, which no other process may open as long as this one has it.
+    /// Takes the lock on the disk of that name. To write, no other process may open it as long as
+    /// this one has it. To read, others may read it meanwhile and none may write it; it need not be
+    /// one that can be written, and each write fails.
     ///
-    /// It is refused 12 where another process has it, 9 where there is none or the device fails,
-    /// and 11 for want of memory.
-    fn open(&self, alloc: Global, name: &str) -> Result<Self::Disk, OpenError>
-        ensures held { IfOk result (λ disk. is_held disk Access.Write) };
-
-    /// The disk of that name, to be read. Other processes may read it meanwhile, and none may
-    /// write it. It need not be one that can be written, and each write fails.
-    ///
-    /// It is refused as `open` is, but 12 only where another process has it to write.
-    fn open_to_read(&self, alloc: Global, name: &str) -> Result<Self::Disk, OpenError>
-        ensures held { IfOk result (λ disk. is_held disk Access.Read) };
+    /// It is refused 12 where another process has it, to write where this one reads; 9 where there
+    /// is none or the device fails; and 11 for want of memory.
+    fn lock(&self, name: &str, access: Access) -> Result<Self::Locked, OpenError>
+        ensures locked { IfOk result (λ locked. Self.Locked.is_locked locked access) };
 }
 
 /// The replica of that name, which no other process may open meanwhile.
@@ -38,8 +32,7 @@ pub fn replica_in<N: NamedDisks>(
     disks: &N,
     name: &str,
 ) -> Result<Replica<N::Disk>, CommandError> {
-    let disk = disks.open(alloc, name)?;
-    Replica::open(alloc, disk, None).map_err(|(error, _)| CommandError::from(error))
+    replica_on(alloc, disks.lock(name, Access::Write))
 }
 
 /// The archive of that name, which no other process may open meanwhile.
@@ -48,8 +41,7 @@ pub fn archive_in<N: NamedDisks>(
     disks: &N,
     name: &str,
 ) -> Result<Archive<Cut<N::Disk>>, CommandError> {
-    let disk = Cut::new(disks.open(alloc, name)?);
-    Archive::open(alloc, disk, None).map_err(|(error, _)| CommandError::from(error))
+    archive_on(alloc, disks.lock(name, Access::Write))
 }
 
 /// The archive of that name, to be read. Its disk need not be one that can be written.
@@ -57,9 +49,8 @@ pub fn archive_to_read<N: NamedDisks>(
     alloc: Global,
     disks: &N,
     name: &str,
-) -> Result<Archive<N::Disk>, CommandError> {
-    let disk = disks.open_to_read(alloc, name)?;
-    Archive::open(alloc, disk, None).map_err(|(error, _)| CommandError::from(error))
+) -> Result<Archive<Cut<N::Disk>>, CommandError> {
+    archive_on(alloc, disks.lock(name, Access::Read))
 }
 
 /// The image of that name, to be read. Its disk need not be one that can be written.
@@ -68,7 +59,8 @@ pub fn image_in<N: NamedDisks>(
     disks: &N,
     name: &str,
 ) -> Result<Image<N::Disk>, CommandError> {
-    open_image(alloc, disks.open_to_read(alloc, name)?)
+    let locked = disks.lock(name, Access::Read)?;
+    open_image(alloc, locked.into_disk(alloc)?)
 }
 
 /// The replica of that name, to be read. Its disk need not be one that can be written.
@@ -77,6 +69,29 @@ pub fn replica_to_read<N: NamedDisks>(
     disks: &N,
     name: &str,
 ) -> Result<Replica<N::Disk>, CommandError> {
-    let disk = disks.open_to_read(alloc, name)?;
+    replica_on(alloc, disks.lock(name, Access::Read))
+}
+
+/// The replica on the disk that was locked, where it was.
+pub(crate) fn replica_on<L: LockedDisk>(
+    alloc: Global,
+    locked: Result<L, OpenError>,
+) -> Result<Replica<L::Disk>, CommandError>
+where
+    L::Disk: Drop,
+{
+    let disk = locked?.into_disk(alloc)?;
     Replica::open(alloc, disk, None).map_err(|(error, _)| CommandError::from(error))
+}
+
+/// The archive on the disk that was locked, where it was.
+pub(crate) fn archive_on<L: LockedDisk>(
+    alloc: Global,
+    locked: Result<L, OpenError>,
+) -> Result<Archive<Cut<L::Disk>>, CommandError>
+where
+    L::Disk: Drop,
+{
+    let disk = Cut::new(locked?.into_disk(alloc)?);
+    Archive::open(alloc, disk, None).map_err(|(error, _)| CommandError::from(error))
 }

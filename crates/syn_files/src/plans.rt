@@ -1,16 +1,19 @@
 //! What a session of images that have names, or of served replicas, would do.
 
-use crate::named::{NamedDisks, archive_to_read, replica_to_read};
+use crate::named::{NamedDisks, archive_to_read};
 use crate::network::reach;
 use crate::sessions::{Between, Pairing};
+use crate::side_by_side::{Images, images_in};
 use std::alloc::Global;
 use std::io::Write;
 use std::net::{Net, TcpStream};
+use std::thread::Threads;
 use syn_archive::Archive;
 use syn_command::{CommandError, Outcome, outcome_planned};
 use syn_disk::Disk;
-use syn_file::OpenError;
+use syn_file::{Access, OpenError};
 use syn_mark::MarkTree;
+use syn_path::Side;
 use syn_plan::{Planned, counts_of, plan_between, plan_of_replicas, show_plan};
 use syn_refusal::Refusal;
 use syn_replica::Replica;
@@ -23,7 +26,7 @@ use syn_user::SideConnection;
 /// Refused as an opening to read is, left first and the archive last; 9 where an address cannot be
 /// reached; and as a session ends early that scans both sides. Of files it is refused 12 where both
 /// are one, and 14 and 20 as the session would be; a server does not tell these before it begins.
-pub fn print_plan<H: Net<Stream = TcpStream>, N: NamedDisks, O: Write>(
+pub fn print_plan<H: Net<Stream = TcpStream> + Threads + Sync, N: NamedDisks, O: Write>(
     rt: &H,
     alloc: Global,
     disks: &N,
@@ -48,15 +51,28 @@ pub fn print_plan<H: Net<Stream = TcpStream>, N: NamedDisks, O: Write>(
             if left == right {
                 return Err(CommandError::Open(OpenError::Busy));
             }
-            let left = replica_to_read(alloc, disks, left)?;
-            let right = replica_to_read(alloc, disks, right)?;
-            let archive = archive_to_read(alloc, disks, archive)?;
-            check_begin(&left, &archive)?;
-            check_begin(&right, &archive)?;
-            let planned = plan_of_replicas(alloc, &left, &right, archive.tree(), preference);
-            print_planned(alloc, planned, archive.tree(), output)
+            let images = images_in(rt, alloc, disks, left, right, archive, Access::Read)?;
+            plan_opened(alloc, &images, preference, output)
         }
     }
+}
+
+/// Prints what a session of the images would do.
+fn plan_opened<D: Disk, A: Disk, O: Write>(
+    alloc: Global,
+    images: &Images<D, A>,
+    preference: Option<Side>,
+    output: &mut O,
+) -> Result<Outcome, CommandError> {
+    let Images {
+        left,
+        right,
+        archive,
+    } = images;
+    check_begin(left, archive)?;
+    check_begin(right, archive)?;
+    let planned = plan_of_replicas(alloc, left, right, archive.tree(), preference);
+    print_planned(alloc, planned, archive.tree(), output)
 }
 
 /// Refuses what the replica would refuse the next session of the archive: 14 where it has seen a

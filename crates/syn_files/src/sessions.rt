@@ -1,6 +1,7 @@
 //! Sessions of images that have names, and of served replicas.
 
-use crate::named::{NamedDisks, archive_in, replica_in};
+use crate::named::{NamedDisks, archive_in};
+use crate::side_by_side::{Images, images_in};
 use crate::upkeep::{shorten, shorten_archive};
 use log::sink::Discard;
 use log::{LevelFilter, Logged};
@@ -15,8 +16,10 @@ use syn_command::{CommandError, Outcome, outcome_of};
 use syn_coordinator::Coordinator;
 use syn_daemon::{OpenGates, run, sync};
 use syn_disk::{Disk, Limit};
+use syn_file::Access;
 use syn_path::Side;
 use syn_refusal::Refusal;
+use syn_replica::Replica;
 use syn_session::Report;
 use syn_shared::SharedReplica;
 use syn_show::show_report;
@@ -125,8 +128,9 @@ where
             )
         }
         Between::Named { left, right } => {
-            let left = shared_in(alloc, disks, left)?;
-            drive_with(rt, alloc, disks, &left, right, pairing, watch, output)
+            let name = pairing.archive;
+            let images = images_in(rt, alloc, disks, left, right, name, Access::Write)?;
+            drive_opened(rt, alloc, images, pairing.preference, watch, output)
         }
     }
 }
@@ -156,35 +160,30 @@ where
     told
 }
 
-/// Runs a session between a replica and that of the name.
-fn drive_with<H, N, V, O>(
+/// Runs a session between replicas that are open.
+fn drive_opened<H, D, C, V, O>(
     rt: &H,
     alloc: Global,
-    disks: &N,
-    left: &SharedReplica<N::Disk>,
-    right: &str,
-    pairing: Pairing<'_>,
+    images: Images<D, C>,
+    preference: Option<Side>,
     watch: &mut V,
     output: &mut O,
 ) -> Result<Outcome, CommandError>
 where
     H: Net<Listener = TcpListener, Stream = TcpStream> + Threads + Wait + Clock + Copy + Sync,
-    N: NamedDisks,
+    D: Disk + Drop + Send,
+    C: Limit + Drop,
     V: Told,
     O: Write,
 {
-    let right = shared_in(alloc, disks, right)?;
-    let archive = archive_in(alloc, disks, pairing.archive)?;
-    drive_shared(
-        rt,
-        alloc,
+    let Images {
         left,
-        &right,
+        right,
         archive,
-        pairing.preference,
-        watch,
-        output,
-    )
+    } = images;
+    let left = shared(alloc, left)?;
+    let right = shared(alloc, right)?;
+    drive_shared(rt, alloc, &left, &right, archive, preference, watch, output)
 }
 
 /// Serves both replicas on loopback ports as long as a session between them runs. The servers log
@@ -228,13 +227,12 @@ where
     told
 }
 
-/// The replica of that name, under a lock.
-fn shared_in<N: NamedDisks>(
+/// The replica under a lock. Refused 11 where memory is refused.
+fn shared<D: Disk + Drop>(
     alloc: Global,
-    disks: &N,
-    name: &str,
-) -> Result<SharedReplica<N::Disk>, CommandError> {
-    match SharedReplica::new(alloc, replica_in(alloc, disks, name)?) {
+    replica: Replica<D>,
+) -> Result<SharedReplica<D>, CommandError> {
+    match SharedReplica::new(alloc, replica) {
         Ok(shared) => Ok(shared),
         Err(_) => Err(CommandError::Memory),
     }

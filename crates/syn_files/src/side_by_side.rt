@@ -1,0 +1,65 @@
+//! The images of a session, opened side by side.
+use crate::named::{NamedDisks, archive_on, replica_on};
+use std::alloc::Global;
+use std::thread::{Threads, join};
+use syn_archive::Archive;
+use syn_command::CommandError;
+use syn_disk::{Cut, Disk};
+use syn_file::{Access, LockedDisk, OpenError};
+use syn_replica::Replica;
+
+/// The images of a session, open: the replicas on disks `D`, and the archive on a disk `A`.
+#[derive(Drop)]
+pub(crate) struct Images<D: Disk, A: Disk> {
+    pub left: Replica<D>,
+    pub right: Replica<D>,
+    pub archive: Archive<A>,
+}
+
+/// The images of these names, opened for this access.
+///
+/// The locks are taken one after another. Then each image is read by a thread of its own, where one
+/// can be made. Where several are refused, the first of left, right and archive is told.
+pub(crate) fn images_in<H: Threads + Sync, N: NamedDisks>(
+    rt: &H,
+    alloc: Global,
+    disks: &N,
+    left: &str,
+    right: &str,
+    archive: &str,
+    access: Access,
+) -> Result<Images<N::Disk, Cut<N::Disk>>, CommandError> {
+    let left = disks.lock(left, access);
+    let right = disks.lock(right, access);
+    let archive = disks.lock(archive, access);
+    images_on(rt, alloc, left, right, archive)
+}
+
+/// The images on the disks that were locked. What was not locked is refused so.
+fn images_on<H: Threads + Sync, L: LockedDisk + Drop + Send>(
+    rt: &H,
+    alloc: Global,
+    left: Result<L, OpenError>,
+    right: Result<L, OpenError>,
+    archive: Result<L, OpenError>,
+) -> Result<Images<L::Disk, Cut<L::Disk>>, CommandError>
+where
+    L::Disk: Drop + Send,
+{
+    let (left, (right, archive)) = join(
+        rt,
+        move || replica_on(alloc, left),
+        move || {
+            join(
+                rt,
+                move || replica_on(alloc, right),
+                move || archive_on(alloc, archive),
+            )
+        },
+    );
+    Ok(Images {
+        left: left?,
+        right: right?,
+        archive: archive?,
+    })
+}
