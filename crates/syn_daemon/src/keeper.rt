@@ -2,21 +2,26 @@
 ghost use Rattle.syn_lock.specs.Locks.{IsLock};
 ghost use Rattle.syn_shared.specs.Shared.{IsFor, own_of};
 
+use crate::bell::Wake;
 use crate::server::Server;
 use log::{Log, info, warn};
 use std::sync::Wait;
+use std::time::Clock;
 use syn_disk::Disk;
 use syn_lock::{Naming, Pass};
 use syn_refusal::Refusal;
 use syn_replica::Replica;
-use syn_serve::{Kept, keep_up};
+use syn_serve::{Kept, SHORT_JOURNAL_ROOM, keep_up};
 use syn_shared::{SharedError, SharedReplica};
 
-/// Makes a step for each ring of the bell, until it is told to end.
+/// Makes a step for each ring of the bell, until it is told to end. In a quiet moment behind that it
+/// makes another one, which leaves the journal short: then the next opening of the image is short.
 ///
 /// Where a step finds the lock taken it needs no second try: whoever has the lock is a worker,
 /// which rings when it has left, and that ring was not taken up yet.
-pub(crate) fn keep<H: Wait + Log, D: Disk, L: Naming<Replica<D>>>(server: &Server<'_, H, D, L>)
+pub(crate) fn keep<H: Wait + Clock + Log, D: Disk, L: Naming<Replica<D>>>(
+    server: &Server<'_, H, D, L>,
+)
     requires { IsLock L.lock L.origin (own_of server.now.shared.now) }
 {
     let Some(named) = server.own_pool.draw(server.rt) else {
@@ -24,10 +29,12 @@ pub(crate) fn keep<H: Wait + Log, D: Disk, L: Naming<Replica<D>>>(server: &Serve
     };
     let mut pass = named.into_pass();
     for _ in server.rt.forever() {
-        if !server.bell.wait(server.rt) {
-            return;
-        }
-        let kept = keep_up(server.alloc, server.shared, &mut pass, server.least_room);
+        let least = match server.bell.wait(server.rt) {
+            Wake::Answered => server.least_room,
+            Wake::Quiet => SHORT_JOURNAL_ROOM,
+            Wake::Over => return,
+        };
+        let kept = keep_up(server.alloc, server.shared, &mut pass, least);
         tell(server, &mut pass, kept);
     }
 }

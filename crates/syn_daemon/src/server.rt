@@ -188,7 +188,7 @@ pub(crate) trait Host {
 
 impl<H, S, X, L> Host for Service<'_, H, X, PassPool<S, L>>
 where
-    H: Wait + Log,
+    H: Wait + Clock + Log,
     X: Shares<S>,
     L: Naming<S>,
 {

@@ -11,6 +11,7 @@ use log::Log;
 use std::alloc::Global;
 use std::net::TcpStream;
 use std::sync::Wait;
+use std::time::Clock;
 use syn_disk::Disk;
 use syn_lock::{LockError, Naming, PassPool};
 use syn_replica::Replica;
@@ -44,7 +45,7 @@ pub(crate) trait Shares<S>: Sized {
             × (origin_in service.now.shared.now ≡ L.origin) };
 
     /// The work of the checkpointer's thread.
-    fn keep<H: Wait + Log, L: Naming<S>>(service: &Service<'_, H, Self, PassPool<S, L>>)
+    fn keep<H: Wait + Clock + Log, L: Naming<S>>(service: &Service<'_, H, Self, PassPool<S, L>>)
         requires { (lock_in service.now.shared.now ≡ L.lock)
             × (origin_in service.now.shared.now ≡ L.origin) };
 }
@@ -75,7 +76,7 @@ impl<D: Disk> Shares<Replica<D>> for SharedReplica<D> {
         worker::work_on(service, stream, number, gate);
     }
 
-    fn keep<H: Wait + Log, L: Naming<Replica<D>>>(
+    fn keep<H: Wait + Clock + Log, L: Naming<Replica<D>>>(
         service: &Service<'_, H, SharedReplica<D>, PassPool<Replica<D>, L>>,
     ) {
         keeper::keep(service);

@@ -59,4 +59,4 @@ pub use error::ServeError;
 pub use gate::{Gate, Point};
 pub use message::{AnyReply, AnyRequest, decode_any_request, encode_any_reply};
 pub use serving::Serving;
-pub use upkeep::{Kept, Look, keep_up, look_at};
+pub use upkeep::{Kept, Look, SHORT_JOURNAL_ROOM, keep_up, look_at};
