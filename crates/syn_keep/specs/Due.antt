@@ -1,5 +1,6 @@
 -- What becomes of a record that is due.
 use Rattle.std.specs.Prelude.{◌≡◌, ◌⊎◌, ◌<◌, ℕ, Bool, true, false, nat_le, [], ◌∷◌, Option, Some}
+use Rattle.syn_archive.specs.Archive.{SameMemory, journal_of}
 use Rattle.syn_archive.specs.declared.archive.Archive.{Archive}
 use Rattle.syn_disk.specs.declared.disk.Disk.{Ghosts}
 use Rattle.syn_headline.specs.Coordinator.{archive_layout}
@@ -25,6 +26,11 @@ CountsFailures _ old new = new ≡ old
 abbrev pub CountsFailuresOrStops : Due → Bool → ℕ → ℕ → Type 0
 CountsFailuresOrStops due stopped old new = CountsFailures due old new
     ⊎ ((due ≡ Ends refusal.Device) × (stopped ≡ true) × (new ≡ old))
+
+-- it is just what it was: what it has in memory, and its journal with its disk
+pub record IsAsItWas {D : Type 0} {disk : Ghosts D} (old new : Archive D disk) : Type 0 where
+  pub memory : SameMemory old new
+  pub journal : journal_of new ≡ journal_of old
 
 -- a record that was due is remembered where the device failed, and else nothing changes
 abbrev pub TriesBy : {D : Type 0} → {disk : Ghosts D} → Archive D disk → Kept → Option Tried →

@@ -1,13 +1,14 @@
 //! A record that is due for an item of the plan.
-ghost use Rattle.std.specs.Prelude.{◌≡◌, ◌||◌, ◌<◌, ◌^◌, ℕ, nat_le, IfErr, IfOk, None, Some, false};
-ghost use Rattle.std.specs.Prelude.{option_map};
+ghost use Rattle.std.specs.Prelude.{◌≡◌, ◌≢◌, ◌||◌, ◌<◌, ◌^◌, ℕ, nat_le, IfErr, IfOk, None, Some};
+ghost use Rattle.std.specs.Prelude.{false, option_map};
 ghost use Rattle.syn_archive.specs.Archive.{disk_of, left_shown, marks_shown, pair_of, shown};
 ghost use Rattle.syn_archive.specs.Disks.{kept_size};
 ghost use Rattle.syn_disk.specs.Arms.{is_stopped};
 ghost use Rattle.syn_headline.specs.Coordinator.{archive_layout};
 ghost use Rattle.syn_headline.specs.Machine.{has_room};
 ghost use Rattle.syn_headline.specs.Session.{is_recorded};
-ghost use Rattle.syn_keep.specs.Due.{IsReady, Settles, CountsFailures, CountsFailuresOrStops};
+ghost use Rattle.syn_keep.specs.Due.{IsAsItWas, IsReady, Settles};
+ghost use Rattle.syn_keep.specs.Due.{CountsFailures, CountsFailuresOrStops};
 ghost use Rattle.syn_keep.specs.Machines.{IsMachine, Journal};
 ghost use Rattle.syn_keep.specs.inner.Recording.{Checkpoints, MakesRoomNow, Writes, ended_by};
 ghost use Rattle.syn_mark.specs.Marks.{or_absent};
@@ -46,7 +47,7 @@ pub enum Due {
 /// directory, 7 where the archive would pass a limit; and 7 where no checkpoint can be made.
 /// The session ends 10 where the archive is halted, 9 where a device call fails or the machine is
 /// stopped behind the checkpoint, 8 where that leaves no room either, and 11 where memory is
-/// refused.
+/// refused. An item that is refused leaves the archive as it was.
 pub fn keep_due<D: Limit>(alloc: Global, archive: &mut Archive<D>, kept: &Kept) -> Due
     requires { IsOfItem (kept_of kept.now) }
     ensures settles { (pair : ℕ) (machine : Journal) → IsMachine archive.old pair machine
@@ -54,6 +55,8 @@ pub fn keep_due<D: Limit>(alloc: Global, archive: &mut Archive<D>, kept: &Kept) 
     ensures failures { CountsFailuresOrStops result
         (is_stopped (D.Disk.arms (disk_of archive.new)))
         (D.Disk.failures (disk_of archive.old)) (D.Disk.failures (disk_of archive.new)) }
+    ensures refused { (why : Refusal) → result ≡ Due.Refused why
+        → IsAsItWas archive.old archive.new }
     ensures pair { pair_of archive.new ≡ pair_of archive.old }
 {
     is_lawful(kept);
@@ -77,6 +80,8 @@ fn write_behind<D: Limit>(alloc: Global, archive: &mut Archive<D>, kept: &Kept) 
     ensures failures { CountsFailuresOrStops result
         (is_stopped (D.Disk.arms (disk_of archive.new)))
         (D.Disk.failures (disk_of archive.old)) (D.Disk.failures (disk_of archive.new)) }
+    ensures refused { (why : Refusal) → result ≡ Due.Refused why
+        → IsAsItWas archive.old archive.new }
     ensures pair { pair_of archive.new ≡ pair_of archive.old }
 {
     match make_room(alloc, archive) {
@@ -175,6 +180,8 @@ fn make_room<D: Limit>(alloc: Global, archive: &mut Archive<D>) -> Option<Due>
         (D.Disk.failures (disk_of archive.old)) (D.Disk.failures (disk_of archive.new)) }
     ensures none { result ≡ None
         → D.Disk.failures (disk_of archive.new) ≡ D.Disk.failures (disk_of archive.old) }
+    ensures refused { (why : Refusal) → result ≡ Some (Due.Refused why)
+        → IsAsItWas archive.old archive.new }
     ensures pair { pair_of archive.new ≡ pair_of archive.old }
 {
     match checkpoint(alloc, archive) {
@@ -192,6 +199,8 @@ fn checkpoint<D: Disk>(alloc: Global, archive: &mut Archive<D>) -> Option<Due>
         (D.failures (disk_of archive.old)) (D.failures (disk_of archive.new)) }
     ensures none { result ≡ None
         → D.failures (disk_of archive.new) ≡ D.failures (disk_of archive.old) }
+    ensures refused { (why : Refusal) → result ≡ Some (Due.Refused why)
+        → IsAsItWas archive.old archive.new }
     ensures pair { pair_of archive.new ≡ pair_of archive.old }
 {
     device_laws();
@@ -210,7 +219,8 @@ fn checkpoint<D: Disk>(alloc: Global, archive: &mut Archive<D>) -> Option<Due>
 /// How what is due ends where the archive fails so: for the device, and else for want of memory,
 /// since each other cause was looked at before.
 fn ending(error: ArchiveError) -> Due
-    ensures { result ≡ ended_by error }
+    ensures ended { result ≡ ended_by error }
+    ensures unrefused { (why : Refusal) → result ≢ Due.Refused why }
 {
     match error {
         ArchiveError::Device => Due::Ends(Refusal::Device),
@@ -241,6 +251,7 @@ fn write<D: Disk>(alloc: Global, archive: &mut Archive<D>, kept: &Kept) -> Due
         → Writes archive.new pair machine (kept_of kept.now) result }
     ensures failures { CountsFailures result (D.failures (disk_of archive.old))
         (D.failures (disk_of archive.new)) }
+    ensures unrefused { (why : Refusal) → result ≢ Due.Refused why }
     ensures pair { pair_of archive.new ≡ pair_of archive.old }
 {
     match kept {
@@ -277,6 +288,7 @@ fn write_record<D: Disk>(
         → Writes archive.new pair machine kept result }
     ensures failures { CountsFailures result (D.failures (disk_of archive.old))
         (D.failures (disk_of archive.new)) }
+    ensures unrefused { (why : Refusal) → result ≢ Due.Refused why }
     ensures pair { pair_of archive.new ≡ pair_of archive.old }
 {
     device_laws();
@@ -296,6 +308,7 @@ fn write_dir<D: Disk>(alloc: Global, archive: &mut Archive<D>, path: &Path) -> D
         → Writes archive.new pair machine (RecordedDir path.now) result }
     ensures failures { CountsFailures result (D.failures (disk_of archive.old))
         (D.failures (disk_of archive.new)) }
+    ensures unrefused { (why : Refusal) → result ≢ Due.Refused why }
     ensures pair { pair_of archive.new ≡ pair_of archive.old }
 {
     device_laws();

@@ -12,6 +12,7 @@
 //!   `Settles`). It is recorded; or its item is refused as the archive refuses it, or 7 where no
 //!   checkpoint can be made. Or the session ends: 10 where the archive is halted, 9 for the device,
 //!   8 where a checkpoint leaves no room, and 11 for memory.
+//! - An item that is refused leaves the archive just as it was, with its disk (`refused`).
 //! - The count of failed device calls grows exactly where the session ends for the device, but for
 //!   a stop right behind the checkpoint (`failures`). The pair stays (`pair`).
 //! - `refusal_for` is why the archive refuses the record, but for its journal and its device.

@@ -30,7 +30,7 @@ returns-in-Err-clause-writes g c pair machine is ready =
     let none = not_there c.args.archive.now c.record_dir.new.self pair machine is c.args.path.now
     ready c.in-Err.ensures.done in
     subst (Writes c.record_dir.new.self pair machine (RecordedDir c.args.path.now))
-    (sym c.ending.ensures)
+    (sym c.ending.ensures.ended)
     (write_fails c.args.archive.now c.record_dir.new.self pair machine is
     (RecordedDir c.args.path.now) ready (sym (idle_is c.args.archive.now c.record_dir.new.self
     pair machine is c.args.path.now ready) ∙ none)

@@ -15,7 +15,7 @@ returns-in-Ok-clause-writes g c pair machine is ready =
 pub returns-in-Err-clause-writes : goal.returns-in-Err-clause-writes
 returns-in-Err-clause-writes g c pair machine is ready =
     let kept = Recorded c.args.path.now (or_absent c.args.marks) in
-    subst (Writes c.record.new.self pair machine kept) (sym c.ending.ensures)
+    subst (Writes c.record.new.self pair machine kept) (sym c.ending.ensures.ended)
     (write_fails c.args.archive.now c.record.new.self pair machine is kept ready refl c.in-Err.error
     c.in-Err.ensures.halts c.in-Err.ensures.readings c.in-Err.ensures.unchanged
     g.met.D.Disk.counts_now c.in-Err.ensures.any_moment c.device_laws.ensures.broken
