@@ -1,9 +1,10 @@
 -- What breaks off in a call that goes through a plan.
-use Rattle.std.proofs.Common.{◌≡◌, ◌⊎◌, ◌∙◌, Some, None, Ok, Err, inl, inr, ap, refl, subst, sym}
-use Rattle.std.specs.Prelude.{Result, Option, is_some, option_map, if◌then◌else◌, true, false, ◌<◌}
+use Rattle.std.proofs.Common.{◌≡◌, ◌⊎◌, ◌∙◌, None, Ok, Err, inl, inr, ap, refl, subst, sym}
+use Rattle.std.specs.Prelude.{Result, Option, is_some, option_map, true, ◌<◌}
 use Rattle.syn_archive.specs.Archive.{disk_of}
 use Rattle.syn_coordinator.specs.Coordinators.{Breaks, BreaksNothing, BreaksOff, broken}
-use Rattle.syn_coordinator.specs.Coordinators.{device_of, tried_shown}
+use Rattle.syn_coordinator.specs.Coordinators.{broken_by, device_of, tried_shown}
+use Rattle.syn_coordinator.specs.declared.coordinator.Broken.TheVariants.{Nothing}
 use Rattle.syn_coordinator.specs.declared.coordinator.Coordinator.{Coordinator}
 use Rattle.syn_coordinator.specs.declared.ended.Ended.{Ended}
 use Rattle.syn_coordinator.specs.inner.Advancing.{BreaksBy}
@@ -26,19 +27,18 @@ module _ {D : Type 0} {disk : Ghosts D} where
   pub still_breaks : (old new : Coordinator D disk) → new.broke ≡ old.broke →
       new.tried ≡ old.tried → new.archive ≡ old.archive → BreaksNothing old new
   still_breaks old new broke tried archive = record {
-    broken_is = ap (λ b. if b then option_map record_of new.tried else None) broke
-        ∙ ap (λ t. if old.broke then option_map record_of t else None) tried;
+    broken_is = ap (λ b. broken_by b new.tried) broke ∙ ap (broken_by old.broke) tried;
     tried_is = tried;
     counted = ap (λ a. disk.failures (disk_of a)) archive;
   }
 
   -- nothing is told to have been answered 9
-  pub told_nothing : (new : Coordinator D disk) → new.broke ≡ false → broken new ≡ None
-  told_nothing new whole = ap (λ b. if b then option_map record_of new.tried else None) whole
+  pub told_nothing : (new : Coordinator D disk) → new.broke ≡ Nothing → broken new ≡ None
+  told_nothing new whole = ap (λ b. broken_by b new.tried) whole
 
   -- a call that forgot first what was told of the one before
   module _ (old middle new : Coordinator D disk) where
-    pub nothing_told : middle.broke ≡ false → middle.tried ≡ old.tried →
+    pub nothing_told : middle.broke ≡ Nothing → middle.tried ≡ old.tried →
         middle.archive ≡ old.archive → BreaksNothing middle new → (broken new ≡ None)
         × (tried_shown new ≡ tried_shown old)
         × (disk.failures (device_of new) ≡ disk.failures (device_of old))

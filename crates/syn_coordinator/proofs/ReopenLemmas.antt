@@ -1,6 +1,6 @@
 -- Another opening of the archive is what its machine does.
 use Rattle.std.proofs.Common.{◌≡◌, ◌≢◌, ◌⊎◌, ◌≤◌, ℕ, false, List, [], Result, Ok, Err, refl, sym}
-use Rattle.std.proofs.Common.{ap, ◌∙◌, subst, inl, inr}
+use Rattle.std.proofs.Common.{ap, ap₂, ◌∙◌, ◌+◌, ◌-◌, arith, subst, inl, inr, suc, zero}
 use Rattle.syn_archive.specs.Archive.{Stands as ArchiveStands, IsHalted, SameMemory, pair_of}
 use Rattle.syn_archive.specs.Archive.{disk_of, left_shown, generation_shown}
 use Rattle.syn_archive.specs.Disks.{DiskKeeps, DiskStands, IsReopenRefusal}
@@ -11,9 +11,8 @@ use Rattle.syn_archive.specs.declared.error.ArchiveError.TheVariants as error
 use Rattle.syn_disk.specs.Calls.{MakesAtLeast, BreaksSometime}
 use Rattle.syn_disk.specs.Stops.{Untouched}
 use Rattle.syn_disk.specs.declared.disk.Disk.{Ghosts}
-use Rattle.syn_headline.specs.Coordinator.{archive_layout}
-use Rattle.syn_headline.specs.Machine.{Up, Halted, Down, Status, Arms, Meets, Opens, unarmed}
-use Rattle.syn_headline.specs.Machine.{after_device}
+use Rattle.syn_headline.specs.Machine.{Up, Halted, Down, Status, Arms, Meets, unarmed, after_device}
+use Rattle.syn_headline.specs.Machine.{IsBefore, after_calls, all_made}
 use Rattle.syn_disk.specs.Arms.{is_stopped}
 use Rattle.syn_journal.specs.Layout.{Value, bytes_left, meaning, Fault}
 use Rattle.syn_model.specs.Path.{Bytes}
@@ -87,6 +86,33 @@ only_memory pair machine bytes may error.Full other why = absurd why
 only_memory pair machine bytes may error.JournalFull other why = absurd why
 only_memory pair machine bytes may error.Halted other why = absurd why
 only_memory pair machine bytes may error.WrongPair other why = absurd why
+
+before_none : (n : ℕ) → IsBefore 0 n
+before_none zero = inl refl
+before_none (suc n) = inr (omega arith)
+
+none_less : (n : ℕ) → n - 0 ≡ n
+none_less n = omega arith
+
+none_more : (n : ℕ) → n + 0 ≡ n
+none_more n = omega arith
+
+-- no device call leaves the machine as it was
+no_calls : (machine : Journal) →
+    after_device machine machine.status (after_calls 0 machine.arms) 0 ≡ machine
+no_calls machine =
+    ap₂ (λ arms failures. record machine { arms = arms; failures = failures })
+    (ap₂ (λ fail stop. record { fail = fail; stop = stop }) (none_less machine.arms.fail)
+    (none_less machine.arms.stop)) (none_more machine.failures)
+
+-- memory is refused before any device call
+pub reopen_early : {D : Type 0} {disk : Ghosts D} (archive : Archive D disk) (pair : ℕ)
+    (machine : Journal) → IsMachine archive pair machine →
+    Moves archive pair (NotReopened machine Up machine.status) machine.status
+reopen_early archive pair machine is =
+    moves_on _ (stayed 0 (after_calls 0 machine.arms) 0
+    (all_made (before_none machine.arms.fail) (before_none machine.arms.stop))) refl
+    (subst (IsMachine archive pair) (sym (no_calls machine)) is)
 
 module _ {D : Type 0} {disk : Ghosts D} (old new : Archive D disk) (pair : ℕ) (machine : Journal)
     (is : IsMachine old pair machine) (same_pair : pair_of new ≡ pair_of old)

@@ -5,6 +5,8 @@ use Rattle.std.specs.Prelude.{false, not, ◌&&◌, List, [], ◌∷◌, map, Op
 use Rattle.std.specs.Prelude.{option_map, is_some, if◌then◌else◌}
 use Rattle.syn_archive.specs.Archive.{IsHalted, disk_of}
 use Rattle.syn_archive.specs.declared.archive.Archive.{Archive}
+use Rattle.syn_coordinator.specs.declared.coordinator.Broken.{Broken}
+use Rattle.syn_coordinator.specs.declared.coordinator.Broken.TheVariants.{Nothing, AsTried, Copied}
 use Rattle.syn_coordinator.specs.declared.coordinator.Coordinator.{Coordinator}
 use Rattle.syn_disk.specs.Arms.{is_stopped}
 use Rattle.syn_disk.specs.declared.disk.Disk.{Ghosts}
@@ -24,6 +26,13 @@ use Rattle.syn_session.specs.Reports.{report_model}
 use Rattle.syn_session.specs.Sessions.{IsRunning}
 use Rattle.syn_image.specs.Archives.{kept_of}
 
+-- what was answered 9 in the last call that could write: what was tried last, or what was so before
+-- another opening
+abbrev pub broken_by : Broken → Option Tried → Option Kept
+broken_by Nothing tried = None
+broken_by AsTried tried = option_map record_of tried
+broken_by (Copied kept) tried = Some (kept_of kept)
+
 module _ {D : Type 0} {disk : Ghosts D} (coordinator : Coordinator D disk) where
   abbrev pub archive_of : Archive D disk
   archive_of = coordinator.archive
@@ -40,7 +49,7 @@ module _ {D : Type 0} {disk : Ghosts D} (coordinator : Coordinator D disk) where
   written = map kept_of coordinator.written.items
 
   abbrev pub broken : Option Kept
-  broken = if coordinator.broke then option_map record_of coordinator.tried else None
+  broken = broken_by coordinator.broke coordinator.tried
 
   -- the record that was tried last and not kept, until the archive is opened again
   abbrev pub tried_shown : Option Tried

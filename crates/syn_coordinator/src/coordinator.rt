@@ -48,8 +48,18 @@ pub struct Coordinator<D: Disk> {
     written: Vec<Kept>,
     /// What was tried last and not kept, until the archive is opened again.
     tried: Option<Tried>,
-    /// Whether that was in the last call that could write.
-    broke: bool,
+    broke: Broken,
+}
+
+/// What was answered 9 in the last call that could write.
+#[derive(Drop)]
+pub(crate) enum Broken {
+    /// Nothing was.
+    Nothing,
+    /// It is what was tried last.
+    AsTried,
+    /// It is this, and the archive was opened again since.
+    Copied(Kept),
 }
 
 impl<D: Disk> Coordinator<D> {
@@ -78,7 +88,7 @@ impl<D: Disk> Coordinator<D> {
             report: None,
             written: Vec::new(alloc),
             tried: None,
-            broke: false,
+            broke: Broken::Nothing,
         }
     }
 
@@ -146,8 +156,8 @@ impl<D: Disk> Coordinator<D> {
     }
 
     /// What the last start that was answered Ok or 9, or the last `on_reply`, whichever came later,
-    /// wrote into the archive, in order. With it comes what was answered 9 in that call: what was
-    /// tried and not kept, until the archive is opened again.
+    /// wrote into the archive, in order. With it comes what was answered 9 in that call. Another
+    /// opening of the archive changes neither.
     pub fn kept(&self) -> (&[Kept], Option<&Kept>)
         ensures written { map kept_of result.0.now ≡ written self.now }
         ensures broken { option_map (λ kept. kept_of kept.now) result.1 ≡ broken self.now }
@@ -159,9 +169,10 @@ impl<D: Disk> Coordinator<D> {
     fn last_broken(&self) -> Option<&Kept>
         ensures { option_map (λ kept. kept_of kept.now) result ≡ broken self.now }
     {
-        match &self.tried {
-            Some(tried) if self.broke => Some(tried.kept()),
-            _ => None,
+        match &self.broke {
+            Broken::Nothing => None,
+            Broken::AsTried => Some(self.tried.as_ref()?.kept()),
+            Broken::Copied(kept) => Some(kept),
         }
     }
 
@@ -319,14 +330,14 @@ impl<D: Disk> Coordinator<D> {
         ensures running { self.new.running ≡ Some session }
         ensures report { self.new.report ≡ None }
         ensures written { self.new.written ≡ records }
-        ensures whole { self.new.broke ≡ false }
+        ensures whole { self.new.broke ≡ Broken.Nothing }
         ensures tried { self.new.tried ≡ self.old.tried }
     {
         // What was there is let go by calls, as in `into_parts`.
         drop(self.running.replace(session));
         drop(self.report.take());
         self.written = records;
-        self.broke = false;
+        self.broke = Broken::Nothing;
     }
 
     /// What a session is refused whose number was not kept. After a device call that failed, it is
@@ -336,7 +347,7 @@ impl<D: Disk> Coordinator<D> {
         ensures running { self.new.running ≡ self.old.running }
         ensures report { self.new.report ≡ self.old.report }
         ensures device { result ≡ SessionError.Device → (error ≡ ArchiveError.Device)
-            × (self.new.written.items ≡ []) × (self.new.broke ≡ true)
+            × (self.new.written.items ≡ []) × (self.new.broke ≡ Broken.AsTried)
             × HoldsTried (archive_of self.new) (Begun number) (tried_shown self.new) }
         ensures other { (result ≡ SessionError.Device) ⊎ ((result ≡ SessionError.Memory)
             × (error ≢ ArchiveError.Device) × (self.new ≡ self.old)) }
@@ -347,7 +358,7 @@ impl<D: Disk> Coordinator<D> {
         }
         self.written = Vec::new(alloc);
         self.tried = Some(Tried::new(Kept::Session(number), &self.archive));
-        self.broke = true;
+        self.broke = Broken::AsTried;
         SessionError::Device
     }
 

@@ -20,7 +20,7 @@ ghost use Rattle.syn_session.specs.Sessions.{IsSession, Tells};
 ghost use Rattle.syn_session.specs.Stages.{line_of, waiting_of};
 ghost use Rattle.syn_session.specs.declared.session.Session.{Session as Ran};
 
-use super::Coordinator;
+use super::{Broken, Coordinator};
 use crate::ended::Ended;
 use std::alloc::Global;
 use syn_disk::{Disk, Limit};
@@ -70,7 +70,7 @@ impl<D: Limit> Coordinator<D> {
         ensures halts { HaltsByFailure self.old self.new }
     {
         self.written = Vec::new(alloc);
-        self.broke = false;
+        self.broke = Broken::Nothing;
         let Some((mut running, request)) = self.expecting(from, session, number) else {
             drop(reply);
             return Vec::new(alloc);

@@ -22,7 +22,7 @@ ghost use Rattle.syn_session.specs.Stages.{AreAskedBefore, Carries, IsCarriedFor
 ghost use Rattle.syn_session.specs.Stages.{IsCourse, Reached, plan_in};
 ghost use Rattle.syn_image.specs.Archives.{kept_of};
 
-use super::Coordinator;
+use super::{Broken, Coordinator};
 use crate::ended::Ended;
 use std::alloc::Global;
 use syn_disk::Limit;
@@ -106,7 +106,7 @@ impl<D: Limit> Coordinator<D> {
             Due::Refused(_) => drop(kept),
             Due::Ends(Refusal::Device) => {
                 self.tried = Some(Tried::new(kept, &self.archive));
-                self.broke = true;
+                self.broke = Broken::AsTried;
             }
             Due::Ends(_) => drop(kept),
         }

@@ -1,17 +1,18 @@
 //! The coordinator's archive as a whole: a checkpoint, another opening, and the arms of its device.
 ghost use Rattle.std.specs.Prelude.{◌≡◌, ◌≢◌, ◌<◌, ◌^◌, [], ℕ, true, false, Err, IfErr, OnOk, IfOk};
-ghost use Rattle.std.specs.Prelude.{MatchResult, None, Some, option_map};
+ghost use Rattle.std.specs.Prelude.{MatchResult, None, Option, Some, option_map};
 ghost use Rattle.syn_archive.specs.Refusals.{CountsFailures, refusal_of};
 ghost use Rattle.syn_coordinator.specs.Coordinators.{with_arms};
 ghost use Rattle.syn_disk.specs.Armed.{armed};
 ghost use Rattle.syn_disk.specs.Arms.{is_stopped};
 ghost use Rattle.syn_disk.specs.Disk.{SameOutcomes};
-ghost use Rattle.syn_headline.specs.Coordinator.{CoordinatorMachine, coordinator_kind};
-ghost use Rattle.syn_headline.specs.MachineSteps.{Checkpoints, Reopens};
+ghost use Rattle.syn_headline.specs.Coordinator.{CoordinatorMachine};
+ghost use Rattle.syn_headline.specs.Machine.{Halted, Up};
+ghost use Rattle.syn_keep.specs.declared.tried.Tried.{Tried};
 ghost use Rattle.syn_model.specs.Refusal.{first_cause};
 ghost use Rattle.syn_recovery.specs.Calls.{armed_at};
 
-use super::Coordinator;
+use super::{Broken, Coordinator};
 use std::alloc::Global;
 use syn_archive::ArchiveError;
 use syn_disk::{Arm, Disk, Limit};
@@ -71,9 +72,10 @@ impl<D: Disk> Coordinator<D> {
 }
 
 impl<D: Limit> Coordinator<D> {
-    ghost use Rattle.syn_coordinator.specs.Coordinators.{Does, KeepsReadings, ReopensNot, Stands};
-    ghost use Rattle.syn_coordinator.specs.Coordinators.{archive_of, device_of, report_shown, runs};
-    ghost use Rattle.syn_coordinator.specs.Coordinators.{tried_shown, written};
+    ghost use Rattle.syn_coordinator.specs.Coordinators.{Does, KeepsReadings, Reopens, ReopensNot};
+    ghost use Rattle.syn_coordinator.specs.Coordinators.{Stands, archive_of, device_of};
+    ghost use Rattle.syn_coordinator.specs.Coordinators.{broken, broken_by};
+    ghost use Rattle.syn_coordinator.specs.Coordinators.{report_shown, runs, tried_shown, written};
     ghost use Rattle.syn_keep.specs.Tries.{found_in, listed};
     ghost use Rattle.syn_image.specs.Archives.{kept_of};
 
@@ -83,7 +85,7 @@ impl<D: Limit> Coordinator<D> {
     ///
     /// Refused 9 where a device call fails, and 11 where memory is refused. After 9 the archive is
     /// halted; after 11 it is as it was. Nothing is written. What was tried is forgotten once the
-    /// archive is open, unless the machine stopped in the call.
+    /// archive is open, unless the machine stopped in the call. What `kept` answers stays.
     pub fn reopen(&mut self, alloc: Global) -> Result<Option<Kept>, ArchiveError>
         // It is another opening of the machine, and answers the record that it found.
         ensures ok { (pair : ℕ) (machine : CoordinatorMachine) → Stands self.old pair machine
@@ -100,7 +102,8 @@ impl<D: Limit> Coordinator<D> {
             (ReopensNot pair machine (refusal_of ArchiveError.Memory)) [] []) }
         ensures same { IfErr result (λ _. KeepsReadings self.old self.new) }
         ensures again { OnOk result ((report_shown self.new ≡ report_shown self.old)
-            × (written self.new ≡ written self.old) × (runs self.new ≡ runs self.old)) }
+            × (written self.new ≡ written self.old) × (broken self.new ≡ broken self.old)
+            × (runs self.new ≡ runs self.old)) }
         ensures forgets { OnOk result (is_stopped (D.Disk.arms (device_of self.new)) ≡ false
             → tried_shown self.new ≡ None) }
         ensures failures { MatchResult result
@@ -108,24 +111,43 @@ impl<D: Limit> Coordinator<D> {
             (λ e. CountsFailures e (D.Disk.failures (device_of self.old))
             (D.Disk.failures (device_of self.new))) }
     {
+        let broke = self.copied_broken(alloc)?;
         device_laws();
         opening_laws();
         self.archive.keeps_on_disk();
         match self.archive.reopen(alloc) {
             Ok(()) => {
                 self.archive.keeps_on_disk();
-                Ok(self.recovered())
+                Ok(self.recovered(broke))
             }
             Err(error) => {
+                drop(broke);
                 self.archive.keeps_on_disk();
                 Err(error)
             }
         }
     }
 
-    /// What was tried, where the archive has it now; and it is forgotten. Where the machine is
-    /// stopped it is still remembered, and nothing is answered.
-    fn recovered(&mut self) -> Option<Kept>
+    /// What was answered 9 in the last call that could write, in memory of its own. Refused 11
+    /// where memory is refused.
+    fn copied_broken(&self, alloc: Global) -> Result<Broken, ArchiveError>
+        ensures ok { IfOk result (λ broke. (tried : Option Tried)
+            → broken_by broke tried ≡ broken self.now) }
+        ensures memory { IfErr result (λ e. e ≡ ArchiveError.Memory) }
+    {
+        let Some(kept) = self.last_broken() else {
+            return Ok(Broken::Nothing);
+        };
+        match kept.copy(alloc) {
+            Ok(copy) => Ok(Broken::Copied(copy)),
+            Err(_) => Err(ArchiveError::Memory),
+        }
+    }
+
+    /// What was tried, where the archive has it now; and it is forgotten, but for this copy of what
+    /// was answered 9. Where the machine is stopped it is still remembered, and nothing is answered.
+    fn recovered(&mut self, broke: Broken) -> Option<Kept>
+        requires broke { (tried : Option Tried) → broken_by broke tried ≡ broken self.old }
         ensures goes { is_stopped (D.Disk.arms (device_of self.new)) ≡ false
             → (tried_shown self.new ≡ None) × (option_map kept_of result
             ≡ found_in (tried_shown self.old) (archive_of self.new)) }
@@ -136,10 +158,13 @@ impl<D: Limit> Coordinator<D> {
         ensures running { self.new.running ≡ self.old.running }
         ensures report { self.new.report ≡ self.old.report }
         ensures written { self.new.written ≡ self.old.written }
+        ensures broken { broken self.new ≡ broken self.old }
     {
         if self.archive.is_cut() {
+            drop(broke);
             return None;
         }
+        self.broke = broke;
         found(self.tried.take(), &self.archive)
     }
 
