@@ -18,8 +18,9 @@ pub(crate) struct Images<D: Disk, A: Disk> {
 
 /// The images of these names, opened for this access.
 ///
-/// The locks are taken one after another. Then each image is read by a thread of its own, where one
-/// can be made. Where several are refused, the first of left, right and archive is told.
+/// The locks are taken one after another. Then each image is read by a thread, where one can be
+/// made, and the left by this one. Where several are refused, the first of left, right and archive
+/// is told.
 pub(crate) fn images_in<H: Threads + Sync, N: NamedDisks>(
     rt: &H,
     alloc: Global,
@@ -46,14 +47,14 @@ fn images_on<H: Threads + Sync, L: LockedDisk + Drop + Send>(
 where
     L::Disk: Drop + Send,
 {
-    let (left, (right, archive)) = join(
+    let (right, (archive, left)) = join(
         rt,
-        move || replica_on(alloc, left),
+        move || replica_on(alloc, right),
         move || {
             join(
                 rt,
-                move || replica_on(alloc, right),
                 move || archive_on(alloc, archive),
+                move || replica_on(alloc, left),
             )
         },
     );
