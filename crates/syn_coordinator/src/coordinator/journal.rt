@@ -145,7 +145,8 @@ impl<D: Limit> Coordinator<D> {
     }
 
     /// What was tried, where the archive has it now; and it is forgotten, but for this copy of what
-    /// was answered 9. Where the machine is stopped it is still remembered, and nothing is answered.
+    /// was answered 9. Where the machine is stopped it is still remembered, and nothing is
+    /// answered.
     fn recovered(&mut self, broke: Broken) -> Option<Kept>
         requires broke { (tried : Option Tried) → broken_by broke tried ≡ broken self.old }
         ensures goes { is_stopped (D.Disk.arms (device_of self.new)) ≡ false

@@ -36,7 +36,8 @@ returns-in-Err-Full-clause-made g c pair machine is =
 
 pub returns-in-Err-clause-made : goal.returns-in-Err-clause-made
 returns-in-Err-clause-made g c pair machine is =
-    subst (λ due. Checkpoints c.checkpoint.new.self pair machine (Some due)) (sym c.ending.ensures.ended)
+    subst (λ due. Checkpoints c.checkpoint.new.self pair machine (Some due))
+    (sym c.ending.ensures.ended)
     (elim (device_or_other c.in-Err.error)
     as (λ _. Checkpoints c.checkpoint.new.self pair machine (Some (ended_by c.in-Err.error))) [
       | inl device ↦
