@@ -25,7 +25,7 @@ use Rattle.syn_witness.specs.Removal.{right_before, kept_world, remove_a}
 use Rattle.syn_witness.specs.Still.{still_report, RemovedIsMarked}
 use Rattle.syn_witness.proofs.WitnessTrees.{absent-entries, get_by, fits_by, same_by, part-entries}
 use Rattle.syn_witness.proofs.WitnessTrees.{directory_by, children_by, mark-entries}
-use Rattle.syn_witness.proofs.WitnessFiles.{alone, content, digest, path_of_letter}
+use Rattle.syn_witness.proofs.WitnessFiles.{alone, content, digest, path_of_letter, put_first}
 use Rattle.syn_witness.proofs.WitnessScans.{one_name_of}
 use Rattle.syn_witness.proofs.WitnessSteps.{machine_of, meets_unarmed, took, edits_so, ends_so}
 use Rattle.syn_witness.proofs.WitnessSteps.{keeps_so, recorded, runs_on_from}
@@ -64,11 +64,15 @@ right_scan = scan_at right_removed
 
 left-entries : entries (tree_of (begun_history left_removed)) ≡ alone
 unfolding tree_of
-left-entries = removed-entries one_tree (content (49 ∷ [])) one-entries
+left-entries =
+    ap (λ t. entries (replace t a_path absent)) (put_first 97 (49 ∷ []))
+    ∙ removed-entries one_tree (content (49 ∷ [])) one-entries
 
 right-entries : entries (tree_of (begun_history right_removed)) ≡ alone
 unfolding tree_of
-right-entries = removed-entries one_tree (content (49 ∷ [])) one-entries
+right-entries =
+    ap (λ t. entries (replace t a_path absent)) (put_first 97 (49 ∷ []))
+    ∙ removed-entries one_tree (content (49 ∷ [])) one-entries
 
 left_marks-entries : entries left_scan.marks ≡ alone
 left_marks-entries = mark-entries (tree_of (begun_history left_removed)) alone left-entries
@@ -82,6 +86,7 @@ second_allowed = record {
   lawful = (omega arith, path_of_letter 97 letter_a);
   not_refused =
       rw (
+        put_first 97 (49 ∷ []),
         get_by one_tree one_pairs root one-entries,
         get_by one_tree one_pairs a_path one-entries,
         fits_by (replace one_tree a_path absent) alone

@@ -27,7 +27,7 @@ use Rattle.syn_witness.proofs.WitnessTrees.{replace-entries, mark-entries, same_
 use Rattle.syn_witness.proofs.WitnessTrees.{directory_by, children_in, get_by, fits_by}
 use Rattle.syn_witness.proofs.WitnessFiles.{IsLetter, name_of_letter, path_of_letter, content}
 use Rattle.syn_witness.proofs.WitnessFiles.{digest, one_byte, alone, alone-entries, file-entries}
-use Rattle.syn_witness.proofs.WitnessFiles.{put-entries}
+use Rattle.syn_witness.proofs.WitnessFiles.{put-entries, put_new}
 use Rattle.syn_witness.proofs.WitnessScans.{names_of, no_names}
 use Rattle.syn_witness.proofs.WitnessLemmas.{letter_a}
 
@@ -130,7 +130,10 @@ right_lawful = (
 left-entries : entries (tree_of left_history) ≡ with_below (content one_bytes)
 unfolding tree_of
 left-entries =
-    below-entries dir_tree (file one_bytes) (content one_bytes) dir-entries (file-entries one_bytes)
+    ap entries (put_new dir_tree below_path one_bytes
+    (get_by dir_tree one_dir below_path dir-entries))
+    ∙ below-entries dir_tree (file one_bytes) (content one_bytes) dir-entries
+    (file-entries one_bytes)
 
 right-entries : entries (tree_of right_history) ≡ with_below Directory
 unfolding tree_of

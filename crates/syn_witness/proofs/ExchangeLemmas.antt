@@ -5,7 +5,7 @@ use Rattle.std.specs.FinMap.{entries}
 use Rattle.std.proofs.lemmas.List.Elements.{All-nil, All-cons, All-from_recursion}
 use Rattle.sha2.specs.Sha256.{sha256}
 use Rattle.syn_model.specs.Path.{root}
-use Rattle.syn_model.specs.Tree.{Pair, Directory, empty_directory, replace}
+use Rattle.syn_model.specs.Tree.{Pair, Directory, empty_directory, replace, subtree}
 use Rattle.syn_model.specs.Limits.{children}
 use Rattle.syn_model.specs.Mark.{mark}
 use Rattle.syn_model.specs.Event.{Edited, Replaced, AreBytes}
@@ -31,7 +31,7 @@ use Rattle.syn_witness.specs.Witness.{complete, HasBoth, FilesAreExchanged}
 use Rattle.syn_witness.proofs.WitnessTrees.{get_by, replace-entries, fits_archive_by, children_by}
 use Rattle.syn_witness.proofs.WitnessFiles.{letter_size, alone, with_file, digest, alone-entries}
 use Rattle.syn_witness.proofs.WitnessFiles.{file_mark-entries, put-entries, marked_whole, root_only}
-use Rattle.syn_witness.proofs.WitnessFiles.{path_of_letter, are_marks}
+use Rattle.syn_witness.proofs.WitnessFiles.{path_of_letter, are_marks, put_first}
 use Rattle.syn_witness.proofs.WitnessScans.{left_history, left_scan, left-entries}
 use Rattle.syn_witness.proofs.WitnessScans.{left_marks-entries, left_part}
 use Rattle.syn_witness.proofs.ExchangeScans.{right_history, right_scan, right-entries}
@@ -354,16 +354,20 @@ left_has : HasBoth (tree_of left_done.history) one two
 unfolding tree_of
 left_has =
     record {
-      first_there = stays empty_directory one two a_path b_path refl;
-      second_there = subtree-replace (replace empty_directory a_path one) b_path two;
+      first_there =
+          ap (λ t. subtree (replace t b_path two) a_path) (put_first 97 (49 ∷ []))
+          ∙ stays empty_directory one two a_path b_path refl;
+      second_there = subtree-replace _ b_path two;
     }
 
 right_has : HasBoth (tree_of right_done.history) one two
 unfolding tree_of
 right_has =
     record {
-      first_there = subtree-replace (replace empty_directory b_path two) a_path one;
-      second_there = stays empty_directory two one b_path a_path refl;
+      first_there = subtree-replace _ a_path one;
+      second_there =
+          ap (λ t. subtree (replace t a_path one) b_path) (put_first 98 (50 ∷ []))
+          ∙ stays empty_directory two one b_path a_path refl;
     }
 
 archive_has : HasBoth both_archive.marks (mark one) (mark two)

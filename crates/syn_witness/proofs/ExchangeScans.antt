@@ -18,7 +18,7 @@ use Rattle.syn_witness.specs.Witness.{a_path, b_path, put_two, two}
 use Rattle.syn_witness.proofs.WitnessTrees.{same_by, part-entries, directory_by, children_by}
 use Rattle.syn_witness.proofs.WitnessFiles.{content, digest, alone, with_file, alone-entries}
 use Rattle.syn_witness.proofs.WitnessFiles.{file-entries, file_mark-entries, marked-entries}
-use Rattle.syn_witness.proofs.WitnessFiles.{put-entries}
+use Rattle.syn_witness.proofs.WitnessFiles.{put-entries, put_first}
 use Rattle.syn_witness.proofs.WitnessScans.{left_scan, left_marks-entries, names_of, no_names}
 
 abbrev pub right_history : History
@@ -39,7 +39,8 @@ two_digest = digest (50 ∷ [])
 pub right-entries : entries (tree_of right_history) ≡ with_file 98 (content (50 ∷ []))
 unfolding tree_of
 right-entries =
-    put-entries empty_directory two 98 (content (50 ∷ [])) alone-entries (file-entries (50 ∷ []))
+    ap entries (put_first 98 (50 ∷ []))
+    ∙ put-entries empty_directory two 98 (content (50 ∷ [])) alone-entries (file-entries (50 ∷ []))
 
 pub right_marks-entries : entries right_scan.marks ≡ with_file 98 two_digest
 right_marks-entries = marked-entries (tree_of right_history) 98 (50 ∷ []) right-entries

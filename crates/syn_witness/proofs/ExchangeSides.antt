@@ -28,7 +28,7 @@ use Rattle.syn_witness.proofs.WitnessTrees.{replace-entries, fits_by}
 use Rattle.syn_witness.proofs.WitnessFiles.{IsLetter, content, with_file, alone-entries}
 use Rattle.syn_witness.proofs.WitnessFiles.{file-entries, put-entries, put_allowed, one_byte}
 use Rattle.syn_witness.proofs.WitnessFiles.{file_is_part, file_spelling, file_fits_part}
-use Rattle.syn_witness.proofs.WitnessFiles.{file_fits_paths}
+use Rattle.syn_witness.proofs.WitnessFiles.{file_fits_paths, put_first}
 use Rattle.syn_witness.proofs.WitnessScans.{left_history, left_scan, left-entries, left_root}
 use Rattle.syn_witness.proofs.ExchangeScans.{right_history, right_scan, right-entries, right_root}
 use Rattle.syn_witness.proofs.WitnessSteps.{machine_of, meets_unarmed, edits_so, waits, took}
@@ -335,7 +335,9 @@ stays t first second p q apart =
 
 left_first : subtree (tree_of left_history) a_path ≡ one
 unfolding tree_of
-left_first = subtree-replace empty_directory a_path one
+left_first =
+    ap (λ t. subtree t a_path) (put_first 97 (49 ∷ []))
+    ∙ subtree-replace empty_directory a_path one
 
 first_piece : answer left_side (Piece 6 file_bytes)
     ≡ serve 7 (has_room_for 7 (machine_of left_side)) None left_side 1 (Fetch a_path 2 0)
@@ -379,7 +381,9 @@ replaces_first =
 
 pub right_second : subtree (tree_of right_done.history) b_path ≡ two
 unfolding tree_of
-right_second = stays empty_directory two one b_path a_path refl
+right_second =
+    ap (λ t. subtree (replace t a_path one) b_path) (put_first 98 (50 ∷ []))
+    ∙ stays empty_directory two one b_path a_path refl
 
 second_piece : answer right_done (Piece 6 two_bytes)
     ≡ serve 7 (has_room_for 7 (machine_of right_done)) None right_done 1 (Fetch b_path 2 0)

@@ -234,9 +234,10 @@ module _ {M A V W : Type 0} (kind : Kind M A V W) (back : GivesBack kind) (base 
   device_counted _ _ _ _ (armed_to_stop calls) = still_counted base was.status was.failures 0 h
   device_counted _ _ _ _ stopped =
       (let least = h.0 in omega (arith, least), λ e. absurd (down_not_halted e))
-  device_counted _ _ _ _ (unopened calls arms failed down meets) =
-      ((meets_counted base was.arms calls was.failures Halted arms failed h.0 meets).0,
-      λ e. absurd (down_not_halted e))
+  device_counted _ _ _ _ (unopened calls arms failed down meets) = (
+    (meets_counted base was.arms calls was.failures Halted arms failed h.0 meets).0,
+    λ e. absurd (down_not_halted e),
+  )
   device_counted _ _ _ _ (halted calls arms failed meets) =
       meets_counted base was.arms calls was.failures Halted arms failed h.0 meets
   device_counted _ _ _ _ (cut calls arms failed meets) =

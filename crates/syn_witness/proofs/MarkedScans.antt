@@ -19,7 +19,7 @@ use Rattle.syn_witness.specs.Witness.{a_path, put_one, one}
 use Rattle.syn_witness.proofs.WitnessTrees.{same_by, part-entries, directory_by, children_by}
 use Rattle.syn_witness.proofs.WitnessFiles.{content, digest, alone, with_file, alone-entries}
 use Rattle.syn_witness.proofs.WitnessFiles.{file-entries, file_mark-entries, marked-entries}
-use Rattle.syn_witness.proofs.WitnessFiles.{put-entries}
+use Rattle.syn_witness.proofs.WitnessFiles.{put-entries, put_first}
 use Rattle.syn_witness.proofs.WitnessScans.{names_of, no_names}
 
 abbrev pub left_history : History
@@ -40,7 +40,8 @@ one_digest = digest (49 ∷ [])
 pub left-entries : entries (tree_of left_history) ≡ with_file 97 (content (49 ∷ []))
 unfolding tree_of
 left-entries =
-    put-entries empty_directory one 97 (content (49 ∷ [])) alone-entries (file-entries (49 ∷ []))
+    ap entries (put_first 97 (49 ∷ []))
+    ∙ put-entries empty_directory one 97 (content (49 ∷ [])) alone-entries (file-entries (49 ∷ []))
 
 pub right-entries : entries (tree_of right_history) ≡ with_file 97 (content (49 ∷ []))
 unfolding tree_of

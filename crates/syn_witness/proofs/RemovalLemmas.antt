@@ -15,7 +15,7 @@ use Rattle.syn_witness.specs.Removal.{kept_world, remove_a, RemovalIsCarried}
 use Rattle.syn_witness.proofs.WitnessTrees.{absent-entries, part-entries, directory_by, get_by}
 use Rattle.syn_witness.proofs.WitnessTrees.{fits_by, fits_archive_by}
 use Rattle.syn_witness.proofs.WitnessFiles.{path_of_letter, content, digest, alone, marked_whole}
-use Rattle.syn_witness.proofs.WitnessFiles.{alone_whole, root_alone, root_only}
+use Rattle.syn_witness.proofs.WitnessFiles.{alone_whole, root_alone, root_only, put_first}
 use Rattle.syn_witness.proofs.WitnessLemmas.{letter_a}
 use Rattle.syn_witness.proofs.ConflictScans.{children_at}
 use Rattle.std.specs.List.{list_all}
@@ -306,6 +306,7 @@ done_is : answer right_done Done ≡ serve 7 (has_room_for 7 (machine_of right_s
 unfolding tree_of
 done_is =
     rw (
+      put_first 97 (49 ∷ []),
       get_by one_tree one_pairs root one-entries,
       fits_by (replace one_tree a_path absent) alone
           (removed-entries one_tree (content one_bytes) one-entries),
@@ -321,7 +322,8 @@ replaces =
 pub gone_size : record_size (kept_spelling (Recorded a_path absent)) ≡ 10
 gone_size =
     ap (λ spelled. record_size (2 ∷ 1 ∷ 1 ∷ 97 ∷ spelled)) (spelling_unfolds digest_spelling absent
-    ∙ ap (content_spelling digest_spelling mark_spelling absent) (get_by absent [] root absent-entries))
+    ∙ ap (content_spelling digest_spelling mark_spelling absent)
+    (get_by absent [] root absent-entries))
 
 takes_done : Steps replaced (Deliver 13) carried
 takes_done =
@@ -334,7 +336,7 @@ takes_done =
 
 right_absent : subtree (tree_of right_done.history) a_path ≡ absent
 unfolding tree_of
-right_absent = subtree-replace one_tree a_path absent
+right_absent = subtree-replace _ a_path absent
 
 pub removal_is_carried : RemovalIsCarried
 removal_is_carried = (

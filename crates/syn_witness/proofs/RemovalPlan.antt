@@ -20,7 +20,7 @@ use Rattle.syn_witness.proofs.WitnessTrees.{absent-entries, replace-entries, mar
 use Rattle.syn_witness.proofs.WitnessTrees.{part-entries, directory_by, get_by, fits_by}
 use Rattle.syn_witness.proofs.WitnessFiles.{path_of_letter, content, digest, alone, with_file}
 use Rattle.syn_witness.proofs.WitnessFiles.{alone-entries, file-entries, marked-entries}
-use Rattle.syn_witness.proofs.WitnessFiles.{put-entries, marked_whole, put_allowed}
+use Rattle.syn_witness.proofs.WitnessFiles.{put-entries, marked_whole, put_allowed, put_first}
 use Rattle.syn_witness.proofs.WitnessScans.{names_of}
 use Rattle.syn_witness.proofs.WitnessLemmas.{letter_a, edit_allowed}
 use Rattle.syn_witness.proofs.ConflictScans.{both_names, children_at}
@@ -55,15 +55,17 @@ removed-entries t c e = replace-entries t a_path absent (with_file 97 c) [] e ab
 
 before-entries : entries (tree_of left_before) ≡ one_pairs
 unfolding tree_of
-before-entries = one-entries
+before-entries = ap entries (put_first 97 one_bytes) ∙ one-entries
 
 pub left-entries : entries (tree_of left_history) ≡ alone
 unfolding tree_of
-left-entries = removed-entries one_tree (content one_bytes) one-entries
+left-entries =
+    ap (λ t. entries (replace t a_path absent)) (put_first 97 one_bytes)
+    ∙ removed-entries one_tree (content one_bytes) one-entries
 
 pub right-entries : entries (tree_of right_history) ≡ one_pairs
 unfolding tree_of
-right-entries = one-entries
+right-entries = ap entries (put_first 97 one_bytes) ∙ one-entries
 
 abbrev pub left_scan : Scan
 left_scan = record { marks = mark (tree_of left_history); unstable = [] }
@@ -113,6 +115,7 @@ remove_allowed = record {
   lawful = (omega arith, path_of_letter 97 letter_a);
   not_refused =
       rw (
+        put_first 97 one_bytes,
         get_by one_tree one_pairs root one-entries,
         get_by one_tree one_pairs a_path one-entries,
         fits_by (replace one_tree a_path absent) alone

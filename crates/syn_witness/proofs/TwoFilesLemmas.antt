@@ -37,6 +37,7 @@ use Rattle.syn_witness.proofs.WitnessTrees.{children_by}
 use Rattle.syn_witness.proofs.WitnessFiles.{letter_size, alone, with_file, content, digest}
 use Rattle.syn_witness.proofs.WitnessFiles.{alone-entries, file-entries, file_mark-entries}
 use Rattle.syn_witness.proofs.WitnessFiles.{marked-entries, put-entries, no_marks, put_allowed}
+use Rattle.syn_witness.proofs.WitnessFiles.{put_first}
 use Rattle.syn_witness.proofs.WitnessSteps.{machine_of, meets_unarmed, took, edits_so, ends_so}
 use Rattle.syn_witness.proofs.WitnessSteps.{keeps_so, recorded, runs_on_from}
 use Rattle.syn_witness.proofs.WitnessLemmas.{letter_a, edit_allowed}
@@ -76,7 +77,7 @@ file_tree-entries byte =
 has-entries : (user byte : ℕ) →
     entries (tree_of (begun_history (put_byte user byte))) ≡ with_file 97 (content (byte ∷ []))
 unfolding tree_of
-has-entries user byte = file_tree-entries byte
+has-entries user byte = ap entries (put_first 97 (byte ∷ [])) ∙ file_tree-entries byte
 
 marks-entries : (user byte : ℕ) →
     entries (scan_at (put_byte user byte)).marks ≡ with_file 97 (marked_with byte)

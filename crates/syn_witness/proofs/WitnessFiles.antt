@@ -14,10 +14,11 @@ use Rattle.sha2.specs.Sha256.{sha256}
 use Rattle.syn_model.specs.Path.{Bytes, Path, IsName, IsPath, root, path_cmp}
 use Rattle.syn_model.specs.Tree.{subtree, Tree, Pair, Content, IsPart, IsTree, Directory, File}
 use Rattle.syn_model.specs.Tree.{file, empty_directory, replace, is_directory, is_directory_content}
+use Rattle.syn_model.specs.Tree.{at_root}
 use Rattle.syn_model.specs.Contents.{Contents, AreLawfulContents, contents_of, contents_spelling}
 use Rattle.syn_model.specs.Contents.{digest_spelling}
 use Rattle.syn_model.specs.Limits.{fits_replica, fits_part, fits_paths, fits_content, fits_path}
-use Rattle.syn_model.specs.Event.{AreBytes, Edited, Put}
+use Rattle.syn_model.specs.Event.{AreBytes, Edited, Put, after_edit, put_contents}
 use Rattle.syn_model.specs.History.{tree_of, IsAllowed}
 use Rattle.syn_model.specs.Mark.{mark, IsMarks}
 use Rattle.syn_model.proofs.MarkLemmas.{mark-digests}
@@ -128,8 +129,20 @@ pub put-entries : (t u : Tree) (n : ℕ) (content : Content) → entries t ≡ a
     entries u ≡ (root, content) ∷ [] → entries (replace t (letter_path n) u) ≡ with_file n content
 put-entries t u n content e f = replace-entries t (letter_path n) u alone ((root, content) ∷ []) e f
 
+-- what is put where nothing is makes a new file
+pub put_new : (t : Tree) (p : Path) (bytes : Bytes) → get t p ≡ None →
+    after_edit t (Put p bytes) ≡ replace t p (file bytes)
+put_new t p bytes none =
+    ap (λ before. replace t p (at_root (File (put_contents before bytes)))) none
+
 pub alone-entries : entries empty_directory ≡ alone
 alone-entries = root-entries Directory
+
+pub put_first : (n : ℕ) (bytes : Bytes) →
+    after_edit empty_directory (Put (letter_path n) bytes)
+    ≡ replace empty_directory (letter_path n) (file bytes)
+put_first n bytes = put_new empty_directory (letter_path n) bytes
+    (get_by empty_directory alone (letter_path n) alone-entries)
 
 pub marked-entries : (t : Tree) (n : ℕ) (bytes : Bytes) → entries t ≡ with_file n (content bytes) →
     entries (mark t) ≡ with_file n (digest bytes)

@@ -18,7 +18,7 @@ use Rattle.syn_witness.proofs.WitnessTrees.{children_in, mark-entries, same_by, 
 use Rattle.syn_witness.proofs.WitnessTrees.{directory_by, children_by}
 use Rattle.syn_witness.proofs.WitnessFiles.{content, digest, alone, with_file, alone-entries}
 use Rattle.syn_witness.proofs.WitnessFiles.{file-entries, file_mark-entries, marked-entries}
-use Rattle.syn_witness.proofs.WitnessFiles.{put-entries}
+use Rattle.syn_witness.proofs.WitnessFiles.{put-entries, put_first}
 
 -- what each side has as it is listed
 abbrev pub left_history : History
@@ -36,7 +36,8 @@ one_digest = digest one_bytes
 pub left-entries : entries (tree_of left_history) ≡ with_file 97 (content one_bytes)
 unfolding tree_of
 left-entries =
-    put-entries empty_directory one 97 (content one_bytes) alone-entries (file-entries one_bytes)
+    ap entries (put_first 97 one_bytes)
+    ∙ put-entries empty_directory one 97 (content one_bytes) alone-entries (file-entries one_bytes)
 
 pub right-entries : entries (tree_of right_history) ≡ alone
 unfolding tree_of

@@ -41,7 +41,7 @@ use Rattle.syn_witness.proofs.WitnessFiles.{alone-entries, file-entries, file_ma
 use Rattle.syn_witness.proofs.WitnessFiles.{put-entries, marked_whole, alone_whole, root_only}
 use Rattle.syn_witness.proofs.WitnessFiles.{root_alone, path_of_letter, one_byte, file_is_part}
 use Rattle.syn_witness.proofs.WitnessFiles.{file_spelling, file_fits_part, file_fits_paths}
-use Rattle.syn_witness.proofs.WitnessFiles.{are_marks}
+use Rattle.syn_witness.proofs.WitnessFiles.{are_marks, put_first}
 use Rattle.syn_witness.proofs.WitnessMessages.{number_of}
 use Rattle.syn_witness.proofs.WitnessLemmas.{letter_a, edit_allowed}
 use Rattle.syn_witness.proofs.WitnessPlan.{left_side, right_side, right_staged, right_done}
@@ -82,7 +82,9 @@ lists_right =
 
 left_one : subtree (tree_of left_history) a_path ≡ one
 unfolding tree_of
-left_one = subtree-replace empty_directory a_path one
+left_one =
+    ap (λ t. subtree t a_path) (put_first 97 (49 ∷ []))
+    ∙ subtree-replace empty_directory a_path one
 
 piece_is : answer left_side (Piece 6 file_bytes)
     ≡ serve 7 (has_room_for 7 (machine_of left_side)) None left_side 1 (Fetch a_path 2 0)

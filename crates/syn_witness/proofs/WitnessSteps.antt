@@ -41,6 +41,7 @@ use Rattle.syn_headline.specs.Coordinator.{starts as session_starts}
 use Rattle.syn_headline.specs.World.{World, Step, Edits, Start, Steps, Runs, side_of, side_goes}
 use Rattle.syn_headline.specs.World.{side_does, coordinator_goes, coordinator_does, says}
 use Rattle.syn_headline.specs.World.{refuses_with, Delivers, to_side, to_coordinator}
+use Rattle.syn_model.specs.Contents.{Contents, contents_spelling}
 use Rattle.syn_witness.specs.Witness.{new_room, new_archive_room, new_journal}
 use Rattle.syn_witness.proofs.WitnessMessages.{AreNumbered, asks_once}
 
@@ -71,8 +72,8 @@ meets_unarmed calls = all_made (inl refl) (inl refl)
 not_nil : {X : Type 0} (x : X) (xs : List X) → x ∷ xs ≢ []
 not_nil x xs e = let h = ap length e in omega (arith, h)
 
-some_spelling : (file : Contents → List ℕ) (spell : Tree → List ℕ) (tree : Tree) (content : Option Content) →
-    content_spelling file spell tree content ≢ []
+some_spelling : (file : Contents → List ℕ) (spell : Tree → List ℕ) (tree : Tree)
+    (content : Option Content) → content_spelling file spell tree content ≢ []
 some_spelling file spell tree None = not_nil 0 []
 some_spelling file spell tree (Some (File contents)) = not_nil 1 _
 some_spelling file spell tree (Some Directory) = not_nil 2 _
