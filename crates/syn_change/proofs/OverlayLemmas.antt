@@ -113,7 +113,8 @@ is_free t p Directory none =
 
 -- an edit of an entry that is not refused places it
 pub placed_by : (t : Tree) (pair : Pair) (edit : Edit) (new : Tree) → HasParents t →
-    IsPut (get t pair.0) pair.1 → edit ≡ entry_edit pair → edit_refusal t edit ≡ None → new ≡ after_edit t edit →
+    IsPut (get t pair.0) pair.1 → edit ≡ entry_edit pair → edit_refusal t edit ≡ None →
+    new ≡ after_edit t edit →
     IsPlaced t pair new
 placed_by t pair edit new parents fresh same none is =
     let P : Edit → Type 0 = λ e. edit_refusal t e ≡ None in

@@ -11,8 +11,9 @@ use Rattle.syn_archive.specs.declared.error.ArchiveError.TheVariants as error
 use Rattle.syn_disk.specs.Calls.{MakesAtLeast, BreaksSometime}
 use Rattle.syn_disk.specs.Stops.{Untouched}
 use Rattle.syn_disk.specs.declared.disk.Disk.{Ghosts}
-use Rattle.syn_headline.specs.Machine.{Up, Halted, Down, Status, Arms, Meets, unarmed, after_device}
-use Rattle.syn_headline.specs.Machine.{IsBefore, after_calls, all_made}
+use Rattle.syn_headline.specs.Coordinator.{archive_layout}
+use Rattle.syn_headline.specs.Machine.{Up, Halted, Down, Status, Arms, Meets, Opens, unarmed}
+use Rattle.syn_headline.specs.Machine.{after_device, IsBefore, after_calls, all_made}
 use Rattle.syn_disk.specs.Arms.{is_stopped}
 use Rattle.syn_journal.specs.Layout.{Value, bytes_left, meaning, Fault}
 use Rattle.syn_model.specs.Path.{Bytes}

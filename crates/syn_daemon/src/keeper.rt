@@ -14,8 +14,8 @@ use syn_replica::Replica;
 use syn_serve::{Kept, SHORT_JOURNAL_ROOM, keep_up};
 use syn_shared::{SharedError, SharedReplica};
 
-/// Makes a step for each ring of the bell, until it is told to end. In a quiet moment behind that
-/// it makes another one, which leaves the journal short: so the next opening of the image is short.
+/// Makes a step for each ring of the bell, until it is told to end. In a quiet moment after that
+/// it makes another one, which leaves the journal short, and so the next opening of the image.
 ///
 /// Where a step finds the lock taken it needs no second try: whoever has the lock is a worker,
 /// which rings when it has left, and that ring was not taken up yet.

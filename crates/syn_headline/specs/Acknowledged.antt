@@ -95,7 +95,7 @@ MayOverwrite made written side path =
     ≡ subtree (made.scan side).marks path))
 
 -- a replacement that follows a listing, is an item of its session's plan, puts what the other side
--- had where the plan saw it, and takes what it may overwrite
+-- had where the plan saw it, and goes over nothing but what it may overwrite
 pub record IsLegal (sent : Sent) (log : Log) (side : Which) (written : Stores) (token : Token)
     (path : Path) (since : ℕ) (new : Tree) : Type 0 where
   pub listed : WasListed sent side token.session (parent path) since

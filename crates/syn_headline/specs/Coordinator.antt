@@ -91,7 +91,7 @@ pub record HasNoRoom (pair : ℕ) (plan : List Planned) (taken : Exchange) (walk
   pub to_keep : IsToKeep plan taken walk kept
   pub no_room : has_room (archive_layout pair) walk.journal kept ≡ false
 
--- a record is written; a stop may also come right behind it
+-- a record is written; a stop may also come right after it
 pub data Keeps (pair : ℕ) (journal : Journaled Archive Kept)
     (kept : Kept) : Journaled Archive Kept → List Kept → Type 0 where
   writes : (new : Journaled Archive Kept) (acknowledged : List Kept) →
@@ -260,7 +260,7 @@ abbrev pub GoesThrough : ℕ → CoordinatorMachine → Running → Exchange →
 GoesThrough pair machine running taken plan kept walk =
     Advances pair (option_map_or (λ plan. plan) plan []) taken (start_of machine running) kept walk
 
--- and the session is so behind it
+-- and the session is so after it
 abbrev pub behind : Running → Exchange → Option (List Planned) → Walk → List Kept → Running
 behind running taken plan walk kept = advanced (hearing running taken) plan walk kept
 

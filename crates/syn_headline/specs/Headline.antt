@@ -44,8 +44,9 @@ pub record IsRunFrom (before : Stores) (world : Picture) : Type 0 where
   pub stands : stores_of start ≡ before
   pub follows : FollowsAll start world
 
--- Each replacement of the run is of its session's plan, and puts what the other side held over what
--- the archive recorded, untouched since its listing
+-- Each replacement of the run is of its session's plan, and puts what the other side held. It goes
+-- over what the archive recorded or, with a preference, over what the scan showed. Nothing touched
+-- the path since the side listed it
 abbrev pub EachReplacementIsLegal : Stores → Picture → Type 0
 EachReplacementIsLegal before world =
     (earlier later : List Ack) (side : Which) (token : Token) (path : Path) (since : ℕ)
@@ -127,8 +128,8 @@ CompleteSessionsReconcile before world = (report : Report) (found left : Stores)
     (preference : Option Which) × PlansWith world.log report.session preference
     × IsReconciled preference (trees_of found) (trees_of left)
 
--- Its conflicts are the relevant paths that are dirty on both sides, no directory on both and
--- unequal; with a preference there are none
+-- Its conflicts are the relevant paths that are dirty on both sides, not a directory on both, and
+-- unequal by mark; with a preference there are none
 abbrev pub ReportsItsConflicts : Stores → Picture → Type 0
 ReportsItsConflicts before world = (report : Report) (found left : Stores) →
     IsQuietSession before world.acknowledged world.reports report found left →
@@ -150,7 +151,7 @@ PreferenceLeavesOne before world = (report : Report) (found left : Stores) (side
     PlansWith world.log report.session (Some side) →
     AreApart (tree_of found.left) (tree_of found.right) → AreEqual (trees_of left)
 
--- Its counts are those
+-- A complete session without edits has these counts
 abbrev pub CountsItsItems : Stores → Picture → Type 0
 CountsItsItems before world = (report : Report) (found left : Stores) →
     IsQuietSession before world.acknowledged world.reports report found left →
@@ -185,9 +186,9 @@ pub record IsFetched (sent : Sent) (source : Which) (history : History) (session
   pub answered : WasAnswered sent source session (Fetch path position offset) (Piece total bytes)
   pub untouched : UntouchedSince position history path
 
--- What was carried is marked by the next complete session without edits, recorded or not, where
--- nothing touched it since: on the source since it was fetched, and on the target since it was
--- replaced
+-- What was carried is in the archive after each later complete session without edits, even if its
+-- own record was lost, where nothing touched it since: on the source since it was fetched, and on
+-- the target since it was replaced
 abbrev pub CarriedIsMarked : Stores → Picture → Type 0
 CarriedIsMarked before world =
     (side : Which) (first rest : History) (token : Token) (path : Path) (since : ℕ) (new : Tree)

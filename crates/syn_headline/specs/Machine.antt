@@ -10,8 +10,8 @@ pub data Status : Type 0 where
   Halted : Status
   Down : Status
 
--- the device call that fails unmade, and the one after which the machine is down,
--- counted from the next, which is 1; 0 is none
+-- the device call that fails unmade, and the one after which the machine is down, counted from the
+-- next, which is 1; 0 is none, and a stop at 0 arms nothing but stops the machine at once
 pub record Arms : Type 0 where
   pub fail : ℕ
   pub stop : ℕ

@@ -95,7 +95,7 @@ module _ {M A V W : Type 0} (kind : Kind M A V W) (machine : M) where
     no_memory_to_open : journal.status ≡ Down → OpensDown machine nothing (Memory ∷ [])
 
   -- A machine that is not down opens its disk again by at least one device call. One that fails
-  -- halts it, and one behind which it stops leaves it down
+  -- halts it, and one after which it stops leaves it down
   pub data Reopens : M → A → List Refusal → Type 0 where
     reopens : (calls : ℕ) (new : Journaled V W) (kept : List W) → 1 ≤ calls →
         Opens kind.layout kind.CanKeep journal calls new kept →

@@ -156,10 +156,9 @@ abbrev pub IsTotal : Sent → Which → ℕ → Planned → ℕ → Type 0
 IsTotal sent to session planned total =
     (offset : ℕ) × (bytes : List ℕ) × IsPiece sent to session planned offset total bytes
 
--- a session begins with the pair's number, a side is listed once it has begun it, and what else is
--- asked of it is by an item of the plan:
--- a piece of what it is to give, a piece that was fetched, or its replacement, once the length of
--- the whole is known
+-- a session may be begun with any number of a pair, a side is listed once it has begun it, and what
+-- else is asked of it is by an item of the plan: a piece of what it is to give, a piece that was
+-- fetched, or its replacement, once the length of the whole is known
 abbrev pub IsOfPlan : ℕ → Sent → ℕ → List Planned → Which → Request → Type 0
 IsOfPlan pair sent session plan to (Begin asked) = Unit {0}
 IsOfPlan pair sent session plan to (ListAt path) = HasBegun sent to session

@@ -26,8 +26,8 @@ pub data IsSettledBy (kept : List Kept) (refused : List (Refusal × Path)) (plan
   as_refused : (why : Refusal) → Contains refused (why, path_of planned.item) →
       IsSettledBy kept refused planned
 
--- Why an item of a plan was refused: a side answered so to a request for it; or the archive refuses
--- its record; or its record had no room, and no checkpoint could be made
+-- Why an item of a plan was refused: a side answered so to a request for it; or some archive would
+-- refuse its record; or it is 7, as where there is no room and no checkpoint can be made
 pub data IsRefusedFor (plan : List Planned) (taken : List Exchange) : Refusal × Path → Type 0 where
   by_side : (item : ℕ) (planned : Planned) (exchange : Exchange) (why : Refusal) →
       slice_get plan item ≡ Some planned → Contains taken exchange →

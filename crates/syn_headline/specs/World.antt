@@ -26,7 +26,7 @@ pub data Step : Type 0 where
   Tick : Step
   Checkpoint : (machine : Machine) → Step
   Fail : (machine : Machine) (call : ℕ) → Step
-  Stop : (machine : Machine) (call : ℕ) → Step
+  Stop : (machine : Machine) (calls : ℕ) → Step
   Open : (machine : Machine) → Step
   Reopen : (machine : Machine) → Step
 

@@ -349,7 +349,8 @@ module _ (cost : Content → ℕ) where
 
 -- by a spelling of files, where each takes a byte for its kind and what is spelled of it
 module _ (file : Contents → Bytes) (cost : Content → ℕ)
-    (counts : (c : Contents) → 1 + length (file c) ≤ cost (File c)) (empty : 3 ≤ cost Directory) where
+    (counts : (c : Contents) → 1 + length (file c) ≤ cost (File c))
+    (empty : 3 ≤ cost Directory) where
   spelled_within : (depth : ℕ) (t : Tree) → is_present t root ≡ true →
       length (spelling_within file depth t) ≤ measure cost t
   unfolding spelling_within
@@ -374,8 +375,10 @@ module _ (file : Contents → Bytes) (cost : Content → ℕ)
 pub spelled_less : (t : Tree) → is_present t root ≡ true →
     length (spelling t) ≤ tree_spelling_length t
 spelled_less t there =
-    let less = spelled_within contents_spelling content_spelling_length (λ c. omega (arith,
-    length-append (contents_front c) c.bytes)) (omega arith) (suc (len t)) t there in
+    let less = spelled_within contents_spelling content_spelling_length (λ c. omega (
+      arith,
+      length-append (contents_front c) c.bytes,
+    )) (omega arith) (suc (len t)) t there in
     let is = total_is (λ pair. last_name_spelling_length pair.0 + content_spelling_length pair.1)
     (entries t) in
     omega (arith, less, is)

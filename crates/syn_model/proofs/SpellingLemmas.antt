@@ -24,6 +24,7 @@ use Rattle.syn_model.proofs.HistoryLemmas.{no_file}
 use Rattle.syn_model.proofs.SyncLemmas.{directory_is}
 use Rattle.syn_model.proofs.QuietLemmas.{nothing_below}
 use Rattle.syn_model.proofs.DirectoryLemmas.{not_child, absent_below}
+
 -- ---- bytes
 
 -- lists of one length that go on to one list are one, and so is what follows

@@ -86,7 +86,6 @@ module _ (t : Tree) (h : fits_part t ≡ true) where
       let small = leb-true (length (children t root)) 256 (at root Directory e).1 in
       omega (arith, small)
 
-
 -- ---- trees
 
 abbrev IsSpelled : Tree → Type 0

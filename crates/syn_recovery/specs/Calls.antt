@@ -18,12 +18,12 @@ pub data CallsMeet (old new : DiskArms) (calls : ℕ) (status : Status) (failed 
   goes_down : is_stopped new ≡ true → Meets (armed_at old) calls Down unarmed 0 →
       CallsMeet old new calls status failed
 
--- a call that succeeds: the machine is up, or its stop came right behind the last device call
+-- a call that succeeds: the machine is up, or its stop came right after the last device call
 abbrev pub MadeCallsMeet : Type 0
 MadeCallsMeet = (calls : ℕ) (old new : DiskArms) → is_stopped old ≡ false → Makes calls old new →
     CallsMeet old new calls Up 0
 
--- where such a call succeeds and the machine went down, the stop was armed behind its last device
+-- where such a call succeeds and the machine went down, the stop was armed after its last device
 -- call
 abbrev pub StopsBehind : Type 0
 StopsBehind = (calls : ℕ) (old new : DiskArms) → is_stopped old ≡ false → Makes calls old new →

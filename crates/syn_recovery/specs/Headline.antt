@@ -67,7 +67,8 @@ pub record IsRecovered (before : Stores) (world : Picture) (disks : Disks)
   pub archive : ArchiveGrown world.coordinator.writing
       (stores_after before world.acknowledged).archive now.archive
 
--- The headline of a run, by the picture of its world, whatever the disks hold after it
+-- What is promised of a run, by the picture of its world, with one content that its disks may have
+-- after it
 pub record IsCrashSafe (before : Stores) (world : Picture) (disks : Disks) : Type 0 where
   pub now : Stores
   pub pictured : IsRunFrom before world

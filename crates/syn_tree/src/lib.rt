@@ -19,6 +19,10 @@
 //!   path order, which contracts see as the list of those that are left. A `Pair` is lent: its path
 //!   is copied for who needs it, its last name and what stands there are looked at. No call shows
 //!   in what form a tree keeps them.
+//! - A file has a mode beside its bytes (`Mode`), of which there is one as long as nothing changes
+//!   it. `mode_after_put` of `checking` is the mode that a put leaves.
+//! - `copy` of a `Node`, of `Entries` and of an `Edit` is an equal one of its own, refused 11 where
+//!   memory is refused (`ok`, `memory`).
 //! - `child_count` is how many names a directory has, and `part_length` how many bytes spell what
 //!   is at a path, both without memory.
 //! - What serves any form of a tree has modules of its own. `checking::check` answers why an edit

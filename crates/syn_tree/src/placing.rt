@@ -35,7 +35,8 @@ pub fn placed(alloc: Global, at: &Key, new: Option<Node>) -> Result<Vec<Entry>, 
 
 /// A file at the path.
 fn placed_file(alloc: Global, at: &Key, mode: Mode, bytes: Vec<u8>) -> Result<Vec<Entry>, TreeError>
-    ensures ok { IfOk result (λ list. IsPlaceable at.now (file_with (mode_of mode) bytes.items) list.items) }
+    ensures ok { IfOk result (λ list.
+        IsPlaceable at.now (file_with (mode_of mode) bytes.items) list.items) }
     ensures full { IfErr result (λ e. e ≢ TreeError.Memory → (e ≡ TreeError.Full)
         × FitsNowhere at.now (file_with (mode_of mode) bytes.items)) }
 {

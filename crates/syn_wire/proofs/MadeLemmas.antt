@@ -222,9 +222,11 @@ directory_none fields none t rest begins =
 -- a spelling has a kind
 kind_of : (t : Tree) (rest bytes : Bytes) → bytes ≡ spelling t ++ rest →
     (kind : ℕ) × (fields : Bytes) × (bytes ≡ kind ∷ fields) × (kind ≤ 2)
-kind_of t rest bytes e = by_content (get t root) (e ∙ ap (λ b. b ++ rest) (spelling_unfolds contents_spelling t))
+kind_of t rest bytes e =
+    by_content (get t root) (e ∙ ap (λ b. b ++ rest) (spelling_unfolds contents_spelling t))
   where
-    by_content : (o : Option Content) → bytes ≡ content_spelling contents_spelling spelling t o ++ rest →
+    by_content : (o : Option Content) →
+        bytes ≡ content_spelling contents_spelling spelling t o ++ rest →
         (kind : ℕ) × (fields : Bytes) × (bytes ≡ kind ∷ fields) × (kind ≤ 2)
     by_content None k = (0, _, k, omega arith)
     by_content (Some (File c)) k = (1, _, k, omega arith)
@@ -248,7 +250,8 @@ pub no_whole_of_kind : (bytes fields : Bytes) (kind : ℕ) → bytes ≡ kind �
     IsReading IsWholeTree spelling bytes None
 no_whole_of_kind bytes fields kind is other t rest begins =
     other (ap (λ b. first_or b 0) (sym is ∙ (begins.spelled ∙ ap (λ b. b ++ rest)
-    (spelling_unfolds contents_spelling t ∙ ap (content_spelling contents_spelling spelling t) begins.lawful.tree.rooted))))
+    (spelling_unfolds contents_spelling t
+    ∙ ap (content_spelling contents_spelling spelling t) begins.lawful.tree.rooted))))
 
 -- ---- whole trees
 

@@ -146,7 +146,8 @@ module _ (file : Contents → Bytes) (spell : Tree → Bytes)
       (subtree-parents t (n ∷ []) h) there)
 
 pub walks_by : (file : Contents → Bytes) (spell : Tree → Bytes) →
-    ((t : Tree) → spell t ≡ content_spelling file spell t (get t root)) → (t : Tree) → HasParents t →
+    ((t : Tree) → spell t ≡ content_spelling file spell t (get t root)) → (t : Tree) →
+    HasParents t →
     is_present t root ≡ true → spell t ≡ flat_map (pair_by file t) (entries t)
 walks_by file spell unfolds t h is =
     walked_within file spell unfolds (suc (len t)) t (omega arith) h is

@@ -45,8 +45,8 @@ pub fn write_contents(out: &mut Vec<u8>, mode: Mode, file: &[u8]) -> Result<(), 
     write_file(out, file)
 }
 
-/// The mode and the digest of a mark that the bytes begin with, and the rest; none where no front of
-/// them is that.
+/// The mode and the digest of a mark that the bytes begin with, and the rest; none where no front
+/// of them is that.
 pub fn read_digest(bytes: &[u8]) -> Option<(Mode, [u8; DIGEST_LENGTH], &[u8])>
     ensures { IsReading IsDigest digest_spelling bytes.now
         (option_map (λ found. (contents_with (mode_of found.0) found.1, found.2.now)) result) }

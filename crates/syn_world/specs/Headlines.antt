@@ -66,7 +66,8 @@ pub record IsNotOpened {D : Type 0} (disk : Ghosts D) (disks : Disks D)
       (failed_calls disk.failures refused.1)
   pub back : ComeBack disk.may_leave disks refused.1
 
--- memory was refused behind the first of the steps, and the disks come back as those left them
+-- memory was refused after a first part of the steps, perhaps none or all of them, and the disks
+-- come back as that part left them
 pub record IsCutShort {D : Type 0} (disk : Ghosts D) (pair : ℕ) (disks : Disks D)
     (stores : Stores) (steps : List Step) (refused : Refusal × Disks D) : Type 0 where
   pub memory : cause_of refused.0 ≡ why.Memory
@@ -98,7 +99,7 @@ pub record FindsCause {D : Type 0} (may_leave : D → Bytes → Type 0) (disks :
   pub might_hold : MayHold may_leave disks shown
   pub refuses : RefusesDisks shown refusal
 
--- A world was opened from disks as a stop might have left them behind a run. It stands for what the
+-- A world was opened from disks as a stop might have left them after a run. It stands for what the
 -- run acknowledged, with at most the change that each machine was making
 pub record Recovers {D : Type 0} {disk : Ghosts D} (disks : Disks D) (before : Stores)
     (run : ModelWorld) (world : World D disk) : Type 0 where

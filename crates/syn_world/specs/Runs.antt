@@ -14,7 +14,7 @@ pub data StepsSo {D : Type 0} {disk : Ghosts D} (old : ModelWorld) (step : Step)
   no_memory : (disks : Disks D) → result ≡ Err disks → AreLeft disk.may_leave disks old →
       StepsSo old step result
 
--- the disks are left by a run of the first of the steps
+-- the disks are left by a run of a first part of the steps, perhaps none or all of them
 pub record EndsWithin {D : Type 0} (disk : Ghosts D) (old : ModelWorld) (steps : List Step)
     (disks : Disks D) : Type 0 where
   pub made : List Step

@@ -128,7 +128,7 @@ pub record Notes (old new : Lists) (side : Side) (outcome : Outcome) : Type 0 wh
   pub refusals : map cause_of new.refusals.items
       ≡ map cause_of old.refusals.items ++ refused_in outcome
 
--- the lists of a world behind a side's step that sent nothing
+-- the lists of a world after a side's step that sent nothing
 pub record Grows (old new : ModelWorld) (side : Which) (events : List Event)
     (outcome : Outcome) : Type 0 where
   pub sent : new.sent ≡ old.sent
@@ -166,7 +166,7 @@ pub record TellsFound (outcome : CoordinatorOutcome) (found : Option KeptBy)
   pub ended : outcome.ended ≡ None
   pub refused_is : outcome.refused ≡ refused
 
--- the lists of a world behind a step of the coordinator
+-- the lists of a world after a step of the coordinator
 pub record Goes (old new : ModelWorld) (made : Call) (refusals : List Refusal) : Type 0 where
   pub sent : new.sent ≡ old.sent ++ made.messages
   pub acknowledged : new.acknowledged ≡ old.acknowledged ++ map Kept_by made.kept
@@ -174,7 +174,7 @@ pub record Goes (old new : ModelWorld) (made : Call) (refusals : List Refusal) :
       ++ map (λ report. (report, length new.acknowledged)) made.reports
   pub refusals_are : new.refusals ≡ old.refusals ++ refusals
 
--- the lists of a world behind a side's answer
+-- the lists of a world after a side's answer
 pub record GrowsBy (old new : ModelWorld) (side : Which) (messages : List Sent)
     (events : List Event) : Type 0 where
   pub sent : new.sent ≡ old.sent ++ messages

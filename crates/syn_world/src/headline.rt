@@ -1,4 +1,4 @@
-//! A run of a world from three disks to what a stop may leave on them, and the opening behind it.
+//! A run of a world from three disks to what a stop may leave on them, and the opening after it.
 ghost use Rattle.std.specs.Prelude.{◌≡◌, ◌⊎◌, ◌<◌, ◌^◌, ℕ, IfErr, IfOk, MatchResult, map};
 ghost use Rattle.syn_headline.specs.Acknowledged.{Stores};
 ghost use Rattle.syn_headline.specs.World.{World as ModelWorld};
@@ -20,8 +20,9 @@ use syn_refusal::Refusal;
 
 /// Opens the world of a pair from its three disks, and goes by these steps, one after another.
 ///
-/// Whatever a stop may leave on the disks behind the last of them stands for what was acknowledged,
-/// in order, with at most the one change that each machine was making.
+/// Whatever a stop may leave on the disks after the last of them stands for what was there before,
+/// and what was acknowledged since, in order. Each disk may have one change more, the one that its
+/// machine was making.
 ///
 /// Refused as the opening is, and 11 where memory is refused for a list of the world. Then the
 /// disks come back as the steps until then left them, and the same holds of those.
@@ -51,7 +52,7 @@ pub fn run<D: SimulatedDisk>(
     }
 }
 
-/// Opens the world of a pair again from its three disks, behind a stop of all of its machines.
+/// Opens the world of a pair again from its three disks, after a stop of all of its machines.
 ///
 /// Refused 9 where a device call fails, 11 where memory is refused, and 18, 19 and 20 where the
 /// disks are no pair's, as [`World::open`] is; the disks of a run that was safe are refused for
@@ -87,7 +88,7 @@ pub fn recover<D: SimulatedDisk>(
 /// Runs these steps from three disks, stops all machines, and opens what their disks then hold.
 ///
 /// What is opened stands for what the run acknowledged, in order, with at most the one change that
-/// each machine was making. Nothing else is asked of the disks than that they are of one pair.
+/// each machine was making. The disks are to stand for a pair, with none stopped and nothing armed.
 ///
 /// Refused as [`run`] and [`recover`] are; from disks of a pair, 9 and 11 alone.
 pub fn run_and_recover<D: SimulatedDisk>(

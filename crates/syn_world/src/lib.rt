@@ -27,8 +27,8 @@
 //! - `deliver` takes the message with a number to its machine (`StepsSo`). Where there is no memory
 //!   to copy the message, nothing was done and the disks come back.
 //! - `step` takes any `Step` (`StepsSo`), and `run` a list of them: the world is then the model's
-//!   behind a run of the same steps (`RunsSo`). Where memory is refused the disks come back behind
-//!   a run of the first of them (`EndsWithin`).
+//!   after a run of the same steps (`RunsSo`). Where memory is refused the disks come back after a
+//!   run of a first part of them, perhaps none or all (`EndsWithin`).
 //! - `World::open` opens a world from three disks of a pair with nothing armed (`StandFor`). It is
 //!   then a start of a run from what the disks show (`opened`), and is refused 9 or 11 alone
 //!   (`refused`). On a refusal nothing new may be left on a disk (`back`).
@@ -36,8 +36,8 @@
 //!   disk that is refused (`cause`: `RefusesDisks`). The disks count more failed calls than before
 //!   exactly where it is refused 9 (`failures`).
 //! - `run` opens such a world and goes by the steps (`RunsSafely`): whatever a stop may leave on
-//!   the disks behind them is crash safe (`AreSafe`), by the sentences of `syn_recovery`. The disks
-//!   come back where nothing was opened (`IsNotOpened`), or behind the first of the steps where
+//!   the disks after them is crash safe (`AreSafe`), by the sentences of `syn_recovery`. The disks
+//!   come back where nothing was opened (`IsNotOpened`), or after a first part of the steps where
 //!   memory was refused (`IsCutShort`).
 //! - `recover` opens the disks of a safe run, as a stop might have left them (`Recovers`).
 //!   `into_disks` and `disks_of` are the same three disks. Of any disks it says `pair`, `cause` and

@@ -26,9 +26,10 @@ pub enum Step {
     Checkpoint(Machine),
     /// The device call of the machine with this number from now on fails; at 0 none does.
     Fail(Machine, u64),
-    /// So many device calls of the machine are still made, and it stops behind the last of them.
+    /// So many device calls of the machine are still made, and it stops after the last of them. At
+    /// 0 it stops at once.
     Stop(Machine, u64),
-    /// The machine is started again, unless it is up.
+    /// The machine is started again, if it is down. A halted one stays as it is.
     Open(Machine),
     /// The machine opens its own disk again, unless it is down.
     Reopen(Machine),

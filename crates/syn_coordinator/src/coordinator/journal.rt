@@ -6,8 +6,9 @@ ghost use Rattle.syn_coordinator.specs.Coordinators.{with_arms};
 ghost use Rattle.syn_disk.specs.Armed.{armed};
 ghost use Rattle.syn_disk.specs.Arms.{is_stopped};
 ghost use Rattle.syn_disk.specs.Disk.{SameOutcomes};
-ghost use Rattle.syn_headline.specs.Coordinator.{CoordinatorMachine};
+ghost use Rattle.syn_headline.specs.Coordinator.{CoordinatorMachine, coordinator_kind};
 ghost use Rattle.syn_headline.specs.Machine.{Halted, Up};
+ghost use Rattle.syn_headline.specs.MachineSteps.{Checkpoints, Reopens};
 ghost use Rattle.syn_keep.specs.declared.tried.Tried.{Tried};
 ghost use Rattle.syn_model.specs.Refusal.{first_cause};
 ghost use Rattle.syn_recovery.specs.Calls.{armed_at};
@@ -72,9 +73,8 @@ impl<D: Disk> Coordinator<D> {
 }
 
 impl<D: Limit> Coordinator<D> {
-    ghost use Rattle.syn_coordinator.specs.Coordinators.{Does, KeepsReadings, Reopens, ReopensNot};
-    ghost use Rattle.syn_coordinator.specs.Coordinators.{Stands, archive_of, device_of};
-    ghost use Rattle.syn_coordinator.specs.Coordinators.{broken, broken_by};
+    ghost use Rattle.syn_coordinator.specs.Coordinators.{Does, KeepsReadings, ReopensNot, Stands};
+    ghost use Rattle.syn_coordinator.specs.Coordinators.{archive_of, device_of, broken, broken_by};
     ghost use Rattle.syn_coordinator.specs.Coordinators.{report_shown, runs, tried_shown, written};
     ghost use Rattle.syn_keep.specs.Tries.{found_in, listed};
     ghost use Rattle.syn_image.specs.Archives.{kept_of};

@@ -88,7 +88,7 @@ impl<D: SimulatedDisk> SideHost<D> {
         }
     }
 
-    /// The machine is started again, unless it is up.
+    /// The machine is started again, if it is down.
     pub fn open(self, alloc: Global, pair: u64) -> SideCall<D>
         ensures { (machine : SideMachine) → IsHost pair self machine
             → CallIsStep pair machine (D.Limit.failures (side_disk self))

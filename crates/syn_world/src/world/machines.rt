@@ -46,7 +46,7 @@ impl<D: SimulatedDisk> World<D> {
         }
     }
 
-    /// The machine is started again, unless it is up.
+    /// The machine is started again, if it is down.
     pub fn open_machine(self, alloc: Global, machine: Machine) -> Result<World<D>, Disks<D>>
         ensures { (model : ModelWorld) → IsWorld self model
             → GoesSo model (Open (machine_of machine)) result }

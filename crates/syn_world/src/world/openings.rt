@@ -12,8 +12,8 @@ use syn_refusal::Refusal;
 impl<D: SimulatedDisk> World<D> {
     ghost use Rattle.syn_world.specs.Worlds.{GoesSo, IsWorld};
 
-    /// The coordinator's machine is started again, unless it is up. The record that was being
-    /// written is acknowledged where its disk has it.
+    /// The coordinator's machine is started again, if it is down. The record that was being written
+    /// is acknowledged where its disk has it.
     pub fn open_coordinator(self, alloc: Global) -> Result<World<D>, Disks<D>>
         ensures { (model : ModelWorld) → IsWorld self model
             → GoesSo model (Open Coordinator) result }

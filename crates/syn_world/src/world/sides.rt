@@ -62,7 +62,7 @@ impl<D: SimulatedDisk> World<D> {
         }
     }
 
-    /// A side's machine is started again, unless it is up.
+    /// A side's machine is started again, if it is down.
     pub fn open_side(self, alloc: Global, side: Side) -> Result<World<D>, Disks<D>>
         ensures { (model : ModelWorld) → IsWorld self model
             → GoesSo model (Open (At (which_of side))) result }

@@ -6,4 +6,5 @@ use Rattle.syn_mark.proofs.lawful.is_digest.Goals as goal
 
 pub returns-clause-lawful : goal.returns-clause-lawful
 returns-clause-lawful c =
-    with_are_lawful (mode_of c.args.mode) c.args.digest c.is_lawful.ensures (subst AreBytes c.as_slice.ensures c.are_bytes.ensures)
+    with_are_lawful (mode_of c.args.mode) c.args.digest c.is_lawful.ensures
+    (subst AreBytes c.as_slice.ensures c.are_bytes.ensures)

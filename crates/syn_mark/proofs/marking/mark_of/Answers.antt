@@ -15,5 +15,6 @@ returns-in-File-clause-ok c =
     let same : at_root (content_of c.of_file.result) ≡ mark (node_tree c.args.node.now) =
     ap at_root (c.of_file.ensures
     ∙ ap (λ bs. mark_of (File (contents_with mode bs))) c.deref.ensures.value)
-    ∙ (mark_one (File (contents_with mode bytes)) ∙ ap (λ n. mark (node_tree n)) (sym c.in-File.is)) in
+    ∙ (mark_one (File (contents_with mode bytes))
+    ∙ ap (λ n. mark (node_tree n)) (sym c.in-File.is)) in
     subst (λ t. IfOk c.of_mark.result (λ marks. marks ≡ t)) same c.of_mark.ensures.ok

@@ -10,7 +10,8 @@ pub returns-then-len-gt-LONGEST_FILE-clause-full : goal.returns-then-len-gt-LONG
 returns-then-len-gt-LONGEST_FILE-clause-full c e =
     let bytes = c.args.bytes.items in (
       refl,
-      nowhere_content c.args.at.now (File (contents_with (mode_of c.args.mode) bytes)) (lt-leb (length bytes) 16384
+      nowhere_content c.args.at.now (File (contents_with (mode_of c.args.mode) bytes))
+          (lt-leb (length bytes) 16384
           (omega (arith, c.if-len-gt-LONGEST_FILE.true, c.len.ensures, c.args.bytes.ok))),
     )
 
@@ -20,7 +21,8 @@ returns-clause-ok c =
     let at = c.args.at.now in
     let pairs = c.in_ok-push.ensures.items
     ∙ ap₂ (λ xs x. xs ++ x ∷ []) c.new-list.ensures.items c.in_ok-new.ensures in
-    placeable_one at (File (contents_with (mode_of c.args.mode) bytes)) c.push.new.self.items c.is_path.ensures
+    placeable_one at (File (contents_with (mode_of c.args.mode) bytes)) c.push.new.self.items
+    c.is_path.ensures
     (subst (λ bs. AreLawfulContents (contents_with (mode_of c.args.mode) bs))
     c.deref.ensures.value c.are_contents.ensures)
     (le-leb (length bytes) 16384

@@ -1,4 +1,5 @@
-use Rattle.std.proofs.Common.{◌++◌, ◌∷◌, [], List, ℕ, length, sym, ap, ap₂, ◌∙◌, subst, append_assoc, arith}
+use Rattle.std.proofs.Common.{◌++◌, ◌∷◌, [], List, ℕ, length, sym, ap, ap₂, ◌∙◌, subst}
+use Rattle.std.proofs.Common.{append_assoc, arith}
 use Rattle.syn_model.specs.Contents.{AreLawfulContents, contents_spelling, contents_with}
 use Rattle.syn_model.specs.Tree.{File, IsPart}
 use Rattle.syn_tree.proofs.ChangeLemmas.{lawful_part}

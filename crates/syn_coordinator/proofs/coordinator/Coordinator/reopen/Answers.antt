@@ -3,8 +3,8 @@ use Rattle.syn_headline.specs.Machine.{Up}
 use Rattle.std.specs.Prelude.{option_map}
 use Rattle.syn_image.specs.Archives.{kept_of}
 use Rattle.syn_model.specs.Archive.{Kept}
+use Rattle.syn_headline.specs.MachineSteps.{no_memory_to_reopen, reopen_fails}
 use Rattle.syn_model.proofs.ExitLemmas.{if_err_of_exit}
-use Rattle.syn_keep.specs.Machines.{Reopened}
 use Rattle.syn_keep.specs.Steps.{Moves}
 use Rattle.syn_archive.specs.Archive.{disk_of}
 use Rattle.syn_archive.specs.Disks.{IsReopenRefusal}
@@ -12,7 +12,7 @@ use Rattle.syn_archive.specs.Refusals.{AfterReads}
 use Rattle.syn_coordinator.proofs.RefusedLemmas.{reopen_does, not_reopened, halted_not_down}
 use Rattle.syn_coordinator.proofs.RefusedLemmas.{halted_not_up, not_down, error_is}
 use Rattle.syn_coordinator.proofs.ReopenLemmas.{no_memory, reopen_ok, reopen_failed, reopen_stayed}
-use Rattle.syn_coordinator.proofs.ReopenLemmas.{only_memory, reopen_early}
+use Rattle.syn_coordinator.proofs.ReopenLemmas.{Reopened, only_memory, reopen_early}
 use Rattle.syn_coordinator.proofs.coordinator.Coordinator.reopen.Goals as goal
 
 pub returns-in-Ok-clause-ok : goal.returns-in-Ok-clause-ok
@@ -64,8 +64,8 @@ returns-in_err-broke-clause-memory g c pair machine stands =
     if_err_of_exit c.from_residual.result c.in_err-broke.field-0.0 _ c.from_residual.ensures.1
     (λ other. (
       c.in_err-broke.ensures.memory,
-      not_reopened c.args.self.now c.args.self.now pair machine stands refl refl Up
-          machine.journal.status
+      not_reopened c.args.self.now c.args.self.now pair machine stands refl refl _ _ _
           (not_down c.args.self.now.archive machine.journal stands.journal.state) (λ up. up)
+          (λ calls arms failures meets. no_memory_to_reopen calls arms failures meets)
           (reopen_early c.args.self.now.archive pair machine.journal stands.journal),
     ))
