@@ -115,7 +115,7 @@ fn print_script<O: Write>(
     }
 }
 
-/// Prints the world, which it answers. Where one of its steps was refused for want of memory, which
+/// Prints the world, which it answers. Where one of its steps was refused for lack of memory, which
 /// no script asks for, the run is not the script's, and it is refused 11.
 fn print_world<D: SimulatedDisk + Drop, O: Write>(
     alloc: Global,
@@ -138,7 +138,7 @@ fn print_world<D: SimulatedDisk + Drop, O: Write>(
     }
 }
 
-/// A step of the world was refused for want of memory.
+/// A step of the world was refused for lack of memory.
 fn was_short_of_memory<D: SimulatedDisk>(world: &World<D>) -> bool {
     world
         .lists

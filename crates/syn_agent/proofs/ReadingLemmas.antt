@@ -235,7 +235,7 @@ module _ {D : Type 0} {disk : Ghosts D} (replica : Replica D disk) (agent : Agen
             some),
       )) refl
 
--- a fetch is refused for want of memory only where nothing else refuses it
+-- a fetch is refused for lack of memory only where nothing else refuses it
 pub fetch_takes : (history : History) (path : Path) (since : ℕ) (answered : Refusal)
     → ((refusal : Refusal) → first_cause (since_causes history path since) ≡ Some refusal
     → answered ≡ refusal) → answered ≡ why.Memory

@@ -359,7 +359,7 @@ module _ {D : Type 0} {disk : Ghosts D} (old : Replica D disk) (agent : Agent)
             (breaks (answer (add_event side event) Done) event (serves (allowed device _ refl)) refl
             refl (off device))
 
--- what is staged is never refused for want of memory
+-- what is staged is never refused for lack of memory
 pub staging_memory : (staging : Option model.Staging) (token : Token) (size : ℕ)
     (refusal : Refusal) → first_cause (staging_causes staging token size) ≡ Some refusal
     → refusal ≢ why.Memory

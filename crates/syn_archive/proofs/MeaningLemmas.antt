@@ -208,7 +208,7 @@ not_other one wanted value number kept fits stands (inr some) other =
     other.differ (same_Some _ _ (sym other.wanted_is ∙ some) ∙ (one value.image value.payloads
     number other.pair kept other.archive fits other.fits stands other.stands).0)
 
--- a disk of the wanted pair's archive is refused by the device and for want of memory alone
+-- a disk of the wanted pair's archive is refused by the device and for lack of memory alone
 pub lawful_refusal : OneStands → (e : ArchiveError) (wanted : Option ℕ) (bytes : List ℕ)
     (number : ℕ) (kept : model.Archive) → number < 2 ^ 64 → DiskStands number bytes kept →
     IsWanted wanted number → IsOpenRefusal e wanted bytes → (e ≡ Device) ⊎ (e ≡ Memory)

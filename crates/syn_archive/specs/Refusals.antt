@@ -65,7 +65,7 @@ abbrev pub AfterReads : ℕ → ArchiveError → Arms → Arms → Type 0
 AfterReads least Device old new = BreaksSometime old new
 AfterReads least _ old new = MakesAtLeast least old new
 
--- what the marks are no cause of: a journal that is full or halted, want of memory, and a device
+-- what the marks are no cause of: a journal that is full or halted, lack of memory, and a device
 -- call that failed
 abbrev pub IsOutside : ArchiveError → Type 0
 IsOutside JournalFull = Unit {0}

@@ -65,7 +65,7 @@ some_stands pair machine bytes may =
     let found = some_archive pair machine may.value may.generation may.means in
     (found.0, record { value = may.value; means = may.journal.means; stands = found.1 })
 
--- a machine that runs no session runs none behind an opening
+-- a machine that runs no session runs none after an opening
 with_journal_alone : (machine : CoordinatorMachine) (journal : Journal) →
     machine.running ≡ None →
     record { journal = journal; running = None } ≡ with_archive machine journal

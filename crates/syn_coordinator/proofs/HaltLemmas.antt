@@ -1,4 +1,4 @@
--- An archive is halted behind a call only where a device call failed in it, or the machine stopped.
+-- An archive is halted after a call only where a device call failed in it, or the machine stopped.
 use Rattle.std.proofs.Common.{◌≡◌, ◌⊎◌, ◌<◌, ◌∙◌, ℕ, true, List, None, ap, inl, inr, is_some, subst}
 use Rattle.std.proofs.Common.{sym}
 use Rattle.std.proofs.lemmas.Bool.{false≢true}
@@ -63,7 +63,7 @@ module _ {D : Type 0} {disk : Ghosts D} (old new : Coordinator D disk) where
   ends_by_failure pair journal up running taken session kept _ none
       (goes_down ended walk after walks stopped down leaves tries) (inl still) halted = inr stopped
 
--- and so it was where the calls before and behind it left the archive
+-- and so it was where the calls before and after it left the archive
 pub fails_or_stops : {D : Type 0} {disk : Ghosts D} (first old new last : Coordinator D disk) →
     old.archive ≡ first.archive → last.archive ≡ new.archive → FailsOrStops old new →
     FailsOrStops first last

@@ -44,7 +44,7 @@ pub data NotReopened (machine : Journal) (met left : Status) : Journal → Type 
   went_down : (calls : ℕ) (arms : Arms) (failed : ℕ) → Meets machine.arms calls Down arms failed →
       NotReopened machine met left (after_device machine Down arms failed)
 
--- a device that fails is no want of memory
+-- a device that fails is no lack of memory
 pub no_memory : (e : ArchiveError) → e ≡ error.Device → refusal_of e ≢ why.Memory
 no_memory e is memory = apart (sym (ap refusal_of is) ∙ memory)
   where
@@ -62,7 +62,7 @@ some_archive pair machine value generation (compacted m) = (machine.value, m.sta
 not_both : (r : Result Value Fault) (v : Value) (f : Fault) → r ≡ Ok v → r ≡ Err f → ⊥
 not_both r v f ok err = cc
 
--- so want of memory alone refuses it, where its device does not fail
+-- so lack of memory alone refuses it, where its device does not fail
 pub only_memory : (pair : ℕ) (machine : Journal) (bytes : Bytes) →
     MayBeOf (of_archive pair) machine bytes → (e : ArchiveError) → e ≢ error.Device →
     IsReopenRefusal e pair bytes → e ≡ error.Memory

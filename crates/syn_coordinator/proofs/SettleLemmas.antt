@@ -60,7 +60,7 @@ at_walk before course left right is planned at =
 
 module _ {D : Type 0} {disk : Ghosts D} (new : Archive D disk) (tried : Option Tried) (pair : ℕ)
     (taken : Exchange) (journal : Journal) (before : Reached) where
-  -- want of memory ends it where it is
+  -- lack of memory ends it where it is
   pub ends_for_memory : (course : Course) (left right : Found) → IsMachine new pair journal →
       tried ≡ None → journal.writing ≡ None → IsCourse course left right before →
       Ends new tried pair taken journal before [] course left right (Early refusal.Memory)

@@ -42,7 +42,7 @@ halted_not_up : {s : Status} → s ≡ Halted → s ≢ Up
 unfolding is_up
 halted_not_up halted up = false≢true (sym (ap is_up halted) ∙ ap is_up up)
 
--- a first cause stays the first before others, and want of memory is the first where there is none
+-- a first cause stays the first before others, and lack of memory is the first where there is none
 pub still_first : (xs ys : List Cause) (w : Refusal) → first_cause xs ≡ Some w →
     first_cause (xs ++ ys) ≡ Some w
 still_first [] ys w e = absurd (none-some _ e)

@@ -137,7 +137,7 @@ pub record KeepsReadings {D : Type 0} {disk : Ghosts D} (old new : Coordinator D
   pub tried_is : tried_shown new ≡ tried_shown old
   pub runs_still : runs new ≡ runs old
 
--- why a start is refused, and then for want of memory
+-- why a start is refused, and then for lack of memory
 abbrev pub refusals_of : ℕ → CoordinatorMachine → List Cause
 refusals_of pair machine = causes_at machine.journal.status (start_causes pair machine)
 

@@ -242,7 +242,7 @@ impl<D: Disk> Coordinator<D> {
         Ok(sends)
     }
 
-    /// Why a session cannot be started, but for want of memory and a device that fails.
+    /// Why a session cannot be started, but for lack of memory and a device that fails.
     fn check_start(&self) -> Result<(), SessionError>
         ensures refused { (pair : ℕ) (machine : CoordinatorMachine) → Stands self.now pair machine
             → MatchResult result (λ _. first_cause (refusals_of pair machine) ≡ None)

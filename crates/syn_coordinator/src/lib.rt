@@ -27,7 +27,7 @@
 //! - Where a device call failed in `on_reply`, or the machine stopped after a checkpoint, `kept`
 //!   has what was answered 9, which is what `tried` has. Else it has none, and no call failed
 //!   (`breaks`).
-//! - Where the archive of a machine that was up is halted behind `start`, `on_reply` or
+//! - Where the archive of a machine that was up is halted after `start`, `on_reply` or
 //!   `checkpoint`, a device call failed in it, unless the machine stopped (`halts`).
 //! - `tried` is the record that could not be kept, until an opening. `reopen` answers it where the
 //!   disk has it (`ok`), and `open` makes a coordinator of the disk of a machine that was down

@@ -28,7 +28,7 @@ impl Call {
 pub(crate) enum Wake {
     /// There was an answer.
     Answered,
-    /// There was none for some seconds. It comes once behind each answer at most.
+    /// There was none for some seconds. It comes once after each answer at most.
     Quiet,
     /// No more answers come, and none is left to take up.
     Over,
@@ -70,7 +70,7 @@ impl Bell {
         self.changed.notify_all();
     }
 
-    /// Waits for a ring, or for a quiet moment behind the last one. A ring is taken up before the
+    /// Waits for a ring, or for a quiet moment after the last one. A ring is taken up before the
     /// step that it is for, so one that comes during the step is kept.
     pub(crate) fn wait<H: Wait + Clock>(&self, rt: &H) -> Wake {
         let call = self.call.lock(rt);

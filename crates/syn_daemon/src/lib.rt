@@ -6,7 +6,7 @@
 //! # What it promises
 //!
 //! - `serve` shares a replica among a thread for each connection and one for the checkpointer. It
-//!   is refused 24 where the lock has not as many passes, or 11 for want of memory, and then served
+//!   is refused 24 where the lock has not as many passes, or 11 for lack of memory, and then served
 //!   nobody. That it serves at all is tested: no clause of a thread's caller can say that a thread
 //!   ran.
 //! - `sync` and `run` drive one session of the coordinator over two connections, as `Driver::run`

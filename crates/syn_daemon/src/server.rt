@@ -315,7 +315,7 @@ fn open<'s, E, H: Log, T: Host + Sync, G: Gate + Send + Drop + 's>(
     }
 }
 
-/// The next connection. Behind an `accept` that fails, as for want of descriptors, it tries again
+/// The next connection. After an `accept` that fails, as for lack of descriptors, it tries again
 /// after a pause.
 fn next_of<H: Wait + Clock + Log>(rt: &H, listener: &TcpListener) -> TcpStream {
     for _ in rt.forever() {

@@ -118,7 +118,7 @@ impl<H: HostFile> FileDisk<MirroredFile<H>> {
     /// first, so that a stop leaves what a read gives.
     ///
     /// It is refused 12 where another process has the lock, 9 where the file is of another length
-    /// than a disk, or cannot be locked, read or synced, and 11 for want of memory.
+    /// than a disk, or cannot be locked, read or synced, and 11 for lack of memory.
     pub fn of_file(
         alloc: Global,
         file: H,

@@ -21,7 +21,7 @@ pub trait NamedDisks {
     /// one that can be written, and each write fails.
     ///
     /// It is refused 12 where another process has it, to write where this one reads; 9 where there
-    /// is none or the device fails; and 11 for want of memory.
+    /// is none or the device fails; and 11 for lack of memory.
     fn lock(&self, name: &str, access: Access) -> Result<Self::Locked, OpenError>
         ensures locked { IfOk result (λ locked. Self.Locked.is_locked locked access) };
 }

@@ -11,7 +11,7 @@ use syn_shared::SharedReplica;
 const SHORT_ARCHIVE_ROOM: usize = 3_700_000;
 
 /// Makes a checkpoint of the replica where its journal is not short. Where that is refused, the
-/// replica opens as it would have without it, and the session behind it stands.
+/// replica opens as it would have without it, and the session before it stands.
 pub(crate) fn shorten<D: Disk>(alloc: Global, replica: &SharedReplica<D>) {
     let Ok(mut pass) = replica.own().pass() else {
         return;

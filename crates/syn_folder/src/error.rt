@@ -23,7 +23,7 @@ pub enum FolderError {
     /// 7: these stand in the folder, or in the way, and can stand in no replica. Nothing was
     /// written.
     Strange(Vec<Stranger>),
-    /// 9, or 11 for want of memory: a call of the system failed, for this reason. A part may be
+    /// 9, or 11 for lack of memory: a call of the system failed, for this reason. A part may be
     /// written.
     System(io::Error),
 }

@@ -15,7 +15,7 @@ use syn_tree::{Edit, Tree};
 /// Writes the tree into a folder that is missing or empty.
 ///
 /// Refused 4 where something stands in it, and 11 where memory is refused. Refused 9, or 11 for
-/// want of memory, where a call of the system fails: a part may be written then.
+/// lack of memory, where a call of the system fails: a part may be written then.
 pub fn fill<F: Folder>(alloc: Global, wanted: &Tree, folder: &mut F) -> Result<(), FolderError>
     ensures done { OnOk result (F.tree folder.new ≡ wanted.now) }
     ensures refused { IfErr result (λ e. IsOfSystem e ⊎ (folder.new ≡ folder.old)) }
@@ -29,7 +29,7 @@ pub fn fill<F: Folder>(alloc: Global, wanted: &Tree, folder: &mut F) -> Result<(
 /// Makes the folder's tree the wanted one. What is not wanted is removed.
 ///
 /// Refused 7 where something stands in the folder that can stand in no replica, and 11 where memory
-/// is refused. Refused 9, or 11 for want of memory, where a call of the system fails: a part may be
+/// is refused. Refused 9, or 11 for lack of memory, where a call of the system fails: a part may be
 /// written then.
 pub fn mirror<F: Folder>(alloc: Global, wanted: &Tree, folder: &mut F) -> Result<(), FolderError>
     ensures done { OnOk result (F.tree folder.new ≡ wanted.now) }
@@ -47,7 +47,7 @@ pub fn mirror<F: Folder>(alloc: Global, wanted: &Tree, folder: &mut F) -> Result
 ///
 /// Refused 3 where a file would take the place of a directory, 4 where a directory would take the
 /// place of a file, 7 where something that can stand in no replica is in the way or the folder
-/// would have more than a replica may, and 11 where memory is refused. Refused 9, or 11 for want of
+/// would have more than a replica may, and 11 where memory is refused. Refused 9, or 11 for lack of
 /// memory, where a call of the system fails: a part may be written then.
 pub fn update<F: Folder>(alloc: Global, wanted: &Tree, folder: &mut F) -> Result<(), FolderError>
     ensures done { OnOk result (IsOverlaid (F.tree folder.old) wanted.now (F.tree folder.new)) }

@@ -23,14 +23,14 @@ pub trait Folder {
 
     /// Makes the folder itself, where it is missing.
     ///
-    /// Refused 9, or 11 for want of memory, where a call of the system fails.
+    /// Refused 9, or 11 for lack of memory, where a call of the system fails.
     fn found(&mut self) -> Result<(), FolderError>
         ensures same { tree self.new ≡ tree self.old }
         ensures system { IfErr result IsOfSystem };
 
     /// Makes the edit in the folder. A file comes whole, or stays as it is.
     ///
-    /// Refused 9, or 11 for want of memory, where a call of the system fails. Then nobody knows
+    /// Refused 9, or 11 for lack of memory, where a call of the system fails. Then nobody knows
     /// what stands in the folder.
     fn make(&mut self, alloc: Global, edit: Edit) -> Result<(), FolderError>
         ensures made { OnOk result (tree self.new ≡ after_edit (tree self.old) (edit_of edit)) }

@@ -8,7 +8,7 @@
 //! that tree. `fill` and `mirror` leave the wanted tree in the folder (`done`), and `update` adds
 //! it. Each of the three is refused before anything is written, with the folder as it was, or since
 //! a call of the system failed, and then a part may be written (`refused`). Such a failure is
-//! refused 9, or 11 where it is for want of memory (`FolderError::refusal`). `SystemFolder` is a
+//! refused 9, or 11 where it is for lack of memory (`FolderError::refusal`). `SystemFolder` is a
 //! folder of the system with its tree in memory. What the standard library's calls do to a folder
 //! no clause says: that the system's folder follows the memory is taken as given.
 #![tactic(auto)]

@@ -224,7 +224,7 @@ halted_outcome side session (ListAt path) = refuses _ why.Halted
 halted_outcome side session (Fetch path since offset) = refuses _ why.Halted
 halted_outcome side session (Replace item path since size) = refuses _ why.Halted
 
--- want of memory to stage changes nothing
+-- lack of memory to stage changes nothing
 cannot_stage : (side : Side) (request : Request) (served : Served) →
     CannotStage side request served → served ≡ answer side (Refused why.Memory)
 cannot_stage side (Stage item offset bytes) served none = none

@@ -264,7 +264,7 @@ GoesThrough pair machine running taken plan kept walk =
 abbrev pub behind : Running → Exchange → Option (List Planned) → Walk → List Kept → Running
 behind running taken plan walk kept = advanced (hearing running taken) plan walk kept
 
--- how an answer is taken: it ends the session at once, or for want of memory; or the call goes
+-- how an answer is taken: it ends the session at once, or for lack of memory; or the call goes
 -- through the plan, and then the machine is down, or the session ends, or it goes on, past an item
 -- that had its last answer, and asks for what comes next
 pub data Takes (pair : ℕ) (machine : CoordinatorMachine) (running : Running) (taken : Exchange) :
@@ -392,7 +392,7 @@ once_more waiting =
     let again = λ (one : Outstanding). record one { resent = suc one.resent } in map again waiting
 
 -- each request that waits is sent again; where one was sent again so often already, that ends the
--- session, and where none was, want of memory alone does. A tick makes no device call
+-- session, and where none was, lack of memory alone does. A tick makes no device call
 pub data CoordinatorTicks (machine : CoordinatorMachine) : CoordinatorMachine → Call → Type 0 where
   no_session : machine.running ≡ None → CoordinatorTicks machine machine no_call
   resends : (running : Running) → machine.running ≡ Some running → is_resent running ≡ false →

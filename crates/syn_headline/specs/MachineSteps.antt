@@ -64,7 +64,7 @@ module _ {M A V W : Type 0} (kind : Kind M A V W) (machine : M) where
     is_done : (next : M) (given : A) (refusals : List Refusal) → journal.status ≢ Down →
         Done next given refusals → UnlessDown Done next given refusals
 
-  -- a call is refused with the first of its causes, or for want of memory where none stands, and
+  -- a call is refused with the first of its causes, or for lack of memory where none stands, and
   -- changes nothing; or no cause stands, and it is made
   pub data Called (causes : List Cause) (Made : M → A → Type 0) : M → A → List Refusal →
       Type 0 where

@@ -123,7 +123,7 @@ pub causes_halted : (machine : SideMachine) (causes more : List Cause)
 causes_halted machine causes more is =
     ap (λ s. first_cause ((is_halted s, why.Halted) ∷ causes ++ more)) is
 
--- the reason is the first cause, or want of memory where there is none
+-- the reason is the first cause, or lack of memory where there is none
 pub reason_is : (causes : List Cause) (reason : Refusal)
     → ((found : Refusal) → first_cause causes ≡ Some found → reason ≡ found)
     → (reason ≡ why.Memory) ⊎ (first_cause causes ≡ Some reason)

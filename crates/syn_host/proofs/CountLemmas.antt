@@ -89,7 +89,7 @@ module _ (pair : ℕ) (machine : Journal) where
   keeps_once journal kept told (writes _ _ done) = writes_once journal kept told done
   keeps_once _ kept _ (cut_behind fresh before stop) = inl (omega arith)
 
--- behind a call that left it up
+-- after a call that left it up
 behind_up : (was middle now : Journal) → was.status ≡ Up → middle.failures ≤ was.failures →
     FailsFromUp middle now → FailsFromUp was now
 behind_up was middle now up less (inl none) = inl (omega (arith, less, none))

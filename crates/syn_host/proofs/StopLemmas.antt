@@ -1,4 +1,4 @@
--- A stop of a machine behind so many device calls, whichever kind it is of.
+-- A stop of a machine after so many device calls, whichever kind it is of.
 use Rattle.std.proofs.Common.{◌≡◌, ◌≢◌, ℕ, zero, suc, [], refl}
 use Rattle.syn_headline.specs.Machine.{Down}
 use Rattle.syn_headline.specs.MachineSteps.{Does, Kind, Stop, arming, is_done, is_down, with_device}

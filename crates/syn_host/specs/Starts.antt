@@ -39,7 +39,7 @@ pub record CanStart {V W : Type 0} (keeping : Keeping V W) (arms : Arms) (bytes 
   pub free : IsFree arms
   pub is_disk : IsDiskOf keeping bytes kept
 
--- the causes of a refusal that no bytes of a disk are: a failed device call, and want of memory
+-- the causes of a refusal that no bytes of a disk are: a failed device call, and lack of memory
 abbrev pub IsFromOutside : Refusal → Type 0
 IsFromOutside refusal = (cause_of refusal ≡ why.Device) ⊎ (cause_of refusal ≡ why.Memory)
 

@@ -4,7 +4,7 @@
 //! # What it promises
 //!
 //! A `State` says how it is spelled as an image, how it is read from an image and the payloads
-//! behind it, and how an update that was prepared is made. `Journaled` keeps one on a disk.
+//! after it, and how an update that was prepared is made. `Journaled` keeps one on a disk.
 //!
 //! - `format` writes the image of a state, with no payload (`formatted`).
 //! - `write` appends the payload of an update, and then makes the update (`journal`: `Appends`).
@@ -15,8 +15,8 @@
 //!   `Opened`). It is refused as the journal is, or as the state is not read (`refused`:
 //!   `NotOpened`).
 //! - `reopen` does the same with the machine's own disk, where what is read may follow the state
-//!   (`follows`). After any refusal the state is as it was. After one for want of memory the
-//!   machine goes on, and after any other it is halted (`halts`).
+//!   (`follows`). After any refusal the state is as it was. After 11 the machine goes on, and after
+//!   any other it is halted (`halts`).
 //! - What the device sees of a call is one fact: how many device calls were made, and whether the
 //!   last of them failed (`Spends`, `Reads`).
 #![tactic(auto)]

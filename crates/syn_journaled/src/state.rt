@@ -35,10 +35,10 @@ pub trait State {
     /// Its image.
     ghost spelling: { Self → List ℕ };
 
-    /// An image and the payloads behind it give this state.
+    /// An image and the payloads after it give this state.
     ghost gives: { List ℕ → List (List ℕ) → Self → Type 0 };
 
-    /// Why nothing of the wanted pair is read of an image and the payloads behind it.
+    /// Why nothing of the wanted pair is read of an image and the payloads after it.
     ghost unread: { Self.Error → Option ℕ → List ℕ → List (List ℕ) → Type 0 };
 
     /// The second may be read in the place of the first, where a machine opens its own disk again.
@@ -67,7 +67,7 @@ pub trait State {
         ensures spelled { IfOk result (λ image. image.items ≡ spelling self.now) }
         ensures memory { IfErr result (λ e. why e ≡ Memory) };
 
-    /// The state that the image and the payloads behind it give, of the wanted pair, or of any.
+    /// The state that the image and the payloads after it give, of the wanted pair, or of any.
     fn read(
         alloc: Global,
         image: &[u8],

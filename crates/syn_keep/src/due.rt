@@ -216,7 +216,7 @@ fn checkpoint<D: Disk>(alloc: Global, archive: &mut Archive<D>) -> Option<Due>
     }
 }
 
-/// How what is due ends where the archive fails so: for the device, and else for want of memory,
+/// How what is due ends where the archive fails so: for the device, and else for lack of memory,
 /// since each other cause was looked at before.
 fn ending(error: ArchiveError) -> Due
     ensures ended { result ≡ ended_by error }

@@ -90,7 +90,7 @@ fn read_found(alloc: Global, fields: &[u8]) -> Result<Option<Option<Content>>, W
     }
 }
 
-/// A mode and at most `LONGEST_FILE` bytes, with nothing behind them.
+/// A mode and at most `LONGEST_FILE` bytes, with nothing after them.
 fn read_whole_file(alloc: Global, bytes: &[u8]) -> Result<Option<(Mode, Vec<u8>)>, WireError>
     ensures { IfOk result (λ read. IsWholeReading IsWithinFile contents_spelling bytes.now
         (option_map (λ file. contents_with (mode_of file.0) file.1.items) read)) }

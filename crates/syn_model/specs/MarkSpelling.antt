@@ -17,8 +17,7 @@ mark_spelling marks = spelling_by digest_spelling marks
 -- a kind, and what is kept
 abbrev pub kept_spelling : Kept → Bytes
 kept_spelling (Session session) = 1 ∷ to_be_bytes w64 session
-kept_spelling (Recorded path marks) =
-    2 ∷ path_spelling path ++ mark_spelling marks
+kept_spelling (Recorded path marks) = 2 ∷ path_spelling path ++ mark_spelling marks
 kept_spelling (RecordedDir path) = 3 ∷ path_spelling path
 
 -- "SYNA" and the version

@@ -23,7 +23,7 @@ abbrev pub after_turn : Tree → Turn → Tree
 after_turn tree (Edit edit) = after_edit tree (edit_of edit)
 after_turn tree (Replace path new) = replace tree path (part_of new)
 
--- The answer is right: none where the turn is made, else the definition's refusal. For want of
+-- The answer is right: none where the turn is made, else the definition's refusal. For lack of
 -- memory any turn may be refused.
 abbrev pub IsAnswer : Tree → Turn → Option TreeError → Type 0
 IsAnswer tree turn None = turn_refusal tree turn ≡ None
@@ -43,7 +43,7 @@ Goes old (turn ∷ turns) (answer ∷ answers) new =
 Goes old [] (answer ∷ answers) new = ⊥
 Goes old (turn ∷ turns) [] new = ⊥
 
--- no turn was refused for want of memory
+-- no turn was refused for lack of memory
 abbrev pub HasMemory : List (Option TreeError) → Type 0
 HasMemory [] = Unit {0}
 HasMemory (Some why.Memory ∷ answers) = ⊥

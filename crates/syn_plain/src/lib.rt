@@ -9,7 +9,7 @@
 //! - `Tree` is one form, and `PlainTree`, a list of paths in path order, is the other.
 //! - `run` makes edits and replacements one after the other, of any form (`goes`): each is answered
 //!   none where it is made, and else the definition's refusal or 11 with nothing changed.
-//! - Two forms that stand for equal trees, and meet no want of memory, answer alike and stand for
+//! - Two forms that stand for equal trees, and meet no lack of memory, answer alike and stand for
 //!   equal trees after it (`turn_laws`).
 #![tactic(auto)]
 

@@ -48,7 +48,7 @@ fn make<T: TreeForm>(alloc: Global, form: &mut T, turn: Turn) -> Option<TreeErro
     made.err()
 }
 
-/// Two forms of a tree that stand for equal trees, and meet no want of memory, answer each turn
+/// Two forms of a tree that stand for equal trees, and meet no lack of memory, answer each turn
 /// alike and stand for equal trees after it.
 pub fn turn_laws()
     ensures { RunsAgree }

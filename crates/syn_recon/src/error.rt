@@ -45,7 +45,7 @@ impl fmt::Display for PlanError {
     }
 }
 
-/// The paths that changed are refused for want of memory alone.
+/// The paths that changed are refused for lack of memory alone.
 impl From<DirtyError> for PlanError {
     ghost use Rattle.syn_recon.specs.declared.error.PlanError.TheVariants.{Memory};
 
@@ -58,7 +58,7 @@ impl From<DirtyError> for PlanError {
     }
 }
 
-/// The copy of a path is refused for want of memory alone.
+/// The copy of a path is refused for lack of memory alone.
 impl From<PathError> for PlanError {
     ghost use Rattle.syn_recon.specs.declared.error.PlanError.TheVariants.{Memory};
 

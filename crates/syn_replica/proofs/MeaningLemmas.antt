@@ -43,7 +43,7 @@ journal_refusal refused.Memory wanted bytes h = tt
 journal_refusal refused.NoImage wanted bytes h = h
 journal_refusal refused.Damaged wanted bytes h = h
 
--- of a disk that means something only for want of memory, or where a device call failed
+-- of a disk that means something only for lack of memory, or where a device call failed
 pub journal_hides : (e : JournalError) (wanted : Option ℕ) (bytes : List ℕ) →
     journal.IsOpenRefusal e (meaning bytes) → IsOfOtherPair wanted bytes →
     IsOneOf hiding_refusals (Journal e)

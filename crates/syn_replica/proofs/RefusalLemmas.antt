@@ -52,7 +52,7 @@ two_numbers n h = by_test (11 == n) refl
     by_test true e = inl (same 11 n e)
     by_test false e = second (9 == n) refl e
 
--- want of memory and a failed device call are among the refusals of a call where both are listed
+-- lack of memory and a failed device call are among the refusals of a call where both are listed
 pub outside_among : (refusals : List Refusal) → is_among refusals why.Memory ≡ true →
     is_among refusals why.Device ≡ true → (e : ReplicaError) → IsOneOf outside_refusals e →
     IsOneOf refusals e
@@ -80,7 +80,7 @@ edit_among s user (Remove path) refusal e =
     first_among edit_refusals (causes_at s (Edited user (Remove path))) refusal
     (refl, (refl, (refl, (refl, (refl, tt))))) e
 
--- what no history is the cause of is want of memory or a failed device call
+-- what no history is the cause of is lack of memory or a failed device call
 pub outside_is : (w : Refusal) → is_among outside_refusals w ≡ true →
     (w ≡ why.Memory) ⊎ (w ≡ why.Device)
 outside_is why.BadPath h = absurd (true≢false (sym h))
@@ -142,7 +142,7 @@ pub whatever_why : {X : Type 0} (w : Refusal) (P : Type 0) → P → (r : Result
 whatever_why w P holds (Ok x) = tt
 whatever_why w P holds (Err x) = λ _. holds
 
--- ---- a refusal of want of memory, or of what a history is the cause of
+-- ---- a refusal of lack of memory, or of what a history is the cause of
 
 abbrev pub inner_refusals : List Refusal
 inner_refusals =

@@ -53,7 +53,7 @@ journal_outside refused.NoImage pair bytes history d h =
 journal_outside refused.Damaged pair bytes history d h =
     absurd (no_value (meaning bytes) d.value _ d.means h)
 
--- a replica that runs has a value on its disk, so want of memory and its device alone refuse to
+-- a replica that runs has a value on its disk, so lack of memory and its device alone refuse to
 -- read it
 pub running_outside : (bytes : List ℕ) (value : Value) →
     meaning bytes ≡ Ok value → (e : JournalError) → journal.IsOpenRefusal e (meaning bytes) →
@@ -94,7 +94,7 @@ module _ (one : OneIsGiven) (pair : ℕ) (bytes : List ℕ) (history : History) 
       subst (λ (v : Value). Gives pair v.image v.payloads (standing_of history))
       (one_value (meaning bytes) d.value value d.means means) d.stands.gives
 
-  -- it is refused for want of memory, or where a device call fails
+  -- it is refused for lack of memory, or where a device call fails
   pub outside : (e : ReplicaError) (position : ℕ) → position ≤ length history →
       IsReopenRefusal e pair position bytes → IsOneOf outside_refusals e
   outside (Tree e) position early h = absurd h

@@ -52,7 +52,7 @@ pub refused_at : (room : ℕ) (standing : Standing) (event : Event) (refusal : R
 refused_at room standing event refusal e =
     first_stays (causes_at standing event) (room_causes room event) refusal e
 
--- what refuses the update is answered, and so is want of room
+-- what refuses the update is answered, and so is lack of room
 module _ {X : Type 0} (room : ℕ) (standing : Standing) (event : Event) where
   pub update_refused : (r : Result X ReplicaError) (e : ReplicaError) → IsErrAnd r (λ x. x ≡ e) →
       (refusal_of e ≡ why.Memory) ⊎ (refusal_at standing event ≡ Some (refusal_of e)) → IfErr r

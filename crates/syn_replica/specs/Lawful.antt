@@ -7,7 +7,7 @@ use Rattle.syn_standing.specs.Refusals.{refusal_of}
 use Rattle.syn_standing.specs.declared.error.ReplicaError.{ReplicaError}
 
 -- An opening of a disk that stands for a history of the wanted pair is refused where a device call
--- fails, or for want of memory
+-- fails, or for lack of memory
 abbrev pub LawfulDisksOpen : Type 0
 LawfulDisksOpen = (pair : ℕ) (bytes : List ℕ) (history : History) (error : ReplicaError)
     → pair < 2 ^ 64 → DiskStands pair bytes history → IsOpenRefusal error (Some pair) bytes

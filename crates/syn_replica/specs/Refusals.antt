@@ -61,6 +61,6 @@ checkpoint_refusals = why.Halted ∷ why.Full ∷ why.Memory ∷ why.Device ∷ 
 abbrev pub hiding_refusals : List Refusal
 hiding_refusals = why.WrongPair ∷ why.Device ∷ why.Memory ∷ []
 
--- what no history is the cause of: want of memory, and a device call that failed
+-- what no history is the cause of: lack of memory, and a device call that failed
 abbrev pub outside_refusals : List Refusal
 outside_refusals = why.Memory ∷ why.Device ∷ []

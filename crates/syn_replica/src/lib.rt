@@ -18,7 +18,7 @@
 //! - `tried` tells how the event is spelled that was last sent to the disk. After Ok and after 9 it
 //!   is that of the call, and after any other refusal what it was.
 //! - It is refused for the first cause in the model's order, 8 as the last of them (`refused`).
-//!   Each refusal has its cause, but for want of memory and a failed device call (`cause`). 11
+//!   Each refusal has its cause, but for lack of memory and a failed device call (`cause`). 11
 //!   never comes where a cause stands.
 //! - After a failed device call a replica is halted (`halts`), and shows what it had (`readings`).
 //!   After any other refusal it stands as it did (`unchanged`).

@@ -22,7 +22,7 @@ module _ {D : Type 0} {disk : Ghosts D} where
 
   module _ (shared : SharedReplica D disk) (least : ℕ) (old new : Pass (Replica D disk)) where
     -- it found the lock taken; or it looked once, and rested where there was room; or it looked and
-    -- made a checkpoint for want of room, or reopened what was halted, each if the lock was free
+    -- made a checkpoint for lack of room, or reopened what was halted, each if the lock was free
     pub data KeepsUp : Kept → Type 0 where
       busy : FoundBusy old new → KeepsUp kept.Busy
       rests : (look : Look) → HeldOnce shared old new (Shows look) →

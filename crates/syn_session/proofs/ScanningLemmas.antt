@@ -279,7 +279,7 @@ pub each_some : {X : Type 0} (P Q : X → Type 0) → ((x : X) → P x → Q x) 
 each_some P Q f None h = tt
 each_some P Q f (Some x) h = f x h
 
--- a listing is refused as it ends the session, or for want of memory
+-- a listing is refused as it ends the session, or for lack of memory
 pub refused_so : (found : Found) (side : Which) (taken : Exchanges) → IsFoundIn found side taken →
     (path : Path) (position : ℕ) (entries : List (Name × Content)) (e : ScanError) →
     (e ≡ error.TooLarge → is_too_large found entries ≡ true) → (e ≡ error.BadMessage →

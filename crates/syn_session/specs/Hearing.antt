@@ -63,7 +63,7 @@ pub record HasHeard (session : Session) (heard : Running) : Type 0 where
   pub reached : reached_by heard ≡ nothing_reached
   pub of_scan : AreOfScan heard.taken
 
--- the session ends with the answer at once; or behind it, for want of memory
+-- the session ends with the answer at once; or after it, for lack of memory
 pub data EndsHearing (session : Session) (running : Running) (taken : Exchange) (why : Refusal)
     : Type 0 where
   at_once : (fault_of running.taken taken.side taken.request taken.reply ≡ Some (cause_of why))

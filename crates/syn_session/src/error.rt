@@ -61,7 +61,7 @@ impl fmt::Display for SessionError {
     }
 }
 
-/// A scan asks for nothing more for want of memory.
+/// A scan asks for nothing more for lack of memory.
 impl From<ScanError> for SessionError {
     ghost use Rattle.syn_session.specs.declared.error.SessionError.TheVariants.{Memory};
 
@@ -72,7 +72,7 @@ impl From<ScanError> for SessionError {
     }
 }
 
-/// No plan is made for want of memory.
+/// No plan is made for lack of memory.
 impl From<PlanError> for SessionError {
     ghost use Rattle.syn_session.specs.declared.error.SessionError.TheVariants.{Memory};
 
@@ -83,7 +83,7 @@ impl From<PlanError> for SessionError {
     }
 }
 
-/// A request is not copied for want of memory.
+/// A request is not copied for lack of memory.
 impl From<WireError> for SessionError {
     ghost use Rattle.syn_session.specs.declared.error.SessionError.TheVariants.{Memory};
 

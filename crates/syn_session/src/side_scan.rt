@@ -69,7 +69,7 @@ impl SideScan {
     /// that the side refused the listing with.
     pub fn take(&mut self, alloc: Global, path: &Path, reply: Reply) -> Result<(), Refusal>
         requires lawful { IsLawfulReply (reply_of reply) }
-        // An answer is refused exactly where it ends its session, or for want of memory.
+        // An answer is refused exactly where it ends its session, or for lack of memory.
         ensures step { (side : Which) (taken : Exchanges) (number : ℕ) → WaitsFor self.old path.now
             → IsFoundIn (found_of self.old) side taken
             → MatchResult result

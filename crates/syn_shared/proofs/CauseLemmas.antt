@@ -76,7 +76,7 @@ same_causes pair room machine event is =
     ap (λ b. first_cause (event_causes machine.journal.value event ++ (b, JournalFull) ∷ []))
     (rooms room machine.journal.room (length (event_spelling event)) is (spelled_long event))
 
--- want of memory is named where no other cause stands
+-- lack of memory is named where no other cause stands
 pub memory_last : (causes : List Cause) → first_cause causes ≡ None →
     first_cause (causes ++ (true, why.Memory) ∷ []) ≡ Some why.Memory
 memory_last [] is = refl

@@ -16,11 +16,11 @@ use Rattle.syn_standing.specs.Refusals.{refusal_of}
 use Rattle.syn_standing.specs.declared.error.ReplicaError.{ReplicaError}
 use Rattle.syn_replica.specs.declared.replica.Replica.{Replica}
 
--- why the world refuses a call on the journal of a side, before want of memory
+-- why the world refuses a call on the journal of a side, before lack of memory
 abbrev pub causes_before : SideMachine → List Cause → List Cause
 causes_before machine causes = (is_halted machine.journal.status, why.Halted) ∷ causes
 
--- the first of the causes refuses it, or want of memory where none stands
+-- the first of the causes refuses it, or lack of memory where none stands
 abbrev pub IsRefused : SideMachine → List Cause → ReplicaError → Type 0
 IsRefused machine causes error =
     first_cause (causes_before machine causes ++ (true, Memory) ∷ []) ≡ Some (refusal_of error)

@@ -14,7 +14,7 @@ use Rattle.syn_standing.specs.declared.error.ReplicaError.{ReplicaError}
 use Rattle.syn_replica.specs.declared.replica.Replica.{Replica}
 
 -- The event is added by four device calls, and stands; or one of them failed as it was written, and
--- the replica is cut off there; or it is refused for its first cause, or for want of memory,
+-- the replica is cut off there; or it is refused for its first cause, or for lack of memory,
 -- without a device call, and the history stands
 pub data StepsBy {D : Type 0} {disk : Ghosts D} (found left : Replica D disk) (history : History)
     (event : Event) (cause : Option Refusal) : Result ℕ ReplicaError → Type 0 where

@@ -23,12 +23,12 @@
 //!   side's (`step`: `StepsBy`), told of a replica that runs. What was checked and what was added
 //!   are in one hold.
 //!   - The event is added by four device calls and stands. Or one of them failed, and the replica
-//!     is cut off there. Or the first cause, or want of memory, is answered without a device call,
+//!     is cut off there. Or the first cause, or lack of memory, is answered without a device call,
 //!     and the history stands.
 //! - Each changing hold is a step of the world's side (`world`), of every machine that the replica
 //!   with some agent is (`IsOf` of `syn_agent`). This holds whether the machine goes on, is halted
 //!   or stops. It leaves the replica as that machine after it.
-//!   - An edit is refused just for the cause that the world names first, want of memory last, or
+//!   - An edit is refused just for the cause that the world names first, lack of memory last, or
 //!     its event is written (`EditsSide`: `Writes`). So is a replacement under a token that is not
 //!     done (`WritesEvent`), where memory may come before another cause.
 //!   - A checkpoint is the world's (`CompactsSide`: `Compacts`), with its causes. Another opening

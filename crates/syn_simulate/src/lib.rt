@@ -10,7 +10,7 @@
 //! - `play` answers the player behind a script. Its lines say steps (`SaySteps`), and playing these
 //!   leads a world of pair 1 that was just formatted to the player's, by a run of the definitions
 //!   (`run`, `RunsScript`, `PlaysTo`). It is refused with the number of the first line that says no
-//!   step (`fault`, `IsFirstFault`), or for want of memory.
+//!   step (`fault`, `IsFirstFault`), or for lack of memory.
 //! - `simulate` answers that player's world, and is refused as `play` is (`run`, `fault`).
 //! - `show_world` works over any disks and any writer. Where it answers, just the lines of
 //!   `world_shown` were added: of each session that ended, and of each machine's image, or that it

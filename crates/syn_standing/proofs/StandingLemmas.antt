@@ -92,7 +92,7 @@ module _ (standing : Standing) where
       replaced_row token path since new early ∙ first_skips (place_causes standing.tree path
       ++ full_causes (replace standing.tree path new)) (full_position standing.position) none
 
--- a tree refuses for want of memory, or for a cause
+-- a tree refuses for lack of memory, or for a cause
 pub of_cause : (e : TreeError) (refusal : Option Refusal) →
     (e ≢ tree.Memory → refusal ≡ Some (of_tree e)) →
     (of_tree e ≡ why.Memory) ⊎ (refusal ≡ Some (of_tree e))

@@ -11,7 +11,7 @@
 //! - `check` tells the first cause that is seen without memory: of a replacement the token alone,
 //!   and of each other event every cause.
 //! - `prepare` makes the event ready where `check` does not refuse it, and changes nothing. It is
-//!   refused for a cause that stands, or for want of memory (`refused`). Where it succeeds, no
+//!   refused for a cause that stands, or for lack of memory (`refused`). Where it succeeds, no
 //!   cause stands (`allowed`). `make` takes the standing one step on, and takes no memory.
 //! - `check_untouched` tells whether an event touched a path since a position, of each history that
 //!   the standing is of (`cause`).

@@ -306,7 +306,7 @@ fn start_behind<D: Limit>(
     }
 }
 
-/// Lets time go by until the session that runs, if one does, ends for want of an answer. What is to
+/// Lets time go by until the session that runs, if one does, ends for lack of an answer. What is to
 /// be sent again is dropped.
 ///
 /// Refused 9 where the machine is stopped, and 25 where the session still runs.

@@ -19,7 +19,7 @@
 //!   closed one nothing is written. What is read stays (`line`).
 //! - `receive` hands out the reply in the first frame of what came (`heard`: `Hears`). It gives
 //!   none where the connection is closed, and then it stays closed (`closed`). What closes it is
-//!   its end, a read that fails, a bad frame, a body that is no reply, or want of memory. Nothing
+//!   its end, a read that fails, a bad frame, a body that is no reply, or lack of memory. Nothing
 //!   is written.
 //! - `run` drives a session to its end, told of a coordinator that is some machine of the pair
 //!   (`drives`: `Drives`).

@@ -46,7 +46,7 @@ impl<R: Read, W: Write> Link<R, W> {
     }
 
     /// Whether the connection goes on. It is closed by its end, by a read or a write that fails, by
-    /// a bad frame, by a body that is no reply, and for want of memory.
+    /// a bad frame, by a body that is no reply, and for lack of memory.
     pub fn is_open(&self) -> bool
         ensures { result ≡ is_open self.now }
     {

@@ -7,7 +7,7 @@
 //!   (`Tree::entries`: `tree`, `fits`).
 //! - `check` answers the definition's refusal of an edit, or none (`edit_refusal`), and takes no
 //!   memory.
-//! - `prepare` makes a change ready (`ready`, `gives`), refused as `check` or for want of memory;
+//! - `prepare` makes a change ready (`ready`, `gives`), refused as `check` or for lack of memory;
 //!   `make` makes it, without memory, and cannot fail. Between the two a replica writes its
 //!   journal. `prepare_replace` is the same for the replacement of a part.
 //! - `apply` and `replace` do both: what the definition says stands then (`done`), and after a

@@ -113,7 +113,7 @@ impl<R: Read, W: Write> UserConnection<R, W> {
         }
     }
 
-    /// Closes the connection for want of memory; of a closed one the refusal is 9.
+    /// Closes the connection for lack of memory; of a closed one the refusal is 9.
     fn give_up(&mut self) -> UserError
         ensures { (wish : Wish) → Fails (line_of R.remaining W.contents self.old)
             (line_of R.remaining W.contents self.new) wish result }

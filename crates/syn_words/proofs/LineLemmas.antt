@@ -36,7 +36,7 @@ pub syn_is_free : is_simple_and_free syn_app ≡ true
 unfolding syn_app clap_on_literals
 syn_is_free = refl
 
--- an error that is not for want of memory has one of the kinds
+-- an error that is not for lack of memory has one of the kinds
 is_among : (kinds : Kinds) (e : Error) → HasKind kinds e → (kind_of e ≡ OutOfMemory → ⊥) →
     IsAmong (kind_of e) kinds
 is_among kinds e has other = elim has [ inl memory ↦ absurd (other memory) | inr among ↦ among ]

@@ -29,7 +29,7 @@ pub struct Disks<D> {
 }
 
 /// A world of two sides and a coordinator. Each step takes it and gives it back, or its disks where
-/// a list of the world could not grow for want of memory.
+/// a list of the world could not grow for lack of memory.
 #[derive(Drop)]
 pub struct World<D: Disk> {
     pub pair: u64,

@@ -32,7 +32,7 @@ is_inner Memory = true
 is_inner _ = false
 
 -- Why it is not kept, before any device call, with so much room in the journal: one cause alone
--- holds, but for want of memory
+-- holds, but for lack of memory
 pub data NotPrepared (halted : Type 0) (room : ℕ) (archive : Archive) (kept : Kept) : ArchiveError →
     Type 0 where
   not_running : halted → NotPrepared halted room archive kept Halted

@@ -31,7 +31,7 @@ impl MemDisk {
     ghost use Rattle.syn_disk.specs.MemDisk.{bytes_of, synced_of, written_of, leaves_of, IsSettled};
 
     /// A disk of zeros. Its i-th restart leaves what the i-th of `leaves` says, and after these
-    /// `Lose`. It is refused for want of memory only.
+    /// `Lose`. It is refused for lack of memory only.
     pub fn new(alloc: Global, leaves: Vec<Leaves>) -> Result<MemDisk, AllocError>
         ensures zeros { IfOk result (λ disk. (i : ℕ) → slice_index (bytes_of disk) i ≡ 0) }
         ensures settled { IfOk result (λ disk. IsSettled disk) }

@@ -25,7 +25,7 @@ pub trait LockedDisk {
     /// Reads the disk.
     ///
     /// It is refused 9 where it is of another length than a disk or the device fails, and 11 for
-    /// want of memory.
+    /// lack of memory.
     fn into_disk(self, alloc: Global) -> Result<Self::Disk, OpenError>
         ensures held { (access : Access) → is_locked self access
             → IfOk result (λ disk. is_held disk access) };
@@ -46,7 +46,7 @@ impl<H: HostFile> LockedFile<H> {
     /// and none may write it, and a file and a folder that cannot be written will do.
     ///
     /// It is refused 12 where another process has the file open, to write where this one reads; 9
-    /// where the file is missing or cannot be locked; and 11 for want of memory.
+    /// where the file is missing or cannot be locked; and 11 for lack of memory.
     pub fn open<R: Files<File = H>>(
         files: &R,
         path: &str,

@@ -39,7 +39,7 @@ impl<H: HostFile> MirroredFile<H> {
     /// Takes the system's lock on a file that was opened, and reads what the file keeps.
     ///
     /// It is refused 12 where another process has the lock, 9 where the file is of another length
-    /// than a disk, or cannot be locked or read, and 11 for want of memory.
+    /// than a disk, or cannot be locked or read, and 11 for lack of memory.
     pub fn open(alloc: Global, file: H, access: Access) -> Result<MirroredFile<H>, OpenError>
         ensures sound { IfOk result (λ file. has_failed_of file ≡ false) }
         ensures held { IfOk result (λ file. H.is_held (host_of file) access) }

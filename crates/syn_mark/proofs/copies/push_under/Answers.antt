@@ -26,7 +26,7 @@ loop-entry-init g c = record {
   paths = refl;
 }
 
--- a path beyond the limits is refused, and so is want of memory
+-- a path beyond the limits is refused, and so is lack of memory
 refused : (e : PathError) {P : Type 0} → (e ≡ BadPath → P) → of_path e ≢ Memory →
     (of_path e ≡ Full) × P
 refused BadPath h k = (refl, h refl)
