@@ -1,10 +1,12 @@
 //! A crash-safe synchronizer of file trees: the program.
 //!
 //! `syn format KIND PAIR FILE` makes a replica or an archive. `syn put FILE USER PATH` puts
-//! standard input into a replica, and `syn mkdir FILE USER PATH` and `syn rm FILE USER PATH` make a
-//! directory and remove what is there. `syn show FILE [PATH]` prints an image, `syn check FILE` its
-//! numbers, and `syn log FILE [N]` its last events. `syn export FILE DIR [PATH]` writes a replica
-//! into a folder, and `syn import FILE USER DIR [PATH]` makes it what a folder is.
+//! standard input into a replica, `syn mkdir FILE USER PATH` and `syn rm FILE USER PATH` make a
+//! directory and remove what is there, and `syn chmod FILE USER PATH MODE` changes a file's mode.
+//! `syn show FILE [PATH]` prints an image, `syn check FILE` its numbers, and `syn log FILE [N]` its
+//! last events. `syn migrate FILE` makes an image of version 1 one of version 2.
+//! `syn export FILE DIR [PATH]` writes a replica into a folder, and
+//! `syn import FILE USER DIR [PATH]` makes it what a folder is.
 //!
 //! `syn serve FILE ADDR` serves a replica to users, who give `--served` and its address in the
 //! place of FILE, and to sessions. `syn sync ARCHIVE LEFT RIGHT` runs a session of two that are

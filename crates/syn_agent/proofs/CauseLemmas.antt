@@ -8,7 +8,7 @@ use Rattle.std.specs.Prelude.{◌||◌, ◌==◌, nat_le, nat_lt}
 use Rattle.syn_agent.specs.Causes.{CountsFailures}
 use Rattle.syn_headline.specs.Side.{Side, Served, Reply, Refused, answer, unless_refused}
 use Rattle.syn_journal.specs.declared.error.JournalError.TheVariants as journal
-use Rattle.syn_model.specs.Event.{Edit, Put, MakeDir, Remove, Edited}
+use Rattle.syn_model.specs.Event.{Edit, Put, MakeDir, Remove, Chmod, Edited}
 use Rattle.syn_model.specs.History.{History as Past, event_causes}
 use Rattle.syn_replica.specs.Steps.{add_refusal, room_causes}
 use Rattle.syn_model.specs.Refusal.{Refusal, Cause, first_cause, number}
@@ -106,6 +106,25 @@ edit_never room past user edit other is =
         ((λ d. cc d), ((λ d. cc d), ((λ d. cc d), ((λ d. cc d), ((λ d. cc d), ((λ d. cc d), tt))))))
     never (Remove path) =
         ((λ d. cc d), ((λ d. cc d), ((λ d. cc d), ((λ d. cc d), ((λ d. cc d), ((λ d. cc d), tt))))))
+    never (Chmod path mode) = (
+      (λ d. cc d),
+      (
+        (λ d. cc d),
+        (
+          (λ d. cc d),
+          (
+            (λ d. cc d),
+            (
+              (λ d. cc d),
+              (
+                (λ d. cc d),
+                ((λ d. cc d), tt),
+              ),
+            ),
+          ),
+        ),
+      ),
+    )
 
 -- what the journal takes, by its longest payload and by what is left of it
 pub rooms : (room left size : ℕ) → room ≡ left - 5 → 1 ≤ size

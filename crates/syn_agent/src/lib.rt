@@ -40,7 +40,7 @@
 //! - `begin`, `list`, `fetch`, `stage` and `replace` are the single requests, with the same
 //!   clauses.
 //! - `stage` keeps what the definition's `stage` keeps (`StagesAs`). A staging holds at most
-//!   524,288 bytes. A piece that goes behind the last is added in place.
+//!   526,336 bytes. A piece that goes behind the last is added in place.
 #![tactic(auto)]
 
 mod agent;

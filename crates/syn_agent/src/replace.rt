@@ -24,7 +24,7 @@ use syn_path::Path;
 use syn_refusal::Refusal;
 use syn_replica::{Replica, TokenStanding};
 use syn_tree::Node;
-use syn_wire::{WireError, decode_node, spelling_laws};
+use syn_wire::{Version, WireError, decode_node, spelling_laws};
 
 impl Agent {
     /// Puts what is staged for the item, which has so many bytes, in the place of all that is at
@@ -135,7 +135,7 @@ fn read_part(alloc: Global, bytes: &[u8]) -> Result<Option<Option<Node>>, WireEr
     ensures { IfOk result (λ read. Reads bytes.now (option_map part_of read)) }
 {
     spelling_laws();
-    let Some((part, rest)) = decode_node(alloc, bytes)? else {
+    let Some((part, rest)) = decode_node(alloc, Version::Two, bytes)? else {
         return Ok(None);
     };
     if !rest.is_empty() {

@@ -15,7 +15,7 @@ use Rattle.syn_archive.specs.declared.error.ArchiveError.{ArchiveError}
 use Rattle.syn_archive.specs.declared.error.ArchiveError.TheVariants.{NoParent, Root, Full}
 use Rattle.syn_archive.specs.declared.error.ArchiveError.TheVariants.{JournalFull, Device, Halted}
 use Rattle.syn_archive.specs.declared.error.ArchiveError.TheVariants.{Memory, NoImage, Damaged}
-use Rattle.syn_archive.specs.declared.error.ArchiveError.TheVariants.{WrongPair}
+use Rattle.syn_archive.specs.declared.error.ArchiveError.TheVariants.{OldVersion, WrongPair}
 
 -- ---- a refusal tells the error
 
@@ -29,6 +29,7 @@ error_by why.Halted = Halted
 error_by why.NoImage = NoImage
 error_by why.Damaged = Damaged
 error_by why.WrongPair = WrongPair
+error_by why.OldVersion = OldVersion
 error_by _ = Memory
 
 told : (e : ArchiveError) → error_by (refusal_of e) ≡ e
@@ -42,6 +43,7 @@ told Memory = refl
 told NoImage = refl
 told Damaged = refl
 told WrongPair = refl
+told OldVersion = refl
 
 pub same_error : (e f : ArchiveError) → refusal_of e ≡ refusal_of f → e ≡ f
 same_error e f is = sym (told e) ∙ (ap error_by is ∙ told f)
@@ -60,6 +62,7 @@ counts Memory old new h = h
 counts NoImage old new h = h
 counts Damaged old new h = h
 counts WrongPair old new h = h
+counts OldVersion old new h = h
 
 makes : (e : ArchiveError) (calls : ℕ) (old new : Arms) →
     machine.MakesOrBreaks calls (Some (refusal_of e)) old new → MakesIfDevice e calls old new
@@ -73,8 +76,9 @@ makes Memory calls old new h = h
 makes NoImage calls old new h = h
 makes Damaged calls old new h = h
 makes WrongPair calls old new h = h
+makes OldVersion calls old new h = h
 
-reads : (e : ArchiveError) (least : ℕ) (old new : Arms) →
+pub reads : (e : ArchiveError) (least : ℕ) (old new : Arms) →
     machine.ReadsOrBreaks least (Some (refusal_of e)) old new → AfterReads least e old new
 reads NoParent least old new h = h
 reads Root least old new h = h
@@ -86,6 +90,7 @@ reads Memory least old new h = h
 reads NoImage least old new h = h
 reads Damaged least old new h = h
 reads WrongPair least old new h = h
+reads OldVersion least old new h = h
 
 -- ---- of a result
 
@@ -147,6 +152,7 @@ checkpoint_refusal Memory h = h
 checkpoint_refusal NoImage h = h
 checkpoint_refusal Damaged h = h
 checkpoint_refusal WrongPair h = h
+checkpoint_refusal OldVersion h = h
 
 pub of_checkpoint : {T : Type 0} (result : Result T ArchiveError) →
     OfCheckpoint (ended refusal_of result) → IfErr result IsOfCheckpoint

@@ -5,6 +5,7 @@ use Rattle.syn_journal.specs.Refusals.{IsFormatRefusal}
 use Rattle.syn_journal.specs.declared.error.JournalError.{JournalError}
 use Rattle.syn_journal.specs.declared.error.JournalError.TheVariants as journal
 use Rattle.syn_model.specs.Path.{Bytes}
+use Rattle.syn_model.specs.Version.{current_version}
 use Rattle.syn_model.specs.Tree.{Directory, empty_directory}
 use Rattle.syn_model.specs.Archive.{new_archive}
 use Rattle.syn_model.specs.MarkSpelling.{archive_spelling, mark_spelling}
@@ -18,8 +19,9 @@ use Rattle.syn_archive.specs.Refusals.{IsOfFormat, of_journal}
 empty_length : length (mark_spelling empty_directory) ≡ 3
 empty_length =
     ap length
-    (marks_walk empty_directory (one_marks Directory tt).part.parents (one_present Directory)
-    ∙ ap (flat_map (pair_by digest_spelling empty_directory)) (entries-one Directory))
+    (marks_walk current_version empty_directory (one_marks Directory tt).part.parents
+    (one_present Directory) ∙ ap (flat_map (pair_by digest_spelling empty_directory))
+    (entries-one Directory))
 
 pub image_fits : (pair : ℕ) (image : Bytes) → image ≡ archive_spelling pair new_archive →
     longest_image < length image → ⊥

@@ -15,7 +15,7 @@ use Rattle.syn_archive.specs.declared.error.ArchiveError.{ArchiveError}
 use Rattle.syn_archive.specs.declared.error.ArchiveError.TheVariants.{NoParent, Root, Full}
 use Rattle.syn_archive.specs.declared.error.ArchiveError.TheVariants.{JournalFull, Device, Halted}
 use Rattle.syn_archive.specs.declared.error.ArchiveError.TheVariants.{Memory, NoImage, Damaged}
-use Rattle.syn_archive.specs.declared.error.ArchiveError.TheVariants.{WrongPair}
+use Rattle.syn_archive.specs.declared.error.ArchiveError.TheVariants.{OldVersion, WrongPair}
 
 -- ---- a refusal of the marks
 
@@ -30,6 +30,7 @@ inner_record Memory inner = tt
 inner_record NoImage inner = absurd (true≢false (sym inner))
 inner_record Damaged inner = absurd (true≢false (sym inner))
 inner_record WrongPair inner = absurd (true≢false (sym inner))
+inner_record OldVersion inner = absurd (true≢false (sym inner))
 
 inner_counts : (e : ArchiveError) (n : ℕ) → is_inner e ≡ true → CountsFailures e n n
 inner_counts NoParent n inner = refl
@@ -42,6 +43,7 @@ inner_counts Memory n inner = refl
 inner_counts NoImage n inner = refl
 inner_counts Damaged n inner = refl
 inner_counts WrongPair n inner = refl
+inner_counts OldVersion n inner = refl
 
 inner_makes : (e : ArchiveError) (most : ℕ) (arms : Arms) → is_inner e ≡ true →
     MakesIfDevice e most arms arms
@@ -55,6 +57,7 @@ inner_makes Memory most arms inner = refl
 inner_makes NoImage most arms inner = refl
 inner_makes Damaged most arms inner = refl
 inner_makes WrongPair most arms inner = refl
+inner_makes OldVersion most arms inner = refl
 
 -- ---- nothing was prepared
 

@@ -3,6 +3,7 @@ pub mod FormatLemmas
 pub mod AlikeLemmas
 pub mod OpeningLemmas
 pub mod MeaningLemmas
+mod MigrateLemmas
 pub mod EndLemmas
 pub mod KeepLemmas
 pub mod WriteLemmas

@@ -4,7 +4,8 @@ use Rattle.std.proofs.Common.{Result, Ok, Err, inl, inr, Bool, true, false, true
 use Rattle.std.proofs.lemmas.Option.{none-some, same_Some}
 use Rattle.syn_disk.specs.declared.disk.Disk.{Ghosts}
 use Rattle.syn_model.specs.Archive as model
-use Rattle.syn_model.specs.ArchiveImage.{ArchiveStandsFor}
+use Rattle.syn_model.specs.ArchiveImage.{ArchiveStandsFor, ArchiveStandsForIn}
+use Rattle.syn_model.specs.Version.{Version, One, current_version}
 use Rattle.syn_journal.specs.Journal as journal
 use Rattle.syn_journal.specs.Layout.{Value, Fault, meaning}
 use Rattle.syn_journal.specs.Refusals as journal_refusals
@@ -12,20 +13,24 @@ use Rattle.syn_journal.specs.declared.error.JournalError.{JournalError}
 use Rattle.syn_journal.specs.declared.error.JournalError.TheVariants as refused_by
 use Rattle.syn_journaled.specs.Journaled.{Opened as IsOpened}
 use Rattle.syn_journaled.specs.Openings.{NotOpened}
+use Rattle.syn_model.specs.MarkSpelling.{IsOldArchiveImage}
 use Rattle.syn_model.specs.Path.{Bytes}
 use Rattle.syn_archive.specs.Archive.{Stands, shown, pair_of, journal_of}
 use Rattle.syn_archive.specs.Disks.{DiskKeeps, DiskStands, IsOpenRefusal, IsReopenRefusal}
-use Rattle.syn_archive.specs.Disks.{StandsForNone, StandsForOther, IsWanted}
+use Rattle.syn_archive.specs.Disks.{IsOldDisk, StandsForNone, StandsForNoneIn, StandsForOther}
+use Rattle.syn_archive.specs.Disks.{IsWanted}
 use Rattle.syn_archive.specs.Refusals.{of_journal}
-use Rattle.syn_archive.specs.inner.Agreements.{Gives, IsUnread, IsUnreadAgain, agreed_archive}
-use Rattle.syn_archive.specs.inner.Openings.{IsOfMeaning, IsOfPayload, OneStands}
+use Rattle.syn_archive.specs.inner.Agreements.{Gives, IsUnread, IsUnreadAgain, IsUnreadOld}
+use Rattle.syn_archive.specs.inner.Agreements.{agreed_archive}
+use Rattle.syn_archive.specs.inner.Openings.{IsOfPayload, OneStands}
 use Rattle.syn_archive.specs.declared.agreed.Agreed.{Agreed}
 use Rattle.syn_archive.specs.declared.archive.Archive.{Archive}
 use Rattle.syn_archive.specs.declared.error.ArchiveError.{ArchiveError}
 use Rattle.syn_archive.specs.declared.error.ArchiveError.TheVariants.{NoParent, Root, Full}
 use Rattle.syn_archive.specs.declared.error.ArchiveError.TheVariants.{JournalFull, Device, Halted}
 use Rattle.syn_archive.specs.declared.error.ArchiveError.TheVariants.{Memory, NoImage, Damaged}
-use Rattle.syn_archive.specs.declared.error.ArchiveError.TheVariants.{WrongPair}
+use Rattle.syn_archive.specs.declared.error.ArchiveError.TheVariants.{OldVersion, WrongPair}
+use Rattle.syn_archive.proofs.OpeningLemmas.{not_old}
 
 -- what the journal refuses, as an archive refuses it
 by_journal : (by : JournalError) (wanted : Option ℕ) (bytes : List ℕ) →
@@ -50,8 +55,9 @@ by_meaning Device wanted bytes value means h = absurd h
 by_meaning Halted wanted bytes value means h = absurd h
 by_meaning Memory wanted bytes value means h = tt
 by_meaning NoImage wanted bytes value means h = absurd h
-by_meaning Damaged wanted bytes value means h = inr (value, means, h)
+by_meaning Damaged wanted bytes value means h = inr (value, means, h.0, h.1)
 by_meaning WrongPair wanted bytes value means h = (value, means, h)
+by_meaning OldVersion wanted bytes value means h = (value, means, h)
 
 pub open_refusal : (e : ArchiveError) (wanted : Option ℕ) (bytes : List ℕ) →
     NotOpened of_journal (IsUnread e wanted) e bytes → IsOpenRefusal e wanted bytes
@@ -82,6 +88,7 @@ by_own Memory agreed bytes value means h = tt
 by_own NoImage agreed bytes value means h = absurd h
 by_own Damaged agreed bytes value means h = inr (value, means, h)
 by_own WrongPair agreed bytes value means h = absurd h
+by_own OldVersion agreed bytes value means h = absurd h
 
 pub reopen_refusal : (e : ArchiveError) (agreed : Agreed) (bytes : List ℕ) →
     NotOpened of_journal (IsUnreadAgain e agreed) e bytes → IsReopenRefusal e agreed.pair bytes
@@ -90,20 +97,35 @@ reopen_refusal e agreed bytes (inl h) =
     (by_journal_again h.0 agreed.pair bytes h.2)
 reopen_refusal e agreed bytes (inr h) = by_own e agreed bytes h.0 h.1 h.2
 
--- what is unread of an image and its payloads, and of those of the same pair
+-- what is unread of an image and its payloads, of the first version and of the same pair
 pub unread : (e : ArchiveError) (wanted : Option ℕ) (image : Bytes) (payloads : List Bytes) →
-    IsOfMeaning e → (e ≡ Damaged → StandsForNone image payloads) →
-    (e ≡ WrongPair → StandsForOther wanted image payloads) → IsUnread e wanted image payloads
-unread NoParent wanted image payloads h damaged other = absurd h
-unread Root wanted image payloads h damaged other = absurd h
-unread Full wanted image payloads h damaged other = absurd h
-unread JournalFull wanted image payloads h damaged other = absurd h
-unread Device wanted image payloads h damaged other = absurd h
-unread Halted wanted image payloads h damaged other = absurd h
-unread Memory wanted image payloads h damaged other = tt
-unread NoImage wanted image payloads h damaged other = absurd h
-unread Damaged wanted image payloads h damaged other = damaged refl
-unread WrongPair wanted image payloads h damaged other = other refl
+    ¬ IsOldArchiveImage image → IsOfPayload e → (e ≡ Damaged → StandsForNone image payloads) →
+    IsUnread e wanted image payloads
+unread NoParent wanted image payloads young h damaged = absurd h
+unread Root wanted image payloads young h damaged = absurd h
+unread Full wanted image payloads young h damaged = absurd h
+unread JournalFull wanted image payloads young h damaged = absurd h
+unread Device wanted image payloads young h damaged = absurd h
+unread Halted wanted image payloads young h damaged = absurd h
+unread Memory wanted image payloads young h damaged = tt
+unread NoImage wanted image payloads young h damaged = absurd h
+unread Damaged wanted image payloads young h damaged = (young, damaged refl)
+unread WrongPair wanted image payloads young h damaged = absurd h
+unread OldVersion wanted image payloads young h damaged = absurd h
+
+pub unread_old : (e : ArchiveError) (image : Bytes) (payloads : List Bytes) → IsOfPayload e →
+    (e ≡ Damaged → StandsForNoneIn One image payloads) → IsUnreadOld e image payloads
+unread_old NoParent image payloads h damaged = absurd h
+unread_old Root image payloads h damaged = absurd h
+unread_old Full image payloads h damaged = absurd h
+unread_old JournalFull image payloads h damaged = absurd h
+unread_old Device image payloads h damaged = absurd h
+unread_old Halted image payloads h damaged = absurd h
+unread_old Memory image payloads h damaged = tt
+unread_old NoImage image payloads h damaged = absurd h
+unread_old Damaged image payloads h damaged = damaged refl
+unread_old WrongPair image payloads h damaged = absurd h
+unread_old OldVersion image payloads h damaged = absurd h
 
 pub unread_again : (e : ArchiveError) (agreed : Agreed) (image : Bytes) (payloads : List Bytes) →
     IsOfPayload e → (e ≡ Damaged → (archive : model.Archive) →
@@ -118,6 +140,7 @@ unread_again Memory agreed image payloads h damaged = tt
 unread_again NoImage agreed image payloads h damaged = absurd h
 unread_again Damaged agreed image payloads h damaged = damaged refl
 unread_again WrongPair agreed image payloads h damaged = absurd h
+unread_again OldVersion agreed image payloads h damaged = absurd h
 
 -- what is refused of a payload that is not damaged
 pub memory_alone : (e : ArchiveError) → IsOfPayload e → ¬ (e ≡ Damaged) → e ≡ Memory
@@ -131,6 +154,7 @@ memory_alone Memory of whole = refl
 memory_alone NoImage of whole = absurd of
 memory_alone Damaged of whole = absurd (whole refl)
 memory_alone WrongPair of whole = absurd of
+memory_alone OldVersion of whole = absurd of
 
 -- one archive of one pair is given
 same_agreed : (a b : Agreed) → a.pair ≡ b.pair → agreed_archive a ≡ agreed_archive b → a ≡ b
@@ -141,14 +165,17 @@ same_agreed a b pair same =
       marks = k.marks;
     }) pair same
 
-pub one_given : OneStands → (image : Bytes) (payloads : List Bytes) (a b : Agreed) →
-    a.pair < 2 ^ 64 → b.pair < 2 ^ 64 → Gives image payloads a → Gives image payloads b → a ≡ b
-one_given one image payloads a b h k s t =
-    let both = one image payloads a.pair b.pair (agreed_archive a) (agreed_archive b) h k s t in
+pub one_given : OneStands → (version : Version) (image : Bytes) (payloads : List Bytes)
+    (a b : Agreed) → a.pair < 2 ^ 64 → b.pair < 2 ^ 64 →
+    ArchiveStandsForIn version a.pair image payloads (agreed_archive a) →
+    ArchiveStandsForIn version b.pair image payloads (agreed_archive b) → a ≡ b
+one_given one version image payloads a b h k s t =
+    let both = one version image payloads a.pair b.pair (agreed_archive a) (agreed_archive b) h k s
+    t in
     same_agreed a b both.0 both.1
 
 -- a disk means one value
-one_value : (d : Result Value Fault) (a b : Value) → d ≡ Ok a → d ≡ Ok b → a ≡ b
+pub one_value : (d : Result Value Fault) (a b : Value) → d ≡ Ok a → d ≡ Ok b → a ≡ b
 one_value d a b x y = ap (λ r. value_or r a) (sym x ∙ y)
   where
     value_or : Result Value Fault → Value → Value
@@ -193,8 +220,8 @@ is_ok : Result Value Fault → Bool
 is_ok (Ok value) = true
 is_ok (Err fault) = false
 
-no_value : (d : Result Value Fault) (value : Value) (fault : Fault) → d ≡ Ok value → d ≡ Err fault →
-    ⊥
+pub no_value : (d : Result Value Fault) (value : Value) (fault : Fault) → d ≡ Ok value →
+    d ≡ Err fault → ⊥
 unfolding is_ok
 no_value d value fault a b = true≢false (ap is_ok (sym a ∙ b))
 
@@ -205,8 +232,9 @@ not_other : OneStands → (wanted : Option ℕ) (value : Value) (number : ℕ) (
 not_other one wanted value number kept fits stands (inl none) other =
     none-some _ (sym none ∙ other.wanted_is)
 not_other one wanted value number kept fits stands (inr some) other =
-    other.differ (same_Some _ _ (sym other.wanted_is ∙ some) ∙ (one value.image value.payloads
-    number other.pair kept other.archive fits other.fits stands other.stands).0)
+    other.differ (same_Some _ _ (sym other.wanted_is ∙ some)
+    ∙ (one current_version value.image value.payloads number other.pair kept other.archive fits
+    other.fits stands other.stands).0)
 
 -- a disk of the wanted pair's archive is refused by the device and for lack of memory alone
 pub lawful_refusal : OneStands → (e : ArchiveError) (wanted : Option ℕ) (bytes : List ℕ)
@@ -224,8 +252,39 @@ lawful_refusal one NoImage wanted bytes number kept fits d is h =
 lawful_refusal one Damaged wanted bytes number kept fits d is (inl h) =
     absurd (no_value (meaning bytes) d.value _ d.means h)
 lawful_refusal one Damaged wanted bytes number kept fits d is (inr h) =
-    absurd (h.2 number kept fits (subst (λ v. ArchiveStandsFor number v.image v.payloads kept)
+    absurd (h.3 number kept fits (subst (λ v. ArchiveStandsFor number v.image v.payloads kept)
     (one_value (meaning bytes) d.value h.0 d.means h.1) d.stands))
 lawful_refusal one WrongPair wanted bytes number kept fits d is h =
     absurd (not_other one wanted h.0 number kept fits (subst (λ v. ArchiveStandsFor number v.image
     v.payloads kept) (one_value (meaning bytes) d.value h.0 d.means h.1) d.stands) is h.2)
+lawful_refusal one OldVersion wanted bytes number kept fits d is h =
+    absurd (not_old number h.0.image h.0.payloads kept (subst (λ v. ArchiveStandsFor number v.image
+    v.payloads kept) (one_value (meaning bytes) d.value h.0 d.means h.1) d.stands) h.2)
+
+-- a disk of the first version is opened to no archive,
+pub no_old_opened : {D : Type 0} {disk : Ghosts D} (archive : Archive D disk) (bytes : List ℕ) →
+    IsOpened (λ a. a.pair) Gives bytes archive.machine → IsOldDisk bytes → ⊥
+no_old_opened archive bytes opened old =
+    not_old (pair_of archive) opened.value.image opened.value.payloads (shown archive) opened.given
+    (subst (λ v. IsOldArchiveImage v.image)
+    (one_value (meaning bytes) old.0 opened.value old.1 opened.means) old.2)
+
+-- and refused as such, by the device or for lack of memory
+pub old_refusal : (e : ArchiveError) (wanted : Option ℕ) (bytes : List ℕ) → IsOldDisk bytes →
+    IsOpenRefusal e wanted bytes → (e ≡ OldVersion) ⊎ ((e ≡ Device) ⊎ (e ≡ Memory))
+old_refusal NoParent wanted bytes old h = absurd h
+old_refusal Root wanted bytes old h = absurd h
+old_refusal Full wanted bytes old h = absurd h
+old_refusal JournalFull wanted bytes old h = absurd h
+old_refusal Device wanted bytes old h = inr (inl refl)
+old_refusal Halted wanted bytes old h = absurd h
+old_refusal Memory wanted bytes old h = inr (inr refl)
+old_refusal NoImage wanted bytes old h = absurd (no_value (meaning bytes) old.0 _ old.1 h)
+old_refusal Damaged wanted bytes old (inl h) = absurd (no_value (meaning bytes) old.0 _ old.1 h)
+old_refusal Damaged wanted bytes old (inr h) =
+    absurd (h.2 (subst (λ v. IsOldArchiveImage v.image)
+    (one_value (meaning bytes) old.0 h.0 old.1 h.1) old.2))
+old_refusal WrongPair wanted bytes old h =
+    absurd (not_old h.2.pair h.0.image h.0.payloads h.2.archive h.2.stands
+    (subst (λ v. IsOldArchiveImage v.image) (one_value (meaning bytes) old.0 h.0 old.1 h.1) old.2))
+old_refusal OldVersion wanted bytes old h = inl refl

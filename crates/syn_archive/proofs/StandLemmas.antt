@@ -10,6 +10,7 @@ use Rattle.syn_journal.specs.Layout.{with_payload, record_size, bytes_left, IsBe
 use Rattle.syn_disk.specs.Stops.{LeavesOnly}
 use Rattle.syn_model.specs.Path.{Bytes}
 use Rattle.syn_model.specs.Limits.{greatest}
+use Rattle.syn_model.specs.Version.{current_version}
 use Rattle.syn_model.specs.Refusal.{Full, BadMessage}
 use Rattle.syn_model.specs.Archive.{Archive, Kept, Session, CanKeep, after_kept}
 use Rattle.syn_model.specs.MarkSpelling.{archive_spelling, kept_spelling}
@@ -98,7 +99,7 @@ pub image_keeps : StandsForSound → ArchiveImageStands → (pair : ℕ) (value 
     image ≡ archive_spelling pair archive → ArchiveStandsFor pair image [] archive
 image_keeps sound stands pair value image archive means e =
     subst (λ bytes. ArchiveStandsFor pair bytes [] archive) (sym e)
-    (stands pair archive (sound pair value.image value.payloads archive means))
+    (stands pair archive (sound current_version pair value.image value.payloads archive means))
 
 pub stop_compacts : StandsForSound → ArchiveImageStands → (pair : ℕ) (value : Value) (image : Bytes)
     (archive : Archive) (left generation : ℕ) →

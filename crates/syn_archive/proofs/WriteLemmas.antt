@@ -26,7 +26,7 @@ use Rattle.syn_archive.specs.declared.error.ArchiveError.{ArchiveError}
 use Rattle.syn_archive.specs.declared.error.ArchiveError.TheVariants.{NoParent, Root, Full}
 use Rattle.syn_archive.specs.declared.error.ArchiveError.TheVariants.{JournalFull, Device, Halted}
 use Rattle.syn_archive.specs.declared.error.ArchiveError.TheVariants.{Memory, NoImage, Damaged}
-use Rattle.syn_archive.specs.declared.error.ArchiveError.TheVariants.{WrongPair}
+use Rattle.syn_archive.specs.declared.error.ArchiveError.TheVariants.{OldVersion, WrongPair}
 use Rattle.syn_archive.proofs.StandLemmas.{leaves_weaker, left_behind, payload_keeps, stop_keeps}
 
 -- ---- of a result
@@ -53,6 +53,7 @@ outside Memory h = h
 outside NoImage h = h
 outside Damaged h = h
 outside WrongPair h = h
+outside OldVersion h = h
 
 outside_record : (e : ArchiveError) → IsOutside e → IsOfRecord e
 outside_record NoParent h = absurd h
@@ -65,6 +66,7 @@ outside_record Memory h = tt
 outside_record NoImage h = absurd h
 outside_record Damaged h = absurd h
 outside_record WrongPair h = absurd h
+outside_record OldVersion h = absurd h
 
 module _ {T : Type 0} where
   pub cause_of_write : (result : Result T ArchiveError) (P : ArchiveError → Type 0) →

@@ -12,7 +12,7 @@ use Rattle.syn_archive.specs.declared.error.ArchiveError.{ArchiveError}
 use Rattle.syn_archive.specs.declared.error.ArchiveError.TheVariants.{NoParent, Root, Full}
 use Rattle.syn_archive.specs.declared.error.ArchiveError.TheVariants.{JournalFull, Device, Halted}
 use Rattle.syn_archive.specs.declared.error.ArchiveError.TheVariants.{Memory, NoImage, Damaged}
-use Rattle.syn_archive.specs.declared.error.ArchiveError.TheVariants.{WrongPair}
+use Rattle.syn_archive.specs.declared.error.ArchiveError.TheVariants.{OldVersion, WrongPair}
 
 abbrev pub refusal_of : ArchiveError → Refusal
 refusal_of NoParent = why.NoParent
@@ -25,6 +25,7 @@ refusal_of Memory = why.Memory
 refusal_of NoImage = why.NoImage
 refusal_of Damaged = why.Damaged
 refusal_of WrongPair = why.WrongPair
+refusal_of OldVersion = why.OldVersion
 
 -- why a call was refused, if it was
 abbrev pub refusal_in : {X : Type 0} → Result X ArchiveError → Option Refusal

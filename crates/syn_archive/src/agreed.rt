@@ -1,19 +1,21 @@
 //! What an archive has in memory, and how its disk spells it.
 ghost use Rattle.std.specs.Prelude.{◌≡◌};
-ghost use Rattle.syn_archive.specs.inner.Agreements.{Gives, IsReady, IsUnread, IsUnreadAgain};
-ghost use Rattle.syn_archive.specs.inner.Agreements.{agreed_archive, after_update};
+ghost use Rattle.syn_archive.specs.inner.Agreements.{Gives, GivesOld, IsReady, IsUnread};
+ghost use Rattle.syn_archive.specs.inner.Agreements.{IsUnreadAgain, IsUnreadOld, agreed_archive};
+ghost use Rattle.syn_archive.specs.inner.Agreements.{after_update};
 ghost use Rattle.syn_archive.specs.Refusals.{refusal_of, of_journal};
 ghost use Rattle.syn_model.specs.MarkSpelling.{archive_spelling};
 
 use crate::error::ArchiveError;
 use crate::laws::opening_laws;
-use crate::opening::{read_archive, read_own};
+use crate::opening::{read_archive, read_own, read_wanted};
 use std::alloc::Global;
 use syn_image::{ArchiveImage, encode_archive};
 use syn_journal::JournalError;
 use syn_journaled::State;
 use syn_mark::{MarkChange, MarkTree};
 use syn_refusal::Refusal;
+use syn_wire::Version;
 
 /// What both sides last agreed on, for one pair.
 #[derive(Drop)]
@@ -52,6 +54,10 @@ impl State for Agreed {
 
     ghost unread = { IsUnread };
 
+    ghost gives_old = { GivesOld };
+
+    ghost unread_old = { IsUnreadOld };
+
     ghost follows = { λ old new. new.pair ≡ old.pair };
 
     ghost unread_again = { IsUnreadAgain };
@@ -79,7 +85,25 @@ impl State for Agreed {
         wanted: Option<u64>,
     ) -> Result<Agreed, ArchiveError> {
         opening_laws();
-        match read_archive(alloc, image, wanted, payloads) {
+        match read_wanted(alloc, image, wanted, payloads) {
+            Ok(
+                ArchiveImage {
+                    pair,
+                    last_session,
+                    marks,
+                },
+            ) => Ok(Agreed {
+                pair,
+                last_session,
+                marks,
+            }),
+            Err(error) => Err(error),
+        }
+    }
+
+    fn read_old(alloc: Global, image: &[u8], payloads: &[Vec<u8>]) -> Result<Agreed, ArchiveError> {
+        opening_laws();
+        match read_archive(alloc, Version::One, image, payloads) {
             Ok(
                 ArchiveImage {
                     pair,

@@ -38,6 +38,7 @@ use syn_model::archive_laws;
 use syn_path::Path;
 
 mod checkpoint;
+mod migrate;
 mod open;
 
 /// The marks that both sides last agreed on, and the number of the last session. It outlives stops

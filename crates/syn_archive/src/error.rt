@@ -35,6 +35,8 @@ pub enum ArchiveError {
     Damaged,
     /// 20: the disk is of another pair.
     WrongPair,
+    /// 26: the image of the disk is of the first version.
+    OldVersion,
 }
 
 impl ArchiveError {
@@ -53,6 +55,7 @@ impl ArchiveError {
             ArchiveError::NoImage => Refusal::NoImage,
             ArchiveError::Damaged => Refusal::Damaged,
             ArchiveError::WrongPair => Refusal::WrongPair,
+            ArchiveError::OldVersion => Refusal::OldVersion,
         }
     }
 

@@ -2,34 +2,59 @@
 ghost use Rattle.std.specs.Prelude.{◌≡◌, ◌≢◌, ◌⊎◌, ◌<◌, ◌^◌, ℕ, List, IfOk, IfErr, OnOk};
 ghost use Rattle.std.specs.Prelude.{Some, None, true, false, option_map, map};
 ghost use Rattle.syn_model.specs.Archive as model;
-ghost use Rattle.syn_model.specs.Archive.{CanKeep};
-ghost use Rattle.syn_model.specs.ArchiveImage.{AllKept, ArchiveStandsFor, IsArchive};
+ghost use Rattle.syn_model.specs.Archive.{CanKeepIn};
+ghost use Rattle.syn_model.specs.ArchiveImage.{AllKeptIn, ArchiveStandsFor, ArchiveStandsForIn};
+ghost use Rattle.syn_model.specs.ArchiveImage.{IsArchive};
 ghost use Rattle.syn_model.specs.Mark.{IsMarks};
-ghost use Rattle.syn_model.specs.MarkSpelling.{kept_spelling};
+ghost use Rattle.syn_model.specs.MarkSpelling.{kept_spelling_in};
 ghost use Rattle.syn_model.specs.Path.{IsPath};
 ghost use Rattle.syn_model.specs.Tree.{replace};
 ghost use Rattle.syn_mark.specs.Changes.{replace_refusal};
 ghost use Rattle.syn_mark.specs.Marks.{or_absent};
+ghost use Rattle.syn_wire.specs.Versions.{version_of};
 ghost use Rattle.syn_image.specs.Archives.{kept_of};
-ghost use Rattle.syn_archive.specs.Disks.{StandsForNone, StandsForOther};
+ghost use Rattle.syn_archive.specs.Disks.{StandsForNoneIn};
+ghost use Rattle.syn_archive.specs.inner.Agreements.{IsUnread};
 ghost use Rattle.syn_archive.specs.inner.Openings.{AddsKept, Keeps, Replays, IsKeptOf, IsImageOf};
 ghost use Rattle.syn_archive.specs.inner.Openings.{archive_read, bytes_of_each, CannotKeep};
-ghost use Rattle.syn_archive.specs.inner.Openings.{IsOfMeaning, IsOfPayload};
+ghost use Rattle.syn_archive.specs.inner.Openings.{IsOfPayload};
 
 use crate::error::ArchiveError;
 use crate::laws::opening_laws;
 use std::alloc::Global;
-use syn_image::{ArchiveImage, Kept, decode_archive, decode_kept, image_laws};
+use syn_image::{ArchiveImage, Kept, decode_archive, decode_kept, image_laws, is_old_archive};
 use syn_mark::{Mark, MarkTree};
 use syn_path::Path;
 use syn_tree::TreeError;
-use syn_wire::WireError;
+use syn_wire::{Version, WireError};
 
-/// The pair and the archive that the image with the payloads stands for.
+/// The pair and the archive that the image with the payloads stands for in the version.
 ///
-/// Refused 19 where it stands for none, 20 where the pair is not the wanted one, and 11 where
-/// memory is refused.
+/// Refused 19 where it stands for none, and 11 where memory is refused.
 pub(crate) fn read_archive(
+    alloc: Global,
+    version: Version,
+    image: &[u8],
+    payloads: &[Vec<u8>],
+) -> Result<ArchiveImage, ArchiveError>
+    ensures fits { IfOk result (λ read. read.pair < 2 ^ 64) }
+    ensures stands { IfOk result (λ read. ArchiveStandsForIn (version_of version) read.pair
+        image.now (bytes_of_each payloads.now) (archive_read read)) }
+    ensures refusals { IfErr result IsOfPayload }
+    ensures damaged { IfErr result (λ e. e ≡ ArchiveError.Damaged
+        → StandsForNoneIn (version_of version) image.now (bytes_of_each payloads.now)) }
+{
+    opening_laws();
+    let mut archive = read_image(alloc, version, image)?;
+    keep_each(alloc, version, &mut archive, payloads)?;
+    Ok(archive)
+}
+
+/// The pair and the archive that the image with the payloads stands for in the second version.
+///
+/// Refused 26 where the image is of the first version, 19 where it stands for no archive, 20 where
+/// the pair is not the wanted one, and 11 where memory is refused.
+pub(crate) fn read_wanted(
     alloc: Global,
     image: &[u8],
     wanted: Option<u64>,
@@ -39,22 +64,20 @@ pub(crate) fn read_archive(
     ensures stands { IfOk result (λ read. ArchiveStandsFor read.pair image.now
         (bytes_of_each payloads.now) (archive_read read)) }
     ensures wanted { IfOk result (λ read. (asked : ℕ) → wanted ≡ Some asked → asked ≡ read.pair) }
-    ensures refusals { IfErr result IsOfMeaning }
-    ensures damaged { IfErr result (λ e. e ≡ ArchiveError.Damaged
-        → StandsForNone image.now (bytes_of_each payloads.now)) }
-    ensures other { IfErr result (λ e. e ≡ ArchiveError.WrongPair
-        → StandsForOther wanted image.now (bytes_of_each payloads.now)) }
+    ensures unread { IfErr result (λ e.
+        IsUnread e wanted image.now (bytes_of_each payloads.now)) }
 {
-    opening_laws();
-    let mut archive = read_image(alloc, image)?;
-    keep_each(alloc, &mut archive, payloads)?;
-    if is_other(wanted, archive.pair) {
+    if is_old_archive(image) {
+        return Err(ArchiveError::OldVersion);
+    }
+    let read = read_archive(alloc, Version::Two, image, payloads)?;
+    if is_other(wanted, read.pair) {
         return Err(ArchiveError::WrongPair);
     }
-    Ok(archive)
+    Ok(read)
 }
 
-/// The archive of the pair that the image with the payloads stands for.
+/// The archive of the pair that the image with the payloads stands for in the second version.
 ///
 /// Refused 19 where it stands for none of the pair, and 11 where memory is refused.
 pub(crate) fn read_own(
@@ -71,11 +94,11 @@ pub(crate) fn read_own(
         → ¬ ArchiveStandsFor pair image.now (bytes_of_each payloads.now) archive) }
 {
     opening_laws();
-    match read_archive(alloc, image, Some(pair), payloads) {
-        Ok(read) => Ok(read),
-        Err(ArchiveError::Memory) => Err(ArchiveError::Memory),
-        Err(_) => Err(ArchiveError::Damaged),
+    let read = read_archive(alloc, Version::Two, image, payloads)?;
+    if read.pair != pair {
+        return Err(ArchiveError::Damaged);
     }
+    Ok(read)
 }
 
 /// The pair is not the wanted one.
@@ -89,17 +112,20 @@ fn is_other(wanted: Option<u64>, pair: u64) -> bool
     }
 }
 
-/// The pair and the archive of which it is the image.
+/// The pair and the archive of which it is the image in the version.
 ///
 /// Refused 19 where it is of none, and 11 where memory is refused.
-fn read_image(alloc: Global, image: &[u8]) -> Result<ArchiveImage, ArchiveError>
-    ensures read { IfOk result (λ read. IsImageOf image.now read.pair (archive_read read)) }
+fn read_image(alloc: Global, version: Version, image: &[u8]) -> Result<ArchiveImage, ArchiveError>
+    ensures read { IfOk result (λ read.
+        IsImageOf (version_of version) image.now read.pair (archive_read read)) }
+    ensures sound { IfOk result (λ read. IsArchive (archive_read read)) }
     ensures refusals { IfErr result IsOfPayload }
     ensures damaged { IfErr result (λ e. e ≡ ArchiveError.Damaged
-        → (pair : ℕ) (archive : model.Archive) → ¬ IsImageOf image.now pair archive) }
+        → (pair : ℕ) (archive : model.Archive)
+        → ¬ IsImageOf (version_of version) image.now pair archive) }
 {
     image_laws();
-    let Some((read, rest)) = decode_archive(alloc, image)? else {
+    let Some((read, rest)) = decode_archive(alloc, version, image)? else {
         return Err(ArchiveError::Damaged);
     };
     if !rest.is_empty() {
@@ -113,21 +139,22 @@ fn read_image(alloc: Global, image: &[u8]) -> Result<ArchiveImage, ArchiveError>
 /// Refused 19 where it cannot, and 11 where memory is refused.
 fn keep_each(
     alloc: Global,
+    version: Version,
     archive: &mut ArchiveImage,
     payloads: &[Vec<u8>],
 ) -> Result<(), ArchiveError>
     requires { IsArchive (archive_read archive.old) }
-    ensures replays { OnOk result (Replays (archive_read archive.old)
+    ensures replays { OnOk result (Replays (version_of version) (archive_read archive.old)
         (bytes_of_each payloads.now) (archive_read archive.new)) }
     ensures pair { archive.new.pair ≡ archive.old.pair }
     ensures refusals { IfErr result IsOfPayload }
     ensures damaged { IfErr result (λ e. e ≡ ArchiveError.Damaged → (kept : List model.Kept)
-        → AllKept (archive_read archive.old) kept
-        → bytes_of_each payloads.now ≢ map kept_spelling kept) }
+        → AllKeptIn (version_of version) (archive_read archive.old) kept
+        → bytes_of_each payloads.now ≢ map (kept_spelling_in (version_of version)) kept) }
 {
     opening_laws();
     for payload in payloads {
-        add_payload(alloc, archive, payload)?;
+        add_payload(alloc, version, archive, payload)?;
     }
     Ok(())
 }
@@ -137,30 +164,33 @@ fn keep_each(
 /// Refused 19 where it is nothing that can be kept, and 11 where memory is refused.
 fn add_payload(
     alloc: Global,
+    version: Version,
     archive: &mut ArchiveImage,
     payload: &[u8],
 ) -> Result<(), ArchiveError>
-    ensures added { OnOk result (AddsKept (archive_read archive.old) payload.now
-        (archive_read archive.new)) }
+    ensures added { OnOk result (AddsKept (version_of version) (archive_read archive.old)
+        payload.now (archive_read archive.new)) }
     ensures pair { archive.new.pair ≡ archive.old.pair }
     ensures refusals { IfErr result IsOfPayload }
     ensures damaged { IfErr result (λ e. e ≡ ArchiveError.Damaged → (kept : model.Kept)
-        → IsArchive (archive_read archive.old) → payload.now ≡ kept_spelling kept
-        → ¬ CanKeep (archive_read archive.old) kept) }
+        → IsArchive (archive_read archive.old)
+        → payload.now ≡ kept_spelling_in (version_of version) kept
+        → ¬ CanKeepIn (version_of version) (archive_read archive.old) kept) }
 {
     opening_laws();
-    let Some(kept) = read_kept(alloc, payload)? else {
+    let Some(kept) = read_kept(alloc, version, payload)? else {
         return Err(ArchiveError::Damaged);
     };
     keep(alloc, archive, kept)
 }
 
 /// What the payload is; none where it is nothing that is kept. Refused 11 where memory is refused.
-fn read_kept(alloc: Global, payload: &[u8]) -> Result<Option<Kept>, WireError>
-    ensures { IfOk result (λ read. IsKeptOf payload.now (option_map kept_of read)) }
+fn read_kept(alloc: Global, version: Version, payload: &[u8]) -> Result<Option<Kept>, WireError>
+    ensures { IfOk result (λ read.
+        IsKeptOf (version_of version) payload.now (option_map kept_of read)) }
 {
     image_laws();
-    let Some((kept, rest)) = decode_kept(alloc, payload)? else {
+    let Some((kept, rest)) = decode_kept(alloc, version, payload)? else {
         return Ok(None);
     };
     if rest.is_empty() {

@@ -1,31 +1,29 @@
 -- What is put into a tree stands there, and the rest stays.
-use Rattle.std.proofs.Common.{◌≡◌, ◌≢◌, ◌∙◌, Bool, true, false, cond, not, List, [], ◌∷◌, ◌++◌}
+use Rattle.std.proofs.Common.{◌≡◌, ◌≢◌, ◌∙◌, ℕ, Bool, true, false, cond, not, List, [], ◌∷◌, ◌++◌}
 use Rattle.std.proofs.Common.{fold, refl, sym, ap, subst, Option, Some, None, is_some, append-nil}
 use Rattle.std.proofs.Common.{true≢false}
 use Rattle.std.specs.Ordering.{eq_by_cmp}
-use Rattle.std.proofs.lemmas.Option.{none-some}
+use Rattle.std.proofs.lemmas.Bool.{not-false}
+use Rattle.std.proofs.lemmas.Option.{none-some, same_Some}
 use Rattle.std.specs.FinMap.{get, find, entries, get-entries}
-use Rattle.syn_model.specs.Path.{Path, Name, path_cmp, root, strip_prefix, is_root, parent}
-use Rattle.syn_model.specs.Contents.{Contents}
-use Rattle.syn_model.specs.Tree.{Tree, Content, Directory, File, Pair, HasParents, at_root}
+use Rattle.syn_model.specs.Path.{Bytes, Path, Name, path_cmp, root, strip_prefix, is_root, parent}
+use Rattle.syn_model.specs.Contents.{contents_with}
+use Rattle.syn_model.specs.Tree.{Tree, Content, Directory, File, Pair, HasParents, at_root, replace}
 use Rattle.syn_model.specs.Tree.{is_directory, is_directory_content, is_present}
-use Rattle.syn_model.specs.Event.{Edit, after_edit, put_contents}
+use Rattle.syn_model.specs.Event.{Put, MakeDir, Chmod, after_edit, put_contents, put_mode}
+use Rattle.syn_model.specs.Event.{with_mode}
 use Rattle.syn_model.specs.Refusal.{Refusal, Cause, first_cause, Root, NoParent, IsDirectory}
-use Rattle.syn_model.specs.Refusal.{Exists}
+use Rattle.syn_model.specs.Refusal.{Absent, Exists}
 use Rattle.syn_model.specs.Standing.{edit_refusal, full_causes}
 use Rattle.syn_model.proofs.PathLemmas.{same_path, path_itself, strip_prefix-is}
 use Rattle.syn_model.proofs.PathLemmas.{strip_prefix-append}
-use Rattle.syn_model.proofs.HistoryLemmas.{get-at_root, get-below_root}
+use Rattle.syn_model.proofs.HistoryLemmas.{get-at_root, get-below_root, same_file}
 use Rattle.syn_model.proofs.TreeLemmas.{within, beside}
 use Rattle.syn_placed.specs.Pairs.{Pairs, rooted}
 use Rattle.syn_placed.proofs.RisingLemmas.{Rising}
 use Rattle.syn_placed.proofs.FindLemmas.{find_after}
 use Rattle.syn_placed.proofs.TreeLemmas.{rising-entries}
-use Rattle.syn_change.specs.Changes.{IsOverlaid, IsPlaced, entry_edit}
-use Rattle.syn_tree.specs.Contents.{found_content}
-use Rattle.syn_tree.specs.declared.content.Found.{Found}
-use Rattle.syn_tree.specs.declared.content.Found.TheVariants as found
-use Rattle.syn_tree.specs.declared.mode.Mode.TheVariants.{NewFile}
+use Rattle.syn_change.specs.Changes.{HasBytes, IsOverlaid, IsPlaced, StaysElsewhere}
 
 -- ---- one edit
 
@@ -36,12 +34,17 @@ third false true c u v w rest none = absurd (none-some _ (sym none))
 third false false true u v w rest none = absurd (none-some _ (sym none))
 third false false false u v w rest none = refl
 
+fourth : (a b c d : Bool) (u v w x : Refusal) (rest : List Cause) →
+    first_cause ((a, u) ∷ (b, v) ∷ (c, w) ∷ (d, x) ∷ rest) ≡ None → d ≡ false
+fourth true b c d u v w x rest none = absurd (none-some _ (sym none))
+fourth false true c d u v w x rest none = absurd (none-some _ (sym none))
+fourth false false true d u v w x rest none = absurd (none-some _ (sym none))
+fourth false false false true u v w x rest none = absurd (none-some _ (sym none))
+fourth false false false false u v w x rest none = refl
+
 -- what is put where no directory is, changes nothing elsewhere
 module _ (t : Tree) (p : Path) (c : Content) (parents : HasParents t)
     (free : is_directory t p ≡ false) where
-  abbrev put : Contents → Contents
-  put contents = put_contents (get t p) contents.bytes
-
   nothing_below : (n : Name) (r : Path) → get t (p ++ n ∷ r) ≡ None
   nothing_below n r = go (get t (p ++ n ∷ r)) refl
     where
@@ -50,80 +53,95 @@ module _ (t : Tree) (p : Path) (c : Content) (parents : HasParents t)
       go (Some x) is =
           absurd (true≢false (sym (ap is_directory_content (parents p n r (ap is_some is))) ∙ free))
 
-  elsewhere_same : (q : Path) → q ≢ p → get (after_edit t (entry_edit (p, c))) q ≡ get t q
-  elsewhere_same q other = replaced (strip_prefix p q) refl
+  stays_elsewhere : StaysElsewhere t p (replace t p (at_root c))
+  stays_elsewhere q other = replaced (strip_prefix p q) refl
     where
-      below : (d : Content) (r : Path) → strip_prefix p q ≡ Some r → get (at_root d) r ≡ get t q
-      below d [] is = absurd (other (strip_prefix-is p q [] is ∙ append-nil p))
-      below d (n ∷ r) is =
-          get-below_root d [] n r
+      below : (r : Path) → strip_prefix p q ≡ Some r → get (at_root c) r ≡ get t q
+      below [] is = absurd (other (strip_prefix-is p q [] is ∙ append-nil p))
+      below (n ∷ r) is =
+          get-below_root c [] n r
           ∙ sym (ap (get t) (strip_prefix-is p q (n ∷ r) is) ∙ nothing_below n r)
 
       replaced : (o : Option Path) → strip_prefix p q ≡ o →
-          get (after_edit t (entry_edit (p, c))) q ≡ get t q
-      replaced None is = by_kind c
-        where
-          by_kind : (c : Content) → get (after_edit t (entry_edit (p, c))) q ≡ get t q
-          by_kind Directory = beside t p (at_root Directory) q is
-          by_kind (File contents) = beside t p (at_root (File (put contents))) q is
-      replaced (Some r) is = by_kind c
-        where
-          by_kind : (c : Content) → get (after_edit t (entry_edit (p, c))) q ≡ get t q
-          by_kind Directory = within t p (at_root Directory) q r is ∙ below Directory r is
-          by_kind (File contents) =
-              within t p (at_root (File (put contents))) q r is ∙ below (File (put contents)) r is
+          get (replace t p (at_root c)) q ≡ get t q
+      replaced None is = beside t p (at_root c) q is
+      replaced (Some r) is = within t p (at_root c) q r is ∙ below r is
 
--- a directory, or what its bytes alone give where they are put
-abbrev pub IsPut : Option Content → Content → Type 0
-IsPut before Directory = Unit {0}
-IsPut before (File contents) = contents ≡ put_contents before contents.bytes
+-- and is there
+stands_there : (t : Tree) (p : Path) (c : Content) → get (replace t p (at_root c)) p ≡ Some c
+stands_there t p c =
+    within t p (at_root c) p [] (ap (strip_prefix p) (sym (append-nil p)) ∙ strip_prefix-append p
+    [])
+    ∙ get-at_root c []
 
--- as long as nothing changes a mode, each file is so
-pub is_put : (before : Option Content) (f : Found) → IsPut before (found_content f)
-is_put before (found.File NewFile bytes) = refl
-is_put before found.Dir = tt
+absent_is_free : (o : Option Content) → is_some o ≡ false → is_directory_content o ≡ false
+absent_is_free None is = refl
+absent_is_free (Some x) is = absurd (true≢false is)
 
-stands_there : (t : Tree) (p : Path) (c : Content) → IsPut (get t p) c →
-    get (after_edit t (entry_edit (p, c))) p ≡ Some c
-stands_there t p Directory same =
-    within t p (at_root Directory) p [] (whole p) ∙ get-at_root Directory []
-  where
-    whole : (p : Path) → strip_prefix p p ≡ Some []
-    whole p = ap (strip_prefix p) (sym (append-nil p)) ∙ strip_prefix-append p []
-stands_there t p (File contents) same =
-    let put = put_contents (get t p) contents.bytes in
-    within t p (at_root (File put)) p [] (whole p)
-    ∙ (get-at_root (File put) [] ∙ ap (λ c. Some (File c)) (sym same))
-  where
-    whole : (p : Path) → strip_prefix p p ≡ Some []
-    whole p = ap (strip_prefix p) (sym (append-nil p)) ∙ strip_prefix-append p []
+-- a directory that is made stands there
+pub dir_placed : (t : Tree) (p : Path) (new : Tree) → HasParents t →
+    edit_refusal t (MakeDir p) ≡ None → new ≡ after_edit t (MakeDir p) →
+    IsPlaced t (p, Directory) new
+dir_placed t p new parents none is =
+    let free = absent_is_free (get t p) (third (is_root p) (not (is_directory t (parent p)))
+    (is_present t p) Root NoParent Exists (full_causes (after_edit t (MakeDir p))) none) in
+    subst (IsPlaced t (p, Directory)) (sym is) record {
+      there = stands_there t p Directory;
+      elsewhere = stays_elsewhere t p Directory parents free;
+    }
 
-is_free : (t : Tree) (p : Path) (c : Content) → edit_refusal t (entry_edit (p, c)) ≡ None →
-    is_directory t p ≡ false
-is_free t p (File contents) none =
-    third (is_root p) (not (is_directory t (parent p))) (is_directory t p) Root NoParent IsDirectory
-    (full_causes (after_edit t (entry_edit (p, File contents)))) none
-is_free t p Directory none =
-    absent (get t p) (third (is_root p) (not (is_directory t (parent p))) (is_present t p) Root
-    NoParent Exists (full_causes (after_edit t (entry_edit (p, Directory)))) none)
-  where
-    absent : (o : Option Content) → is_some o ≡ false → is_directory_content o ≡ false
-    absent None is = refl
-    absent (Some x) is = absurd (true≢false is)
+-- a file that is put has its bytes, and all else stays
+pub put_placed : (t : Tree) (p : Path) (b : Bytes) (new : Tree) → HasParents t →
+    edit_refusal t (Put p b) ≡ None → new ≡ after_edit t (Put p b) →
+    HasBytes new p b × StaysElsewhere t p new
+put_placed t p b new parents none is =
+    let free = third (is_root p) (not (is_directory t (parent p))) (is_directory t p) Root NoParent
+    IsDirectory (full_causes (after_edit t (Put p b))) none in
+    let put = File (put_contents (get t p) b) in
+    subst (λ u. HasBytes u p b × StaysElsewhere t p u) (sym is)
+    ((put_mode (get t p), stands_there t p put), stays_elsewhere t p put parents free)
 
--- an edit of an entry that is not refused places it
-pub placed_by : (t : Tree) (pair : Pair) (edit : Edit) (new : Tree) → HasParents t →
-    IsPut (get t pair.0) pair.1 → edit ≡ entry_edit pair → edit_refusal t edit ≡ None →
-    new ≡ after_edit t edit →
+-- a mode that is set is there, over the same bytes, and all else stays
+module _ (t : Tree) (p : Path) (mode : ℕ) (new : Tree) (parents : HasParents t)
+    (none : edit_refusal t (Chmod p mode) ≡ None) (is : new ≡ after_edit t (Chmod p mode)) where
+  abbrev IsThere : Option Content → Type 0
+  IsThere there = (get t p ≡ there) → is_directory_content there ≡ false → is_some there ≡ true →
+      ((b : Bytes) → HasBytes t p b → get new p ≡ Some (File (contents_with mode b)))
+      × StaysElsewhere t p new
+
+  by_there : (there : Option Content) → IsThere there
+  by_there None found free some = absurd (true≢false (sym some))
+  by_there (Some Directory) found free some = absurd (true≢false free)
+  by_there (Some (File was)) found free some =
+      let part = File (contents_with mode was.bytes) in
+      let made : new ≡ replace t p (at_root part) =
+      is ∙ ap (λ o. replace t p (with_mode o mode)) found in (
+        λ b has. ap (λ u. get u p) made ∙ (stands_there t p part ∙ ap (λ c. Some (File
+            (contents_with mode c.bytes))) (same_file was (contents_with has.0 b)
+            (same_Some _ _ (sym found ∙ has.1)))),
+        subst (StaysElsewhere t p) (sym made)
+            (stays_elsewhere t p part parents (ap is_directory_content found)),
+      )
+
+  pub mode_placed : ((b : Bytes) → HasBytes t p b → get new p ≡ Some (File (contents_with mode b)))
+      × StaysElsewhere t p new
+  mode_placed =
+      let full = full_causes (after_edit t (Chmod p mode)) in
+      let rest = (not (is_present t p), Absent) ∷ full in
+      by_there (get t p) refl
+      (third (is_root p) (not (is_directory t (parent p))) (is_directory t p) Root NoParent
+      IsDirectory rest none)
+      (not-false (is_present t p) (fourth (is_root p) (not (is_directory t (parent p)))
+      (is_directory t p) (not (is_present t p)) Root NoParent IsDirectory Absent full none))
+
+-- a file whose bytes are put, and whose mode is set then, is placed
+pub file_placed : (t between new : Tree) (p : Path) (c : Content) (pair : Pair) → (p, c) ≡ pair →
+    StaysElsewhere t p between → get new p ≡ Some c → StaysElsewhere between p new →
     IsPlaced t pair new
-placed_by t pair edit new parents fresh same none is =
-    let P : Edit → Type 0 = λ e. edit_refusal t e ≡ None in
-    let allowed = subst P same none in
-    let made : new ≡ after_edit t (entry_edit pair) = is ∙ ap (after_edit t) same in
-    let Q : Tree → Type 0 = λ u. IsPlaced t pair u in
-    subst Q (sym made) record {
-      there = stands_there t pair.0 pair.1 fresh;
-      elsewhere = elsewhere_same t pair.0 pair.1 parents (is_free t pair.0 pair.1 allowed);
+file_placed t between new p c pair same first there second =
+    subst (λ pair. IsPlaced t pair new) same record {
+      there = there;
+      elsewhere = λ q other. second q other ∙ first q other;
     }
 
 -- ---- all of them

@@ -1,9 +1,10 @@
 -- What a list of edits makes of a tree.
-use Rattle.std.specs.Prelude.{◌≡◌, ◌≢◌, ◌⊎◌, List, fold, Some, None, IsSome}
+use Rattle.std.specs.Prelude.{◌≡◌, ◌≢◌, ℕ, ◌⊎◌, List, fold, Some, None, IsSome}
 use Rattle.std.specs.FinMap.{get}
-use Rattle.syn_model.specs.Path.{Path}
-use Rattle.syn_model.specs.Tree.{Tree, Content, Directory, File, Pair}
-use Rattle.syn_model.specs.Event.{Edit, Put, MakeDir, after_edit}
+use Rattle.syn_model.specs.Contents.{contents_with}
+use Rattle.syn_model.specs.Path.{Bytes, Path}
+use Rattle.syn_model.specs.Tree.{Tree, Content, File, Pair}
+use Rattle.syn_model.specs.Event.{Edit, after_edit}
 
 -- the tree after the edits, one after the other
 abbrev pub after_edits : Tree → List Edit → Tree
@@ -18,15 +19,18 @@ GoesOn old edits new more =
 abbrev pub IsUntouched : {A : Type 0} → Tree → Tree → List A → List A → Type 0
 IsUntouched old new edits more = (new ≡ old) × (more ≡ edits)
 
--- the edit that puts or makes what is to stand at the path, where that is new
-abbrev pub entry_edit : Pair → Edit
-entry_edit (path, Directory) = MakeDir path
-entry_edit (path, File contents) = Put path contents.bytes
+-- a file with these bytes is at the path, of whatever mode
+abbrev pub HasBytes : Tree → Path → Bytes → Type 0
+HasBytes tree path bytes = (mode : ℕ) × (get tree path ≡ Some (File (contents_with mode bytes)))
+
+-- all is as it was but at the path
+abbrev pub StaysElsewhere : Tree → Path → Tree → Type 0
+StaysElsewhere old at new = (path : Path) → path ≢ at → get new path ≡ get old path
 
 -- the pair stands there, and elsewhere nothing changed
 pub record IsPlaced (old : Tree) (pair : Pair) (new : Tree) : Type 0 where
   pub there : get new pair.0 ≡ Some pair.1
-  pub elsewhere : (path : Path) → path ≢ pair.0 → get new path ≡ get old path
+  pub elsewhere : StaysElsewhere old pair.0 new
 
 -- what is added stands there, and where nothing is added all stays
 pub record IsOverlaid (old added new : Tree) : Type 0 where

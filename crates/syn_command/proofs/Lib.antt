@@ -1,5 +1,6 @@
 pub mod InputLemmas
 pub mod EditLemmas
 pub mod ImportLemmas
+mod MigrateLemmas
 mod MomentLemmas
 mod SentLemmas

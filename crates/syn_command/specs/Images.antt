@@ -6,6 +6,7 @@ use Rattle.syn_model.specs.Archive.{new_archive}
 use Rattle.syn_model.specs.History.{History}
 use Rattle.syn_replica.specs.Replica as replica
 use Rattle.syn_replica.specs.Disks as replica_disk
+use Rattle.syn_replica.specs.Migrating.{IsMigrateRefusal}
 use Rattle.syn_archive.specs.Archive as archive
 use Rattle.syn_archive.specs.Disks as archive_disk
 use Rattle.syn_archive.specs.declared.error.ArchiveError.TheVariants.{Damaged}
@@ -21,6 +22,11 @@ abbrev pub IsOn : {D : Type 0} → {disk : Ghosts D} → List ℕ → Image D di
 IsOn bytes (Replica r) =
     replica_disk.DiskGives (replica.pair_of r) bytes (replica.standing_shown r)
 IsOn bytes (Archive a) = archive_disk.DiskStands (archive.pair_of a) bytes (archive.shown a)
+
+-- the disk that an image is on
+abbrev pub disk_under : {D : Type 0} → {disk : Ghosts D} → Image D disk → D
+disk_under (Replica r) = replica.disk_of r
+disk_under (Archive a) = archive.disk_of a
 
 -- the letters that an image of its kind begins with
 abbrev pub letters_of : {D : Type 0} → {disk : Ghosts D} → Image D disk → List ℕ
@@ -52,3 +58,12 @@ IsImageRefusal bytes (error.Archive e) = (e ≢ Damaged) × archive_disk.IsOpenR
 IsImageRefusal bytes (error.Replica e) =
     archive_disk.IsDamaged bytes × replica_disk.IsOpenRefusal e None bytes
 IsImageRefusal bytes _ = ⊥
+
+-- Why no image is migrated, and what that says of the bytes. Damage says that in no version they
+-- hold an archive or a replica.
+abbrev pub IsMigrationRefusal : List ℕ → CommandError → Type 0
+IsMigrationRefusal bytes (error.Archive e) =
+    (e ≢ Damaged) × archive_disk.IsMigrateRefusal e bytes
+IsMigrationRefusal bytes (error.Replica e) =
+    archive_disk.IsBroken bytes × IsMigrateRefusal e bytes
+IsMigrationRefusal bytes _ = ⊥

@@ -1,13 +1,18 @@
 //! An image of either kind.
-ghost use Rattle.std.specs.Prelude.{◌≡◌, ◌<◌, ◌^◌, ℕ, IfOk, IfErr, Ok};
+ghost use Rattle.std.specs.Prelude.{◌≡◌, ◌⊎◌, ◌<◌, ◌^◌, ℕ, IfOk, IfErr, MatchResult, Ok, take};
 ghost use Rattle.syn_archive.specs.Disks as archive;
+ghost use Rattle.syn_disk.specs.Stops.{LeavesOnly, Untouched};
 ghost use Rattle.syn_journal.specs.Layout.{Value, meaning};
 ghost use Rattle.syn_model.specs.Archive as model;
 ghost use Rattle.syn_model.specs.History.{History};
+ghost use Rattle.syn_model.specs.Refusal.{Device};
+ghost use Rattle.syn_model.specs.Version.{One, Version};
 ghost use Rattle.syn_replica.specs.Disks as replica;
-ghost use Rattle.syn_command.specs.Images.{IsFormatted, IsImageRefusal, IsOn, letters_of};
-ghost use Rattle.syn_command.specs.Images.{StandsForArchive, StandsForHistory};
-ghost use Rattle.std.specs.Prelude.{take};
+ghost use Rattle.syn_replica.specs.Migrating.{KeepsOrMigrates, OrBefore};
+ghost use Rattle.syn_command.specs.Errors.{refusal_of};
+ghost use Rattle.syn_command.specs.Images.{IsFormatted, IsImageRefusal, IsMigrationRefusal, IsOn};
+ghost use Rattle.syn_command.specs.Images.{StandsForArchive, StandsForHistory, disk_under};
+ghost use Rattle.syn_command.specs.Images.{letters_of};
 
 use crate::error::CommandError;
 use std::alloc::Global;
@@ -26,8 +31,9 @@ pub enum Image<D: Disk> {
 /// Opens what the disk holds: an archive where its image begins with an archive's letters, else a
 /// replica.
 ///
-/// Refused 9 where a device call fails, 18 where the disk holds no image, 19 where it holds neither
-/// an archive nor a replica, and 11 where memory is refused. Nothing is written.
+/// Refused 9 where a device call fails, 18 where the disk holds no image, 26 where that is of
+/// version 1, 19 where it holds neither an archive nor a replica, and 11 where memory is refused.
+/// Nothing is written.
 pub fn open_image<D: Disk + Drop>(alloc: Global, disk: D) -> Result<Image<D>, CommandError>
     ensures given { IfOk result (λ image. IsOn (D.seen disk) image) }
     ensures letters { IfOk result (λ image. (value : Value) → meaning (D.seen disk) ≡ Ok value
@@ -47,6 +53,53 @@ pub fn open_image<D: Disk + Drop>(alloc: Global, disk: D) -> Result<Image<D>, Co
             Err((error, _)) => Err(CommandError::Replica(error)),
         },
         Err((error, _)) => Err(CommandError::Archive(error)),
+    }
+}
+
+/// Makes what the disk holds an image of version 2: an archive where its image begins with an
+/// archive's letters, else a replica. One of version 2 stays as it is.
+///
+/// Refused 9 where a device call fails, 18 where the disk holds no image, 19 where it holds neither
+/// an archive nor a replica, 7 where it is of version 1 and its generation is the greatest, and 11
+/// where memory is refused; the disk comes back. Only after 9 may something be written.
+pub fn migrate_image<D: Disk + Drop>(alloc: Global, disk: D) -> Result<Image<D>, (CommandError, D)>
+    // It stands for what the disk stands for, in whichever version, and the disk then gives it in
+    // version 2.
+    ensures archive { (version : Version) (number : ℕ) (kept : model.Archive) → number < 2 ^ 64
+        → archive.DiskStandsIn version number (D.seen disk) kept
+        → IfOk result (StandsForArchive number kept) }
+    ensures replica { (version : Version) (number : ℕ) (history : History) → number < 2 ^ 64
+        → replica.DiskStandsIn version number (D.seen disk) history
+        → IfOk result (StandsForHistory number history) }
+    ensures given { IfOk result (λ image. IsOn (D.seen (disk_under image)) image) }
+
+    // A stop leaves what a disk of version 1 has, in version 1 or in version 2.
+    ensures archive_moments { (number : ℕ) (kept : model.Archive) (left generation : ℕ)
+        → number < 2 ^ 64 → archive.DiskKeepsIn One number kept left generation (D.seen disk)
+        → MatchResult result
+        (λ image. LeavesOnly D.moment D.left_since disk (disk_under image)
+        (OrBefore (D.may_leave disk) (archive.KeepsOrMigrates number kept left generation)))
+        (λ refused. LeavesOnly D.moment D.left_since disk refused.1
+        (OrBefore (D.may_leave disk) (archive.KeepsOrMigrates number kept left generation))) }
+    ensures replica_moments { (number : ℕ) (history : History) (left generation : ℕ)
+        → number < 2 ^ 64 → replica.DiskKeepsIn One number history left generation (D.seen disk)
+        → MatchResult result
+        (λ image. LeavesOnly D.moment D.left_since disk (disk_under image)
+        (OrBefore (D.may_leave disk) (KeepsOrMigrates number history left generation)))
+        (λ refused. LeavesOnly D.moment D.left_since disk refused.1
+        (OrBefore (D.may_leave disk) (KeepsOrMigrates number history left generation))) }
+
+    ensures refusals { IfErr result (λ refused. IsMigrationRefusal (D.seen disk) refused.0) }
+    ensures untouched { IfErr result (λ refused. (refusal_of refused.0 ≡ Device)
+        ⊎ Untouched D.seen D.may_leave D.moment D.left_since disk refused.1) }
+{
+    match Archive::migrate(alloc, disk) {
+        Ok(archive) => Ok(Image::Archive(archive)),
+        Err((ArchiveError::Damaged, disk)) => match Replica::migrate(alloc, disk) {
+            Ok(replica) => Ok(Image::Replica(replica)),
+            Err((error, disk)) => Err((CommandError::Replica(error), disk)),
+        },
+        Err((error, disk)) => Err((CommandError::Archive(error), disk)),
     }
 }
 

@@ -179,5 +179,6 @@ fn line_of(alloc: Global, edit: &Edit) -> Result<String, AllocError> {
         Edit::Put(path, _) => format!(in alloc; "put {path}\n"),
         Edit::MakeDir(path) => format!(in alloc; "mkdir {path}\n"),
         Edit::Remove(path) => format!(in alloc; "rm {path}\n"),
+        Edit::Chmod(path, mode) => format!(in alloc; "chmod {mode} {path}\n"),
     }
 }

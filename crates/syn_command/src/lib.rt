@@ -16,6 +16,10 @@
 //!   replica where it has one (`replica`). What it answers is what the disk gives (`given`), and
 //!   begins with the letters of its kind (`letters`). A refusal has its cause: 19 says that the
 //!   disk has neither (`refusals`).
+//! - `migrate_image`, over any disk, makes what the disk has an image of version 2. It stands for
+//!   what the disk stood for, in whichever version (`archive`, `replica`). A stop at any moment
+//!   leaves that in version 1 or in version 2 (`archive_moments`, `replica_moments`). A refusal has
+//!   its cause, and leaves the disk as it was unless it is 9 (`refusals`, `untouched`).
 //! - `format_image` makes a new replica or a new archive of the pair.
 //! - `show_image` and `show_path` work over any disk and any writer (`printed`, `content_shown`).
 //!   They add the image's first line and a line for each path, in path order. Or they add the bytes
@@ -47,7 +51,7 @@ pub use check::check_image;
 pub use edit::{make_edit, read_edit};
 pub use error::CommandError;
 pub use failure::Failure;
-pub use image::{Image, format_image, open_image};
+pub use image::{Image, format_image, migrate_image, open_image};
 pub use import::{import_part, send_edits};
 pub use outcome::{Outcome, outcome_of, outcome_planned};
 pub use show::{show_image, show_path};

@@ -63,12 +63,13 @@ fn refuse<E: Write>(error: &CommandError, errors: &mut E) {
 /// something.
 fn explain<E: Write>(line: &Line<'_>, error: &CommandError, errors: &mut E) {
     let _ = match line {
-        Line::Format { file, .. } | Line::Check { file } | Line::Log { file, .. } => write!(
-            errors,
-            "syn: {file}"
-        ),
+        Line::Format { file, .. }
+        | Line::Check { file }
+        | Line::Migrate { file }
+        | Line::Log { file, .. } => write!(errors, "syn: {file}"),
         Line::Show { place } => write!(errors, "syn: {}", place.as_str()),
         Line::Edit(edit) => write!(errors, "syn: {} in {}", edit.path, edit.place.as_str()),
+        Line::Chmod(line) => write!(errors, "syn: {} in {}", line.path, line.place.as_str()),
         Line::ShowPath { place, path } => write!(errors, "syn: {path} in {}", place.as_str()),
         Line::Export(line) => write!(errors, "syn: {} into {}", line.place.as_str(), line.folder),
         Line::Import(line) => write!(errors, "syn: {} into {}", line.folder, line.place.as_str()),
@@ -93,7 +94,8 @@ fn explain<E: Write>(line: &Line<'_>, error: &CommandError, errors: &mut E) {
         } => write!(errors, "syn: {left} and {right} with {archive}"),
         Line::Simulate { script, .. } => write!(errors, "syn: {script}"),
     };
-    let plain = error.refusal().explanation();
+    let refusal = error.refusal();
+    let plain = refusal.explanation();
     let _ = match error {
         CommandError::Device(system)
         | CommandError::Open(OpenError::System(system))
@@ -110,6 +112,9 @@ fn explain<E: Write>(line: &Line<'_>, error: &CommandError, errors: &mut E) {
             writeln!(errors, ": the folder is not empty")
         }
         CommandError::Longer => writeln!(errors, ": the file is longer than an image"),
+        _ if refusal == Refusal::OldVersion => {
+            writeln!(errors, ": {plain}: run `syn migrate` on it")
+        }
         _ => writeln!(errors, ": {plain}"),
     };
 }

@@ -33,6 +33,7 @@ counts_none error.JournalFull old new other counts = counts
 counts_none error.Halted old new other counts = counts
 counts_none error.Memory old new other counts = counts
 counts_none error.NoImage old new other counts = counts
+counts_none error.OldVersion old new other counts = counts
 counts_none error.Damaged old new other counts = counts
 counts_none error.WrongPair old new other counts = counts
 

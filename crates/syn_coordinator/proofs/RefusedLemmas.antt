@@ -122,6 +122,7 @@ module _ {D : Type 0} {disk : Ghosts D} (archive : Archive D disk) (pair : ℕ)
   refused_for T error.Root of other halted full = absurd of
   refused_for T error.JournalFull of other halted full = absurd of
   refused_for T error.NoImage of other halted full = absurd of
+  refused_for T error.OldVersion of other halted full = absurd of
   refused_for T error.Damaged of other halted full = absurd of
   refused_for T error.WrongPair of other halted full = absurd of
 

@@ -86,6 +86,7 @@ only_memory pair machine bytes may error.Root other why = absurd why
 only_memory pair machine bytes may error.Full other why = absurd why
 only_memory pair machine bytes may error.JournalFull other why = absurd why
 only_memory pair machine bytes may error.Halted other why = absurd why
+only_memory pair machine bytes may error.OldVersion other why = absurd why
 only_memory pair machine bytes may error.WrongPair other why = absurd why
 
 before_none : (n : ℕ) → IsBefore 0 n

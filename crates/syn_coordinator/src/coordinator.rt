@@ -424,6 +424,7 @@ fn is_device(error: ArchiveError) -> bool
         ArchiveError::Halted => false,
         ArchiveError::Memory => false,
         ArchiveError::NoImage => false,
+        ArchiveError::OldVersion => false,
         ArchiveError::Damaged => false,
         ArchiveError::WrongPair => false,
     }

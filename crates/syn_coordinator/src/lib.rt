@@ -18,7 +18,7 @@
 //!   It makes no device call and leaves the archive.
 //! - `checkpoint` and `reopen` are the machine's (`Checkpoints`, `Reopens`), whatever session runs,
 //!   and leave what `report` and `kept` answer, refused or not (`same`, `again`). An archive that a
-//!   failed call left is never 18, 19 or 20: `reopen` is refused 9 or 11 alone (`memory`).
+//!   failed call left is never 18, 19, 20 or 26: `reopen` is refused 9 or 11 alone (`memory`).
 //! - `arm` sets what is armed at the machine (`stands`), and `is_cut` says whether it is down.
 //! - `on_reply` takes the answer of a side under the session and number of its request (`step`:
 //!   `CoordinatorTakes`). It answers what is to be sent next, and `kept` and `report` have what it

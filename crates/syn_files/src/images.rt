@@ -5,14 +5,16 @@ ghost use Rattle.syn_model.specs.Path.{Path as ModelPath};
 ghost use Rattle.syn_command.specs.Errors.{IsOfPath};
 
 use crate::named::{NamedDisks, image_in, replica_in, replica_to_read};
-use crate::network::{edit_served, show_path_served, show_tree_served};
+use crate::network::{edit_over, edit_served, show_path_served, show_tree_served};
 use std::alloc::Global;
 use std::io::{Read, Write};
 use std::net::{Net, TcpStream};
-use syn_command::{CommandError, check_image, make_edit, show_image, show_path};
+use syn_command::{CommandError, check_image, make_edit, migrate_image, show_image, show_path};
+use syn_file::{Access, LockedDisk};
 use syn_log::{read_log, show_log};
 use syn_path::Path;
-use syn_words::{EditLine, Place};
+use syn_tree::Edit;
+use syn_words::{ChmodLine, EditLine, Place};
 
 /// Prints the whole image.
 ///
@@ -42,6 +44,19 @@ pub fn print_numbers<N: NamedDisks, O: Write>(
     output: &mut O,
 ) -> Result<(), CommandError> {
     check_image(alloc, &image_in(alloc, disks, name)?, output)
+}
+
+/// Makes the image of that name one of version 2, where it is one of version 1. No other process
+/// may open it meanwhile.
+///
+/// Refused as an opening to write is, but for 20 and 26, and 7 where it is of version 1 and its
+/// generation is the greatest.
+pub fn migrate<N: NamedDisks>(alloc: Global, disks: &N, name: &str) -> Result<(), CommandError> {
+    let locked = disks.lock(name, Access::Write)?;
+    match migrate_image(alloc, locked.into_disk(alloc)?) {
+        Ok(_) => Ok(()),
+        Err((error, _)) => Err(error),
+    }
 }
 
 /// Prints the last events of the replica of that name, so many lines at most, the newest first.
@@ -83,6 +98,31 @@ pub fn edit<H: Net<Stream = TcpStream>, N: NamedDisks, I: Read>(
             make_edit(alloc, &mut replica, line, path, input)
         }
         Place::Served(address) => edit_served(rt, alloc, address, line, path, input),
+    }
+}
+
+/// Changes the mode of the file that the line names, and answers the new position. A text that
+/// names no path is refused, whatever the disk or the server is.
+///
+/// Else it is refused as an opening and as the replica or the server refuses it, and 11 where
+/// memory is refused.
+pub fn chmod<H: Net<Stream = TcpStream>, N: NamedDisks>(
+    rt: &H,
+    alloc: Global,
+    line: &ChmodLine<'_>,
+    disks: &N,
+) -> Result<u64, CommandError>
+    ensures { ((path : ModelPath) → ¬ NamesPath line.now.path.now path)
+        → IsErrAnd result IsOfPath }
+{
+    let path = Path::parse(alloc, line.path)?;
+    let edit = Edit::Chmod(path, line.mode);
+    match line.place {
+        Place::File(name) => {
+            let mut replica = replica_in(alloc, disks, name)?;
+            Ok(replica.edit(alloc, line.user, edit)?)
+        }
+        Place::Served(address) => edit_over(rt, alloc, address, line.user, edit),
     }
 }
 

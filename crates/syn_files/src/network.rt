@@ -15,7 +15,7 @@ use syn_path::Path;
 use syn_refusal::Refusal;
 use syn_shared::SharedReplica;
 use syn_show::show_served;
-use syn_tree::{Content, Tree};
+use syn_tree::{Content, Edit, Tree};
 use syn_user::{SideConnection, UserConnection};
 use syn_words::EditLine;
 
@@ -82,9 +82,21 @@ pub fn edit_served<H: Net<Stream = TcpStream>, I: Read>(
     input: &mut I,
 ) -> Result<u64, CommandError> {
     let edit = read_edit(alloc, line.change, path, input)?;
+    edit_over(rt, alloc, address, line.user, edit)
+}
+
+/// Asks the server at the address for the edit, and answers the new position. Refused as
+/// `edit_served` is.
+pub fn edit_over<H: Net<Stream = TcpStream>>(
+    rt: &H,
+    alloc: Global,
+    address: &str,
+    user: u32,
+    edit: Edit,
+) -> Result<u64, CommandError> {
     let stream = reach(rt, address)?;
     let mut connection = UserConnection::new(alloc, &stream, &stream);
-    Ok(connection.edit(alloc, line.user, edit)?)
+    Ok(connection.edit(alloc, user, edit)?)
 }
 
 /// Prints the whole tree that the server at the address has, with its position.

@@ -7,7 +7,7 @@ use syn_serve::{SHORT_JOURNAL_ROOM, look_at};
 use syn_shared::SharedReplica;
 
 /// An archive's journal is short where it takes a payload of so many bytes. Its largest image has
-/// 401,334 bytes, so a checkpoint makes each journal short.
+/// 409,524 bytes, so a checkpoint makes each journal short.
 const SHORT_ARCHIVE_ROOM: usize = 3_700_000;
 
 /// Makes a checkpoint of the replica where its journal is not short. Where that is refused, the

@@ -12,8 +12,8 @@ use Rattle.syn_model.specs.Tree.{Tree, Directory, StandsIn, subtree, replace, is
 use Rattle.syn_model.specs.Tree.{is_directory_content}
 use Rattle.syn_model.specs.Refusal.{OldSession}
 use Rattle.syn_model.specs.Mark.{mark}
-use Rattle.syn_model.specs.Event.{Token, Event, Edited, Put, MakeDir, Remove, Began, Replaced}
-use Rattle.syn_model.specs.Event.{after_event, touches}
+use Rattle.syn_model.specs.Event.{Token, Event, Edited, Put, MakeDir, Remove, Chmod, Began}
+use Rattle.syn_model.specs.Event.{Replaced, after_event, touches}
 use Rattle.syn_model.specs.History.{History, IsHistory, tree_of, tree_at, is_old_token}
 use Rattle.syn_model.specs.History.{position_causes}
 use Rattle.syn_model.specs.Standing.{place_causes, full_causes}
@@ -46,6 +46,7 @@ event_stays : (t : Tree) (event : Event) (path : Path) → touches event path �
 event_stays t (Edited user (Put at bytes)) path h = replaced_stays t at _ path h
 event_stays t (Edited user (MakeDir at)) path h = replaced_stays t at _ path h
 event_stays t (Edited user (Remove at)) path h = replaced_stays t at _ path h
+event_stays t (Edited user (Chmod at mode)) path h = replaced_stays t at _ path h
 event_stays t (Began session) path h = record { here = refl; above = λ front rest e. refl }
 event_stays t (Replaced token at since new) path h = replaced_stays t at new path h
 

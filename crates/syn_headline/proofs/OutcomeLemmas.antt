@@ -113,10 +113,10 @@ stage_outcome side (Some staging) session item offset bytes e =
     choose P (is_below token staging.token) _ _ (λ _. refuses _ OldSession) (λ _.
     choose P (is_same_token token staging.token) _ _
     (λ same. choose P
-    (offset == length staging.bytes && nat_le (length staging.bytes + length bytes) 524288) _ _
+    (offset == length staging.bytes && nat_le (length staging.bytes + length bytes) 526336) _ _
     (λ fits. stages_more item offset bytes staging e same
     (eqb-true offset (length staging.bytes) (and_parts (offset == length staging.bytes)
-    (nat_le (length staging.bytes + length bytes) 524288) fits).0))
+    (nat_le (length staging.bytes + length bytes) 526336) fits).0))
     (λ _. choose P (bytes_eq (take (length bytes) (drop offset staging.bytes)) bytes
     && nat_le (offset + length bytes) (length staging.bytes)) _ _
     (λ _. stages_again item offset bytes) (λ _. refuses _ BadStage)))

@@ -7,6 +7,7 @@ use Rattle.std.specs.Option.{option_map_or}
 use Rattle.std.proofs.lemmas.Bool.Decides.{nat_tests}
 use Rattle.std.proofs.lemmas.Bool.{or_from, or_parts}
 use Rattle.syn_model.specs.Path.{Path, Bytes, IsPath}
+use Rattle.syn_model.specs.Version.{current_version}
 use Rattle.syn_model.specs.Tree.{Tree, IsPart, replace}
 use Rattle.syn_model.specs.Refusal.{Refusal, first_cause, OldSession, WrongPair, NotStaged}
 use Rattle.syn_model.specs.Refusal.{BadStage}
@@ -111,7 +112,7 @@ stage_keeps side (Some staging) token offset bytes =
     choose side.history (is_below token staging.token) _ _ (λ _. inl refl) (λ _.
     choose side.history (is_same_token token staging.token) _ _
     (λ _. choose side.history (offset == length staging.bytes
-    && nat_le (length staging.bytes + length bytes) 524288) _ _ (λ _. inl refl) (λ _.
+    && nat_le (length staging.bytes + length bytes) 526336) _ _ (λ _. inl refl) (λ _.
     choose side.history (bytes_eq (take (length bytes) (drop offset staging.bytes)) bytes && nat_le
     (offset + length bytes) (length staging.bytes)) _ _ (λ _. inl refl) (λ _. inl refl)))
     (λ _. first_keeps side token offset bytes))
@@ -204,7 +205,8 @@ one_reading bytes None (Some u) ra rb = absurd (ra u rb.0 rb.1 rb.2 rb.3)
 one_reading bytes (Some t) None ra rb = absurd (rb t ra.0 ra.1 ra.2 ra.3)
 one_reading bytes (Some t) (Some u) ra rb =
     ap (λ x. Some x)
-    (spelling_tells t u [] [] ra.0 rb.0 ra.1 rb.1 (ap (λ s. s ++ []) (ra.3 ∙ sym rb.3))).0
+    (spelling_tells current_version t u [] [] ra.0 rb.0 ra.1 rb.1
+    (ap (λ s. s ++ []) (ra.3 ∙ sym rb.3))).0
 
 -- so a step is the one that the staged bytes spell
 pub serves_by_reading : ServesByReading

@@ -50,6 +50,7 @@ fn edited_path(edit: &Edit) -> &Path
     ensures { result.now ≡ path_of_edit (edit_of edit.now) }
 {
     match edit {
-        Edit::Put(path, _) | Edit::MakeDir(path) | Edit::Remove(path) => path,
+        Edit::Put(path, _) | Edit::MakeDir(path) | Edit::Remove(path) | Edit::Chmod(path, _) =>
+            path,
     }
 }

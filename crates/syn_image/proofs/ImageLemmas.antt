@@ -9,17 +9,20 @@ use Rattle.std.proofs.lemmas.List.{length-append, take-append-drop, take_more}
 use Rattle.std.proofs.lemmas.List.Elements.{All-head, All-tail, All-cons, All-nil, All-append}
 use Rattle.std.proofs.lemmas.Grind.{flat_map-append}
 use Rattle.syn_model.specs.Path.{Bytes, IsPath, path_spelling}
-use Rattle.syn_model.specs.Tree.{Tree}
+use Rattle.syn_model.specs.Tree.{Tree, IsTreeIn}
+use Rattle.syn_model.proofs.VersionLemmas.{standing_now, tree_now}
 use Rattle.syn_model.specs.Event.{Token, IsLawfulToken}
-use Rattle.syn_model.specs.Spelling.{image_version, spelling, token_spelling}
+use Rattle.syn_model.specs.Spelling.{spelling_in, token_spelling}
+use Rattle.syn_model.specs.Version.{Version}
 use Rattle.syn_model.specs.Laws.{NoSpellingBeginsAnother}
 use Rattle.syn_model.specs.Limits.{greatest}
 use Rattle.syn_model.specs.Standing.{Touch, Standing, most_touches}
-use Rattle.syn_model.specs.Image.{IsStanding, replica_front, last_token_spelling, touch_spelling}
+use Rattle.syn_model.specs.Image.{IsStanding, IsStandingIn, replica_front, last_token_spelling}
+use Rattle.syn_model.specs.Image.{touch_spelling}
 use Rattle.syn_history.specs.Past.{Past, IsLawful, standing_with, past_in}
 use Rattle.syn_wire.specs.Events.{IsNumber64, number64_spelling}
 use Rattle.syn_wire.specs.Reads.{BeginsWith, IsReading, NoneBeginsAnother}
-use Rattle.syn_wire.specs.Trees.{IsWholeTree}
+use Rattle.syn_wire.specs.Trees.{IsWholeTreeIn}
 use Rattle.syn_wire.proofs.EventLemmas.{token_tells}
 use Rattle.syn_wire.proofs.NameLemmas.{paths_tell, first_or, rest_of}
 use Rattle.syn_wire.proofs.NumberLemmas.{u16_tells, u64_tells}
@@ -191,6 +194,23 @@ past_tells : NoneBeginsAnother IsPast past_spelling
 past_tells =
     both_tell AreFences AreTouches fences_spelling touches_spelling fences_tell touches_tell
 
+-- ---- versions
+
+-- what an image may hold, it may in a version that its tree is one of
+standing_in : (version : Version) (standing : Standing) → IsTreeIn version standing.tree →
+    IsStanding standing → IsStandingIn version standing
+standing_in version standing tree is = record {
+  tree = tree;
+  fits = is.fits;
+  position = is.position;
+  floor = is.floor;
+  session = is.session;
+  token = is.token;
+  count = is.count;
+  touches = is.touches;
+  rising = is.rising;
+}
+
 -- ---- the image in its parts
 
 abbrev PastValue : Type 0
@@ -204,15 +224,16 @@ in_row : (f a b c d t n m s r : Bytes) → (f ++ (a ++ (b ++ (c ++ (d ++ (t ++ (
     ++ r ≡ f ++ (((((a ++ b) ++ (c ++ d)) ++ t) ++ (n ++ m)) ++ (s ++ r))
 in_row f a b c d t n m s r = simp append_assoc
 
-image_row : (pair : ℕ) (standing : Standing) (r : Bytes) →
-    spelled_image (pair, standing) ++ r ≡ replica_front image_version
-    ++ (past_spelling (past_value pair (past_in standing)) ++ (spelling standing.tree ++ r))
-image_row pair standing r =
-    in_row (replica_front image_version) (number64_spelling pair)
+image_row : (version : Version) (pair : ℕ) (standing : Standing) (r : Bytes) →
+    spelled_image version (pair, standing) ++ r ≡ replica_front version
+    ++ (past_spelling (past_value pair (past_in standing))
+    ++ (spelling_in version standing.tree ++ r))
+image_row version pair standing r =
+    in_row (replica_front version) (number64_spelling pair)
     (number64_spelling standing.position)
     (number64_spelling standing.floor) (number64_spelling standing.session)
     (last_token_spelling standing.token) (to_be_bytes w16 (length standing.touches))
-    (each_spelling standing.touches) (spelling standing.tree) r
+    (each_spelling standing.touches) (spelling_in version standing.tree) r
 
 small : (n : ℕ) → n ≤ greatest → n < 2 ^ 64
 small n h = omega (arith, h)
@@ -229,7 +250,8 @@ token_lawful : (token : Option Token) (last : ℕ) →
 token_lawful None last h = tt
 token_lawful (Some token) last h = h.2
 
-past_lawful : (pair : ℕ) (standing : Standing) → pair < 2 ^ 64 → IsStanding standing →
+past_lawful : {version : Version} (pair : ℕ) (standing : Standing) → pair < 2 ^ 64 →
+    IsStandingIn version standing →
     IsPast (past_value pair (past_in standing))
 past_lawful pair s h sound = (
   (
@@ -255,29 +277,33 @@ past_lawful pair s h sound = (
     below_position : {m n : ℕ} → m < n → n ≤ greatest → m < 2 ^ 64
     below_position {m} {n} a b = omega (arith, a, b)
 
-pub no_past : (bytes fields : Bytes) → fields ≡ drop 5 bytes →
-    IsReading IsPast past_spelling fields None → IsReading IsImage spelled_image bytes None
-no_past bytes fields behind none value rest begins =
-    none (past_value value.0 (past_in value.1)) (spelling value.1.tree ++ rest)
+pub no_past : (version : Version) (bytes fields : Bytes) → fields ≡ drop 5 bytes →
+    IsReading IsPast past_spelling fields None →
+    IsReading (IsImage version) (spelled_image version) bytes None
+no_past version bytes fields behind none value rest begins =
+    none (past_value value.0 (past_in value.1)) (spelling_in version value.1.tree ++ rest)
     (record {
       lawful = past_lawful value.0 value.1 begins.lawful.0 begins.lawful.1;
       spelled = behind
-          ∙ ap (drop 5) (begins.spelled ∙ image_row value.0 value.1 rest);
+          ∙ ap (drop 5) (begins.spelled ∙ image_row version value.0 value.1 rest);
     })
 
 -- what was read of the past is that of each image that the bytes begin with
-module _ (bytes fields after : Bytes) (past : PastValue) (behind : fields ≡ drop 5 bytes)
+module _ (version : Version) (bytes fields after : Bytes) (past : PastValue)
+    (behind : fields ≡ drop 5 bytes)
     (found : BeginsWith IsPast past_spelling fields past after)
     (value : ℕ × Standing) (rest : Bytes)
-    (begins : BeginsWith IsImage spelled_image bytes value rest) where
+    (begins : BeginsWith (IsImage version) (spelled_image version) bytes value rest) where
   same_past : (past ≡ past_value value.0 (past_in value.1))
-      × (after ≡ spelling value.1.tree ++ rest)
+      × (after ≡ spelling_in version value.1.tree ++ rest)
   same_past =
-      past_tells past (past_value value.0 (past_in value.1)) after (spelling value.1.tree ++ rest)
+      past_tells past (past_value value.0 (past_in value.1)) after
+      (spelling_in version value.1.tree ++ rest)
       found.lawful (past_lawful value.0 value.1 begins.lawful.0 begins.lawful.1)
-      (sym found.spelled ∙ (behind ∙ ap (drop 5) (begins.spelled ∙ image_row value.0 value.1 rest)))
+      (sym found.spelled
+      ∙ (behind ∙ ap (drop 5) (begins.spelled ∙ image_row version value.0 value.1 rest)))
 
-  pub no_whole_tree : IsReading IsWholeTree spelling after None → ⊥
+  pub no_whole_tree : IsReading (IsWholeTreeIn version) (spelling_in version) after None → ⊥
   no_whole_tree none =
       none value.1.tree rest (record {
         lawful = record {
@@ -299,37 +325,44 @@ module _ (bytes fields after : Bytes) (past : PastValue) (behind : fields ≡ dr
         token = x.0.1;
       }) (sym is ∙ same_past.0) in
       none value.1.tree
-      (subst (λ p. IsStanding (standing_with value.1.tree p)) (sym same) begins.lawful.1)
+      (subst (λ p. IsStanding (standing_with value.1.tree p)) (sym same)
+      (standing_now version value.1 begins.lawful.1))
 
-pub image_found : (bytes fields after rest : Bytes) (pair : ℕ) (past : Past) (tree : Tree) →
-    bytes_eq (take 5 bytes) (replica_front image_version) ≡ true → fields ≡ drop 5 bytes →
+pub image_found : (version : Version) (bytes fields after rest : Bytes) (pair : ℕ) (past : Past)
+    (tree : Tree) →
+    bytes_eq (take 5 bytes) (replica_front version) ≡ true → fields ≡ drop 5 bytes →
     BeginsWith IsPast past_spelling fields (past_value pair past) after →
-    BeginsWith IsWholeTree spelling after tree rest → IsLawful past →
-    BeginsWith IsImage spelled_image bytes (pair, standing_with tree past) rest
-image_found bytes fields after rest pair past tree front behind found read lawful = record {
-  lawful = (found.lawful.0.0.0.0, lawful tree read.lawful.tree read.lawful.fits);
+    BeginsWith (IsWholeTreeIn version) (spelling_in version) after tree rest → IsLawful past →
+    BeginsWith (IsImage version) (spelled_image version) bytes (pair, standing_with tree past) rest
+image_found version bytes fields after rest pair past tree front behind found read lawful = record {
+  lawful = (
+    found.lawful.0.0.0.0,
+    standing_in version (standing_with tree past) read.lawful.tree
+        (lawful tree (tree_now version tree read.lawful.tree) read.lawful.fits),
+  );
   spelled =
       sym (take-append-drop 5 bytes)
       ∙ (ap₂ (λ a b. a ++ b)
-      ((bytes_eq-Decides (take 5 bytes) (replica_front image_version)).0 front) (sym behind
+      ((bytes_eq-Decides (take 5 bytes) (replica_front version)).0 front) (sym behind
       ∙ (found.spelled ∙ ap (λ xs. past_spelling (past_value pair past) ++ xs) read.spelled))
-      ∙ sym (image_row pair (standing_with tree past) rest));
+      ∙ sym (image_row version pair (standing_with tree past) rest));
 }
 
 -- an image begins with its front
-pub fronted : (bytes rest : Bytes) (value : ℕ × Standing) →
-    BeginsWith IsImage spelled_image bytes value rest →
-    bytes_eq (take 5 bytes) (replica_front image_version) ≡ true
-fronted bytes rest value begins =
-    (bytes_eq-Decides (take 5 bytes) (replica_front image_version)).1 (ap (take 5) begins.spelled)
+pub fronted : (version : Version) (bytes rest : Bytes) (value : ℕ × Standing) →
+    BeginsWith (IsImage version) (spelled_image version) bytes value rest →
+    bytes_eq (take 5 bytes) (replica_front version) ≡ true
+fronted version bytes rest value begins =
+    (bytes_eq-Decides (take 5 bytes) (replica_front version)).1 (ap (take 5) begins.spelled)
 
 pub images_tell : NoSpellingBeginsAnother → NoImageBeginsAnother
-images_tell trees v w r s hv hw e =
+images_tell trees version v w r s hv hw e =
     let same = past_tells (past_value v.0 (past_in v.1)) (past_value w.0 (past_in w.1))
-    (spelling v.1.tree ++ r) (spelling w.1.tree ++ s) (past_lawful v.0 v.1 hv.0 hv.1)
-    (past_lawful w.0 w.1 hw.0 hw.1)
-    (ap (drop 5) (sym (image_row v.0 v.1 r) ∙ (e ∙ image_row w.0 w.1 s))) in
-    let tree = trees v.1.tree w.1.tree r s hv.1.tree.part hw.1.tree.part
+    (spelling_in version v.1.tree ++ r) (spelling_in version w.1.tree ++ s)
+    (past_lawful v.0 v.1 hv.0 hv.1) (past_lawful w.0 w.1 hw.0 hw.1)
+    (ap (drop 5)
+    (sym (image_row version v.0 v.1 r) ∙ (e ∙ image_row version w.0 w.1 s))) in
+    let tree = trees version v.1.tree w.1.tree r s hv.1.tree.part hw.1.tree.part
     (whole_fits_part v.1.tree hv.1.fits) (whole_fits_part w.1.tree hw.1.fits) same.1 in (
       ap₂ {A = PastValue} {B = Tree} {C = ℕ × Standing}
           (λ x t. (

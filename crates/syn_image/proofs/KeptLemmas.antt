@@ -1,79 +1,91 @@
 -- What is read of what an archive keeps, and of the image of an archive.
 use Rattle.std.proofs.Common.{◌≡◌, ◌≢◌, ◌<◌, ◌≤◌, ◌^◌, ℕ, ◌∷◌, ◌++◌, drop, sym, ap, ap₂, ◌∙◌}
-use Rattle.std.proofs.Common.{Some, None, is_some, append_assoc, arith}
+use Rattle.std.proofs.Common.{Option, Some, None, is_some, append_assoc, arith, subst}
 use Rattle.std.specs.FinMap.{get}
 use Rattle.syn_model.specs.Path.{Bytes, Path, IsPath, path_spelling, root}
 use Rattle.syn_model.specs.Tree.{Tree, Directory}
-use Rattle.syn_model.specs.Archive.{Archive, Session, Recorded, RecordedDir}
+use Rattle.syn_model.specs.Archive.{Archive, Kept, Session, Recorded, RecordedDir}
 use Rattle.syn_model.specs.Limits.{greatest}
-use Rattle.syn_model.specs.MarkSpelling.{archive_front, kept_spelling, mark_spelling}
-use Rattle.syn_model.specs.Spelling.{image_version}
+use Rattle.syn_model.specs.MarkSpelling.{archive_front, kept_spelling_in, mark_spelling_in}
+use Rattle.syn_model.specs.Version.{Version}
 use Rattle.syn_wire.specs.Events.{Both, both_spelling, number64_spelling}
-use Rattle.syn_wire.specs.Marks.{IsMarkTree, IsOptionalMarkTree, NoMarksBeginOthers}
+use Rattle.syn_wire.specs.Marks.{IsMarkTreeIn, IsOptionalMarkTreeIn, NoMarksBeginOthers}
 use Rattle.syn_wire.specs.Reads.{BeginsWith, IsReading}
 use Rattle.syn_wire.proofs.NameLemmas.{first_or, rest_of, paths_tell}
 use Rattle.syn_wire.proofs.NumberLemmas.{u64_tells}
 use Rattle.syn_wire.proofs.Sequences.{both_tell}
-use Rattle.syn_image.specs.Archives.{IsSpelledArchive, IsSpelledKept, spelled_archive}
+use Rattle.syn_image.specs.Archives.{IsKeptInEach, IsSpelledArchive, IsSpelledKept, spelled_archive}
 use Rattle.syn_image.specs.Archives.{NoKeptBeginsAnother, NoArchiveBeginsAnother}
 use Rattle.syn_image.specs.inner.Pasts.{Two, AreTwo, two_spelling}
 use Rattle.syn_image.proofs.ImageLemmas.{two_tell}
 
 -- ---- what is kept
 
-abbrev pub IsRecorded : Path × Tree → Type 0
-IsRecorded = Both IsPath IsOptionalMarkTree
+abbrev pub IsRecorded : Version → Path × Tree → Type 0
+IsRecorded version = Both IsPath (IsOptionalMarkTreeIn version)
 
-abbrev pub recorded_spelling : Path × Tree → Bytes
-recorded_spelling = both_spelling path_spelling mark_spelling
+abbrev pub recorded_spelling : Version → Path × Tree → Bytes
+recorded_spelling version = both_spelling path_spelling (mark_spelling_in version)
 
 other_kind : {X : Type 0} (a b : ℕ) (x y : Bytes) → a ≢ b → a ∷ x ≡ b ∷ y → X
 other_kind a b x y differ e = absurd (differ (ap (λ z. first_or z 0) e))
 
 pub kept_tells : NoMarksBeginOthers → NoKeptBeginsAnother
-kept_tells marks (Session v) (Session w) r s hv hw e =
+kept_tells marks version (Session v) (Session w) r s hv hw e =
     let same = u64_tells v w r s hv hw (ap rest_of e) in
     (ap (λ x. Session x) same.0, same.1)
-kept_tells marks (Session v) (Recorded q u) r s hv hw e =
+kept_tells marks version (Session v) (Recorded q u) r s hv hw e =
     other_kind 1 2 _ _ (λ same. omega (arith, same)) e
-kept_tells marks (Session v) (RecordedDir q) r s hv hw e =
+kept_tells marks version (Session v) (RecordedDir q) r s hv hw e =
     other_kind 1 3 _ _ (λ same. omega (arith, same)) e
-kept_tells marks (Recorded p t) (Session w) r s hv hw e =
+kept_tells marks version (Recorded p t) (Session w) r s hv hw e =
     other_kind 2 1 _ _ (λ same. omega (arith, same)) e
-kept_tells marks (Recorded p t) (Recorded q u) r s hv hw e =
-    let same = both_tell IsPath IsOptionalMarkTree path_spelling mark_spelling paths_tell marks
-    (p, t) (q, u) r s hv hw (ap rest_of e) in
+kept_tells marks version (Recorded p t) (Recorded q u) r s hv hw e =
+    let same = both_tell IsPath (IsOptionalMarkTreeIn version) path_spelling
+    (mark_spelling_in version)
+    paths_tell (marks version) (p, t) (q, u) r s hv hw (ap rest_of e) in
     (ap (λ x. Recorded x.0 x.1) same.0, same.1)
-kept_tells marks (Recorded p t) (RecordedDir q) r s hv hw e =
+kept_tells marks version (Recorded p t) (RecordedDir q) r s hv hw e =
     other_kind 2 3 _ _ (λ same. omega (arith, same)) e
-kept_tells marks (RecordedDir p) (Session w) r s hv hw e =
+kept_tells marks version (RecordedDir p) (Session w) r s hv hw e =
     other_kind 3 1 _ _ (λ same. omega (arith, same)) e
-kept_tells marks (RecordedDir p) (Recorded q u) r s hv hw e =
+kept_tells marks version (RecordedDir p) (Recorded q u) r s hv hw e =
     other_kind 3 2 _ _ (λ same. omega (arith, same)) e
-kept_tells marks (RecordedDir p) (RecordedDir q) r s hv hw e =
+kept_tells marks version (RecordedDir p) (RecordedDir q) r s hv hw e =
     let same = paths_tell p q r s hv hw (ap rest_of e) in
     (ap (λ x. RecordedDir x) same.0, same.1)
 
+-- what is read in each version is in this one
+pub in_each : (version : Version) (bytes fields : Bytes) (kind : ℕ)
+    (found : Option (Kept × Bytes)) → bytes ≡ kind ∷ fields →
+    IsKeptInEach (kind ∷ fields) found →
+    IsReading (IsSpelledKept version) (kept_spelling_in version) bytes found
+in_each version bytes fields kind found whole each =
+    subst (λ b. IsReading (IsSpelledKept version) (kept_spelling_in version) b found) (sym whole)
+    (each version)
+
 -- behind the kind of a record there is what is recorded
-pub no_record : (fields : Bytes) → IsReading IsRecorded recorded_spelling fields None →
-    IsReading IsSpelledKept kept_spelling (2 ∷ fields) None
-no_record fields none (Session v) rest begins =
+pub no_record : (version : Version) (fields : Bytes) →
+    IsReading (IsRecorded version) (recorded_spelling version) fields None →
+    IsReading (IsSpelledKept version) (kept_spelling_in version) (2 ∷ fields) None
+no_record version fields none (Session v) rest begins =
     other_kind 2 1 _ _ (λ same. omega (arith, same)) begins.spelled
-no_record fields none (Recorded p t) rest begins =
+no_record version fields none (Recorded p t) rest begins =
     none (p, t) rest (record { lawful = begins.lawful; spelled = ap rest_of begins.spelled })
-no_record fields none (RecordedDir p) rest begins =
+no_record version fields none (RecordedDir p) rest begins =
     other_kind 2 3 _ _ (λ same. omega (arith, same)) begins.spelled
 
 -- ---- the image of an archive
 
 -- "SYNA" and the version
-archive_row : (pair : ℕ) (archive : Archive) (r : Bytes) →
-    spelled_archive (pair, archive) ++ r ≡ archive_front image_version
-    ++ (two_spelling (pair, archive.last_session) ++ (mark_spelling archive.marks ++ r))
-archive_row pair archive r =
-    in_row (archive_front image_version) (number64_spelling pair)
+archive_row : (version : Version) (pair : ℕ) (archive : Archive) (r : Bytes) →
+    spelled_archive version (pair, archive) ++ r ≡ archive_front version
+    ++ (two_spelling (pair, archive.last_session)
+    ++ (mark_spelling_in version archive.marks ++ r))
+archive_row version pair archive r =
+    in_row (archive_front version) (number64_spelling pair)
     (number64_spelling archive.last_session)
-    (mark_spelling archive.marks) r
+    (mark_spelling_in version archive.marks) r
   where
     in_row : (f a b m r : Bytes) → (f ++ (a ++ (b ++ m))) ++ r ≡ f ++ ((a ++ b) ++ (m ++ r))
     in_row f a b m r = simp append_assoc
@@ -82,12 +94,14 @@ small : (n : ℕ) → n ≤ greatest → n < 2 ^ 64
 small n h = omega (arith, h)
 
 pub archives_tell : NoMarksBeginOthers → NoArchiveBeginsAnother
-archives_tell marks v w r s hv hw e =
+archives_tell marks version v w r s hv hw e =
     let two = two_tell (v.0, v.1.last_session) (w.0, w.1.last_session)
-    (mark_spelling v.1.marks ++ r) (mark_spelling w.1.marks ++ s)
+    (mark_spelling_in version v.1.marks ++ r) (mark_spelling_in version w.1.marks ++ s)
     (hv.0, small v.1.last_session hv.1.session) (hw.0, small w.1.last_session hw.1.session)
-    (ap (drop 5) (sym (archive_row v.0 v.1 r) ∙ (e ∙ archive_row w.0 w.1 s))) in
-    let tree = marks v.1.marks w.1.marks r s (record { marks = hv.1.marks; fits = hv.1.fits })
+    (ap (drop 5)
+    (sym (archive_row version v.0 v.1 r) ∙ (e ∙ archive_row version w.0 w.1 s))) in
+    let tree = marks version v.1.marks w.1.marks r s
+    (record { marks = hv.1.marks; fits = hv.1.fits })
     (record { marks = hw.1.marks; fits = hw.1.fits }) two.1 in (
       ap₂ {A = Two} {B = Tree} {C = ℕ × Archive}
           (λ x t. (x.0, record { marks = t; last_session = x.1 })) two.0 tree.0,
@@ -95,37 +109,43 @@ archives_tell marks v w r s hv hw e =
     )
 
 -- behind the front stand two numbers and marks whose root is a directory
-module _ (bytes fields : Bytes) (behind : fields ≡ drop 5 bytes) (value : ℕ × Archive)
-    (rest : Bytes) (begins : BeginsWith IsSpelledArchive spelled_archive bytes value rest) where
-  numbers_there : BeginsWith AreTwo two_spelling fields (value.0, value.1.last_session)
-      (mark_spelling value.1.marks ++ rest)
-  numbers_there = record {
-    lawful = (begins.lawful.0, small value.1.last_session begins.lawful.1.session);
-    spelled = behind ∙ ap (drop 5) (begins.spelled ∙ archive_row value.0 value.1 rest);
-  }
-
-  pub no_numbers : IsReading AreTwo two_spelling fields None → ⊥
-  no_numbers none =
-      none (value.0, value.1.last_session) (mark_spelling value.1.marks ++ rest) numbers_there
-
-  module _ (two : Two) (after : Bytes)
-      (found : BeginsWith AreTwo two_spelling fields two after) where
-    marks_there : BeginsWith IsMarkTree mark_spelling after value.1.marks rest
-    marks_there = record {
-      lawful =
-          record {
-            optional = record { marks = begins.lawful.1.marks; fits = begins.lawful.1.fits };
-            present = ap is_some begins.lawful.1.tree.rooted;
-          };
-      spelled =
-          (two_tell two (value.0, value.1.last_session) after (mark_spelling value.1.marks ++ rest)
-          found.lawful numbers_there.lawful (sym found.spelled ∙ numbers_there.spelled)).1;
+module _ (version : Version) (bytes fields : Bytes) (behind : fields ≡ drop 5 bytes)
+    (value : ℕ × Archive) (rest : Bytes)
+    (begins : BeginsWith (IsSpelledArchive version) (spelled_archive version) bytes value rest)
+  where
+    numbers_there : BeginsWith AreTwo two_spelling fields (value.0, value.1.last_session)
+        (mark_spelling_in version value.1.marks ++ rest)
+    numbers_there = record {
+      lawful = (begins.lawful.0, small value.1.last_session begins.lawful.1.session);
+      spelled = behind ∙ ap (drop 5) (begins.spelled ∙ archive_row version value.0 value.1 rest);
     }
 
-    -- marks of a file are no archive's
-    pub marks_of_file : NoMarksBeginOthers → (t : Tree) (left : Bytes) →
-        BeginsWith IsMarkTree mark_spelling after t left → get t root ≢ Some Directory → ⊥
-    marks_of_file tells t left read other =
-        let same = tells t value.1.marks left rest read.lawful.optional marks_there.lawful.optional
-        (sym read.spelled ∙ marks_there.spelled) in
-        other (ap (λ u. get u root) same.0 ∙ begins.lawful.1.tree.rooted)
+    pub no_numbers : IsReading AreTwo two_spelling fields None → ⊥
+    no_numbers none =
+        none (value.0, value.1.last_session) (mark_spelling_in version value.1.marks ++ rest)
+        numbers_there
+
+    module _ (two : Two) (after : Bytes)
+        (found : BeginsWith AreTwo two_spelling fields two after) where
+      marks_there : BeginsWith (IsMarkTreeIn version) (mark_spelling_in version) after value.1.marks
+          rest
+      marks_there = record {
+        lawful =
+            record {
+              optional = record { marks = begins.lawful.1.marks; fits = begins.lawful.1.fits };
+              present = ap is_some begins.lawful.1.tree.rooted;
+            };
+        spelled =
+            (two_tell two (value.0, value.1.last_session) after
+            (mark_spelling_in version value.1.marks ++ rest)
+            found.lawful numbers_there.lawful (sym found.spelled ∙ numbers_there.spelled)).1;
+      }
+
+      -- marks of a file are no archive's
+      pub marks_of_file : NoMarksBeginOthers → (t : Tree) (left : Bytes) →
+          BeginsWith (IsMarkTreeIn version) (mark_spelling_in version) after t left →
+          get t root ≢ Some Directory → ⊥
+      marks_of_file tells t left read other =
+          let same = tells version t value.1.marks left rest read.lawful.optional
+          marks_there.lawful.optional (sym read.spelled ∙ marks_there.spelled) in
+          other (ap (λ u. get u root) same.0 ∙ begins.lawful.1.tree.rooted)

@@ -4,7 +4,8 @@ use Rattle.std.specs.Int.{to_be_bytes, w16}
 use Rattle.syn_model.specs.Path.{Bytes, IsPath}
 use Rattle.syn_model.specs.Event.{Token, IsLawfulToken}
 use Rattle.syn_model.specs.Standing.{Touch, Standing}
-use Rattle.syn_model.specs.Image.{IsStanding, image_spelling, touch_spelling}
+use Rattle.syn_model.specs.Version.{Version}
+use Rattle.syn_model.specs.Image.{IsStandingIn, image_spelling_in, touch_spelling}
 use Rattle.syn_history.specs.Past.{standing_with}
 use Rattle.syn_wire.specs.Reads.{NoneBeginsAnother}
 use Rattle.syn_image.specs.declared.image.Image.{Image}
@@ -13,15 +14,16 @@ use Rattle.syn_image.specs.declared.image.Image.{Image}
 abbrev pub image_of : Image → ℕ × Standing
 image_of image = (image.pair, standing_with image.tree image.trail)
 
-abbrev pub IsImage : ℕ × Standing → Type 0
-IsImage image = (image.0 < 2 ^ 64) × IsStanding image.1
+abbrev pub IsImage : Version → ℕ × Standing → Type 0
+IsImage version image = (image.0 < 2 ^ 64) × IsStandingIn version image.1
 
-abbrev pub spelled_image : ℕ × Standing → Bytes
-spelled_image image = image_spelling image.0 image.1
+abbrev pub spelled_image : Version → ℕ × Standing → Bytes
+spelled_image version image = image_spelling_in version image.0 image.1
 
--- no spelling of an image begins that of another
+-- in no version does the spelling of an image begin that of another
 abbrev pub NoImageBeginsAnother : Type 0
-NoImageBeginsAnother = NoneBeginsAnother IsImage spelled_image
+NoImageBeginsAnother = (version : Version) → NoneBeginsAnother (IsImage version)
+    (spelled_image version)
 
 abbrev pub IsLastToken : Option Token → Type 0
 IsLastToken token = IfSome token IsLawfulToken

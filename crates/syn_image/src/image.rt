@@ -1,21 +1,17 @@
 //! The image of a replica: its pair, and what its history leaves.
-ghost use Rattle.std.specs.Prelude.{◌≡◌, ◌≤◌, ◌++◌, length, IfOk, OnOk, option_map};
-ghost use Rattle.syn_model.specs.Image.{image_spelling, last_token_spelling};
+ghost use Rattle.std.specs.Prelude.{◌≡◌, ◌≤◌, ◌↔◌, ◌++◌, true, length, IfOk, OnOk, option_map};
+ghost use Rattle.syn_model.specs.Image.{IsOldImage, image_spelling, last_token_spelling};
+ghost use Rattle.syn_model.specs.Image.{replica_front};
 ghost use Rattle.syn_history.specs.Events.{token_of};
 ghost use Rattle.syn_history.specs.Past.{standing_with};
+ghost use Rattle.syn_wire.specs.Versions.{version_of};
 ghost use Rattle.syn_image.specs.Images.{touches_spelling};
 ghost use Rattle.syn_image.specs.inner.Pasts.{each_spelling, four_spelling, two_spelling};
 
 use std::alloc::Global;
 use syn_history::{Token, Touch, Trail};
 use syn_tree::Tree;
-use syn_wire::{WireError, write_path, write_token, write_tree, write_u16, write_u64};
-
-/// The version of the images of both kinds.
-pub(crate) const VERSION: u8 = 1;
-
-/// The letters and the version that an image begins with.
-pub(crate) const FRONT: [u8; 5] = [b'S', b'Y', b'N', b'R', VERSION];
+use syn_wire::{Version, WireError, write_path, write_token, write_tree, write_u16, write_u64};
 
 /// What an image holds.
 #[derive(Debug, Drop)]
@@ -26,6 +22,20 @@ pub struct Image {
     pub tree: Tree,
     /// What else is kept of the history.
     pub trail: Trail,
+}
+
+/// The letters and the version that an image begins with.
+pub(crate) fn front(version: Version) -> [u8; 5]
+    ensures { result ≡ replica_front (version_of version) }
+{
+    [b'S', b'Y', b'N', b'R', version.number()]
+}
+
+/// Whether the bytes begin as an image of the first version does, whatever follows.
+pub fn is_old_image(bytes: &[u8]) -> bool
+    ensures { (result ≡ true) ↔ IsOldImage bytes.now }
+{
+    bytes.starts_with(&front(Version::One))
 }
 
 /// The spelling of the image of a replica of the pair, which has this tree and this trail. The tree
@@ -42,7 +52,7 @@ pub fn encode_image(
         ≡ image_spelling pair (standing_with tree.now trail.now)) }
 {
     let mut out = Vec::with_capacity(alloc, tree.spelling_length())?;
-    out.extend_from_slice(&FRONT)?;
+    out.extend_from_slice(&front(Version::Two))?;
     write_numbers(&mut out, pair, trail)?;
     write_last_token(&mut out, trail.last_token())?;
     write_touches(&mut out, trail)?;

@@ -6,34 +6,40 @@ ghost use Rattle.syn_history.specs.Events.{token_of};
 ghost use Rattle.syn_history.specs.Past.{IsLawful, standing_with};
 ghost use Rattle.syn_history.specs.Trails.{past_from};
 ghost use Rattle.syn_wire.specs.Reads.{IsReading};
+ghost use Rattle.syn_wire.specs.Versions.{version_of};
 ghost use Rattle.syn_image.specs.Images.{IsImage, spelled_image, image_of};
 ghost use Rattle.syn_image.specs.Images.{IsLastToken, IsTouch, AreTouches, touches_spelling};
 ghost use Rattle.syn_image.specs.inner.Pasts.{AreTwo, two_spelling, AreFour, four_spelling};
 ghost use Rattle.syn_image.specs.inner.Pasts.{AreFences, fences_spelling, IsPast, past_spelling};
 ghost use Rattle.syn_image.specs.inner.Pasts.{AreSoMany, each_spelling};
 
-use crate::image::{FRONT, Image};
+use crate::image::{Image, front};
 use std::alloc::Global;
 use syn_history::{Parts, Token, Touch, Trail};
-use syn_wire::{WireError, decode_path, decode_tree, read_token, read_u16, read_u64};
+use syn_wire::{Version, WireError, decode_path, decode_tree, read_token, read_u16, read_u64};
 
-/// The image that the bytes begin with, and the rest; none where no front of them is the spelling
-/// of what an image may hold: another version, a tree beyond its limits, a floor above the
-/// position, touches that do not rise from the floor on and before the position, or a token of no
-/// session.
+/// The image of the version that the bytes begin with, and the rest; none where no front of them is
+/// the spelling of what such an image may hold: another version, a tree beyond its limits, a floor
+/// above the position, touches that do not rise from the floor on and before the position, or a
+/// token of no session.
 ///
 /// Refused 11 where memory is refused.
-pub fn decode_image(alloc: Global, bytes: &[u8]) -> Result<Option<(Image, &[u8])>, WireError>
-    ensures { IfOk result (λ read. IsReading IsImage spelled_image bytes.now
+pub fn decode_image(
+    alloc: Global,
+    version: Version,
+    bytes: &[u8],
+) -> Result<Option<(Image, &[u8])>, WireError>
+    ensures { IfOk result (λ read. IsReading (IsImage (version_of version))
+        (spelled_image (version_of version)) bytes.now
         (option_map (λ found. (image_of found.0, found.1.now)) read)) }
 {
-    let Some(fields) = bytes.strip_prefix(&FRONT) else {
+    let Some(fields) = bytes.strip_prefix(&front(version)) else {
         return Ok(None);
     };
     let Some((pair, parts, after)) = read_past(alloc, fields)? else {
         return Ok(None);
     };
-    let Some((tree, rest)) = decode_tree(alloc, after)? else {
+    let Some((tree, rest)) = decode_tree(alloc, version, after)? else {
         return Ok(None);
     };
     let Some(trail) = trail_of(alloc, parts)? else {

@@ -1,21 +1,19 @@
 //! What an archive keeps, and the image of an archive.
-ghost use Rattle.std.specs.Prelude.{◌≡◌, length, IfOk, option_map};
+ghost use Rattle.std.specs.Prelude.{◌≡◌, ◌↔◌, true, length, IfOk, option_map};
 ghost use Rattle.syn_model.specs.Archive.{Session, Recorded, RecordedDir};
+ghost use Rattle.syn_model.specs.MarkSpelling.{IsOldArchiveImage, archive_front};
 ghost use Rattle.syn_model.specs.MarkSpelling.{archive_spelling, kept_spelling};
 ghost use Rattle.syn_mark.specs.Marks.{or_absent};
+ghost use Rattle.syn_wire.specs.Versions.{version_of};
 ghost use Rattle.syn_image.specs.Archives.{kept_of};
 
-use crate::image::VERSION;
 use std::alloc::Global;
 use syn_mark::MarkTree;
 use syn_path::Path;
 use syn_wire::{
-    WireError, copied, optional_marks_length, path_length, write_marks, write_optional_marks,
-    write_path, write_u64,
+    Version, WireError, copied, optional_marks_length, path_length, write_marks,
+    write_optional_marks, write_path, write_u64,
 };
-
-/// The letters and the version that an archive's image begins with.
-pub(crate) const FRONT: [u8; 5] = [b'S', b'Y', b'N', b'A', VERSION];
 
 pub(crate) const SESSION: u8 = 1;
 
@@ -139,6 +137,20 @@ pub fn dir_length(path: &Path) -> usize
     1 + path_length(path)
 }
 
+/// The letters and the version that an archive's image begins with.
+pub(crate) fn front(version: Version) -> [u8; 5]
+    ensures { result ≡ archive_front (version_of version) }
+{
+    [b'S', b'Y', b'N', b'A', version.number()]
+}
+
+/// Whether the bytes begin as an archive's image of the first version does, whatever follows.
+pub fn is_old_archive(bytes: &[u8]) -> bool
+    ensures { (result ≡ true) ↔ IsOldArchiveImage bytes.now }
+{
+    bytes.starts_with(&front(Version::One))
+}
+
 /// The spelling of the image of an archive of the pair, with this last session and these marks.
 ///
 /// Refused 11 where memory is refused.
@@ -152,7 +164,7 @@ pub fn encode_archive(
         (record { marks = marks.now; last_session = last_session })) }
 {
     let mut out = Vec::new(alloc);
-    out.extend_from_slice(&FRONT)?;
+    out.extend_from_slice(&front(Version::Two))?;
     write_u64(&mut out, pair)?;
     write_u64(&mut out, last_session)?;
     write_marks(&mut out, marks)?;

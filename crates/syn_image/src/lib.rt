@@ -1,7 +1,8 @@
 //! What stands on a disk in bytes: the image of a replica, and the image and the records of an
 //! archive.
 //!
-//! Each has one spelling, made of those of single values, and no spelling of one begins another.
+//! Each has one spelling in each version, made of those of single values, and no spelling of one
+//! begins another. What is written is of the second version, and each reader is told the version.
 //!
 //! # What it promises
 //!
@@ -13,8 +14,9 @@
 //!   as their root.
 //! - `record_length` and `dir_length` are how many bytes spell a record, before it is spelled and
 //!   without memory. `Kept::copy` is equal.
-//! - No spelling of an image, a record or an archive's image begins that of another (`image_laws`:
-//!   `image`, `kept`, `archive`).
+//! - `is_old_image` and `is_old_archive` tell an image of the first version by how it begins.
+//! - In no version does a spelling of an image, a record or an archive's image begin that of
+//!   another (`image_laws`: `image`, `kept`, `archive`).
 #![tactic(auto)]
 
 ghost use Rattle.syn_image.specs.Images.{NoImageBeginsAnother};
@@ -25,15 +27,15 @@ mod image_reading;
 mod kept;
 mod kept_reading;
 
-pub use image::{Image, encode_image};
+pub use image::{Image, encode_image, is_old_image};
 pub use image_reading::decode_image;
 pub use kept::{
     ArchiveImage, Kept, dir_length, encode_archive, encode_dir, encode_kept, encode_record,
-    encode_session, record_length,
+    encode_session, is_old_archive, record_length,
 };
 pub use kept_reading::{decode_archive, decode_kept};
 
-/// No spelling of an image or of a record begins that of another.
+/// In no version does the spelling of an image or of a record begin that of another.
 pub fn image_laws()
     ensures image { NoImageBeginsAnother }
     ensures kept { NoKeptBeginsAnother }

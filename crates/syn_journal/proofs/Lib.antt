@@ -1,10 +1,10 @@
 mod Appends
-mod Calls
+pub mod Calls
 mod Checkpoints
 mod Commits
 mod Formats
 mod Meanings
-mod Moments
+pub mod Moments
 mod Parts
 mod Openings
 mod Records

@@ -16,6 +16,7 @@ use std::alloc::Global;
 use syn_disk::{Arm, Disk, Limit};
 use syn_journal::{Journal, JournalError};
 
+mod migrate;
 mod open;
 
 /// A machine that keeps a state in a journal on its disk. It outlives stops of its machine.

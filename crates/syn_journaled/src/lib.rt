@@ -4,7 +4,8 @@
 //! # What it promises
 //!
 //! A `State` says how it is spelled as an image, how it is read from an image and the payloads
-//! after it, and how an update that was prepared is made. `Journaled` keeps one on a disk.
+//! after it, also from those of an older version, and how an update that was prepared is made.
+//! `Journaled` keeps one on a disk.
 //!
 //! - `format` writes the image of a state, with no payload (`formatted`).
 //! - `write` appends the payload of an update, and then makes the update (`journal`: `Appends`).
@@ -17,6 +18,10 @@
 //! - `reopen` does the same with the machine's own disk, where what is read may follow the state
 //!   (`follows`). After any refusal the state is as it was. After 11 the machine goes on, and after
 //!   any other it is halted (`halts`).
+//! - `migrate` reads what the disk gives in an older version, and writes it as one image with the
+//!   next generation (`migrated`: `Migrated`). At any moment the disk has what it had, or that
+//!   image alone (`device`: `Migrates`). It is refused as an opening or a checkpoint is (`refused`:
+//!   `NotMigrated`).
 //! - What the device sees of a call is one fact: how many device calls were made, and whether the
 //!   last of them failed (`Spends`, `Reads`).
 #![tactic(auto)]

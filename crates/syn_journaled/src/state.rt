@@ -41,6 +41,12 @@ pub trait State {
     /// Why nothing of the wanted pair is read of an image and the payloads after it.
     ghost unread: { Self.Error → Option ℕ → List ℕ → List (List ℕ) → Type 0 };
 
+    /// An image of an older version and the payloads after it give this state.
+    ghost gives_old: { List ℕ → List (List ℕ) → Self → Type 0 };
+
+    /// Why nothing is read of an image of an older version and the payloads after it.
+    ghost unread_old: { Self.Error → List ℕ → List (List ℕ) → Type 0 };
+
     /// The second may be read in the place of the first, where a machine opens its own disk again.
     ghost follows: { Self → Self → Type 0 };
 
@@ -81,6 +87,16 @@ pub trait State {
         ensures wanted { IfOk result (λ read. (asked : ℕ) → wanted ≡ Some asked
             → asked ≡ pair read) }
         ensures unread { IfErr result (λ e. unread e wanted image.now
+            (bytes_of_each payloads.now)) }
+        ensures device { IfErr result (λ e. is_device (why e) ≡ false) };
+
+    /// The state that an image of an older version and the payloads after it give.
+    fn read_old(alloc: Global, image: &[u8], payloads: &[Vec<u8>]) -> Result<Self, Self::Error>
+        ensures fits { IfOk result (λ read. pair read < 2 ^ 64) }
+        ensures gives { IfOk result (gives_old image.now (bytes_of_each payloads.now)) }
+        ensures one { IfOk result (λ read. (other : Self) → pair other < 2 ^ 64
+            → gives_old image.now (bytes_of_each payloads.now) other → other ≡ read) }
+        ensures unread { IfErr result (λ e. unread_old e image.now
             (bytes_of_each payloads.now)) }
         ensures device { IfErr result (λ e. is_device (why e) ≡ false) };
 

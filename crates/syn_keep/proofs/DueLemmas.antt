@@ -87,6 +87,7 @@ device_or_other error.JournalFull = inr (not_device error.JournalFull refl, refl
 device_or_other error.Halted = inr (not_device error.Halted refl, refl)
 device_or_other error.Memory = inr (not_device error.Memory refl, refl)
 device_or_other error.NoImage = inr (not_device error.NoImage refl, refl)
+device_or_other error.OldVersion = inr (not_device error.OldVersion refl, refl)
 device_or_other error.Damaged = inr (not_device error.Damaged refl, refl)
 device_or_other error.WrongPair = inr (not_device error.WrongPair refl, refl)
 

@@ -231,6 +231,7 @@ fn ending(error: ArchiveError) -> Due
         | ArchiveError::Halted
         | ArchiveError::Memory
         | ArchiveError::NoImage
+        | ArchiveError::OldVersion
         | ArchiveError::Damaged
         | ArchiveError::WrongPair => Due::Ends(Refusal::Memory),
     }

@@ -9,8 +9,9 @@ use Rattle.syn_log.specs.declared.logged.What.{What}
 use Rattle.syn_log.specs.declared.logged.What.TheVariants.{Touched, Whole}
 use Rattle.syn_model.specs.Path.{Path}
 use Rattle.syn_path.specs.Paths.{printed_form}
+use Rattle.syn_tree.specs.Modes.{mode_digits, mode_of}
 use Rattle.syn_tree.specs.declared.edit.Edit.{Edit}
-use Rattle.syn_tree.specs.declared.edit.Edit.TheVariants.{Put, MakeDir, Remove}
+use Rattle.syn_tree.specs.declared.edit.Edit.TheVariants.{Put, MakeDir, Remove, Chmod}
 use Rattle.syn_tree.specs.declared.node.Node.{Node}
 use Rattle.syn_tree.specs.declared.node.Node.TheVariants.{File, Dir}
 
@@ -29,6 +30,8 @@ edit_line position user (MakeDir path) =
     decimal position ++ (codes " mkdir user " ++ (decimal user ++ ending path))
 edit_line position user (Remove path) =
     decimal position ++ (codes " rm user " ++ (decimal user ++ ending path))
+edit_line position user (Chmod path mode) = decimal position ++ (codes " chmod user "
+    ++ (decimal user ++ (codes " mode " ++ (mode_digits (mode_of mode) ++ ending path))))
 
 -- what was put in the place of what stood there: nothing, a directory, or a file of so many bytes
 abbrev pub node_shown : Option Node → List ℕ

@@ -76,6 +76,9 @@ fn edit_line(alloc: Global, position: u64, user: u32, edit: &Edit) -> Result<Str
         }
         Edit::MakeDir(path) => format!(in alloc; "{position} mkdir user {user} {path}\n"),
         Edit::Remove(path) => format!(in alloc; "{position} rm user {user} {path}\n"),
+        Edit::Chmod(path, mode) => {
+            format!(in alloc; "{position} chmod user {user} mode {mode} {path}\n")
+        }
     }
 }
 

@@ -9,15 +9,15 @@ use crate::logged::{Logged, What};
 use std::alloc::Global;
 use syn_disk::Disk;
 use syn_history::{Event, Touch};
-use syn_image::decode_image;
+use syn_image::{decode_image, is_old_image};
 use syn_journal::Journal;
 use syn_standing::ReplicaError;
-use syn_wire::decode_event;
+use syn_wire::{Version, decode_event};
 
 /// What the disk of a replica has of its last events, the oldest first.
 ///
-/// Refused 9 where a device call fails, 18 where the disk holds no image, 19 where it holds no
-/// replica, and 11 where memory is refused. Nothing is written.
+/// Refused 9 where a device call fails, 18 where the disk holds no image, 26 where the image is of
+/// version 1, 19 where it holds no replica, and 11 where memory is refused. Nothing is written.
 pub fn read_log<D: Disk + Drop>(alloc: Global, disk: D) -> Result<Vec<Logged>, ReplicaError>
     ensures { IfOk result (λ logged. TellsLast (D.seen disk) logged.items) }
 {
@@ -25,7 +25,10 @@ pub fn read_log<D: Disk + Drop>(alloc: Global, disk: D) -> Result<Vec<Logged>, R
         Ok(opened) => opened,
         Err((error, _)) => return Err(ReplicaError::Journal(error)),
     };
-    let Some((image, [])) = decode_image(alloc, &opened.image)? else {
+    if is_old_image(&opened.image) {
+        return Err(ReplicaError::OldVersion);
+    }
+    let Some((image, [])) = decode_image(alloc, Version::Two, &opened.image)? else {
         return Err(ReplicaError::Damaged);
     };
     let mut logged = Vec::new(alloc);
@@ -87,7 +90,7 @@ fn behind(position: u64) -> Result<u64, ReplicaError>
 fn event_in(alloc: Global, payload: &[u8]) -> Result<Event, ReplicaError>
     ensures { IfOk result (λ event. event_spelling (event_of event) ≡ payload.now) }
 {
-    match decode_event(alloc, payload)? {
+    match decode_event(alloc, Version::Two, payload)? {
         Some((event, [])) => Ok(event),
         _ => Err(ReplicaError::Damaged),
     }

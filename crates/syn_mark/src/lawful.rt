@@ -25,7 +25,7 @@ fn is_digest(mode: Mode, digest: [u8; 32])
     ensures lawful { AreLawfulContents (contents_with (mode_of mode) digest) }
     ensures length { HasDigest (contents_with (mode_of mode) digest) }
 {
-    mode.is_lawful();
+    let _ = mode.bits();
     are_bytes(digest.as_slice());
 }
 

@@ -15,7 +15,8 @@ use Rattle.syn_mark.specs.declared.mark.Mark.{Mark}
 use Rattle.syn_mark.specs.declared.mark.Mark.TheVariants as mark
 use Rattle.syn_model.specs.Path.{Bytes, Name, IsName, name_cmp}
 use Rattle.syn_model.specs.Tree.{Content, Directory, File}
-use Rattle.syn_model.proofs.ContentsLemmas.{same_lawful}
+use Rattle.syn_model.specs.Version.{Two}
+use Rattle.syn_model.proofs.ToldSpellings.{digests_tell}
 use Rattle.syn_message.proofs.WholeLemmas.{first_of, rest_of}
 use Rattle.syn_message.specs.Listings.{AreRising, Entries, IsEntry, IsListing, entries_of}
 use Rattle.syn_message.specs.Listings.{entries_spelling, entry_of, entry_spelling, mark_spelling}
@@ -36,8 +37,8 @@ name_tells v w r s hv hw e =
 
 mark_tells : NoneBeginsAnother IsDigestOrDirectory mark_spelling
 mark_tells (File a) (File b) r s ha hb e =
-    let same = split a.bytes b.bytes r s (ha.1 ∙ sym hb.1) (ap rest_of e) in
-    (ap (λ c. File c) (same_lawful a b ha.0 hb.0 same.0), same.1)
+    let same = digests_tell Two a b r s ha hb (ap rest_of e) in
+    (ap (λ c. File c) same.0, same.1)
 mark_tells (File a) Directory r s ha hb e =
     absurd (let k : 1 ≡ 2 = ap first_of e in omega (arith, k))
 mark_tells Directory (File b) r s ha hb e =

@@ -40,6 +40,7 @@ answer_of why.TooLarge = (code.TooLarge, refl)
 answer_of why.BadMessage = (code.BadMessage, refl)
 answer_of why.NoSeat = (code.NoSeat, refl)
 answer_of why.NoAnswer = (code.NoAnswer, refl)
+answer_of why.OldVersion = (code.OldVersion, refl)
 
 -- the first of them with the number
 abbrev numbered : List Refusal → ℕ → Refusal
@@ -52,7 +53,7 @@ all =
     why.Full ∷ why.JournalFull ∷ why.Device ∷ why.Halted ∷ why.Memory ∷ why.Busy ∷
     why.Touched ∷ why.OldSession ∷ why.BelowFloor ∷ why.NotStaged ∷ why.BadStage ∷
     why.NoImage ∷ why.Damaged ∷ why.WrongPair ∷ why.BadFrame ∷ why.TooLarge ∷
-    why.BadMessage ∷ why.NoSeat ∷ why.NoAnswer ∷ []
+    why.BadMessage ∷ why.NoSeat ∷ why.NoAnswer ∷ why.OldVersion ∷ []
 
 told : (refusal : Refusal) → numbered all (number refusal) ≡ refusal
 told why.BadPath = refl
@@ -80,6 +81,7 @@ told why.TooLarge = refl
 told why.BadMessage = refl
 told why.NoSeat = refl
 told why.NoAnswer = refl
+told why.OldVersion = refl
 
 pub number_tells : (a b : Refusal) → number a ≡ number b → a ≡ b
 number_tells a b same = sym (told a) ∙ (ap (numbered all) same ∙ told b)

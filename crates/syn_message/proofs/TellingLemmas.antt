@@ -1,32 +1,30 @@
 -- The body of a reply to a user tells it.
-use Rattle.std.proofs.Common.{◌≡◌, ◌<◌, ◌^◌, ap, ap₂, arith, refl, Option, Some, None}
+use Rattle.std.proofs.Common.{◌≡◌, ◌<◌, ◌^◌, ◌++◌, [], length, ap, ap₂, arith, refl, Option, Some}
+use Rattle.std.proofs.Common.{None}
 use Rattle.std.specs.Int.{to_be_bytes, w64}
 use Rattle.syn_model.specs.Path.{Bytes}
 use Rattle.syn_model.specs.Contents.{Contents}
 use Rattle.syn_model.specs.Tree.{Content, Directory, File}
-use Rattle.syn_model.proofs.ContentsLemmas.{same_lawful}
+use Rattle.syn_model.specs.Version.{Two}
+use Rattle.syn_model.proofs.ToldSpellings.{contents_tell}
 use Rattle.syn_message.proofs.HeadLemmas.{body_tells}
 use Rattle.syn_message.proofs.RefusalLemmas.{number_tells}
 use Rattle.syn_message.proofs.WholeLemmas.{alone, first_of, rest_of}
 use Rattle.syn_message.specs.UserReplies.{Told, Edited, Got, Refused, Telling, IsLawfulTelling}
 use Rattle.syn_message.specs.UserReplies.{IsFound, IsLawfulTold, IsWithinFile, found_spelling}
 use Rattle.syn_message.specs.UserReplies.{telling_spelling, told_fields, told_kind}
-use Rattle.syn_wire.specs.Events.{IsFile, file_spelling}
 use Rattle.syn_wire.specs.Laws.{NoU32BeginsAnother, NoU64BeginsAnother}
-use Rattle.syn_wire.specs.Reads.{NoneBeginsAnother}
 
-short : (contents : Contents) → IsWithinFile contents → IsFile contents.bytes
-short contents is = record { bytes = is.1.bytes; brief = omega (arith, is.0) }
+short : (contents : Contents) → IsWithinFile contents → length contents.bytes < 2 ^ 32
+short contents is = omega (arith, is.0)
 
-module _ (u32 : NoU32BeginsAnother) (u64 : NoU64BeginsAnother)
-    (files : NoneBeginsAnother IsFile file_spelling) where
+module _ (u32 : NoU32BeginsAnother) (u64 : NoU64BeginsAnother) where
   found_tells : (a b : Option Content) → IsFound a → IsFound b
       → found_spelling a ≡ found_spelling b → a ≡ b
   found_tells None None p q same = refl
   found_tells (Some (File a)) (Some (File b)) p q same =
-      let bytes = alone IsFile file_spelling files a.bytes b.bytes (short a p) (short b q)
-      (ap rest_of same) in
-      ap (λ c. Some (File c)) (same_lawful a b p.1 q.1 bytes)
+      ap (λ c. Some (File c)) (contents_tell Two a b [] [] p.1 q.1 (short a p) (short b q)
+      (ap (λ xs. xs ++ []) (ap rest_of same))).0
   found_tells (Some Directory) (Some Directory) p q same = refl
   found_tells None (Some (File b)) p q same =
       absurd (let k : 0 ≡ 1 = ap first_of same in omega (arith, k))

@@ -7,6 +7,7 @@ use Rattle.syn_message.proofs.HeadLemmas.{body_tells}
 use Rattle.syn_message.proofs.WholeLemmas.{alone}
 use Rattle.syn_message.specs.Users.{Wish, Wished, Edits, Gets, IsLawfulWish, IsLawfulWished}
 use Rattle.syn_message.specs.Users.{wish_fields, wish_kind, wished_spelling}
+use Rattle.syn_model.specs.Version.{Two}
 use Rattle.syn_wire.specs.Events.{IsSpelledEvent}
 use Rattle.syn_wire.specs.Laws.{NoU32BeginsAnother, NoU64BeginsAnother, NoPathBeginsAnother}
 use Rattle.syn_wire.specs.Laws.{NoEventBeginsAnother}
@@ -22,7 +23,7 @@ module _ (u32 : NoU32BeginsAnother) (u64 : NoU64BeginsAnother) (paths : NoPathBe
   fields_tell : (a b : Wish) → IsLawfulWish a → IsLawfulWish b → wish_kind a ≡ wish_kind b
       → wish_fields a ≡ wish_fields b → a ≡ b
   fields_tell (Edits user edit) (Edits user' edit') p q kind same =
-      ap edit_wish (alone IsSpelledEvent event_spelling events (Edited user edit)
+      ap edit_wish (alone IsSpelledEvent event_spelling (events Two) (Edited user edit)
       (Edited user' edit') p q same)
   fields_tell (Gets path) (Gets path') p q kind same =
       ap Gets (alone IsPath path_spelling paths path path' p q same)

@@ -1,7 +1,7 @@
 //! The first byte of a body: what kind of message it is.
 
-/// A session begins on a side.
-pub const BEGIN: u8 = 0x01;
+/// A session begins on a side. In version 1 it was kind 1, which is no message now.
+pub const BEGIN: u8 = 0x06;
 
 /// The names in a directory, with the mark of each.
 pub const LIST: u8 = 0x02;

@@ -13,7 +13,7 @@ use std::str;
 use syn_mark::Mark;
 use syn_path::{Name, PathError};
 use syn_tree::MOST_CHILDREN;
-use syn_wire::{WireError, read_digest, read_u16, spelling_laws, write_digest, write_u16};
+use syn_wire::{Version, WireError, read_digest, read_u16, spelling_laws, write_digest, write_u16};
 
 /// The kind of a file's mark.
 const FILE: u8 = 1;
@@ -150,7 +150,7 @@ fn read_mark(bytes: &[u8]) -> Option<(Mark, &[u8])>
     };
     match *kind {
         FILE => {
-            let (mode, digest, rest) = read_digest(after)?;
+            let (mode, digest, rest) = read_digest(Version::Two, after)?;
             Some((Mark::File(mode, digest), rest))
         }
         DIRECTORY => Some((Mark::Dir, after)),

@@ -9,7 +9,7 @@ use crate::kind::{EDIT, GET};
 use crate::user::{AskedByUser, UserRequest};
 use std::alloc::Global;
 use syn_history::Event;
-use syn_wire::{WireError, decode_event, decode_path, spelling_laws};
+use syn_wire::{Version, WireError, decode_event, decode_path, spelling_laws};
 
 /// The user's request that the body spells; none where it spells none.
 ///
@@ -45,7 +45,7 @@ fn read_edit(alloc: Global, fields: &[u8]) -> Result<Option<UserRequest>, WireEr
     ensures { IfOk result (λ read. ReadsWish EDIT fields.now (option_map wish_of read)) }
 {
     spelling_laws();
-    let Some((event, rest)) = decode_event(alloc, fields)? else {
+    let Some((event, rest)) = decode_event(alloc, Version::Two, fields)? else {
         return Ok(None);
     };
     if !rest.is_empty() {

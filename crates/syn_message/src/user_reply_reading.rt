@@ -14,7 +14,7 @@ use crate::reply_reading::read_refusal;
 use crate::user_reply::{ABSENT, AnsweredToUser, DIRECTORY, FILE, UserReply};
 use std::alloc::Global;
 use syn_tree::{Content, LONGEST_FILE, Mode};
-use syn_wire::{WireError, read_contents, read_u64, spelling_laws};
+use syn_wire::{Version, WireError, read_contents, read_u64, spelling_laws};
 
 /// The reply to a user that the body spells; none where it spells none.
 ///
@@ -96,7 +96,7 @@ fn read_whole_file(alloc: Global, bytes: &[u8]) -> Result<Option<(Mode, Vec<u8>)
         (option_map (λ file. contents_with (mode_of file.0) file.1.items) read)) }
 {
     spelling_laws();
-    let Some((mode, file, rest)) = read_contents(alloc, bytes)? else {
+    let Some((mode, file, rest)) = read_contents(alloc, Version::Two, bytes)? else {
         return Ok(None);
     };
     if !rest.is_empty() || file.len() > LONGEST_FILE {

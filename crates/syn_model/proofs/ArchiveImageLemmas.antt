@@ -21,10 +21,13 @@ use Rattle.syn_model.specs.Archive.{Archive, Kept, Session, Recorded, RecordedDi
 use Rattle.syn_model.specs.Archive.{after_kept, archive_of}
 use Rattle.syn_model.specs.Archive.{new_archive, record_causes}
 use Rattle.syn_model.specs.MarkSpelling.{kept_spelling}
-use Rattle.syn_model.specs.ArchiveImage.{IsArchive, AllKept, KeepingStaysSound, StandsForSound}
+use Rattle.syn_model.specs.ArchiveImage.{IsArchive, AllKept, AllKeptIn, KeepingStaysSound}
+use Rattle.syn_model.specs.ArchiveImage.{StandsForSound}
 use Rattle.syn_model.specs.ArchiveImage.{ArchiveImageStands, NewArchiveStands, RecordGoesOn}
 use Rattle.syn_model.proofs.HistoryLemmas.{first_cause-none, none-append, place-stands}
 use Rattle.syn_model.proofs.HistoryLemmas.{replace-is_tree, at_root-is_part}
+use Rattle.syn_model.specs.Version.{Version}
+use Rattle.syn_model.proofs.VersionLemmas.{archive_now, can_now}
 use Rattle.syn_model.proofs.HistoryLemmas.{no_file, only, empty-is_tree}
 use Rattle.syn_model.proofs.RowLemmas.{entries-at_root}
 
@@ -95,16 +98,18 @@ keeping_stays_sound archive (RecordedDir path) sound can =
           none
     ] rest.1
 
-all_sound : (archive : Archive) (kept : List Kept) → IsArchive archive → AllKept archive kept →
-    IsArchive (archive_of archive kept)
-all_sound archive [] sound all = sound
-all_sound archive (one ∷ more) sound all =
-    all_sound (after_kept archive one) more (keeping_stays_sound archive one sound all.0) all.1
+all_sound : (version : Version) (archive : Archive) (kept : List Kept) → IsArchive archive →
+    AllKeptIn version archive kept → IsArchive (archive_of archive kept)
+all_sound version archive [] sound all = sound
+all_sound version archive (one ∷ more) sound all =
+    all_sound version (after_kept archive one) more
+    (keeping_stays_sound archive one sound (can_now version archive one all.0)) all.1
 
 pub stands_for_sound : StandsForSound
-stands_for_sound pair image payloads archive stands =
+stands_for_sound version pair image payloads archive stands =
     subst IsArchive (sym stands.last)
-    (all_sound stands.first stands.kept stands.sound stands.allowed)
+    (all_sound version stands.first stands.kept (archive_now version stands.first stands.sound)
+    stands.allowed)
 
 pub archive_image_stands : ArchiveImageStands
 archive_image_stands pair archive sound = record {

@@ -1,20 +1,23 @@
 -- What a file holds.
-use Rattle.std.proofs.Common.{◌≡◌, ◌<◌, All, List, ℕ, zero, suc, refl, sym, ap₂, ◌∙◌, arith}
+use Rattle.std.proofs.Common.{◌≡◌, ◌<◌, All, List, ℕ, zero, suc, refl, ap₂, arith, Option, Some}
+use Rattle.std.proofs.Common.{None}
 use Rattle.std.specs.Int.{w32, to_be_bytes, byte_at, bytes_high_first}
 use Rattle.std.proofs.lemmas.List.Elements.{All-nil, All-cons, All-append}
 use Rattle.sha2.specs.Sha256.{sha256, digest_bytes}
 use Rattle.syn_model.specs.Path.{Bytes}
-use Rattle.syn_model.specs.Contents.{Contents, AreLawfulContents, IsMode, contents_of}
-use Rattle.syn_model.specs.Contents.{contents_with}
-use Rattle.syn_model.specs.Event.{AreBytes}
+use Rattle.syn_model.specs.Version.{Version, One, Two}
+use Rattle.syn_model.specs.Contents.{Contents, AreLawfulContents, IsMode, IsModeIn, contents_of}
+use Rattle.syn_model.specs.Contents.{contents_with, new_file_mode}
+use Rattle.syn_model.specs.Tree.{Content, Directory, File}
+use Rattle.syn_model.specs.Event.{AreBytes, put_mode}
 
 pub same_contents : (a b : Contents) → a.mode ≡ b.mode → a.bytes ≡ b.bytes → a ≡ b
 same_contents a b m e = ap₂ contents_with m e
 
--- where both are lawful, the bytes tell them
-pub same_lawful : (a b : Contents) → AreLawfulContents a → AreLawfulContents b →
-    a.bytes ≡ b.bytes → a ≡ b
-same_lawful a b x y e = same_contents a b (x.mode ∙ sym y.mode) e
+-- the mode that a file has where none is spelled is a mode
+pub mode_now : (version : Version) (mode : ℕ) → IsModeIn version mode → IsMode mode
+mode_now One mode is = omega (arith, is)
+mode_now Two mode is = is
 
 pub with_are_lawful : (mode : ℕ) (bytes : Bytes) → IsMode mode → All (λ byte. byte < 256) bytes →
     AreLawfulContents (contents_with mode bytes)
@@ -22,7 +25,14 @@ with_are_lawful mode bytes is h = record { mode = is; bytes = h }
 
 pub new_are_lawful : (bytes : Bytes) → All (λ byte. byte < 256) bytes →
     AreLawfulContents (contents_of bytes)
-new_are_lawful bytes h = with_are_lawful _ bytes refl h
+new_are_lawful bytes h = with_are_lawful new_file_mode bytes (omega arith) h
+
+-- so is the mode that a put leaves, where that of a file that is there is one
+pub put_mode-is_mode : (before : Option Content) →
+    ((was : Contents) → before ≡ Some (File was) → IsMode was.mode) → IsMode (put_mode before)
+put_mode-is_mode None is = omega arith
+put_mode-is_mode (Some Directory) is = omega arith
+put_mode-is_mode (Some (File was)) is = is was refl
 
 -- digests are bytes
 byte_below : (k n : ℕ) → byte_at k n < 256

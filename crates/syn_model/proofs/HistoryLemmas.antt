@@ -1,5 +1,6 @@
 -- Histories leave whole trees.
-use Rattle.std.proofs.Common.{◌≡◌, Bool, true, false, cond, not, if◌then◌else◌, List, [], ◌∷◌, ◌++◌}
+use Rattle.std.proofs.Common.{◌≡◌, ℕ, Option, Bool, true, false, cond, not, if◌then◌else◌, List, []}
+use Rattle.std.proofs.Common.{◌∷◌, ◌++◌}
 use Rattle.std.proofs.Common.{refl, sym, ap, ◌∙◌, subst, Some, None, is_some, IsSome, true≢false}
 use Rattle.std.proofs.Common.{◌≢◌, append_assoc, append-nil, fold, inr, All}
 use Rattle.std.specs.Ordering.{eq_by_cmp}
@@ -8,12 +9,16 @@ use Rattle.std.proofs.lemmas.List.Elements.{All-nil}
 use Rattle.std.proofs.lemmas.Option.{none-some, same_Some}
 use Rattle.std.proofs.lemmas.Bool.{not-false}
 use Rattle.syn_model.specs.Path.{Name, Path, path_cmp, root, is_root, parent, IsName}
-use Rattle.syn_model.specs.Contents.{Contents, AreLawfulContents}
-use Rattle.syn_model.specs.Tree.{Tree, Content, Directory, File, IsPart, IsTree, StandsIn, at_root}
-use Rattle.syn_model.specs.Tree.{empty_directory, absent, replace, is_directory, is_present}
+use Rattle.syn_model.specs.Contents.{Contents, AreLawfulContents, AreLawfulContentsIn, IsMode}
+use Rattle.syn_model.specs.Contents.{contents_with}
+use Rattle.syn_model.specs.Version.{Version}
+use Rattle.syn_model.specs.Tree.{Tree, Content, Directory, File, IsPart, IsPartIn, IsTree, StandsIn}
+use Rattle.syn_model.specs.Tree.{at_root, empty_directory, absent, replace, is_directory}
+use Rattle.syn_model.specs.Tree.{is_present}
 use Rattle.syn_model.specs.Refusal.{Cause, first_cause, NoParent, Root, IsDirectory, Exists, Absent}
 use Rattle.syn_model.specs.Refusal.{OldSession}
-use Rattle.syn_model.specs.Event.{Edit, Put, MakeDir, Remove, Event, Edited, Began, Replaced}
+use Rattle.syn_model.specs.Event.{Edit, Put, MakeDir, Remove, Chmod, Event, Edited, Began}
+use Rattle.syn_model.specs.Event.{Replaced, AreBytes, put_mode, with_mode}
 use Rattle.syn_model.specs.Event.{after_edit, after_event, IsLawfulEdit, put_contents}
 use Rattle.syn_model.specs.History.{History, tree_of, position_causes, is_old_token, IsAllowed}
 use Rattle.syn_model.specs.History.{AllAllowed, IsHistory}
@@ -22,7 +27,7 @@ use Rattle.syn_model.specs.Laws.{AllowedGoesOn}
 use Rattle.syn_model.proofs.PathLemmas.{path_total}
 use Rattle.syn_model.proofs.TreeLemmas.{replace-is_part, beside}
 use Rattle.syn_model.proofs.SyncLemmas.{directory_is}
-use Rattle.syn_model.proofs.ContentsLemmas.{new_are_lawful}
+use Rattle.syn_model.proofs.ContentsLemmas.{with_are_lawful, put_mode-is_mode}
 
 pub first_cause-none : (cause : Cause) (causes : List Cause) → first_cause (cause ∷ causes) ≡ None →
     (cause.0 ≡ false) × (first_cause causes ≡ None)
@@ -81,15 +86,16 @@ pub only : (x : Content) (p : Path) (contents : Contents) →
 only x [] contents h = same_Some _ _ (sym (get-at_root x root) ∙ h)
 only x (n ∷ p) contents h = absurd (none-some _ (sym (get-at_root x (n ∷ p)) ∙ h))
 
-pub at_root-is_part : (x : Content) →
-    ((contents : Contents) → x ≡ File contents → AreLawfulContents contents) → IsPart (at_root x)
+pub at_root-is_part : {version : Version} (x : Content) →
+    ((contents : Contents) → x ≡ File contents → AreLawfulContentsIn version contents) →
+    IsPartIn version (at_root x)
 at_root-is_part x lawful = record {
   parents = λ p n r h. absurd (true≢false (sym h ∙ ap is_some (get-below_root x p n r)));
   names = names x;
   lawful = λ p contents h. lawful contents (only x p contents h);
 }
 
-pub absent-is_part : IsPart absent
+pub absent-is_part : {version : Version} → IsPartIn version absent
 absent-is_part = record {
   parents = λ p n r h. absurd (true≢false (sym h ∙ ap is_some (get-empty path_cmp (p ++ n ∷ r))));
   names = λ p h. absurd (true≢false (sym h ∙ ap is_some (get-empty path_cmp p)));
@@ -119,13 +125,27 @@ is_file (File contents) = true
 pub no_file : (contents : Contents) → Directory ≢ File contents
 no_file contents e = true≢false (sym (ap is_file e))
 
+-- a file with another mode is a part
+with_mode-is_part : (before : Option Content) (mode : ℕ) →
+    ((was : Contents) → before ≡ Some (File was) → AreBytes was.bytes) → IsMode mode →
+    IsPart (with_mode before mode)
+with_mode-is_part None mode bytes is = absent-is_part
+with_mode-is_part (Some Directory) mode bytes is =
+    at_root-is_part Directory (λ b x. absurd (no_file b x))
+with_mode-is_part (Some (File was)) mode bytes is =
+    at_root-is_part (File (contents_with mode was.bytes)) (λ b x. subst AreLawfulContents
+    (same_file (contents_with mode was.bytes) b x)
+    (with_are_lawful mode was.bytes is (bytes was refl)))
+
 edit-is_tree : (t : Tree) (edit : Edit) (more : List Cause) → IsTree t → IsLawfulEdit edit →
     first_cause (edit_causes t edit ++ more) ≡ None → IsTree (after_edit t edit)
 edit-is_tree t (Put p bytes) more ht h e =
     let place = place-stands t p ((is_directory t p, IsDirectory) ∷ more) e in
     let put = put_contents (get t p) bytes in
     replace-is_tree t p (at_root (File put)) ht (at_root-is_part (File put)
-    (λ b x. subst AreLawfulContents (same_file put b x) (new_are_lawful bytes h.1)))
+    (λ b x. subst AreLawfulContents (same_file put b x)
+    (with_are_lawful (put_mode (get t p)) bytes (put_mode-is_mode (get t p)
+    (λ was found. (ht.part.lawful p was found).mode)) h.1)))
     place.0 place.1 h.0.names
 edit-is_tree t (MakeDir p) more ht h e =
     let place = place-stands t p ((is_present t p, Exists) ∷ more) e in
@@ -134,6 +154,11 @@ edit-is_tree t (MakeDir p) more ht h e =
 edit-is_tree t (Remove p) more ht h e =
     let place = place-stands t p ((not (is_present t p), Absent) ∷ more) e in
     replace-is_tree t p absent ht absent-is_part place.0 place.1 h.names
+edit-is_tree t (Chmod p mode) more ht h e =
+    let place = place-stands t p ((is_directory t p, IsDirectory) ∷ (not (is_present t p), Absent)
+    ∷ more) e in
+    replace-is_tree t p (with_mode (get t p) mode) ht (with_mode-is_part (get t p) mode
+    (λ was found. (ht.part.lawful p was found).bytes) h.1) place.0 place.1 h.0.names
 
 -- an allowed event leaves a whole tree
 pub event-is_tree : (history : History) (event : Event) → IsTree (tree_of history) →

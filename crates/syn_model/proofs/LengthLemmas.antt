@@ -388,7 +388,7 @@ spelled_less t there =
 -- a kind with a digest, or the count of a directory
 abbrev mark_length : Content → ℕ
 mark_length Directory = 3
-mark_length (File digest) = 1 + length digest.bytes
+mark_length (File digest) = 3 + length digest.bytes
 
 -- each pair of a map is found in it
 not_itself : (p q : Path) → is_lt (path_cmp p q) ≡ true → eq_by_cmp path_cmp q p ≡ false
@@ -429,33 +429,33 @@ unfolding total
 total_same most [] = grind arith
 total_same most (x ∷ xs) = let rest = total_same most xs in grind (arith, rest)
 
--- so a spelling of marks has at most 98 bytes a node: 65 of a name, and 33 of a digest with its
--- kind
+-- so a spelling of marks has at most 100 bytes a node: 65 of a name, and 35 of a digest with its
+-- kind and its mode
 name_takes : (path : Path) → All IsName path → last_name_spelling_length path ≤ 65
 name_takes [] h = omega arith
 name_takes (name ∷ []) h = let short = (All-head IsName name [] h).not_long in omega (arith, short)
 name_takes (name ∷ next ∷ path) h = name_takes (next ∷ path) (All-tail IsName name (next ∷ path) h)
 
 pair_takes : (marks : Tree) → IsMarks marks → (e : Pair) →
-    find path_cmp e.0 (entries marks) ≡ Some e.1 → taken_by mark_length e ≤ 98
+    find path_cmp e.0 (entries marks) ≡ Some e.1 → taken_by mark_length e ≤ 100
 pair_takes marks is e found =
     let there : get marks e.0 ≡ Some e.1 = get-entries marks e.0 ∙ found in
     let name = name_takes e.0 (is.part.names e.0 (ap is_some there)) in
     let content = by e.1 there in
     omega (arith, name, content)
   where
-    by : (c : Content) → get marks e.0 ≡ Some c → mark_length c ≤ 33
+    by : (c : Content) → get marks e.0 ≡ Some c → mark_length c ≤ 35
     by Directory at = omega arith
     by (File digest) at = let long = is.digests e.0 digest at in omega (arith, long)
 
 pub marks_less : (marks : Tree) → IsMarks marks → is_present marks root ≡ true →
-    length (mark_spelling marks) ≤ 98 * len marks
+    length (mark_spelling marks) ≤ 100 * len marks
 marks_less marks is there =
     let less = spelled_within digest_spelling mark_length (λ c. omega arith) (omega arith)
     (suc (len marks)) marks there in
-    let each = total_less (taken_by mark_length) (λ e. 98) (entries marks) (each_with
-    (λ e. find path_cmp e.0 (entries marks) ≡ Some e.1) (λ e. taken_by mark_length e ≤ 98)
+    let each = total_less (taken_by mark_length) (λ e. 100) (entries marks) (each_with
+    (λ e. find path_cmp e.0 (entries marks) ≡ Some e.1) (λ e. taken_by mark_length e ≤ 100)
     (pair_takes marks is) (entries marks) (pairs_found (entries marks) (entries_sorted marks))) in
-    let all = total_same 98 (entries marks) in
+    let all = total_same 100 (entries marks) in
     let count = len-entries marks in
     omega (arith, less, each, all, count)

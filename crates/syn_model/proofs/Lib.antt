@@ -1,5 +1,6 @@
 pub mod PathLemmas
 pub mod ContentsLemmas
+pub mod VersionLemmas
 pub mod TreeLemmas
 pub mod DirtyLemmas
 pub mod SyncLemmas

@@ -15,7 +15,8 @@ use Rattle.syn_model.specs.Path.{Name, Path, name_cmp, path_cmp, strip_prefix, c
 use Rattle.syn_model.specs.Tree.{Tree, Content, Directory, File, Pair, IsTree, HasParents, subtree}
 use Rattle.syn_model.specs.Tree.{is_directory, is_directory_content}
 use Rattle.syn_model.specs.Limits.{children, only_name}
-use Rattle.syn_model.specs.Event.{Event, Edited, Began, Replaced, Put, MakeDir, Remove, after_event}
+use Rattle.syn_model.specs.Event.{Event, Edited, Began, Replaced, Put, MakeDir, Remove, Chmod}
+use Rattle.syn_model.specs.Event.{after_event}
 use Rattle.syn_model.specs.Event.{touches}
 use Rattle.syn_model.specs.History.{History, tree_of, tree_at, is_quiet}
 use Rattle.syn_model.specs.Mark.{mark, mark_of}
@@ -34,6 +35,7 @@ event_leaves : (t : Tree) (event : Event) (p : Path) → touches event p ≡ fal
 event_leaves t (Edited user (Put path bytes)) p h = subtree-replace_other t path _ p h
 event_leaves t (Edited user (MakeDir path)) p h = subtree-replace_other t path _ p h
 event_leaves t (Edited user (Remove path)) p h = subtree-replace_other t path _ p h
+event_leaves t (Edited user (Chmod path mode)) p h = subtree-replace_other t path _ p h
 event_leaves t (Began session) p h = refl
 event_leaves t (Replaced token path since new) p h = subtree-replace_other t path new p h
 

@@ -151,4 +151,5 @@ spellings = record {
   nothing = rw get-absent;
   no_names = rw (get-directory, entries-at_root);
   hi = rw (get-file (104 ∷ 105 ∷ []));
+  old = rw (get-file (104 ∷ 105 ∷ []));
 }

@@ -160,6 +160,8 @@ touch_within position until (Edited user (event.MakeDir path)) more short lawful
     (omega arith, short, lawful.1, rise)
 touch_within position until (Edited user (event.Remove path)) more short lawful rise =
     (omega arith, short, lawful.1, rise)
+touch_within position until (Edited user (event.Chmod path mode)) more short lawful rise =
+    (omega arith, short, lawful.1.0, rise)
 touch_within position until (Began session) more short lawful rise =
     rise_from_below position (position + 1) until more (omega arith) rise
 touch_within position until (Replaced token path since new) more short lawful rise =

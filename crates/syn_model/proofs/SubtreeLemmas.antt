@@ -16,7 +16,8 @@ use Rattle.std.specs.FinMap.{is_sorted, len, len-entries, same_map}
 use Rattle.std.specs.FinMap.Entries.{below_all}
 use Rattle.syn_model.specs.Path.{IsName, Name, Path, name_cmp, path_cmp, path_spelling, root}
 use Rattle.syn_model.specs.Path.{strip_prefix}
-use Rattle.syn_model.specs.Tree.{Tree, Content, Pair, IsPart, subtree, taken_off}
+use Rattle.syn_model.specs.Tree.{Tree, Content, Pair, IsPartIn, subtree, taken_off}
+use Rattle.syn_model.specs.Version.{Version}
 use Rattle.syn_model.specs.Limits.{children, only_name, fits_content, fits_part, fits_path}
 use Rattle.syn_model.specs.Limits.{fits_paths}
 use Rattle.syn_model.proofs.TreeLemmas.{get-subtree}
@@ -227,7 +228,8 @@ subtree-fits t p h =
     ap (list_all (fits_at (subtree t p))) (subtree_entries t p) ∙ still_fits t p (entries t) h
 
 -- and of a part a part
-pub subtree-is_part : (t : Tree) (p : Path) → IsPart t → IsPart (subtree t p)
+pub subtree-is_part : {version : Version} (t : Tree) (p : Path) → IsPartIn version t →
+    IsPartIn version (subtree t p)
 subtree-is_part t p h = record {
   parents =
       λ q n rest some. get-subtree t p q ∙ h.parents (p ++ q) n rest (subst IsSome

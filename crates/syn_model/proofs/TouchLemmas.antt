@@ -29,6 +29,7 @@ touch_rises : (n : ℕ) (event : Event) (xs : List Touch) → RiseFrom (n + 1) x
 touch_rises n (Edited user (event.Put path bytes)) xs r = (omega arith, r)
 touch_rises n (Edited user (event.MakeDir path)) xs r = (omega arith, r)
 touch_rises n (Edited user (event.Remove path)) xs r = (omega arith, r)
+touch_rises n (Edited user (event.Chmod path mode)) xs r = (omega arith, r)
 touch_rises n (Began session) xs r = rise_before n (n + 1) xs (omega arith) r
 touch_rises n (Replaced token path since new) xs r = (omega arith, r)
 

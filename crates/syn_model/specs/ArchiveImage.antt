@@ -2,35 +2,49 @@
 -- turn.
 use Rattle.std.specs.Prelude.{ℕ, ◌≡◌, ◌≤◌, true, List, [], ◌∷◌, ◌++◌, length, map}
 use Rattle.syn_model.specs.Path.{Bytes}
-use Rattle.syn_model.specs.Tree.{IsTree}
-use Rattle.syn_model.specs.Mark.{IsMarks}
+use Rattle.syn_model.specs.Version.{Version, current_version}
+use Rattle.syn_model.specs.Tree.{IsTreeIn}
+use Rattle.syn_model.specs.Mark.{IsMarksIn}
 use Rattle.syn_model.specs.Limits.{greatest, greatest_image, fits_archive}
-use Rattle.syn_model.specs.Archive.{Archive, Kept, CanKeep, after_kept, archive_of, new_archive}
-use Rattle.syn_model.specs.MarkSpelling.{kept_spelling, archive_spelling}
+use Rattle.syn_model.specs.Archive.{Archive, Kept, CanKeep, CanKeepIn, after_kept, archive_of}
+use Rattle.syn_model.specs.Archive.{new_archive}
+use Rattle.syn_model.specs.MarkSpelling.{kept_spelling, kept_spelling_in}
+use Rattle.syn_model.specs.MarkSpelling.{archive_spelling, archive_spelling_in}
 
 -- what an image may hold
-pub record IsArchive (archive : Archive) : Type 0 where
-  pub tree : IsTree archive.marks
-  pub marks : IsMarks archive.marks
+pub record IsArchiveIn (version : Version) (archive : Archive) : Type 0 where
+  pub tree : IsTreeIn version archive.marks
+  pub marks : IsMarksIn version archive.marks
   pub fits : fits_archive archive.marks ≡ true
   pub session : archive.last_session ≤ greatest
 
+abbrev pub IsArchive : Archive → Type 0
+IsArchive archive = IsArchiveIn current_version archive
+
 -- each of the records can be kept in turn
+abbrev pub AllKeptIn : Version → Archive → List Kept → Type 0
+AllKeptIn version archive [] = Unit {0}
+AllKeptIn version archive (kept ∷ more) =
+    CanKeepIn version archive kept × AllKeptIn version (after_kept archive kept) more
+
 abbrev pub AllKept : Archive → List Kept → Type 0
-AllKept archive [] = Unit {0}
-AllKept archive (kept ∷ more) = CanKeep archive kept × AllKept (after_kept archive kept) more
+AllKept archive kept = AllKeptIn current_version archive kept
 
 -- The image is that of an archive, the payloads are records that are kept in turn after it,
 -- and this is the archive after them.
-pub record ArchiveStandsFor (pair : ℕ) (image : Bytes) (payloads : List Bytes) (archive : Archive) :
-    Type 0 where
+pub record ArchiveStandsForIn (version : Version) (pair : ℕ) (image : Bytes) (payloads : List Bytes)
+    (archive : Archive) : Type 0 where
   pub first : Archive
   pub kept : List Kept
-  pub sound : IsArchive first
-  pub image_is : image ≡ archive_spelling pair first
-  pub payloads_are : payloads ≡ map kept_spelling kept
-  pub allowed : AllKept first kept
+  pub sound : IsArchiveIn version first
+  pub image_is : image ≡ archive_spelling_in version pair first
+  pub payloads_are : payloads ≡ map (kept_spelling_in version) kept
+  pub allowed : AllKeptIn version first kept
   pub last : archive ≡ archive_of first kept
+
+abbrev pub ArchiveStandsFor : ℕ → Bytes → List Bytes → Archive → Type 0
+ArchiveStandsFor pair image payloads archive =
+    ArchiveStandsForIn current_version pair image payloads archive
 
 -- What follows
 
@@ -41,8 +55,8 @@ KeepingStaysSound = (archive : Archive) (kept : Kept) →
 
 -- so each archive that a disk stands for is one
 abbrev pub StandsForSound : Type 0
-StandsForSound = (pair : ℕ) (image : Bytes) (payloads : List Bytes) (archive : Archive) →
-    ArchiveStandsFor pair image payloads archive → IsArchive archive
+StandsForSound = (version : Version) (pair : ℕ) (image : Bytes) (payloads : List Bytes)
+    (archive : Archive) → ArchiveStandsForIn version pair image payloads archive → IsArchive archive
 
 -- the image of an archive, with no payload, stands for it; so a formatted disk does for a new one
 abbrev pub ArchiveImageStands : Type 0

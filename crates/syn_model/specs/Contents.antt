@@ -1,10 +1,11 @@
 -- What a file holds, and all that is said of it alone: a file that holds more changes here.
-use Rattle.std.specs.Prelude.{ℕ, ◌≡◌, ◌+◌, ◌<◌, ◌==◌, ◌&&◌, ◌++◌, Bool, All, length, bytes_eq}
-use Rattle.std.specs.Prelude.{refl}
+use Rattle.std.specs.Prelude.{ℕ, ◌≡◌, ◌+◌, ◌<◌, ◌^◌, ◌==◌, ◌&&◌, ◌++◌, Bool, All, length, bytes_eq}
+use Rattle.std.specs.Prelude.{refl, []}
 use Rattle.std.specs.Coded.{Coded, code_by, coded_ℕ, coded_list, coded×}
-use Rattle.std.specs.Int.{to_be_bytes, w32}
+use Rattle.std.specs.Int.{to_be_bytes, w16, w32}
 use Rattle.sha2.specs.Sha256.{sha256}
 use Rattle.syn_model.specs.Path.{Bytes}
+use Rattle.syn_model.specs.Version.{Version, One, Two, current_version}
 
 -- its mode, the nine permission bits of POSIX, and its bytes
 pub record Contents : Type 0 where
@@ -15,9 +16,13 @@ pub record Contents : Type 0 where
 abbrev pub new_file_mode : ℕ
 new_file_mode = 420
 
--- as long as nothing changes a mode, each file has that of a new one
+-- nine bits; where none is spelled, it is that of a new file
+abbrev pub IsModeIn : Version → ℕ → Type 0
+IsModeIn One mode = mode ≡ new_file_mode
+IsModeIn Two mode = mode < 2 ^ 9
+
 abbrev pub IsMode : ℕ → Type 0
-IsMode mode = mode ≡ new_file_mode
+IsMode mode = IsModeIn current_version mode
 
 abbrev pub contents_with : ℕ → Bytes → Contents
 contents_with mode bytes = record { mode = mode; bytes = bytes }
@@ -32,23 +37,38 @@ coded_contents = code_by (ℕ × Bytes) (coded× coded_ℕ (coded_list coded_ℕ
     (λ contents. (contents.mode, contents.bytes))
     (λ both. contents_with both.0 both.1) (λ contents. refl)
 
-pub record AreLawfulContents (contents : Contents) : Type 0 where
-  pub mode : IsMode contents.mode
+pub record AreLawfulContentsIn (version : Version) (contents : Contents) : Type 0 where
+  pub mode : IsModeIn version contents.mode
   pub bytes : All (λ byte. byte < 256) contents.bytes
+
+abbrev pub AreLawfulContents : Contents → Type 0
+AreLawfulContents contents = AreLawfulContentsIn current_version contents
 
 abbrev pub are_same_contents : Contents → Contents → Bool
 are_same_contents a b = a.mode == b.mode && bytes_eq a.bytes b.bytes
 
--- the length; no mode is spelled, as long as there is but one
-abbrev pub contents_front : Contents → Bytes
-contents_front contents = to_be_bytes w32 (length contents.bytes)
+-- the first version spells no mode
+abbrev pub mode_spelling_in : Version → ℕ → Bytes
+mode_spelling_in One mode = []
+mode_spelling_in Two mode = to_be_bytes w16 mode
 
--- the length, and the bytes
+-- the mode and the length
+abbrev pub contents_front_in : Version → Contents → Bytes
+contents_front_in version contents =
+    mode_spelling_in version contents.mode ++ to_be_bytes w32 (length contents.bytes)
+
+abbrev pub contents_front : Contents → Bytes
+contents_front contents = contents_front_in current_version contents
+
+-- the mode, the length and the bytes
+abbrev pub contents_spelling_in : Version → Contents → Bytes
+contents_spelling_in version contents = contents_front_in version contents ++ contents.bytes
+
 abbrev pub contents_spelling : Contents → Bytes
-contents_spelling contents = contents_front contents ++ contents.bytes
+contents_spelling contents = contents_spelling_in current_version contents
 
 abbrev pub contents_spelling_length : Contents → ℕ
-contents_spelling_length contents = 4 + length contents.bytes
+contents_spelling_length contents = 6 + length contents.bytes
 
 -- the same mode, with the digest in place of the bytes
 abbrev pub digest_of : Contents → Contents
@@ -58,12 +78,18 @@ abbrev pub HasDigest : Contents → Type 0
 HasDigest contents = length contents.bytes ≡ 32
 
 -- what a mark has of a file
-abbrev pub IsDigest : Contents → Type 0
-IsDigest digest = AreLawfulContents digest × HasDigest digest
+abbrev pub IsDigestIn : Version → Contents → Type 0
+IsDigestIn version digest = AreLawfulContentsIn version digest × HasDigest digest
 
--- a digest has no length before it, and no mode is spelled
+abbrev pub IsDigest : Contents → Type 0
+IsDigest digest = IsDigestIn current_version digest
+
+-- the mode and the digest, which has no length before it
+abbrev pub digest_spelling_in : Version → Contents → Bytes
+digest_spelling_in version digest = mode_spelling_in version digest.mode ++ digest.bytes
+
 abbrev pub digest_spelling : Contents → Bytes
-digest_spelling digest = digest.bytes
+digest_spelling digest = digest_spelling_in current_version digest
 
 -- equal digests are of equal bytes
 abbrev pub AreApartContents : Contents → Contents → Type 0

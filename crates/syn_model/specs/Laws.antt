@@ -8,14 +8,15 @@ use Rattle.std.specs.FinMap.{get}
 use Rattle.syn_model.specs.Path.{Bytes, Path, path_cmp, path_key, key_cmp, root, comparable}
 use Rattle.syn_model.specs.Path.{strip_prefix, IsName, IsPath}
 use Rattle.syn_model.specs.Contents.{Contents, HasDigest}
-use Rattle.syn_model.specs.Tree.{Tree, File, IsPart, IsTree, StandsIn, subtree, replace}
+use Rattle.syn_model.specs.Tree.{Tree, File, IsPart, IsPartIn, IsTree, StandsIn, subtree, replace}
 use Rattle.syn_model.specs.Limits.{greatest_file, greatest_image, fits_part, fits_paths}
 use Rattle.syn_model.specs.Limits.{fits_replica}
 use Rattle.syn_model.specs.Standing.{Standing, new_standing, standing_after, AllAllowedAt}
 use Rattle.syn_model.specs.History.{History, IsHistory, IsAllowed, AllAllowed, tree_of, standing_of}
 use Rattle.syn_model.specs.History.{floor, last_touches, is_quiet}
 use Rattle.syn_model.specs.Event.{Event, Put, after_edit}
-use Rattle.syn_model.specs.Spelling.{content_spelling, spelling, spelling_by, event_spelling}
+use Rattle.syn_model.specs.Version.{Version}
+use Rattle.syn_model.specs.Spelling.{content_spelling, spelling_in, spelling_by, event_spelling}
 use Rattle.syn_model.specs.Image.{image_spelling, IsStanding, StandsFor}
 use Rattle.syn_model.specs.Dirty.{Scan, Paths, dirty, IsClosedUpward, IsSafeEstimate}
 use Rattle.syn_model.specs.Which.{Which}
@@ -66,10 +67,11 @@ abbrev pub SpellingUnfolds : Type 0
 SpellingUnfolds = (file : Contents → Bytes) (t : Tree) →
     spelling_by file t ≡ content_spelling file (spelling_by file) t (get t root)
 
--- No spelling of a part begins that of another, so that a spelling tells its part.
+-- In no version does the spelling of a part begin that of another, so that it tells its part.
 abbrev pub NoSpellingBeginsAnother : Type 0
-NoSpellingBeginsAnother = (t u : Tree) (r s : Bytes) → IsPart t → IsPart u → fits_part t ≡ true →
-    fits_part u ≡ true → spelling t ++ r ≡ spelling u ++ s → (t ≡ u) × (r ≡ s)
+NoSpellingBeginsAnother = (version : Version) (t u : Tree) (r s : Bytes) → IsPartIn version t →
+    IsPartIn version u → fits_part t ≡ true → fits_part u ≡ true →
+    spelling_in version t ++ r ≡ spelling_in version u ++ s → (t ≡ u) × (r ≡ s)
 
 -- the paths that a scan shows as dirty are a safe estimate, closed upward
 abbrev pub DirtyIsClosed : Type 0

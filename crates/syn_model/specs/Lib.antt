@@ -1,4 +1,5 @@
 pub mod Path
+pub mod Version
 pub mod Contents
 pub mod Tree
 pub mod Refusal

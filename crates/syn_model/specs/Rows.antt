@@ -10,7 +10,8 @@ use Rattle.syn_model.specs.Event.{Event, Edited, Began, Put, MakeDir, Remove}
 use Rattle.syn_model.specs.History.{floor, floor_within, is_quiet}
 use Rattle.syn_model.specs.Standing.{edit_refusal}
 use Rattle.syn_model.specs.Dirty.{Scan}
-use Rattle.syn_model.specs.Spelling.{spelling}
+use Rattle.syn_model.specs.Version.{One}
+use Rattle.syn_model.specs.Spelling.{spelling, spelling_in}
 use Rattle.syn_model.specs.Decision.{Decision, Clean, Do, DoAndGoOn, ToLeft, ToRight, MarkSame}
 use Rattle.syn_model.specs.Decision.{MarkDir, Conflict, decision}
 
@@ -77,4 +78,5 @@ RefusedEditsHold = (tree : Tree) (bytes : Bytes) (has : Contents) → get tree r
 pub record Spellings : Type 0 where
   pub nothing : spelling absent ≡ 0 ∷ []
   pub no_names : spelling empty_directory ≡ 2 ∷ 0 ∷ 0 ∷ []
-  pub hi : spelling (file (104 ∷ 105 ∷ [])) ≡ 1 ∷ 0 ∷ 0 ∷ 0 ∷ 2 ∷ 104 ∷ 105 ∷ []
+  pub hi : spelling (file (104 ∷ 105 ∷ [])) ≡ 1 ∷ 1 ∷ 164 ∷ 0 ∷ 0 ∷ 0 ∷ 2 ∷ 104 ∷ 105 ∷ []
+  pub old : spelling_in One (file (104 ∷ 105 ∷ [])) ≡ 1 ∷ 0 ∷ 0 ∷ 0 ∷ 2 ∷ 104 ∷ 105 ∷ []

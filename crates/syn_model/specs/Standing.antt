@@ -3,12 +3,14 @@ use Rattle.std.specs.Prelude.{ℕ, ◌+◌, ◌-◌, ◌≡◌, Bool, false, not
 use Rattle.std.specs.Prelude.{◌++◌, length, take, drop, fold, Option, Some, None}
 use Rattle.std.specs.Option.{option_map_or}
 use Rattle.syn_model.specs.Path.{Path, is_root, parent}
+use Rattle.syn_model.specs.Version.{Version, current_version}
 use Rattle.syn_model.specs.Tree.{Tree, empty_directory, is_directory, is_present, replace}
 use Rattle.syn_model.specs.Refusal.{Refusal, NoParent, IsDirectory, Exists, Absent, Root, Full}
 use Rattle.syn_model.specs.Refusal.{OldSession, Cause, first_cause}
 use Rattle.syn_model.specs.Limits.{greatest, fits_replica}
-use Rattle.syn_model.specs.Event.{Token, is_below, Edit, Put, MakeDir, Remove, Event, Edited, Began}
-use Rattle.syn_model.specs.Event.{Replaced, after_edit, after_event, changed_path, IsLawfulEvent}
+use Rattle.syn_model.specs.Event.{Token, is_below, Edit, Put, MakeDir, Remove, Chmod, Event, Edited}
+use Rattle.syn_model.specs.Event.{Began, Replaced, after_edit, after_event, changed_path}
+use Rattle.syn_model.specs.Event.{IsLawfulEventIn}
 
 -- an event other than the begin of a session: its position and the path that it changed
 pub record Touch : Type 0 where
@@ -85,6 +87,8 @@ edit_causes tree (Put path bytes) = place_causes tree path ++ (is_directory tree
     ∷ []
 edit_causes tree (MakeDir path) = place_causes tree path ++ (is_present tree path, Exists) ∷ []
 edit_causes tree (Remove path) = place_causes tree path ++ (not (is_present tree path), Absent) ∷ []
+edit_causes tree (Chmod path mode) = place_causes tree path ++ (is_directory tree path, IsDirectory)
+    ∷ (not (is_present tree path), Absent) ∷ []
 
 abbrev pub full_causes : Tree → List Cause
 full_causes new = (not (fits_replica new), Full) ∷ []
@@ -117,12 +121,18 @@ causes_at standing (Replaced token path since new) =
 abbrev pub refusal_at : Standing → Event → Option Refusal
 refusal_at standing event = first_cause (causes_at standing event)
 
-pub record IsAllowedAt (standing : Standing) (event : Event) : Type 0 where
-  pub lawful : IsLawfulEvent event
+pub record IsAllowedIn (version : Version) (standing : Standing) (event : Event) : Type 0 where
+  pub lawful : IsLawfulEventIn version event
   pub not_refused : refusal_at standing event ≡ None
 
+abbrev pub IsAllowedAt : Standing → Event → Type 0
+IsAllowedAt standing event = IsAllowedIn current_version standing event
+
 -- each of the events is allowed in turn
+abbrev pub AllAllowedIn : Version → Standing → List Event → Type 0
+AllAllowedIn version standing [] = Unit {0}
+AllAllowedIn version standing (event ∷ events) = IsAllowedIn version standing event
+    × AllAllowedIn version (standing_after standing event) events
+
 abbrev pub AllAllowedAt : Standing → List Event → Type 0
-AllAllowedAt standing [] = Unit {0}
-AllAllowedAt standing (event ∷ events) = IsAllowedAt standing event
-    × AllAllowedAt (standing_after standing event) events
+AllAllowedAt standing events = AllAllowedIn current_version standing events

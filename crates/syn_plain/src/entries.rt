@@ -77,7 +77,7 @@ fn entry_spelled(entry: &Entry) -> usize
 
 /// How many bytes spell the entries.
 pub(crate) fn spelled(list: &[Entry]) -> usize
-    requires { spelling_length list.now ≤ 524288 }
+    requires { spelling_length list.now ≤ 526336 }
     ensures { result ≡ spelling_length list.now }
 {
     let mut size = 0;

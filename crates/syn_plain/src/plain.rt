@@ -109,6 +109,13 @@ impl PlainTree {
             }
             Edit::MakeDir(path) => self.replace(alloc, &path, Some(Node::Dir(Entries::new(alloc)))),
             Edit::Remove(path) => self.replace(alloc, &path, None),
+            Edit::Chmod(path, mode) => {
+                let Some(Found::File(_, bytes)) = self.get(&path) else {
+                    unreachable!()
+                };
+                let bytes = Vec::from_slice(alloc, bytes)?;
+                self.replace(alloc, &path, Some(Node::File(mode, bytes)))
+            }
         }
     }
 

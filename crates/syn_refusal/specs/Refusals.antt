@@ -30,3 +30,4 @@ cause_of code.TooLarge = why.TooLarge
 cause_of code.BadMessage = why.BadMessage
 cause_of code.NoSeat = why.NoSeat
 cause_of code.NoAnswer = why.NoAnswer
+cause_of code.OldVersion = why.OldVersion

@@ -5,7 +5,7 @@
 //!
 //! # What it promises
 //!
-//! - `Refusal` has the 25 refusals, each with a number (`number`), a name and a plain explanation,
+//! - `Refusal` has the 26 refusals, each with a number (`number`), a name and a plain explanation,
 //!   in one table. `from_number` gives the refusal of a number, and none exactly where no refusal
 //!   has it (`some`, `none`). What `Display` writes is the name.
 //! - The error enum of each layer says which refusal each of its cases is (`refusal`) and prints

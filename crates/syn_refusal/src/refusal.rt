@@ -59,6 +59,8 @@ pub enum Refusal {
     NoSeat,
     /// No answer came, although the request was sent again eight times.
     NoAnswer,
+    /// The image is of version 1, in which a file has no mode.
+    OldVersion,
 }
 
 /// A line of the table.
@@ -71,7 +73,7 @@ struct Row {
 
 impl Refusal {
     /// All refusals, in the order of their numbers.
-    pub const ALL: [Refusal; 25] = [
+    pub const ALL: [Refusal; 26] = [
         Refusal::BadPath,
         Refusal::NoParent,
         Refusal::IsDirectory,
@@ -97,6 +99,7 @@ impl Refusal {
         Refusal::BadMessage,
         Refusal::NoSeat,
         Refusal::NoAnswer,
+        Refusal::OldVersion,
     ];
 
     /// The table: the only place that has a number, a name or an explanation.
@@ -190,6 +193,11 @@ impl Refusal {
                 "NoAnswer",
                 "no answer came, although the request was sent again eight times",
             ),
+            Refusal::OldVersion => (
+                26,
+                "OldVersion",
+                "the image is of version 1, in which a file has no mode",
+            ),
         };
         Row {
             number,
@@ -198,7 +206,7 @@ impl Refusal {
         }
     }
 
-    /// The number, from 1 to 25.
+    /// The number, from 1 to 26.
     pub fn number(self) -> u8
         ensures { result ≡ number (cause_of self) }
     {

@@ -3,7 +3,7 @@ use Rattle.std.proofs.Common.{◌≡◌, ◌<◌, ℕ, [], ◌∷◌, ◌++◌, 
 use Rattle.std.specs.Int.{to_be_bytes, w64}
 use Rattle.syn_model.specs.Path.{Bytes}
 use Rattle.syn_model.specs.Image.{image_spelling, replica_front}
-use Rattle.syn_model.specs.Spelling.{image_version}
+use Rattle.syn_model.specs.Version.{current_version}
 use Rattle.syn_model.specs.Rows.{Spellings}
 use Rattle.syn_model.specs.Standing.{new_standing}
 use Rattle.syn_model.specs.History.{standing_of, tree_of}
@@ -19,7 +19,7 @@ unfolding tree_of
 nothing_yet = refl
 
 new_length : Spellings → (pair : ℕ) → length (image_spelling pair new_standing) ≡ 43
-new_length rows pair = ap (λ tree. length (replica_front image_version ++ (to_be_bytes w64 pair
+new_length rows pair = ap (λ tree. length (replica_front current_version ++ (to_be_bytes w64 pair
     ++ (to_be_bytes w64 0 ++ (to_be_bytes w64 0
     ++ (to_be_bytes w64 0 ++ (0 ∷ [] ++ (0 ∷ 0 ∷ [] ++ ([] ++ tree))))))))) rows.no_names
 

@@ -6,6 +6,7 @@ use Rattle.std.specs.Prelude.{◌^◌}
 use Rattle.syn_journal.specs.Layout.{Fault, Value, meaning}
 use Rattle.syn_journal.specs.declared.error.JournalError.TheVariants as journal
 use Rattle.syn_model.specs.History.{History}
+use Rattle.syn_model.specs.Version.{current_version}
 use Rattle.syn_model.specs.Image.{StandsFor}
 use Rattle.syn_model.specs.Refusal.{Device, Memory as NoMemory}
 use Rattle.syn_replica.specs.Disks.{DiskStands, IsOpenRefusal}
@@ -14,8 +15,9 @@ use Rattle.syn_standing.specs.declared.error.ReplicaError.{ReplicaError}
 use Rattle.syn_standing.specs.declared.error.ReplicaError.TheVariants.{Tree, History as OfHistory}
 use Rattle.syn_standing.specs.declared.error.ReplicaError.TheVariants.{Journal, Memory, Touched}
 use Rattle.syn_standing.specs.declared.error.ReplicaError.TheVariants.{OldSession, Damaged}
-use Rattle.syn_standing.specs.declared.error.ReplicaError.TheVariants.{WrongPair}
+use Rattle.syn_standing.specs.declared.error.ReplicaError.TheVariants.{WrongPair, OldVersion}
 use Rattle.syn_standing.specs.Readings.{OneIsGiven}
+use Rattle.syn_replica.proofs.VersionLemmas.{not_old}
 
 not_both : (r : Result Value Fault) (v : Value) (f : Fault) → r ≡ Ok v → r ≡ Err f → ⊥
 not_both r v f ok err = cc
@@ -49,8 +51,8 @@ module _ (one : OneIsGiven) (pair : ℕ) (bytes : List ℕ) (history : History) 
       absurd (why.nothing pair _ fits (stands_there why.value why.means).gives)
   lawful_opens WrongPair why =
       let other = why.other in
-      let same = one why.value.image why.value.payloads pair other.pair _ other.standing fits
-      other.fits (stands_there why.value why.means).gives other.gives in
+      let same = one current_version why.value.image why.value.payloads pair other.pair _
+      other.standing fits other.fits (stands_there why.value why.means).gives other.gives in
       let asked : pair ≡ other.asked = let k : Some pair ≡ Some other.asked = other.wanted_is in
       cc in
       absurd (other.differ (sym asked ∙ same.0))
@@ -58,3 +60,6 @@ module _ (one : OneIsGiven) (pair : ℕ) (bytes : List ℕ) (history : History) 
   lawful_opens (OfHistory e) why = absurd why
   lawful_opens Touched why = absurd why
   lawful_opens OldSession why = absurd why
+  lawful_opens OldVersion why =
+      absurd (not_old pair why.value.image why.value.payloads _
+      (stands_there why.value why.means).gives why.old)

@@ -2,6 +2,9 @@ pub mod RoomLemmas
 pub mod StandLemmas
 pub mod RefusalLemmas
 pub mod MeaningLemmas
+mod VersionLemmas
+mod MigrateLemmas
+mod MigrateCauses
 pub mod FormattedLemmas
 pub mod SessionLemmas
 pub mod GrowthLemmas

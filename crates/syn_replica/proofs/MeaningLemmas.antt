@@ -1,20 +1,23 @@
 -- Why a disk is not opened.
 use Rattle.std.proofs.Common.{◌≡◌, ℕ, List, refl, sym, ap, ◌∙◌, subst, Option, Result, Ok, Err}
-use Rattle.std.proofs.Common.{true≢false, Bool, true, false}
+use Rattle.std.proofs.Common.{true≢false, Bool, true, false, Some, inl}
 use Rattle.syn_disk.specs.Arms.{Arms}
 use Rattle.syn_disk.specs.Calls.{MakesAtLeast}
 use Rattle.syn_journal.specs.Layout.{Value, Fault, meaning}
 use Rattle.syn_journal.specs.Refusals as journal
 use Rattle.syn_journal.specs.declared.error.JournalError.{JournalError}
 use Rattle.syn_journal.specs.declared.error.JournalError.TheVariants as refused
-use Rattle.syn_replica.specs.Disks.{IsOfOtherPair, IsOpenRefusal}
+use Rattle.syn_model.specs.Image.{IsOldImage}
+use Rattle.syn_replica.specs.Disks.{IsOfOtherPair, IsOldDisk, IsOpenRefusal, IsReopenRefusal}
 use Rattle.syn_standing.specs.Readings.{GivesOtherPair, GivesNothing}
 use Rattle.syn_replica.specs.Refusals.{CountsFailures, AfterReads, IsOneOf, hiding_refusals}
+use Rattle.syn_replica.specs.Refusals.{old_refusals}
 use Rattle.syn_standing.specs.Readings.{IsOfMeaning}
 use Rattle.syn_standing.specs.declared.error.ReplicaError.{ReplicaError}
 use Rattle.syn_standing.specs.declared.error.ReplicaError.TheVariants.{Tree, History, Journal}
 use Rattle.syn_standing.specs.declared.error.ReplicaError.TheVariants.{Memory, Touched, OldSession}
 use Rattle.syn_standing.specs.declared.error.ReplicaError.TheVariants.{Damaged, WrongPair}
+use Rattle.syn_standing.specs.declared.error.ReplicaError.TheVariants.{OldVersion}
 
 is_ok : Result Value Fault → Bool
 is_ok (Ok value) = true
@@ -57,22 +60,59 @@ journal_hides refused.NoImage wanted bytes h other =
 journal_hides refused.Damaged wanted bytes h other =
     absurd (no_value (meaning bytes) other.value _ other.means h)
 
+-- nor of one whose image is of version 1
+pub journal_old : (e : JournalError) (bytes : List ℕ) → journal.IsOpenRefusal e (meaning bytes) →
+    IsOldDisk bytes → IsOneOf old_refusals (Journal e)
+journal_old refused.Full bytes h old = absurd h
+journal_old refused.JournalFull bytes h old = absurd h
+journal_old refused.Device bytes h old = refl
+journal_old refused.Halted bytes h old = absurd h
+journal_old refused.Memory bytes h old = refl
+journal_old refused.NoImage bytes h old = absurd (no_value (meaning bytes) old.value _ old.means h)
+journal_old refused.Damaged bytes h old = absurd (no_value (meaning bytes) old.value _ old.means h)
+
+-- the image of such a disk is that of its value
+pub old_value : (bytes : List ℕ) (value : Value) → meaning bytes ≡ Ok value → IsOldDisk bytes →
+    IsOldImage value.image
+old_value bytes value means old =
+    subst (λ v. IsOldImage v.image) (one_value (meaning bytes) old.value value old.means means)
+    old.old
+
 -- and what its image and its payloads refuse
 pub meaning_refusal : (e : ReplicaError) (wanted : Option ℕ) (bytes : List ℕ) (value : Value) →
-    meaning bytes ≡ Ok value → IsOfMeaning e →
+    meaning bytes ≡ Ok value → IsOfMeaning e → ¬ IsOldImage value.image →
     (e ≡ Damaged → GivesNothing value.image value.payloads) →
     (e ≡ WrongPair → GivesOtherPair wanted value.image value.payloads) →
     IsOpenRefusal e wanted bytes
-meaning_refusal (Tree e) wanted bytes value means h damaged other = absurd h
-meaning_refusal (History e) wanted bytes value means h damaged other = absurd h
-meaning_refusal (Journal e) wanted bytes value means h damaged other = absurd h
-meaning_refusal Memory wanted bytes value means h damaged other = tt
-meaning_refusal Touched wanted bytes value means h damaged other = absurd h
-meaning_refusal OldSession wanted bytes value means h damaged other = absurd h
-meaning_refusal Damaged wanted bytes value means h damaged other =
-    record { value = value; means = means; nothing = damaged refl }
-meaning_refusal WrongPair wanted bytes value means h damaged other =
+meaning_refusal (Tree e) wanted bytes value means h young damaged other = absurd h
+meaning_refusal (History e) wanted bytes value means h young damaged other = absurd h
+meaning_refusal (Journal e) wanted bytes value means h young damaged other = absurd h
+meaning_refusal Memory wanted bytes value means h young damaged other = tt
+meaning_refusal Touched wanted bytes value means h young damaged other = absurd h
+meaning_refusal OldSession wanted bytes value means h young damaged other = absurd h
+meaning_refusal Damaged wanted bytes value means h young damaged other =
+    record { value = value; means = means; nothing = damaged refl; not_old = young }
+meaning_refusal WrongPair wanted bytes value means h young damaged other =
     record { value = value; means = means; other = other refl }
+meaning_refusal OldVersion wanted bytes value means h young damaged other = absurd h
+
+-- where a replica of the pair reads them again
+pub reopen_refusal : (e : ReplicaError) (pair position : ℕ) (bytes : List ℕ) (value : Value) →
+    meaning bytes ≡ Ok value → IsOfMeaning e →
+    (e ≡ Damaged → GivesNothing value.image value.payloads) →
+    (e ≡ WrongPair → GivesOtherPair (Some pair) value.image value.payloads) →
+    IsReopenRefusal e pair position bytes
+reopen_refusal (Tree e) pair position bytes value means h damaged other = absurd h
+reopen_refusal (History e) pair position bytes value means h damaged other = absurd h
+reopen_refusal (Journal e) pair position bytes value means h damaged other = absurd h
+reopen_refusal Memory pair position bytes value means h damaged other = tt
+reopen_refusal Touched pair position bytes value means h damaged other = absurd h
+reopen_refusal OldSession pair position bytes value means h damaged other = absurd h
+reopen_refusal Damaged pair position bytes value means h damaged other =
+    inl (record { value = value; means = means; nothing = damaged refl })
+reopen_refusal WrongPair pair position bytes value means h damaged other =
+    record { value = value; means = means; other = other refl }
+reopen_refusal OldVersion pair position bytes value means h damaged other = absurd h
 
 -- the disk is of another pair as its value is
 pub other_value : (wanted : Option ℕ) (bytes : List ℕ) (value : Value) → meaning bytes ≡ Ok value →
@@ -91,6 +131,7 @@ quiet Touched old new h same = absurd h
 quiet OldSession old new h same = absurd h
 quiet Damaged old new h same = same
 quiet WrongPair old new h same = same
+quiet OldVersion old new h same = absurd h
 
 pub after_reads : (e : ReplicaError) (least : ℕ) (old new : Arms) → IsOfMeaning e →
     MakesAtLeast least old new → AfterReads least e old new
@@ -102,3 +143,4 @@ after_reads Touched least old new h made = absurd h
 after_reads OldSession least old new h made = absurd h
 after_reads Damaged least old new h made = made
 after_reads WrongPair least old new h made = made
+after_reads OldVersion least old new h made = absurd h

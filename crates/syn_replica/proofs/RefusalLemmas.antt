@@ -9,7 +9,8 @@ use Rattle.std.proofs.lemmas.Option.{none-some, same_Some}
 use Rattle.syn_model.proofs.ExitLemmas.{match_of_exit, if_err_of_exit}
 use Rattle.syn_model.specs.Refusal.{Refusal, number, Cause, first_cause}
 use Rattle.syn_model.specs.Refusal as why
-use Rattle.syn_model.specs.Event.{Edit, Event, Put, MakeDir, Remove, Edited, Began, Replaced}
+use Rattle.syn_model.specs.Event.{Edit, Event, Put, MakeDir, Remove, Chmod, Edited, Began}
+use Rattle.syn_model.specs.Event.{Replaced}
 use Rattle.syn_model.specs.Standing.{Standing, causes_at, refusal_at}
 use Rattle.syn_disk.specs.Arms.{Arms}
 use Rattle.syn_disk.specs.declared.disk.Disk.{Ghosts}
@@ -79,6 +80,9 @@ edit_among s user (MakeDir path) refusal e =
 edit_among s user (Remove path) refusal e =
     first_among edit_refusals (causes_at s (Edited user (Remove path))) refusal
     (refl, (refl, (refl, (refl, (refl, tt))))) e
+edit_among s user (Chmod path mode) refusal e =
+    first_among edit_refusals (causes_at s (Edited user (Chmod path mode))) refusal
+    (refl, (refl, (refl, (refl, (refl, (refl, tt)))))) e
 
 -- what no history is the cause of is lack of memory or a failed device call
 pub outside_is : (w : Refusal) → is_among outside_refusals w ≡ true →
@@ -108,6 +112,7 @@ outside_is why.TooLarge h = absurd (true≢false (sym h))
 outside_is why.BadMessage h = absurd (true≢false (sym h))
 outside_is why.NoSeat h = absurd (true≢false (sym h))
 outside_is why.NoAnswer h = absurd (true≢false (sym h))
+outside_is why.OldVersion h = absurd (true≢false (sym h))
 
 -- where a cause stands, it is answered, or in its place that memory is refused
 pub refused_by : (r : Result ℕ ReplicaError) (answered : Option Refusal) (cause : Refusal) →
@@ -160,6 +165,9 @@ cause_among s (Edited user (MakeDir path)) refusal e =
 cause_among s (Edited user (Remove path)) refusal e =
     first_among inner_refusals (causes_at s (Edited user (Remove path))) refusal
     (refl, (refl, (refl, (refl, (refl, tt))))) e
+cause_among s (Edited user (Chmod path mode)) refusal e =
+    first_among inner_refusals (causes_at s (Edited user (Chmod path mode))) refusal
+    (refl, (refl, (refl, (refl, (refl, (refl, tt)))))) e
 cause_among s (Began session) refusal e =
     first_among inner_refusals (causes_at s (Began session)) refusal (refl, (refl, tt)) e
 cause_among s (Replaced token path since new) refusal e =
@@ -198,6 +206,7 @@ no_failure replica.Touched n quiet = refl
 no_failure replica.OldSession n quiet = refl
 no_failure replica.Damaged n quiet = refl
 no_failure replica.WrongPair n quiet = refl
+no_failure replica.OldVersion n quiet = refl
 
 no_calls : (e : ReplicaError) (most : ℕ) (arms : Arms) → (refusal_of e ≡ why.Device → ⊥) →
     MakesIfDevice e most arms arms
@@ -215,6 +224,7 @@ no_calls replica.Touched most arms quiet = refl
 no_calls replica.OldSession most arms quiet = refl
 no_calls replica.Damaged most arms quiet = refl
 no_calls replica.WrongPair most arms quiet = refl
+no_calls replica.OldVersion most arms quiet = refl
 
 -- what a clause says of an exit, where no device call failed, and nothing changed
 module _ {X : Type 0} (r : Result X ReplicaError) (e : ReplicaError) (is : IsErrAnd r (λ x. x ≡ e))

@@ -9,8 +9,9 @@ use Rattle.syn_journal.specs.declared.error.JournalError.{JournalError}
 use Rattle.syn_journal.specs.declared.error.JournalError.TheVariants as refused
 use Rattle.syn_model.specs.Standing.{Standing}
 use Rattle.syn_model.specs.History.{History, standing_of}
+use Rattle.syn_model.specs.Version.{current_version}
 use Rattle.syn_model.specs.Image.{Gives}
-use Rattle.syn_replica.specs.Disks.{DiskStands, IsOpenRefusal, IsReopenRefusal}
+use Rattle.syn_replica.specs.Disks.{DiskStands, IsReopenRefusal}
 use Rattle.syn_replica.specs.Growth.{KeepsUp, WithTried}
 use Rattle.syn_replica.specs.Refusals.{IsOneOf, outside_refusals}
 use Rattle.syn_replica.specs.Replica.{pair_of, position_shown, disk_of, tried_shown, Stands}
@@ -21,20 +22,9 @@ use Rattle.syn_standing.specs.declared.error.ReplicaError.{ReplicaError}
 use Rattle.syn_standing.specs.declared.error.ReplicaError.TheVariants.{Tree, History as OfHistory}
 use Rattle.syn_standing.specs.declared.error.ReplicaError.TheVariants.{Journal, Memory, Touched}
 use Rattle.syn_standing.specs.declared.error.ReplicaError.TheVariants.{OldSession, Damaged}
-use Rattle.syn_standing.specs.declared.error.ReplicaError.TheVariants.{WrongPair}
+use Rattle.syn_standing.specs.declared.error.ReplicaError.TheVariants.{WrongPair, OldVersion}
 use Rattle.syn_replica.proofs.GrowthLemmas.{disk_keeps}
 use Rattle.syn_replica.proofs.MeaningLemmas.{no_value, one_value}
-
-pub of_open : (e : ReplicaError) (pair position : ℕ) (bytes : List ℕ) →
-    IsOpenRefusal e (Some pair) bytes → IsReopenRefusal e pair position bytes
-of_open (Tree e) pair position bytes h = h
-of_open (OfHistory e) pair position bytes h = h
-of_open (Journal e) pair position bytes h = h
-of_open Memory pair position bytes h = h
-of_open Touched pair position bytes h = h
-of_open OldSession pair position bytes h = h
-of_open Damaged pair position bytes h = inl h
-of_open WrongPair pair position bytes h = h
 
 asked_is : (a b : ℕ) → Some a ≡ Some b → a ≡ b
 asked_is a b e = cc e
@@ -84,6 +74,7 @@ memory_alone Touched of outside = absurd of
 memory_alone OldSession of outside = absurd of
 memory_alone Damaged of outside = cc
 memory_alone WrongPair of outside = cc
+memory_alone OldVersion of outside = absurd of
 
 -- what a disk gives that stands for a history
 module _ (one : OneIsGiven) (pair : ℕ) (bytes : List ℕ) (history : History) (fits : pair < 2 ^ 64)
@@ -114,16 +105,18 @@ module _ (one : OneIsGiven) (pair : ℕ) (bytes : List ℕ) (history : History) 
   outside Damaged position early (inl u) =
       absurd (u.nothing pair (standing_of history) fits (given u.value u.means))
   outside Damaged position early (inr f) =
-      let same = (one f.gives.value.image f.gives.value.payloads pair pair f.standing
-      (standing_of history) fits fits f.gives.gives (given f.gives.value f.gives.means)).1 in
+      let same = (one current_version f.gives.value.image f.gives.value.payloads pair pair
+      f.standing (standing_of history) fits fits f.gives.gives
+      (given f.gives.value f.gives.means)).1 in
       let long : f.standing.position ≡ length history = ap (λ (s : Standing). s.position) same in
       let few = f.fewer in
       absurd (omega (arith, early, long, few))
   outside WrongPair position early o =
       let other = o.other in
-      let same = (one o.value.image o.value.payloads pair other.pair (standing_of history)
-      other.standing fits other.fits (given o.value o.means) other.gives).0 in
+      let same = (one current_version o.value.image o.value.payloads pair other.pair
+      (standing_of history) other.standing fits other.fits (given o.value o.means) other.gives).0 in
       absurd (other.differ (sym (asked_is pair other.asked other.wanted_is) ∙ same))
+  outside OldVersion position early h = absurd h
 
 module _ {D : Type 0} {disk : Ghosts D} where
   pub refused_outside : OneIsGiven → (old : Replica D disk) (history : History) →

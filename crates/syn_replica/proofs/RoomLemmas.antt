@@ -2,11 +2,12 @@
 use Rattle.std.proofs.Common.{◌≡◌, ◌<◌, ◌≤◌, ℕ, true, false, if◌then◌else◌, nat_lt, List, ◌∷◌, ◌++◌}
 use Rattle.std.proofs.Common.{◌⊎◌, length, ap, sym, subst, ◌∙◌, Option, Some, None, refl, Result}
 use Rattle.std.proofs.Common.{Ok, Err, inl, inr, arith}
-use Rattle.std.specs.Int.{to_be_bytes, w32, w64}
+use Rattle.std.specs.Int.{to_be_bytes, w16, w32, w64}
 use Rattle.std.specs.Prelude.{IfErr, IsErrAnd}
 use Rattle.std.proofs.lemmas.Bool.Decides.{nat_tests}
 use Rattle.syn_model.proofs.ExitLemmas.{if_err_of_exit}
-use Rattle.syn_model.specs.Event.{Edit, Put, MakeDir, Remove, Token, Event, Edited, Began, Replaced}
+use Rattle.syn_model.specs.Event.{Edit, Put, MakeDir, Remove, Chmod, Token, Event, Edited}
+use Rattle.syn_model.specs.Event.{Began, Replaced}
 use Rattle.syn_model.specs.Path.{Path, path_spelling}
 use Rattle.syn_model.specs.Tree.{Tree}
 use Rattle.syn_model.specs.Refusal.{Refusal, first_cause}
@@ -114,6 +115,10 @@ edited_among room s user (MakeDir path) refusal e =
 edited_among room s user (Remove path) refusal e =
     first_among edit_refusals (causes_at s (Edited user (Remove path)) ++ room_causes room
     (Edited user (Remove path))) refusal (refl, (refl, (refl, (refl, (refl, (refl, tt)))))) e
+edited_among room s user (Chmod path mode) refusal e =
+    first_among edit_refusals (causes_at s (Edited user (Chmod path mode)) ++ room_causes room
+    (Edited user (Chmod path mode))) refusal
+    (refl, (refl, (refl, (refl, (refl, (refl, (refl, tt))))))) e
 
 abbrev pub IsNoReplacement : Event → Type 0
 IsNoReplacement (Edited user edit) = Unit {0}
@@ -137,6 +142,8 @@ spelled_long (Edited user (Put path bytes)) =
 spelled_long (Edited user (MakeDir path)) =
     some_bytes 2 (to_be_bytes w32 user ++ path_spelling path)
 spelled_long (Edited user (Remove path)) = some_bytes 3 (to_be_bytes w32 user ++ path_spelling path)
+spelled_long (Edited user (Chmod path mode)) =
+    some_bytes 6 (to_be_bytes w32 user ++ (path_spelling path ++ to_be_bytes w16 mode))
 spelled_long (Began session) = some_bytes 4 (to_be_bytes w64 session)
 spelled_long (Replaced token path since new) =
     some_bytes 5

@@ -14,6 +14,7 @@ use Rattle.syn_model.specs.Event.{Event}
 use Rattle.syn_model.specs.Standing.{Standing, standing_after, refusal_at, IsAllowedAt}
 use Rattle.syn_model.specs.History.{History, IsAllowed, IsHistory, standing_of}
 use Rattle.syn_model.specs.Spelling.{event_spelling}
+use Rattle.syn_model.specs.Version.{current_version}
 use Rattle.syn_model.specs.Image.{Gives, StandsFor, image_spelling}
 use Rattle.syn_replica.specs.Disks.{DiskStands, DiskKeeps, DiskCompacted, event_size}
 use Rattle.syn_standing.specs.Readings.{OneIsGiven}
@@ -140,8 +141,8 @@ pub stands_for_each : OneIsGiven → {D : Type 0} {disk : Ghosts D} (replica : R
 stands_for_each one replica value bytes number history runs seen fits gives h d =
     let same = same_value _ d.value value d.means (ap meaning (sym seen) ∙ runs.holds.means) in
     let stands = subst (λ v. StandsFor number v.image v.payloads history) same d.stands in
-    let both = one value.image value.payloads number (pair_of replica) (standing_of history)
-    (standing_shown replica) h fits stands.gives gives in (
+    let both = one current_version value.image value.payloads number (pair_of replica)
+    (standing_of history) (standing_shown replica) h fits stands.gives gives in (
       both.0,
       record {
         remembers = record { lawful = stands.lawful; standing = sym both.1 };

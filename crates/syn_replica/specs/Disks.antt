@@ -7,17 +7,22 @@ use Rattle.syn_model.specs.Event.{Event}
 use Rattle.syn_model.specs.Standing.{Standing}
 use Rattle.syn_model.specs.History.{History}
 use Rattle.syn_model.specs.Spelling.{event_spelling}
-use Rattle.syn_model.specs.Image.{Gives, StandsFor, image_spelling}
-use Rattle.syn_standing.specs.Readings.{GivesOtherPair, GivesNothing}
+use Rattle.syn_model.specs.Version.{Version, current_version}
+use Rattle.syn_model.specs.Image.{GivesIn, StandsFor, StandsForIn, IsOldImage, image_spelling}
+use Rattle.syn_standing.specs.Readings.{GivesOtherPair, GivesNothing, GivesNothingIn}
 use Rattle.syn_standing.specs.declared.error.ReplicaError.{ReplicaError}
 use Rattle.syn_standing.specs.declared.error.ReplicaError.TheVariants.{Journal, Memory, Damaged}
-use Rattle.syn_standing.specs.declared.error.ReplicaError.TheVariants.{WrongPair}
+use Rattle.syn_standing.specs.declared.error.ReplicaError.TheVariants.{WrongPair, OldVersion}
 
--- a replica disk of the pair stands for the history
-pub record DiskStands (pair : ℕ) (bytes : List ℕ) (history : History) : Type 0 where
+-- in a version a replica disk of the pair stands for the history
+pub record DiskStandsIn (version : Version) (pair : ℕ) (bytes : List ℕ) (history : History)
+    : Type 0 where
   pub value : Value
   pub means : meaning bytes ≡ Ok value
-  pub stands : StandsFor pair value.image value.payloads history
+  pub stands : StandsForIn version pair value.image value.payloads history
+
+abbrev pub DiskStands : ℕ → List ℕ → History → Type 0
+DiskStands = DiskStandsIn current_version
 
 -- how many bytes the record of an event takes
 abbrev pub event_size : Event → ℕ
@@ -25,12 +30,15 @@ event_size event = record_size (event_spelling event)
 
 -- it stands for the history; so many bytes of its journal are left for records, and this is its
 -- generation
-pub record DiskKeeps (pair : ℕ) (history : History) (left generation : ℕ)
+pub record DiskKeepsIn (version : Version) (pair : ℕ) (history : History) (left generation : ℕ)
     (bytes : List ℕ) : Type 0 where
   pub value : Value
   pub journal : HasJournal bytes value generation
-  pub stands : StandsFor pair value.image value.payloads history
+  pub stands : StandsForIn version pair value.image value.payloads history
   pub left_is : bytes_left value ≡ left
+
+abbrev pub DiskKeeps : ℕ → History → ℕ → ℕ → List ℕ → Type 0
+DiskKeeps = DiskKeepsIn current_version
 
 -- it stands for the history by its image alone, which is that of the standing
 pub record DiskCompacted (pair : ℕ) (history : History) (standing : Standing) (generation : ℕ)
@@ -39,11 +47,15 @@ pub record DiskCompacted (pair : ℕ) (history : History) (standing : Standing) 
   pub stands : StandsFor pair (image_spelling pair standing) [] history
 
 -- an image of the pair, and behind it the payloads of events that are allowed in turn, give this
--- standing
-pub record DiskGives (pair : ℕ) (bytes : List ℕ) (standing : Standing) : Type 0 where
+-- standing in a version
+pub record DiskGivesIn (version : Version) (pair : ℕ) (bytes : List ℕ) (standing : Standing)
+    : Type 0 where
   pub value : Value
   pub means : meaning bytes ≡ Ok value
-  pub gives : Gives pair value.image value.payloads standing
+  pub gives : GivesIn version pair value.image value.payloads standing
+
+abbrev pub DiskGives : ℕ → List ℕ → Standing → Type 0
+DiskGives = DiskGivesIn current_version
 
 -- a replica disk of another pair than the wanted one
 pub record IsOfOtherPair (wanted : Option ℕ) (bytes : List ℕ) : Type 0 where
@@ -51,11 +63,24 @@ pub record IsOfOtherPair (wanted : Option ℕ) (bytes : List ℕ) : Type 0 where
   pub means : meaning bytes ≡ Ok value
   pub other : GivesOtherPair wanted value.image value.payloads
 
--- the disk has a journal, whose image and payloads give nothing
+-- a disk whose image is of version 1, whatever else it holds
+pub record IsOldDisk (bytes : List ℕ) : Type 0 where
+  pub value : Value
+  pub means : meaning bytes ≡ Ok value
+  pub old : IsOldImage value.image
+
+-- the disk has a journal, whose image and payloads give nothing in a version
+pub record MeansNothingIn (version : Version) (bytes : List ℕ) : Type 0 where
+  pub value : Value
+  pub means : meaning bytes ≡ Ok value
+  pub nothing : GivesNothingIn version value.image value.payloads
+
+-- they give nothing, and the image is not of version 1
 pub record IsUnlawful (bytes : List ℕ) : Type 0 where
   pub value : Value
   pub means : meaning bytes ≡ Ok value
   pub nothing : GivesNothing value.image value.payloads
+  pub not_old : ¬ IsOldImage value.image
 
 -- it gives fewer events than were remembered
 pub record GivesFewer (pair position : ℕ) (bytes : List ℕ) : Type 0 where
@@ -72,9 +97,13 @@ IsOpenRefusal (Journal journal.Damaged) wanted bytes = meaning bytes ≡ Err dam
 IsOpenRefusal Memory wanted bytes = Unit {0}
 IsOpenRefusal Damaged wanted bytes = IsUnlawful bytes
 IsOpenRefusal WrongPair wanted bytes = IsOfOtherPair wanted bytes
+IsOpenRefusal OldVersion wanted bytes = IsOldDisk bytes
 IsOpenRefusal _ wanted bytes = ⊥
 
--- why it is not opened again by a replica of the pair that remembers so many events
+-- why it is not opened again by a replica of the pair that remembers so many events, which has no
+-- refusal of its own for an image of version 1
 abbrev pub IsReopenRefusal : ReplicaError → ℕ → ℕ → List ℕ → Type 0
-IsReopenRefusal Damaged pair position bytes = IsUnlawful bytes ⊎ GivesFewer pair position bytes
+IsReopenRefusal Damaged pair position bytes =
+    MeansNothingIn current_version bytes ⊎ GivesFewer pair position bytes
+IsReopenRefusal OldVersion pair position bytes = ⊥
 IsReopenRefusal error pair position bytes = IsOpenRefusal error (Some pair) bytes

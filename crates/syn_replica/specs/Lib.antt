@@ -4,6 +4,7 @@ pub mod Steps
 pub mod Replica
 pub mod Growth
 pub mod Lawful
+pub mod Migrating
 pub mod Growing
 pub mod Refusals
 pub mod inner

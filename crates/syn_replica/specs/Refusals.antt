@@ -61,6 +61,18 @@ checkpoint_refusals = why.Halted ∷ why.Full ∷ why.Memory ∷ why.Device ∷ 
 abbrev pub hiding_refusals : List Refusal
 hiding_refusals = why.WrongPair ∷ why.Device ∷ why.Memory ∷ []
 
+-- and of a disk whose image is of version 1
+abbrev pub old_refusals : List Refusal
+old_refusals = why.OldVersion ∷ why.Device ∷ why.Memory ∷ []
+
+-- and of a migration of one whose generation is the greatest
+abbrev pub greatest_refusals : List Refusal
+greatest_refusals = why.Full ∷ why.Damaged ∷ why.Device ∷ why.Memory ∷ []
+
+-- and of one that stands for a history: for its generation, and for what no history is the cause of
+abbrev pub lawful_refusals : List Refusal
+lawful_refusals = why.Full ∷ why.Device ∷ why.Memory ∷ []
+
 -- what no history is the cause of: lack of memory, and a device call that failed
 abbrev pub outside_refusals : List Refusal
 outside_refusals = why.Memory ∷ why.Device ∷ []

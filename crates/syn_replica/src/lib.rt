@@ -43,10 +43,18 @@
 //!   generation it is refused 10 or 7, before any memory is taken (`first`).
 //! - `open` shows what the disk gives (`given`), stands for each history that the disk stands for
 //!   (`each`), and changes nothing (`untouched`). Each lawful image is opened, also one that comes
-//!   from no history. It is refused 18 only where the disk has no image, and 19 only where its
-//!   layout is broken or its image and payloads give nothing. It is refused 20 only where they do,
-//!   but for another pair than the wanted one (`refusals`, `wrong_pair`, `wanted`). No two of these
-//!   hold at once.
+//!   from no history. It is refused 18 only where the disk has no image, and 26 only where its
+//!   image is of version 1, whatever else the disk holds (`old`). It is refused 19 only where its
+//!   layout is broken, or where its image is not of version 1 and gives nothing with the payloads.
+//!   It is refused 20 only where they give something, but for another pair than the wanted one
+//!   (`refusals`, `wrong_pair`, `wanted`). No two of these hold at once.
+//! - `migrate` reads what the disk gives in version 1 or in version 2, and stands for each history
+//!   that the disk stands for in either (`given`, `migrated`). One of version 1 then has the image
+//!   alone, in version 2, with the next generation (`image`, `gives`), and one of version 2 is left
+//!   as it was (`same`). At any moment of the call the disk stands for the history in version 1, as
+//!   it was kept, or in version 2 by its image alone (`any_moment`, `seen`: `KeepsOrMigrates`).
+//!   Each refusal has its cause: 7 comes at the greatest generation alone (`refusals`, `greatest`,
+//!   `lawful`). After any but 9 the disk is as it was (`untouched`).
 //! - `disk_laws`: a disk that stands for a history of the wanted pair is refused 9 or 11 alone.
 //! - `into_parts` gives the disk, and what was sent to it last. `take_tried` hands that out and
 //!   keeps it no longer; what the replica shows stays. What keeps up with a history is told by what
@@ -56,7 +64,7 @@
 //!   refusal it is halted (`halts`). Where what is read is what a failed call leaves, it gives the
 //!   history before that call, or the one with its event (`before_or_after`). A disk that gives
 //!   fewer events than the replica remembers is refused 19, too (`refusals`): so no reopening goes
-//!   back, and no replica runs on over such a disk.
+//!   back, and no replica runs on over such a disk. An image of version 1 there is refused 19.
 //! - Of a replica that keeps up with a history, halted or not, the disk never gives fewer. A
 //!   reopening is refused 9 and 11 alone, and gives that history, or it with the event that was
 //!   tried last (`keeps_up`). It is refused 9 and 11 alone wherever its disk stands for a history

@@ -19,8 +19,10 @@ ghost use Rattle.syn_disk.specs.Stops.{LeavesOnly, Untouched};
 ghost use Rattle.syn_standing.specs.Refusals.{refusal_of};
 ghost use Rattle.syn_replica.specs.Refusals.{IsOneOf, format_refusals, reading_refusals};
 ghost use Rattle.syn_replica.specs.Refusals.{edit_refusals, outside_refusals, hiding_refusals};
+ghost use Rattle.syn_replica.specs.Refusals.{old_refusals};
 ghost use Rattle.syn_replica.specs.Refusals.{CountsFailures, MakesIfDevice, AfterReads};
 ghost use Rattle.syn_replica.specs.Disks.{DiskGives, DiskStands, IsOfOtherPair, IsOpenRefusal};
+ghost use Rattle.syn_replica.specs.Disks.{IsOldDisk};
 ghost use Rattle.syn_replica.specs.Edits.{event_by};
 ghost use Rattle.syn_replica.specs.Steps.{add_refusal};
 ghost use Rattle.syn_standing.specs.Updates.{IsReady, IsOf, early_causes};
@@ -32,18 +34,19 @@ ghost use Rattle.syn_journal.specs.Layout.{image_alone};
 use std::alloc::Global;
 use syn_disk::Disk;
 use syn_history::Event;
-use syn_image::encode_image;
+use syn_image::{encode_image, is_old_image};
 use syn_journal::{Journal, JournalError, Opened, layout_laws};
 use syn_model::{history_laws, worked_rows};
 use syn_path::{Name, Path};
 use syn_standing::{ReplicaError, Standing, Update, opening_laws, read_replica};
 use syn_tree::{Content, Edit, Found, Tree, TreeError};
-use syn_wire::{edit_length, encode_event};
+use syn_wire::{Version, edit_length, encode_event};
 
 mod checkpoint;
 mod device;
 mod growth;
 mod listing;
+mod migrate;
 mod parts;
 mod reopen;
 mod session;
@@ -111,9 +114,9 @@ impl<D: Disk> Replica<D> {
 
     /// Opens what the disk holds.
     ///
-    /// Refused 9 where a device call fails, 18 where the disk holds no image, 19 where it means
-    /// nothing that a replica holds, 20 where it is of another pair than the one given, and 11
-    /// where memory is refused; the disk comes back. Nothing is written.
+    /// Refused 9 where a device call fails, 18 where the disk holds no image, 26 where the image is
+    /// of version 1, 19 where it means nothing that a replica holds, 20 where it is of another pair
+    /// than the one given, and 11 where memory is refused; the disk comes back. Nothing is written.
     pub fn open(alloc: Global, disk: D, pair: Option<u64>) -> Result<Replica<D>, (ReplicaError, D)>
         // It shows what the disk gives, and stands for each history that the disk stands for.
         ensures given { IfOk result (λ replica.
@@ -129,6 +132,8 @@ impl<D: Disk> Replica<D> {
         ensures refusals { IfErr result (λ refused. IsOpenRefusal refused.0 pair (D.seen disk)) }
         ensures wrong_pair { IsOfOtherPair pair (D.seen disk)
             → IsErrAnd result (λ refused. IsOneOf hiding_refusals refused.0) }
+        ensures old { IsOldDisk (D.seen disk)
+            → IsErrAnd result (λ refused. IsOneOf old_refusals refused.0) }
 
         ensures untouched { MatchResult result
             (λ replica. Untouched D.seen D.may_leave D.moment D.left_since disk (disk_of replica))
@@ -152,7 +157,10 @@ impl<D: Disk> Replica<D> {
             image,
             records,
         } = opened;
-        match read_replica(alloc, &image, pair, &records) {
+        if is_old_image(&image) {
+            return Err((ReplicaError::OldVersion, journal.into_disk()));
+        }
+        match read_replica(alloc, Version::Two, &image, pair, &records) {
             Ok((pair, standing)) => Ok(Replica {
                 journal,
                 pair,

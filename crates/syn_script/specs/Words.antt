@@ -13,8 +13,9 @@ use Rattle.syn_script.specs.declared.line.Line.TheVariants.{Edit, Start, Tick, D
 use Rattle.syn_script.specs.declared.line.Line.TheVariants.{Checkpoint, Fail, Stop, Open, Reopen}
 use Rattle.syn_script.specs.declared.line.Machine.{Machine}
 use Rattle.syn_script.specs.declared.line.Machine.TheVariants as machine
+use Rattle.syn_tree.specs.Modes.{mode_digits, mode_of}
 use Rattle.syn_tree.specs.declared.edit.Edit.{Edit as Change}
-use Rattle.syn_tree.specs.declared.edit.Edit.TheVariants.{Put, MakeDir, Remove}
+use Rattle.syn_tree.specs.declared.edit.Edit.TheVariants.{Put, MakeDir, Remove, Chmod}
 
 abbrev pub Text : Type 0
 Text = List ℕ
@@ -52,6 +53,8 @@ SayEdit words (MakeDir path) = (name : Text) × (words ≡ codes "mkdir" ∷ nam
     × NamesPath name path
 SayEdit words (Remove path) = (name : Text) × (words ≡ codes "rm" ∷ name ∷ [])
     × NamesPath name path
+SayEdit words (Chmod path mode) = (name : Text)
+    × (words ≡ codes "chmod" ∷ name ∷ mode_digits (mode_of mode) ∷ []) × NamesPath name path
 
 -- The words say from which message to which: one number is both.
 abbrev pub SayRange : List Text → ℕ → ℕ → Type 0

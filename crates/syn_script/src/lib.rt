@@ -6,6 +6,7 @@
 //!
 //! - `edit SIDE USER put PATH TEXT`, where TEXT is the rest of the line, and may be missing
 //! - `edit SIDE USER mkdir PATH`, `edit SIDE USER rm PATH`
+//! - `edit SIDE USER chmod PATH MODE`, where MODE is three octal digits
 //! - `start`, `tick`, `drain`
 //! - `deliver A`, `deliver A B`
 //! - `checkpoint M`, `open M`, `reopen M`

@@ -10,7 +10,7 @@ use crate::verb::{Verb, read_verb};
 use crate::words::{joined, leaves, machine, number, side, user};
 use std::alloc::Global;
 use syn_path::Path;
-use syn_tree::Edit;
+use syn_tree::{Edit, Mode};
 
 /// The step that the words say.
 pub(crate) fn read_words(alloc: Global, words: &[&str]) -> Result<Line, LineError>
@@ -79,6 +79,10 @@ fn edit(alloc: Global, words: &[&str]) -> Result<Edit, LineError>
         ("put", _) => Ok(Edit::Put(path, joined(alloc, text)?)),
         ("mkdir", []) => Ok(Edit::MakeDir(path)),
         ("rm", []) => Ok(Edit::Remove(path)),
+        ("chmod", [mode]) => match Mode::parse(mode) {
+            Some(mode) => Ok(Edit::Chmod(path, mode)),
+            None => Err(LineError::Nothing),
+        },
         _ => Err(LineError::Nothing),
     }
 }

@@ -18,18 +18,18 @@ use Rattle.syn_serve.specs.Messages.{Answers, IsLawfulResponse, Response, Tells}
 use Rattle.syn_serve.specs.Messages.{response_spelling}
 
 short_mark : (content : Content) → IsDigestOrDirectory content
-    → length (mark_spelling content) ≤ 33
+    → length (mark_spelling content) ≤ 35
 short_mark Directory is = omega arith
 short_mark (File contents) is = let size = is.1 in omega (arith, size)
 
-short_entry : (entry : Name × Content) → IsEntry entry → length (entry_spelling entry) ≤ 98
+short_entry : (entry : Name × Content) → IsEntry entry → length (entry_spelling entry) ≤ 100
 short_entry entry is =
     let name = is.0.not_long in
     let mark = short_mark entry.1 is.1 in
     omega (arith, name, mark, length-append entry.0 (mark_spelling entry.1))
 
 short_each : (entries : Entries) → All IsEntry entries
-    → length (flat_map entry_spelling entries) ≤ 98 * length entries
+    → length (flat_map entry_spelling entries) ≤ 100 * length entries
 short_each [] all = omega arith
 short_each (entry ∷ entries) all =
     let here = short_entry entry (All-head IsEntry entry entries all) in
@@ -62,7 +62,7 @@ short_found : (found : Option Content) → IsFound found → length (found_spell
 short_found None is = omega arith
 short_found (Some (File contents)) is =
     let few = is.0 in
-    let size : length (found_spelling (Some (File contents))) ≡ 5 + length contents.bytes =
+    let size : length (found_spelling (Some (File contents))) ≡ 7 + length contents.bytes =
     omega arith in
     omega (arith, few, size)
 short_found (Some Directory) is = omega arith

@@ -163,7 +163,7 @@ fn has_bytes(content: &Content)
     ensures { IsLawful (content_of content.now) }
 {
     if let Content::File(mode, bytes) = content {
-        mode.is_lawful();
+        let _ = mode.bits();
         are_bytes(bytes);
     }
 }

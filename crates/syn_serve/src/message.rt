@@ -40,7 +40,7 @@ fn session_kind(request: &Request) -> u8
     ensures { result ≡ kind_of (request_of request.now) }
 {
     match request {
-        Request::Begin { .. } => 0x01,
+        Request::Begin { .. } => 0x06,
         Request::List { .. } => 0x02,
         Request::Fetch { .. } => 0x03,
         Request::Stage { .. } => 0x04,

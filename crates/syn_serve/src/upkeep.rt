@@ -10,7 +10,7 @@ use syn_replica::Replica;
 use syn_shared::{SharedError, SharedReplica};
 
 /// A replica's journal is short where it takes a payload of so many bytes. After the largest image,
-/// of 1,601,588 bytes, it takes one of 2,592,697: so a checkpoint makes each journal short.
+/// of 1,603,636 bytes, it takes one of 2,590,649: so a checkpoint makes each journal short.
 pub const SHORT_JOURNAL_ROOM: usize = 2_500_000;
 
 /// What a checkpointer sees of a replica.

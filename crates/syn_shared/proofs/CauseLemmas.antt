@@ -24,7 +24,7 @@ use Rattle.syn_standing.specs.Causes.{since_causes}
 use Rattle.syn_standing.specs.declared.error.ReplicaError.{ReplicaError}
 use Rattle.syn_standing.specs.declared.error.ReplicaError.TheVariants.{Tree, Journal, Memory}
 use Rattle.syn_standing.specs.declared.error.ReplicaError.TheVariants.{Touched, OldSession, Damaged}
-use Rattle.syn_standing.specs.declared.error.ReplicaError.TheVariants.{WrongPair}
+use Rattle.syn_standing.specs.declared.error.ReplicaError.TheVariants.{WrongPair, OldVersion}
 use Rattle.syn_standing.specs.declared.error.ReplicaError.TheVariants as replica_error
 use Rattle.syn_tree.specs.declared.error.TreeError.TheVariants as tree_error
 use Rattle.syn_agent.proofs.CauseLemmas.{Never, history_is_none, never_first, none_is_no, rooms}
@@ -48,6 +48,7 @@ device_or_other Touched = inr (λ d. cc d)
 device_or_other OldSession = inr (λ d. cc d)
 device_or_other Damaged = inr (λ d. cc d)
 device_or_other WrongPair = inr (λ d. cc d)
+device_or_other OldVersion = inr (λ d. cc d)
 
 -- no history causes that a device call fails as a side replaces
 pub replace_never : (room : ℕ) (history : History) (token : Token) (path : Path) (since : ℕ)
@@ -109,6 +110,7 @@ checkpoint_one Touched is = cc is
 checkpoint_one OldSession is = cc is
 checkpoint_one Damaged is = cc is
 checkpoint_one WrongPair is = cc is
+checkpoint_one OldVersion is = cc is
 
 -- where memory is refused all device calls of an opening were made
 pub after_reads : (e : ReplicaError) (old new : Arms) → refusal_of e ≡ why.Memory →
@@ -127,3 +129,4 @@ after_reads Touched old new is made = made
 after_reads OldSession old new is made = made
 after_reads Damaged old new is made = made
 after_reads WrongPair old new is made = made
+after_reads OldVersion old new is made = made

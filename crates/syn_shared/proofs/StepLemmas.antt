@@ -31,7 +31,7 @@ use Rattle.syn_replica.specs.Steps.{is_done, replaced, replace_refusal, MakesIfN
 use Rattle.syn_standing.specs.declared.error.ReplicaError.{ReplicaError}
 use Rattle.syn_standing.specs.declared.error.ReplicaError.TheVariants.{Tree, Journal, Memory}
 use Rattle.syn_standing.specs.declared.error.ReplicaError.TheVariants.{Touched, OldSession, Damaged}
-use Rattle.syn_standing.specs.declared.error.ReplicaError.TheVariants.{WrongPair}
+use Rattle.syn_standing.specs.declared.error.ReplicaError.TheVariants.{WrongPair, OldVersion}
 use Rattle.syn_standing.specs.declared.error.ReplicaError.TheVariants as replica_error
 use Rattle.syn_replica.specs.declared.replica.Replica.{Replica}
 use Rattle.syn_shared.specs.Steps.{StepsBy, adds, breaks, refuses}
@@ -138,6 +138,8 @@ module _ {D : Type 0} {disk : Ghosts D} (found left : Replica D disk) (history :
       refused_step Damaged (λ d. cc d) causes unchanged calls failures
   refusal_step WrongPair causes halts tried unchanged readings seen calls failures =
       refused_step WrongPair (λ d. cc d) causes unchanged calls failures
+  refusal_step OldVersion causes halts tried unchanged readings seen calls failures =
+      refused_step OldVersion (λ d. cc d) causes unchanged calls failures
 
   pub step_by : (answer : Result ℕ ReplicaError) → IfOk answer
       (λ position. (position ≡ length history + 1) × Stands left (history ++ event ∷ [])) →

@@ -9,13 +9,15 @@ use Rattle.syn_model.specs.Contents.{Contents}
 use Rattle.syn_model.specs.Tree.{Tree, Pair, Content, Directory, File}
 use Rattle.syn_placed.specs.Pairs.{is_below}
 use Rattle.syn_path.specs.Paths.{printed_form}
+use Rattle.syn_tree.specs.Modes.{mode_digits}
 
--- the line of a file: its path, its length, and its digest in lower case hexadecimal digits
+-- the line of a file: its path, its mode, its length, and its digest in lower case hexadecimal
+-- digits
 abbrev pub file_line : Path → Contents → List ℕ
-file_line path contents = codes "f " ++
-    (printed_form path ++ (codes " " ++
-    (decimal (length contents.bytes) ++ (codes " " ++ (encode_lower (sha256 contents.bytes) ++ codes
-    "\n")))))
+file_line path contents = codes "f "
+    ++ (printed_form path ++ (codes " " ++ (mode_digits contents.mode ++ (codes " "
+    ++ (decimal (length contents.bytes) ++ (codes " "
+    ++ (encode_lower (sha256 contents.bytes) ++ codes "\n")))))))
 
 -- the line of a directory
 abbrev pub directory_line : Path → List ℕ
@@ -42,10 +44,12 @@ replica_line pair position = codes "replica pair "
 abbrev pub served_line : ℕ → List ℕ
 served_line position = codes "replica position " ++ (decimal position ++ codes "\n")
 
--- the line of a file in an archive: its path, and its digest in lower case hexadecimal digits
+-- the line of a file in an archive: its path, its mode, and its digest in lower case hexadecimal
+-- digits
 abbrev pub digest_line : Path → Contents → List ℕ
-digest_line path digest = codes "f " ++
-    (printed_form path ++ (codes " " ++ (encode_lower digest.bytes ++ codes "\n")))
+digest_line path digest = codes "f "
+    ++ (printed_form path ++ (codes " " ++ (mode_digits digest.mode ++ (codes " "
+    ++ (encode_lower digest.bytes ++ codes "\n")))))
 
 abbrev pub mark_line : Path → Content → List ℕ
 mark_line path Directory = directory_line path

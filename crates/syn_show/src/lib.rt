@@ -2,8 +2,9 @@
 //! a session that ended.
 //!
 //! A line says which image it is, with its pair and its numbers. Then each path has a line, in path
-//! order: `d PATH` is a directory, `f PATH LENGTH DIGEST` a file of a replica and `f PATH DIGEST`
-//! a file that an archive keeps, with the SHA-256 digest in hexadecimal digits.
+//! order: `d PATH` is a directory, `f PATH MODE LENGTH DIGEST` a file of a replica and
+//! `f PATH MODE DIGEST` a file that an archive keeps. The mode has three octal digits, and the
+//! SHA-256 digest is in hexadecimal ones.
 //!
 //! Of a session a line says how it ended, and one has its numbers. Then, in path order,
 //! `conflict PATH` is a conflict and `refused NUMBER PATH` an item that was refused, with the

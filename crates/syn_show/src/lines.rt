@@ -2,11 +2,12 @@
 ghost use Rattle.std.specs.Prelude.{◌≡◌, IfOk, OnOk};
 ghost use Rattle.std.specs.Io.KnownBytes.{Appends};
 ghost use Rattle.std.specs.String.{string_bytes};
-ghost use Rattle.syn_model.specs.Contents.{contents_of};
+ghost use Rattle.syn_model.specs.Contents.{contents_with};
 ghost use Rattle.syn_show.specs.Printed.{content_line, digest_line, directory_line};
 ghost use Rattle.syn_show.specs.Printed.{archive_line, file_line, lines_below, lines_of_marks};
 ghost use Rattle.syn_show.specs.Printed.{mark_line, replica_line, served_line};
 ghost use Rattle.syn_show.specs.Shown.{archive_shown, replica_shown, served_shown};
+ghost use Rattle.syn_tree.specs.Modes.{mode_of};
 
 use crate::error::ShowError;
 use sha2::{Digest, Sha256};
@@ -17,7 +18,7 @@ use syn_disk::Disk;
 use syn_mark::{Mark, MarkEntry};
 use syn_path::Path;
 use syn_replica::Replica;
-use syn_tree::{Found, Pair, Tree};
+use syn_tree::{Found, Mode, Pair, Tree};
 
 /// Prints the whole replica: a line with its numbers, and a line for each path but the root, in
 /// path order.
@@ -129,7 +130,7 @@ fn pair_line(alloc: Global, pair: &Pair<'_>) -> Result<String, AllocError>
 {
     let path = pair.path(alloc)?;
     match pair.found() {
-        Found::File(_, bytes) => file_line(alloc, &path, bytes),
+        Found::File(mode, bytes) => file_line(alloc, &path, mode, bytes),
         Found::Dir => directory_line(alloc, &path),
     }
 }
@@ -139,7 +140,7 @@ fn mark_line(alloc: Global, entry: &MarkEntry) -> Result<String, AllocError>
     ensures { IfOk result (λ line. string_bytes line ≡ mark_line entry.now.0 entry.now.1) }
 {
     match entry.standing() {
-        Mark::File(_, digest) => digest_line(alloc, entry.path(), digest),
+        Mark::File(mode, digest) => digest_line(alloc, entry.path(), *mode, digest),
         Mark::Dir => directory_line(alloc, entry.path()),
     }
 }
@@ -151,20 +152,26 @@ fn directory_line(alloc: Global, path: &Path) -> Result<String, AllocError>
     format!(in alloc; "d {path}\n")
 }
 
-/// The line of a file: its path, its length and its SHA-256 digest.
-fn file_line(alloc: Global, path: &Path, bytes: &[u8]) -> Result<String, AllocError>
-    ensures { IfOk result (λ line. string_bytes line ≡ file_line path.now (contents_of bytes.now)) }
+/// The line of a file: its path, its mode, its length and its SHA-256 digest.
+fn file_line(alloc: Global, path: &Path, mode: Mode, bytes: &[u8]) -> Result<String, AllocError>
+    ensures { IfOk result (λ line. string_bytes line
+        ≡ file_line path.now (contents_with (mode_of mode) bytes.now)) }
 {
-    let digest = hex::encode(alloc, Sha256::digest(bytes))?;
     let length = bytes.len();
-    format!(in alloc; "f {path} {length} {digest}\n")
+    let digest = hex::encode(alloc, Sha256::digest(bytes))?;
+    format!(in alloc; "f {path} {mode} {length} {digest}\n")
 }
 
-/// The line of a file in an archive: its path and its digest.
-fn digest_line(alloc: Global, path: &Path, digest: &[u8; 32]) -> Result<String, AllocError>
+/// The line of a file in an archive: its path, its mode and its digest.
+fn digest_line(
+    alloc: Global,
+    path: &Path,
+    mode: Mode,
+    digest: &[u8; 32],
+) -> Result<String, AllocError>
     ensures { IfOk result (λ line. string_bytes line
-        ≡ digest_line path.now (contents_of digest.now)) }
+        ≡ digest_line path.now (contents_with (mode_of mode) digest.now)) }
 {
     let digest = hex::encode(alloc, *digest)?;
-    format!(in alloc; "f {path} {digest}\n")
+    format!(in alloc; "f {path} {mode} {digest}\n")
 }

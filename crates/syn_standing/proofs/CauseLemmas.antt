@@ -10,12 +10,13 @@ use Rattle.syn_model.specs.Laws.{PutFits, ReplacedIsThere, SubtreeFits, SubtreeF
 use Rattle.syn_model.specs.Tree.{Tree, replace}
 use Rattle.syn_model.specs.Limits.{fits_replica, fits_part, fits_paths, tree_spelling_length}
 use Rattle.syn_model.specs.Limits.{greatest, greatest_spelling}
-use Rattle.syn_model.specs.Event.{Put, MakeDir, Remove, Edit, Event, Edited, Began, Replaced}
-use Rattle.syn_model.specs.Event.{after_edit}
+use Rattle.syn_model.specs.Event.{Put, MakeDir, Remove, Chmod, Edit, Event, Edited, Began}
+use Rattle.syn_model.specs.Event.{Replaced, after_edit}
 use Rattle.syn_model.specs.Refusal.{Refusal, Full, OldSession, Cause, first_cause}
 use Rattle.syn_model.specs.Standing.{Standing, edit_causes, place_causes, full_causes}
-use Rattle.syn_model.specs.Standing.{full_position, is_old, refusal_at, IsAllowedAt}
-use Rattle.syn_wire.specs.Events.{IsShort, IsSpelledEvent}
+use Rattle.syn_model.specs.Standing.{full_position, is_old, refusal_at, IsAllowedIn}
+use Rattle.syn_model.specs.Version.{Version}
+use Rattle.syn_wire.specs.Events.{IsShort, IsSpelledEventIn}
 
 -- of causes in a row none holds just where none of each part does
 pub no_cause : (a b : List Cause) → first_cause (a ++ b) ≡ None →
@@ -77,6 +78,7 @@ module _ (put : PutFits) (there : ReplacedIsThere) (below : SubtreeFits)
       few (length bytes) (put tree path bytes (fits_where (after_edit tree (Put path bytes)) e))
   short_edit tree user (MakeDir path) e = tt
   short_edit tree user (Remove path) e = tt
+  short_edit tree user (Chmod path mode) e = tt
 
   pub short_at : (standing : Standing) (event : Event) → refusal_at standing event ≡ None →
       IsShort event
@@ -98,6 +100,7 @@ module _ (put : PutFits) (there : ReplacedIsThere) (below : SubtreeFits)
       )
 
   -- each event that is allowed is spelled
-  pub spelled_one : (standing : Standing) (event : Event) → IsAllowedAt standing event →
-      IsSpelledEvent event
-  spelled_one standing event allowed = (allowed.lawful, short_at standing event allowed.not_refused)
+  pub spelled_one : (version : Version) (standing : Standing) (event : Event) →
+      IsAllowedIn version standing event → IsSpelledEventIn version event
+  spelled_one version standing event allowed =
+      (allowed.lawful, short_at standing event allowed.not_refused)

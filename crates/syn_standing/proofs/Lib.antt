@@ -2,4 +2,5 @@ pub mod CauseLemmas
 pub mod StandingLemmas
 pub mod SinceLemmas
 pub mod AlikeLemmas
+mod SoundLemmas
 mod ReadingLemmas

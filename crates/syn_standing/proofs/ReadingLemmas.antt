@@ -7,9 +7,10 @@ use Rattle.std.proofs.lemmas.List.{map-append, map_more, take-append-drop}
 use Rattle.syn_model.specs.Path.{Bytes}
 use Rattle.syn_model.specs.Event.{Event}
 use Rattle.syn_model.specs.Standing.{Standing}
-use Rattle.syn_model.specs.Spelling.{event_spelling}
-use Rattle.syn_model.specs.Image.{Gives}
-use Rattle.syn_wire.specs.Events.{IsSpelledEvent}
+use Rattle.syn_model.specs.Version.{Version}
+use Rattle.syn_model.specs.Spelling.{event_spelling_in}
+use Rattle.syn_model.specs.Image.{GivesIn}
+use Rattle.syn_wire.specs.Events.{IsSpelledEventIn}
 use Rattle.syn_wire.specs.Laws.{NoEventBeginsAnother}
 use Rattle.syn_wire.specs.Reads.{BeginsWith, IsReading}
 use Rattle.syn_image.specs.Images.{IsImage, spelled_image, NoImageBeginsAnother}
@@ -19,62 +20,71 @@ use Rattle.syn_standing.specs.declared.error.ReplicaError.{ReplicaError}
 use Rattle.syn_standing.specs.declared.error.ReplicaError.TheVariants.{Tree, History, Journal}
 use Rattle.syn_standing.specs.declared.error.ReplicaError.TheVariants.{Memory, Touched, OldSession}
 use Rattle.syn_standing.specs.declared.error.ReplicaError.TheVariants.{Damaged, WrongPair}
+use Rattle.syn_standing.specs.declared.error.ReplicaError.TheVariants.{OldVersion}
 use Rattle.syn_standing.proofs.AlikeLemmas.{replays_nothing}
 
 -- ---- the whole of what is read, and nothing behind it
 
-module _ (payload : Bytes) (event : Event) (spelled : IsSpelledEvent event)
-    (e : payload ≡ event_spelling event) where
-  alone : payload ≡ event_spelling event ++ []
-  alone = e ∙ sym (append-nil (event_spelling event))
+module _ (version : Version) (payload : Bytes) (event : Event)
+    (spelled : IsSpelledEventIn version event)
+    (e : payload ≡ event_spelling_in version event) where
+  alone : payload ≡ event_spelling_in version event ++ []
+  alone = e ∙ sym (append-nil (event_spelling_in version event))
 
-  pub event_there : ¬ IsReading IsSpelledEvent event_spelling payload None
+  pub event_there : ¬ IsReading (IsSpelledEventIn version) (event_spelling_in version) payload None
   event_there none = none event [] (record { lawful = spelled; spelled = alone })
 
   pub event_ends : NoEventBeginsAnother → (other : Event) (rest : Bytes) →
-      BeginsWith IsSpelledEvent event_spelling payload other rest → rest ≡ []
+      BeginsWith (IsSpelledEventIn version) (event_spelling_in version) payload other rest →
+      rest ≡ []
   event_ends tell other rest read =
-      (tell other event rest [] read.lawful spelled (sym read.spelled ∙ alone)).1
+      (tell version other event rest [] read.lawful spelled (sym read.spelled ∙ alone)).1
 
-module _ (image : Bytes) (pair : ℕ) (standing : Standing) (is : IsImageOf image pair standing) where
-  image_alone : image ≡ spelled_image (pair, standing) ++ []
-  image_alone = is.spelled ∙ sym (append-nil (spelled_image (pair, standing)))
+module _ (version : Version) (image : Bytes) (pair : ℕ) (standing : Standing)
+    (is : IsImageOf version image pair standing) where
+  image_alone : image ≡ spelled_image version (pair, standing) ++ []
+  image_alone = is.spelled ∙ sym (append-nil (spelled_image version (pair, standing)))
 
-  pub image_there : ¬ IsReading IsImage spelled_image image None
+  pub image_there : ¬ IsReading (IsImage version) (spelled_image version) image None
   image_there none =
       none (pair, standing) [] (record { lawful = (is.fits, is.sound); spelled = image_alone })
 
   pub image_ends : NoImageBeginsAnother → (other : ℕ × Standing) (rest : Bytes) →
-      BeginsWith IsImage spelled_image image other rest → rest ≡ []
+      BeginsWith (IsImage version) (spelled_image version) image other rest → rest ≡ []
   image_ends tell other rest read =
-      (tell other (pair, standing) rest
+      (tell version other (pair, standing) rest
       [] read.lawful (is.fits, is.sound) (sym read.spelled ∙ image_alone)).1
 
 -- with nothing behind it the whole is what was read
-pub event_whole : (payload rest : Bytes) (event : Event) →
-    BeginsWith IsSpelledEvent event_spelling payload event rest → rest ≡ [] →
-    IsEventOf payload (Some event)
-event_whole payload rest event read empty = (
+pub event_whole : (version : Version) (payload rest : Bytes) (event : Event) →
+    BeginsWith (IsSpelledEventIn version) (event_spelling_in version) payload event rest →
+    rest ≡ [] →
+    IsEventOf version payload (Some event)
+event_whole version payload rest event read empty = (
   read.lawful,
   read.spelled
-      ∙ (ap (λ xs. event_spelling event ++ xs) empty ∙ append-nil (event_spelling event)),
+      ∙ (ap (λ xs. event_spelling_in version event ++ xs) empty
+      ∙ append-nil (event_spelling_in version event)),
 )
 
-pub image_whole : (image rest : Bytes) (value : ℕ × Standing) →
-    BeginsWith IsImage spelled_image image value rest → rest ≡ [] → IsImageOf image value.0 value.1
-image_whole image rest value read empty = record {
+pub image_whole : (version : Version) (image rest : Bytes) (value : ℕ × Standing) →
+    BeginsWith (IsImage version) (spelled_image version) image value rest → rest ≡ [] →
+    IsImageOf version image value.0 value.1
+image_whole version image rest value read empty = record {
   fits = read.lawful.0;
   sound = read.lawful.1;
   spelled =
       read.spelled
-      ∙ (ap (λ xs. spelled_image value ++ xs) empty ∙ append-nil (spelled_image value));
+      ∙ (ap (λ xs. spelled_image version value ++ xs) empty
+      ∙ append-nil (spelled_image version value));
 }
 
 -- ---- an image with its payloads
 
-pub gives_of : (image : Bytes) (payloads : List Bytes) (pair : ℕ) (first last : Standing) →
-    IsImageOf image pair first → Replays first payloads last → Gives pair image payloads last
-gives_of image payloads pair first last is replays = record {
+pub gives_of : (version : Version) (image : Bytes) (payloads : List Bytes) (pair : ℕ)
+    (first last : Standing) → IsImageOf version image pair first →
+    Replays version first payloads last → GivesIn version pair image payloads last
+gives_of version image payloads pair first last is replays = record {
   first = first;
   events = replays.events;
   sound = is.sound;
@@ -85,25 +95,28 @@ gives_of image payloads pair first last is replays = record {
 }
 
 -- what an image gives is read of it
-pub same_image : OneIsGiven → (image : Bytes) (p q : ℕ) (s t : Standing) → IsImageOf image p s →
-    IsImageOf image q t → s ≡ t
-same_image one image p q s t a b =
-    (one image [] p q s t a.fits b.fits (gives_of image [] p s s a (replays_nothing s))
-    (gives_of image [] q t t b (replays_nothing t))).1
+pub same_image : OneIsGiven → (version : Version) (image : Bytes) (p q : ℕ) (s t : Standing) →
+    IsImageOf version image p s → IsImageOf version image q t → s ≡ t
+same_image one version image p q s t a b =
+    (one version image [] p q s t a.fits b.fits
+    (gives_of version image [] p s s a (replays_nothing version s))
+    (gives_of version image [] q t t b (replays_nothing version t))).1
 
 -- the payloads in three parts: those that were read, the next one, and the others
-pub row_parts : (payloads : List (Vec ℕ)) (i : ℕ) (payload : Vec ℕ) (events : List Event) →
+pub row_parts : (version : Version) (payloads : List (Vec ℕ)) (i : ℕ) (payload : Vec ℕ)
+    (events : List Event) →
     i < length payloads → payload ≡ slice_index_or payloads i payload →
-    bytes_of_each (take i payloads) ≡ map event_spelling events → bytes_of_each payloads
-    ≡ map event_spelling events ++ payload.items ∷ bytes_of_each (drop (i + 1) payloads)
-row_parts payloads i payload events inside is read =
+    bytes_of_each (take i payloads) ≡ map (event_spelling_in version) events →
+    bytes_of_each payloads ≡ map (event_spelling_in version) events
+    ++ payload.items ∷ bytes_of_each (drop (i + 1) payloads)
+row_parts version payloads i payload events inside is read =
     let f : Vec ℕ → Bytes = λ p. p.items in
     let rest = bytes_of_each (drop (i + 1) payloads) in
     ap bytes_of_each (sym (take-append-drop (i + 1) payloads))
     ∙ (map-append f (take (i + 1) payloads) (drop (i + 1) payloads)
     ∙ (ap (λ xs. xs ++ rest)
     (map_more f payloads i payload inside ∙ ap₂ (λ xs p. xs ++ p.items ∷ []) read (sym is))
-    ∙ append_assoc (map event_spelling events) (payload.items ∷ []) rest))
+    ∙ append_assoc (map (event_spelling_in version) events) (payload.items ∷ []) rest))
 
 -- what is refused of payloads that are lawful is memory alone
 pub memory_else : (e : ReplicaError) → IsOfPayload e → (e ≡ Damaged → ⊥) →
@@ -116,3 +129,4 @@ memory_else Touched of other = absurd of
 memory_else OldSession of other = absurd of
 memory_else Damaged of other = absurd (other refl)
 memory_else WrongPair of other = inr refl
+memory_else OldVersion of other = absurd of

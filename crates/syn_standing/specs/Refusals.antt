@@ -9,6 +9,7 @@ use Rattle.syn_standing.specs.declared.error.ReplicaError.{ReplicaError}
 use Rattle.syn_standing.specs.declared.error.ReplicaError.TheVariants.{Tree, History, Journal}
 use Rattle.syn_standing.specs.declared.error.ReplicaError.TheVariants.{Memory, Touched, OldSession}
 use Rattle.syn_standing.specs.declared.error.ReplicaError.TheVariants.{Damaged, WrongPair}
+use Rattle.syn_standing.specs.declared.error.ReplicaError.TheVariants.{OldVersion}
 
 abbrev pub refusal_of : ReplicaError → Refusal
 refusal_of (Tree error) = of_tree error
@@ -19,6 +20,7 @@ refusal_of Touched = why.Touched
 refusal_of OldSession = why.OldSession
 refusal_of Damaged = why.Damaged
 refusal_of WrongPair = why.WrongPair
+refusal_of OldVersion = why.OldVersion
 
 -- why a call was refused, if it was
 abbrev pub refusal_in : {X : Type 0} → Result X ReplicaError → Option Refusal

@@ -34,6 +34,8 @@ pub enum ReplicaError {
     Damaged,
     /// 20: the pair is another one.
     WrongPair,
+    /// 26: the image is of version 1.
+    OldVersion,
 }
 
 impl ReplicaError {
@@ -50,6 +52,7 @@ impl ReplicaError {
             ReplicaError::OldSession => Refusal::OldSession,
             ReplicaError::Damaged => Refusal::Damaged,
             ReplicaError::WrongPair => Refusal::WrongPair,
+            ReplicaError::OldVersion => Refusal::OldVersion,
         }
     }
 

@@ -15,10 +15,11 @@
 //!   cause stands (`allowed`). `make` takes the standing one step on, and takes no memory.
 //! - `check_untouched` tells whether an event touched a path since a position, of each history that
 //!   the standing is of (`cause`).
-//! - `read_replica` gives the pair and the standing that an image and the payloads behind it give
-//!   (`gives`), and no other could be given (`one`). It is refused 19 only where they give none
-//!   (`damaged`), and 20 only where they give another pair than the wanted one (`other`). The index
-//!   of its trail is built once, after the last payload (`build_index`).
+//! - `read_replica` reads in a version, and gives the pair and the standing that an image and the
+//!   payloads behind it give in it (`gives`). No other could be given (`one`), and an image may
+//!   hold it (`sound`). It is refused 19 only where they give none (`damaged`), and 20 only where
+//!   they give another pair than the wanted one (`other`). The index of its trail is built once,
+//!   after the last payload (`build_index`).
 #![tactic(auto)]
 
 mod error;

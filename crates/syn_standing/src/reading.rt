@@ -2,12 +2,15 @@
 ghost use Rattle.std.specs.Prelude.{◌≡◌, ◌≢◌, ◌⊎◌, ◌<◌, ◌^◌, ℕ, List, IfOk, IfErr, OnOk, IsErrAnd};
 ghost use Rattle.std.specs.Prelude.{Some, true, false, option_map, map};
 ghost use Rattle.syn_model.specs.Event as model;
-ghost use Rattle.syn_model.specs.Image.{Gives};
-ghost use Rattle.syn_model.specs.Spelling.{event_spelling};
+ghost use Rattle.syn_model.specs.Image.{GivesIn, IsStanding};
+ghost use Rattle.syn_model.specs.Limits.{fits_replica};
+ghost use Rattle.syn_model.specs.Spelling.{event_spelling_in};
 ghost use Rattle.syn_model.specs.Standing as model_standing;
-ghost use Rattle.syn_model.specs.Standing.{AllAllowedAt, IsAllowedAt};
+ghost use Rattle.syn_model.specs.Standing.{AllAllowedIn, IsAllowedIn};
+ghost use Rattle.syn_model.specs.Tree.{IsTree};
 ghost use Rattle.syn_history.specs.Events.{event_of};
-ghost use Rattle.syn_standing.specs.Readings.{GivesOtherPair};
+ghost use Rattle.syn_wire.specs.Versions.{version_of};
+ghost use Rattle.syn_standing.specs.Readings.{GivesOtherPairIn};
 ghost use Rattle.syn_standing.specs.Refusals.{refusal_of};
 ghost use Rattle.syn_model.specs.Refusal as why;
 ghost use Rattle.syn_standing.specs.Readings.{AddsEvent, Replays, IsEventOf, bytes_of_each};
@@ -20,41 +23,54 @@ use std::alloc::Global;
 use syn_history::Event;
 use syn_image::{Image, decode_image, image_laws};
 use syn_refusal::Refusal;
-use syn_wire::{WireError, decode_event, spelling_laws};
+use syn_wire::{Version, WireError, decode_event, spelling_laws};
 
-/// The pair and the standing that the image and the payloads give.
+/// The pair and the standing that the image and the payloads give, all spelled in the version.
 ///
 /// Refused 19 where they give none, 20 where they do but the pair is not the wanted one, and 11
 /// where memory is refused.
 pub fn read_replica(
     alloc: Global,
+    version: Version,
     image: &[u8],
     wanted: Option<u64>,
     payloads: &[Vec<u8>],
 ) -> Result<(u64, Standing), ReplicaError>
     ensures fits { IfOk result (λ read. read.0 < 2 ^ 64) }
-    ensures gives { IfOk result
-        (λ read. Gives read.0 image.now (bytes_of_each payloads.now) read.1) }
+    ensures gives { IfOk result (λ read. GivesIn (version_of version) read.0 image.now
+        (bytes_of_each payloads.now) read.1) }
     ensures one { IfOk result (λ read. (pair : ℕ) (standing : model_standing.Standing)
-        → pair < 2 ^ 64 → Gives pair image.now (bytes_of_each payloads.now) standing
+        → pair < 2 ^ 64
+        → GivesIn (version_of version) pair image.now (bytes_of_each payloads.now) standing
         → (pair ≡ read.0) × (standing ≡ read.1)) }
+    ensures sound { IfOk result (λ read. IsStanding read.1) }
     ensures wanted { IfOk result (λ read. (asked : ℕ) → wanted ≡ Some asked → asked ≡ read.0) }
     ensures refusals { IfErr result IsOfMeaning }
     ensures damaged { IfErr result (λ e. e ≡ ReplicaError.Damaged
         → (pair : ℕ) (standing : model_standing.Standing) → pair < 2 ^ 64
-        → ¬ Gives pair image.now (bytes_of_each payloads.now) standing) }
-    ensures other { IfErr result (λ e. e ≡ ReplicaError.WrongPair
-        → GivesOtherPair wanted image.now (bytes_of_each payloads.now)) }
-    ensures wrong_pair { GivesOtherPair wanted image.now (bytes_of_each payloads.now)
+        → ¬ GivesIn (version_of version) pair image.now (bytes_of_each payloads.now) standing) }
+    ensures other { IfErr result (λ e. e ≡ ReplicaError.WrongPair → GivesOtherPairIn
+        (version_of version) wanted image.now (bytes_of_each payloads.now)) }
+    ensures wrong_pair { GivesOtherPairIn (version_of version) wanted image.now
+        (bytes_of_each payloads.now)
         → IsErrAnd result (λ e. (e ≡ ReplicaError.Memory) ⊎ (e ≡ ReplicaError.WrongPair)) }
 {
     opening_laws();
-    let (pair, first) = read_image(alloc, image)?;
-    let standing = replayed(alloc, first, payloads)?;
+    let (pair, first) = read_image(alloc, version, image)?;
+    let standing = replayed(alloc, version, first, payloads)?;
+    is_whole(&standing);
     if is_other(wanted, pair) {
         return Err(ReplicaError::WrongPair);
     }
     Ok((pair, standing))
+}
+
+/// What its type says: its tree is one, within the limits of a replica.
+fn is_whole(standing: &Standing)
+    ensures tree { IsTree standing.now.tree }
+    ensures fits { fits_replica standing.now.tree ≡ true }
+{
+    let _ = standing.tree().entries();
 }
 
 /// The pair is not the wanted one.
@@ -71,14 +87,20 @@ fn is_other(wanted: Option<u64>, pair: u64) -> bool
 /// The pair and the standing of which it is the image.
 ///
 /// Refused 19 where it is of none, and 11 where memory is refused.
-fn read_image(alloc: Global, image: &[u8]) -> Result<(u64, Standing), ReplicaError>
-    ensures read { IfOk result (λ read. IsImageOf image.now read.0 read.1) }
+fn read_image(
+    alloc: Global,
+    version: Version,
+    image: &[u8],
+) -> Result<(u64, Standing), ReplicaError>
+    ensures read { IfOk result
+        (λ read. IsImageOf (version_of version) image.now read.0 read.1) }
     ensures refusals { IfErr result IsOfPayload }
     ensures damaged { IfErr result (λ e. e ≡ ReplicaError.Damaged
-        → (pair : ℕ) (standing : model_standing.Standing) → ¬ IsImageOf image.now pair standing) }
+        → (pair : ℕ) (standing : model_standing.Standing)
+        → ¬ IsImageOf (version_of version) image.now pair standing) }
 {
     image_laws();
-    let Some((read, rest)) = decode_image(alloc, image)? else {
+    let Some((read, rest)) = decode_image(alloc, version, image)? else {
         return Err(ReplicaError::Damaged);
     };
     if !rest.is_empty() {
@@ -91,17 +113,23 @@ fn read_image(alloc: Global, image: &[u8]) -> Result<(u64, Standing), ReplicaErr
 /// The standing after each payload in turn, each of which has to be an event that is allowed.
 ///
 /// Refused 19 where one is not, and 11 where memory is refused.
-fn replayed(alloc: Global, first: Standing, payloads: &[Vec<u8>]) -> Result<Standing, ReplicaError>
+fn replayed(
+    alloc: Global,
+    version: Version,
+    first: Standing,
+    payloads: &[Vec<u8>],
+) -> Result<Standing, ReplicaError>
     ensures replays { IfOk result
-        (λ standing. Replays first (bytes_of_each payloads.now) standing) }
+        (λ standing. Replays (version_of version) first (bytes_of_each payloads.now) standing) }
     ensures refusals { IfErr result IsOfPayload }
     ensures damaged { IfErr result (λ e. e ≡ ReplicaError.Damaged → (events : List model.Event)
-        → AllAllowedAt first events → bytes_of_each payloads.now ≢ map event_spelling events) }
+        → AllAllowedIn (version_of version) first events
+        → bytes_of_each payloads.now ≢ map (event_spelling_in (version_of version)) events) }
 {
     opening_laws();
     let mut standing = first;
     for payload in payloads {
-        add_payload(alloc, &mut standing, payload)?;
+        add_payload(alloc, version, &mut standing, payload)?;
     }
     standing.build_index(alloc)?;
     Ok(standing)
@@ -110,14 +138,21 @@ fn replayed(alloc: Global, first: Standing, payloads: &[Vec<u8>]) -> Result<Stan
 /// Adds the event of one payload.
 ///
 /// Refused 19 where it is no event that is allowed, and 11 where memory is refused.
-fn add_payload(alloc: Global, standing: &mut Standing, payload: &[u8]) -> Result<(), ReplicaError>
-    ensures added { OnOk result (AddsEvent standing.old payload.now standing.new) }
+fn add_payload(
+    alloc: Global,
+    version: Version,
+    standing: &mut Standing,
+    payload: &[u8],
+) -> Result<(), ReplicaError>
+    ensures added { OnOk result
+        (AddsEvent (version_of version) standing.old payload.now standing.new) }
     ensures refusals { IfErr result IsOfPayload }
     ensures damaged { IfErr result (λ e. e ≡ ReplicaError.Damaged → (event : model.Event)
-        → payload.now ≡ event_spelling event → ¬ IsAllowedAt standing.old event) }
+        → payload.now ≡ event_spelling_in (version_of version) event
+        → ¬ IsAllowedIn (version_of version) standing.old event) }
 {
     opening_laws();
-    let Some(event) = read_event(alloc, payload)? else {
+    let Some(event) = read_event(alloc, version, payload)? else {
         return Err(ReplicaError::Damaged);
     };
     match standing.add(alloc, event) {
@@ -127,11 +162,12 @@ fn add_payload(alloc: Global, standing: &mut Standing, payload: &[u8]) -> Result
 }
 
 /// The event that the payload is; none where it is none. Refused 11 where memory is refused.
-fn read_event(alloc: Global, payload: &[u8]) -> Result<Option<Event>, WireError>
-    ensures { IfOk result (λ read. IsEventOf payload.now (option_map event_of read)) }
+fn read_event(alloc: Global, version: Version, payload: &[u8]) -> Result<Option<Event>, WireError>
+    ensures { IfOk result
+        (λ read. IsEventOf (version_of version) payload.now (option_map event_of read)) }
 {
     spelling_laws();
-    let Some((event, rest)) = decode_event(alloc, payload)? else {
+    let Some((event, rest)) = decode_event(alloc, version, payload)? else {
         return Ok(None);
     };
     if rest.is_empty() {

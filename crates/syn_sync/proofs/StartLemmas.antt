@@ -38,6 +38,7 @@ is_archive_device archive.Device = inl refl
 is_archive_device archive.Halted = inr (λ is. cc)
 is_archive_device archive.Memory = inr (λ is. cc)
 is_archive_device archive.NoImage = inr (λ is. cc)
+is_archive_device archive.OldVersion = inr (λ is. cc)
 is_archive_device archive.Damaged = inr (λ is. cc)
 is_archive_device archive.WrongPair = inr (λ is. cc)
 
@@ -65,6 +66,7 @@ kept_counted archive.JournalFull a b is counts = cc
 kept_counted archive.Halted a b is counts = cc
 kept_counted archive.Memory a b is counts = cc
 kept_counted archive.NoImage a b is counts = cc
+kept_counted archive.OldVersion a b is counts = cc
 kept_counted archive.Damaged a b is counts = cc
 kept_counted archive.WrongPair a b is counts = cc
 

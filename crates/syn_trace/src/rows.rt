@@ -68,6 +68,7 @@ fn edit_text(alloc: Global, edit: &Edit) -> Result<String, AllocError> {
         Edit::Put(path, bytes) => format!(in alloc; "put {path} of {}", bytes.len()),
         Edit::MakeDir(path) => format!(in alloc; "mkdir {path}"),
         Edit::Remove(path) => format!(in alloc; "rm {path}"),
+        Edit::Chmod(path, mode) => format!(in alloc; "chmod {path} {mode}"),
     }
 }
 

@@ -1,27 +1,29 @@
 -- Why an edit is refused, where its place is allowed.
 use Rattle.std.proofs.Common.{◌≡◌, ◌≤◌, ◌+◌, ℕ, Bool, true, false, if◌then◌else◌, not, ◌&&◌, ◌||◌}
-use Rattle.std.proofs.Common.{nat_le, nat_lt, [], ◌∷◌, length, refl, sym, ap, ap₂, ◌∙◌, Option}
+use Rattle.std.proofs.Common.{nat_le, nat_lt, List, [], ◌∷◌, length, refl, sym, ap, ap₂, ◌∙◌}
+use Rattle.std.proofs.Common.{Option}
 use Rattle.std.proofs.Common.{Some, None, is_some, append-nil, true≢false, arith}
 use Rattle.std.specs.Prelude.{option_map}
 use Rattle.std.specs.List.{list_all}
 use Rattle.std.specs.FinMap.{entries, get, get-entries, len, len-entries, find}
-use Rattle.std.proofs.lemmas.Bool.{and_parts}
+use Rattle.std.proofs.lemmas.Bool.{and_parts, not-false}
 use Rattle.std.proofs.lemmas.Bool.Decides.{nat_tests}
 use Rattle.syn_model.specs.Path.{Bytes, Path, IsPath, root, is_root, parent, path_cmp}
 use Rattle.syn_model.specs.Path.{path_spelling, strip_prefix}
 use Rattle.syn_model.specs.Tree.{Tree, Content, Directory, HasParents, at_root, absent}
 use Rattle.syn_model.specs.Tree.{replace, is_directory, is_present}
-use Rattle.syn_model.specs.Event.{Put, MakeDir, Remove, part_after}
+use Rattle.syn_model.specs.Event.{Put, MakeDir, Remove, Chmod, after_edit, part_after}
 use Rattle.syn_model.specs.Limits.{fits_replica, fits_part, fits_paths, fits_path, fits_content}
 use Rattle.syn_model.specs.Limits.{tree_spelling_length, greatest_spelling}
 use Rattle.syn_model.specs.Limits.{last_name_spelling_length, content_spelling_length}
 use Rattle.syn_model.specs.Refusal.{Refusal, Root, NoParent, IsDirectory, Exists, Absent, Full}
-use Rattle.syn_model.specs.Refusal.{first_cause}
-use Rattle.syn_model.specs.Standing.{edit_refusal, place_causes}
+use Rattle.syn_model.specs.Refusal.{Cause, first_cause}
+use Rattle.syn_model.specs.Standing.{edit_refusal, full_causes, place_causes}
 use Rattle.syn_model.proofs.PathLemmas.{strip_prefix-append}
-use Rattle.syn_model.proofs.HistoryLemmas.{get-at_root, get-below_root}
+use Rattle.syn_model.proofs.HistoryLemmas.{get-at_root, get-below_root, first_cause-none}
 use Rattle.syn_model.proofs.TreeLemmas.{within}
 use Rattle.syn_placed.specs.Pairs.{under, spelling_length}
+use Rattle.syn_tree.specs.Change.{Replacement, IsPreparedFor}
 use Rattle.syn_tree.specs.Lists.{IsMeasured, replace_refusal}
 use Rattle.syn_placed.proofs.RisingLemmas.{replaced}
 use Rattle.syn_placed.proofs.TreeLemmas.{entries-one, entries-absent, rising-entries}
@@ -30,6 +32,32 @@ use Rattle.syn_tree.proofs.FitLemmas.{part-pairs, pair_fits, all-find, fits-repl
 use Rattle.syn_tree.proofs.PartLemmas.{length_replaced, spelling_replaced}
 use Rattle.syn_placed.proofs.ParentLemmas.{place_free}
 use Rattle.syn_tree.proofs.ChangeLemmas.{under_one, size_one}
+
+-- a file may stand where the tree keeps its limits with it, once no cause before that is one
+put_causes : (a b c : Bool) (full : List Cause) → a ≡ false → b ≡ true → c ≡ false →
+    first_cause ((a, Root) ∷ (not b, NoParent) ∷ (c, IsDirectory) ∷ full) ≡ first_cause full
+put_causes a b c full e f g =
+    ap (λ x. first_cause ((x, Root) ∷ (not b, NoParent) ∷ (c, IsDirectory) ∷ full)) e
+    ∙ (ap (λ x. first_cause ((not x, NoParent) ∷ (c, IsDirectory) ∷ full)) f
+    ∙ ap (λ x. first_cause ((x, IsDirectory) ∷ full)) g)
+
+pub put_answer : (t : Tree) (p : Path) (b : Bytes) → first_cause (place_causes t p) ≡ None →
+    is_directory t p ≡ false →
+    edit_refusal t (Put p b) ≡ first_cause (full_causes (after_edit t (Put p b)))
+put_answer t p b place other =
+    let free = place_free t p place in
+    put_causes (is_root p) (is_directory t (parent p)) (is_directory t p)
+    (full_causes (after_edit t (Put p b))) free.0 free.1 other
+
+pub chmod_answer : (t : Tree) (p : Path) (mode : ℕ) → first_cause (place_causes t p) ≡ None →
+    is_directory t p ≡ false → is_present t p ≡ true →
+    edit_refusal t (Chmod p mode) ≡ first_cause (full_causes (after_edit t (Chmod p mode)))
+chmod_answer t p mode place other there =
+    let free = place_free t p place in
+    let full = full_causes (after_edit t (Chmod p mode)) in
+    put_causes (is_root p) (is_directory t (parent p)) (is_directory t p)
+    ((not (is_present t p), Absent) ∷ full) free.0 free.1 other
+    ∙ ap (λ x. first_cause ((not x, Absent) ∷ full)) there
 
 -- the causes in their order, where those of the place are none
 causes : (why : Refusal) (a b c d : Bool) → a ≡ false → b ≡ true → c ≡ false →
@@ -43,15 +71,6 @@ causes why a b c d e f g =
     ∙ (ap (λ x. if x then Some why else (if not d then Some Full else None)) g
     ∙ elim d as (λ x. (if not x then Some Full else None) ≡ (if x then None else Some Full))
     [ true ↦ refl | false ↦ refl ]))
-
-pub put_answer : (t : Tree) (p : Path) (b : Bytes) → first_cause (place_causes t p) ≡ None →
-    is_directory t p ≡ false →
-    edit_refusal t (Put p b) ≡ (if fits_replica (replace t p (part_after t (Put p b))) then None
-    else Some Full)
-put_answer t p b place other =
-    let free = place_free t p place in
-    causes IsDirectory (is_root p) (is_directory t (parent p)) (is_directory t p)
-    (fits_replica (replace t p (part_after t (Put p b)))) free.0 free.1 other
 
 pub make_answer : (t : Tree) (p : Path) → first_cause (place_causes t p) ≡ None →
     is_present t p ≡ false → edit_refusal t (MakeDir p)
@@ -139,7 +158,7 @@ too_long t at content h true e =
 less_nodes : (m n : ℕ) → m ≤ n → nat_le n 1024 ≡ true → nat_le m 1024 ≡ true
 less_nodes m n h k = grind (arith, nat_tests)
 
-less_size : (m n : ℕ) → m ≤ n → nat_le n 524288 ≡ true → nat_le m 524288 ≡ true
+less_size : (m n : ℕ) → m ≤ n → nat_le n 526336 ≡ true → nat_le m 526336 ≡ true
 less_size m n h k = grind (arith, nat_tests)
 
 or_true : (b : Bool) → (b || true) ≡ true
@@ -194,3 +213,23 @@ replace_answer t p u place =
     else (if not (fits_replica (replace t p u)) then Some Full else None)) free.1
     ∙ elim (fits_replica (replace t p u)) as (λ x. (if not x then Some Full else None)
     ≡ (if x then None else Some Full)) [ true ↦ refl | false ↦ refl ])
+
+-- a put that is not refused may be made
+pub put_prepared : (t : Tree) (p : Path) (b : Bytes) (change : Replacement) →
+    edit_refusal t (Put p b) ≡ None → change.at ≡ p → change.new ≡ part_after t (Put p b) →
+    IsPreparedFor t change
+put_prepared t p b change none at new =
+    let full = full_causes (after_edit t (Put p b)) in
+    let root = first_cause-none (is_root p, Root) ((not (is_directory t (parent p)), NoParent)
+    ∷ (is_directory t p, IsDirectory) ∷ full) none in
+    let parents = first_cause-none (not (is_directory t (parent p)), NoParent)
+    ((is_directory t p, IsDirectory) ∷ full) root.1 in
+    let other = first_cause-none (is_directory t p, IsDirectory) full parents.1 in
+    let fits = first_cause-none (not (fits_replica (after_edit t (Put p b))), Full) [] other.1 in
+    record {
+      below = ap is_root at ∙ root.0;
+      parent = ap (λ q. is_directory t (parent q)) at
+          ∙ not-false (is_directory t (parent p)) parents.0;
+      fits = ap₂ (λ q u. fits_replica (replace t q u)) at new
+          ∙ not-false (fits_replica (after_edit t (Put p b))) fits.0;
+    }

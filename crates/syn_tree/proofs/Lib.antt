@@ -11,4 +11,5 @@ pub mod ListingLemmas
 pub mod WholeLemmas
 pub mod StripLemmas
 pub mod LawfulLemmas
+pub mod ModeLemmas
 pub mod RootedLemmas

@@ -26,14 +26,14 @@ use Rattle.std.proofs.Common.{refl, slice_get, Some, None, ◌-◌, sym, ◌∙�
 use Rattle.std.proofs.lemmas.Option.{slice_get_within, get_or_from_slice_get, slice_get-get_or}
 use Rattle.std.proofs.lemmas.Option.{none-some}
 
-at_most : (n : ℕ) → nat_le n 524288 ≡ true → n ≤ 524288
+at_most : (n : ℕ) → nat_le n 526336 ≡ true → n ≤ 526336
 at_most n h = grind (arith, nat_tests)
 
 pub at_most_nodes : (n : ℕ) → nat_le n 1024 ≡ true → n ≤ 1024
 at_most_nodes n h = grind (arith, nat_tests)
 
 -- the size of a tree that keeps the limits
-pub kept_size : (ds : Pairs) (s cap : ℕ) → IsKept ds s cap → s ≤ 524288
+pub kept_size : (ds : Pairs) (s cap : ℕ) → IsKept ds s cap → s ≤ 526336
 kept_size ds s cap kept =
     let t = tree_with ds in
     let whole = and_parts (nat_le (len t) 1024 && nat_le (tree_spelling_length t) greatest_spelling
@@ -42,7 +42,7 @@ kept_size ds s cap kept =
     && nat_le (tree_spelling_length t) greatest_spelling) (fits_part t) whole.0).0 in
     let size = (and_parts (nat_le (len t) 1024)
     (nat_le (tree_spelling_length t) greatest_spelling) first).1 in
-    subst (λ n. n ≤ 524288)
+    subst (λ n. n ≤ 526336)
     (sym (kept.counted ∙ sym (ap spelling_length (entries-with ds kept.rising))))
     (at_most (tree_spelling_length t) size)
 
@@ -65,7 +65,7 @@ pub measured : (ds : Pairs) (s cap : ℕ) (at : Path) (u : Tree) (nodes size cou
     IsMeasured at u nodes size → count ≡ length ds - length (within at ds) + nodes →
     long ≡ s - spelling_length (within at ds) + size → room ≡ (not (length (within at ds) == 0)
     || (not (nat_lt 0 nodes) || nat_lt (kids (parent at) ds) 256)) →
-    (nat_le count 1023 && nat_le long 524288 && room) ≡ fits_replica (replace (tree_with ds) at u)
+    (nat_le count 1023 && nat_le long 526336 && room) ≡ fits_replica (replace (tree_with ds) at u)
 measured ds s cap at u nodes size count long room kept place of counts longs rooms =
     let t = tree_with ds in
     let free = place_free t at place in
@@ -103,7 +103,7 @@ measured ds s cap at u nodes size count long room kept place of counts longs roo
     ∙ (ap₂ (λ a b. a || (not b || nat_lt (kids (parent at) ds) 256)) stands put
     ∙ ap (λ n. is_present t at || (not (is_present u root) || nat_lt n 256)) children) in
     ap₂ (λ a b. a && b) (ap₂ (λ a b. a && b) (sym (one_less count) ∙ ap (λ n. nat_le n 1024) many)
-    (ap (λ n. nat_le n 524288) much)) roomy
+    (ap (λ n. nat_le n 526336) much)) roomy
     ∙ sym (fits-replaced t at u kept.fits of.limits of.paths free.0 free.1
     ∙ ap (λ xs. nat_le (length (replaced at xs (entries u))) 1024 && nat_le
     (spelling_length (replaced at xs (entries u))) greatest_spelling && has_room t at u) es)

@@ -44,21 +44,21 @@ nowhere_paths at u h t =
     ∙ and-false (nat_le (len (replace t at u)) 1024 && nat_le
     (tree_spelling_length (replace t at u)) greatest_spelling && fits_part (replace t at u))
 
-more_than : (n : ℕ) → 524288 < n → nat_le n 524288 ≡ false
+more_than : (n : ℕ) → 526336 < n → nat_le n 526336 ≡ false
 more_than n h = grind (arith, nat_tests)
 
 last_false : (a b c d : Bool) → b ≡ false → (((a && b) && c) && d) ≡ false
 last_false a b c d h = ap (λ x. ((a && x) && c) && d) h ∙ ap (λ x. (x && c) && d) (and-false a)
 
 pub nowhere_size : (at : Path) (u : Tree) (pairs : Pairs) → pairs ≡ under at (entries u) →
-    524288 < spelling_length pairs → FitsNowhere at u
+    526336 < spelling_length pairs → FitsNowhere at u
 nowhere_size at u pairs e h t =
     let es = entries t in
     let all = ap spelling_length (entries-replace t at u) in
     let parts = sum_by-append pair_spelling_length (before at es)
     (under at (entries u) ++ behind at es) in
     let inner = sum_by-append pair_spelling_length (under at (entries u)) (behind at es) in
-    let large : 524288 < spelling_length (entries (replace t at u)) =
+    let large : 526336 < spelling_length (entries (replace t at u)) =
     omega (arith, all, parts, inner, ap spelling_length e, h) in
     last_false (nat_le (len (replace t at u)) 1024)
     (nat_le (tree_spelling_length (replace t at u)) greatest_spelling)

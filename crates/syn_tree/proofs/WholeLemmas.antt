@@ -21,10 +21,10 @@ few n h = grind (arith, nat_tests)
 many : (n : ℕ) → 1023 < n → nat_le (suc n) 1024 ≡ false
 many n h = grind (arith, nat_tests)
 
-small : (n : ℕ) → n ≤ 524288 → nat_le n 524288 ≡ true
+small : (n : ℕ) → n ≤ 526336 → nat_le n 526336 ≡ true
 small n h = grind (arith, nat_tests)
 
-large : (n : ℕ) → 524288 < n → nat_le n 524288 ≡ false
+large : (n : ℕ) → 526336 < n → nat_le n 526336 ≡ false
 large n h = grind (arith, nat_tests)
 
 module _ (u : Tree) (ds : Pairs) (all : rooted ds ≡ entries u) where
@@ -35,10 +35,10 @@ module _ (u : Tree) (ds : Pairs) (all : rooted ds ≡ entries u) where
   size_of = ap spelling_length (sym all) ∙ sum_by-cons pair_spelling_length (root, Directory) ds
 
   pub whole_fits : fits_part u ≡ true → fits_paths u ≡ true → length ds ≤ 1023 →
-      spelling_length ds + 3 ≤ 524288 → fits_replica u ≡ true
+      spelling_length ds + 3 ≤ 526336 → fits_replica u ≡ true
   whole_fits part paths h k =
       ap₂ (λ a b. a && b) (ap₂ (λ a b. a && b) (ap₂ (λ a b. a && b)
-      (ap (λ n. nat_le n 1024) count_of ∙ few (length ds) h) (ap (λ n. nat_le n 524288) size_of
+      (ap (λ n. nat_le n 1024) count_of ∙ few (length ds) h) (ap (λ n. nat_le n 526336) size_of
       ∙ small (3 + spelling_length ds) (omega (arith, k)))) part) paths
 
   pub too_many : 1023 < length ds → fits_replica u ≡ false
@@ -46,10 +46,10 @@ module _ (u : Tree) (ds : Pairs) (all : rooted ds ≡ entries u) where
       ap (λ a. a && nat_le (tree_spelling_length u) greatest_spelling && fits_part u
       && fits_paths u) (ap (λ n. nat_le n 1024) count_of ∙ many (length ds) h)
 
-  pub too_large : 524288 < spelling_length ds + 3 → fits_replica u ≡ false
+  pub too_large : 526336 < spelling_length ds + 3 → fits_replica u ≡ false
   too_large h =
       ap (λ b. nat_le (len u) 1024 && b && fits_part u && fits_paths u)
-      (ap (λ n. nat_le n 524288) size_of ∙ large (3 + spelling_length ds) (omega (arith, h)))
+      (ap (λ n. nat_le n 526336) size_of ∙ large (3 + spelling_length ds) (omega (arith, h)))
       ∙ ap (λ a. a && fits_part u && fits_paths u) (and-false (nat_le (len u) 1024))
 
   pub whole_rising : AreRising (rooted ds)

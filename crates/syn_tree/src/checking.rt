@@ -1,11 +1,12 @@
 //! Why an edit is refused, and what mode a put leaves, whatever form the tree has.
 ghost use Rattle.std.specs.Prelude.{◌≡◌, ◌<◌, ◌^◌, ℕ, List, None, true, length, option_map};
 ghost use Rattle.std.specs.FinMap.{get};
-ghost use Rattle.syn_model.specs.Tree.{Tree as Pairs, is_directory, replace};
-ghost use Rattle.syn_model.specs.Event.{Put, MakeDir, Remove, put_mode};
+ghost use Rattle.syn_model.specs.Contents.{Contents};
+ghost use Rattle.syn_model.specs.Tree.{Tree as Pairs, File, at_root, is_directory, replace};
+ghost use Rattle.syn_model.specs.Event.{Put, MakeDir, Remove, Chmod, put_mode};
 ghost use Rattle.syn_model.specs.Limits.{fits_replica};
 ghost use Rattle.syn_model.specs.Refusal.{first_cause};
-ghost use Rattle.syn_model.specs.Standing.{edit_refusal, place_causes};
+ghost use Rattle.syn_model.specs.Standing.{edit_refusal, full_causes, place_causes};
 ghost use Rattle.syn_tree.specs.Contents.{found_content};
 ghost use Rattle.syn_tree.specs.Edits.{edit_of};
 ghost use Rattle.syn_tree.specs.Lists.{IsMeasured};
@@ -15,7 +16,7 @@ ghost use Rattle.syn_tree.specs.Refusals.{refusal_in};
 use crate::content::Found;
 use crate::edit::Edit;
 use crate::error::TreeError;
-use crate::measures::{LONGEST_FILE, name_spelled};
+use crate::measures::{FILE_FRONT, LONGEST_FILE, name_spelled};
 use crate::mode::Mode;
 use syn_path::Path;
 
@@ -58,6 +59,7 @@ pub fn check<T: Limited>(tree: &T, edit: &Edit) -> Result<(), TreeError>
         Edit::Put(path, bytes) => check_put(tree, path, bytes.len()),
         Edit::MakeDir(path) => check_make_dir(tree, path),
         Edit::Remove(path) => check_remove(tree, path),
+        Edit::Chmod(path, _) => check_chmod(tree, path),
     }
 }
 
@@ -67,7 +69,7 @@ pub fn mode_after_put<T: Limited>(tree: &T, path: &Path) -> Mode
 {
     match tree.get(path) {
         Some(Found::File(mode, _)) => mode,
-        _ => Mode::NewFile,
+        _ => Mode::NEW_FILE,
     }
 }
 
@@ -90,10 +92,21 @@ fn check_put<T: Limited>(tree: &T, path: &Path, size: usize) -> Result<(), TreeE
     if is_directory(tree, path) {
         return Err(TreeError::IsDirectory);
     }
+    check_size(tree, path, size)
+}
+
+/// Why a file of so many bytes may not stand at the path, where something may: it is longer than a
+/// file may be, or the tree would pass a limit (7).
+fn check_size<T: Limited>(tree: &T, path: &Path, size: usize) -> Result<(), TreeError>
+    requires { first_cause (place_causes (T.tree tree.now) path.now) ≡ None }
+    ensures { (contents : Contents) → length contents.bytes ≡ size → refusal_in result
+        ≡ first_cause (full_causes
+        (replace (T.tree tree.now) path.now (at_root (File contents)))) }
+{
     if size > LONGEST_FILE {
         return Err(TreeError::Full);
     }
-    if tree.fits(path, 1, name_spelled(&path.key()) + 5 + size) {
+    if tree.fits(path, 1, name_spelled(&path.key()) + FILE_FRONT + size) {
         Ok(())
     } else {
         Err(TreeError::Full)
@@ -126,4 +139,17 @@ fn check_remove<T: Limited>(tree: &T, path: &Path) -> Result<(), TreeError>
     // what is left keeps the limits that the whole kept
     tree.limits();
     Ok(())
+}
+
+/// Why no mode is changed.
+fn check_chmod<T: Limited>(tree: &T, path: &Path) -> Result<(), TreeError>
+    ensures { (mode : ℕ) → refusal_in result
+        ≡ edit_refusal (T.tree tree.now) (Chmod path.now mode) }
+{
+    tree.check_place(path)?;
+    match tree.get(path) {
+        Some(Found::File(_, bytes)) => check_size(tree, path, bytes.len()),
+        Some(Found::Dir) => Err(TreeError::IsDirectory),
+        None => Err(TreeError::Absent),
+    }
 }

@@ -3,6 +3,7 @@ ghost use Rattle.std.specs.Prelude.{◌≡◌, IfErr, IfOk};
 ghost use Rattle.syn_tree.specs.Edits.{edit_of};
 
 use crate::error::TreeError;
+use crate::mode::Mode;
 use std::alloc::Global;
 use syn_path::Path;
 
@@ -15,6 +16,8 @@ pub enum Edit {
     MakeDir(Path),
     /// Takes out what is there, a directory with all below it.
     Remove(Path),
+    /// Gives the file that is there this mode.
+    Chmod(Path, Mode),
 }
 
 impl Edit {
@@ -30,6 +33,7 @@ impl Edit {
             }
             Edit::MakeDir(path) => Ok(Edit::MakeDir(copied(alloc, path)?)),
             Edit::Remove(path) => Ok(Edit::Remove(copied(alloc, path)?)),
+            Edit::Chmod(path, mode) => Ok(Edit::Chmod(copied(alloc, path)?, *mode)),
         }
     }
 }

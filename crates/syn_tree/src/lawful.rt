@@ -10,7 +10,7 @@ use syn_path::Key;
 pub(crate) fn are_contents(mode: Mode, bytes: &[u8])
     ensures { AreLawfulContents (contents_with (mode_of mode) bytes.now) }
 {
-    mode.is_lawful();
+    let _ = mode.bits();
     let _ = bytes;
 }
 

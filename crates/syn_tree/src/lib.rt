@@ -19,8 +19,9 @@
 //!   path order, which contracts see as the list of those that are left. A `Pair` is lent: its path
 //!   is copied for who needs it, its last name and what stands there are looked at. No call shows
 //!   in what form a tree keeps them.
-//! - A file has a mode beside its bytes (`Mode`), of which there is one as long as nothing changes
-//!   it. `mode_after_put` of `checking` is the mode that a put leaves.
+//! - A file has a mode beside its bytes, the nine bits of a `Mode`. `Mode::new` gives the mode of a
+//!   number, and none exactly where it has more bits (`some`, `none`). `mode_after_put` of
+//!   `checking` is the mode that a put leaves: that of the file there, or a new one's.
 //! - `copy` of a `Node`, of `Entries` and of an `Edit` is an equal one of its own, refused 11 where
 //!   memory is refused (`ok`, `memory`).
 //! - `child_count` is how many names a directory has, and `part_length` how many bytes spell what

@@ -14,7 +14,7 @@ use syn_path::Key;
 use syn_placed::ranges::entry_at;
 
 /// The most bytes of the spelling of a replica's tree.
-pub const LONGEST_SPELLING: usize = 524_288;
+pub const LONGEST_SPELLING: usize = 526_336;
 
 /// The most nodes of a tree below its root.
 pub const MOST_BELOW: usize = 1023;
@@ -24,6 +24,9 @@ pub const MOST_CHILDREN: usize = 256;
 
 /// The most bytes of a file.
 pub const LONGEST_FILE: usize = 16_384;
+
+/// The bytes before those of a file: its kind, its mode and its length.
+pub(crate) const FILE_FRONT: usize = 7;
 
 /// What stands at the path of the key, of entries below a root directory.
 pub(crate) fn find<'a>(list: &'a [Entry], at: &Key) -> Option<Found<'a>>
@@ -67,14 +70,14 @@ pub fn found_spelled(found: &Found<'_>) -> usize
     ensures fits { result < 2 ^ 63 + 8 }
 {
     match found {
-        Found::File(_, bytes) => 5 + bytes.len(),
+        Found::File(_, bytes) => FILE_FRONT + bytes.len(),
         Found::Dir => 3,
     }
 }
 
 /// How many bytes spell the entries.
 pub(crate) fn spelled(list: &[Entry]) -> usize
-    requires { spelling_length list.now ≤ 524288 }
+    requires { spelling_length list.now ≤ 526336 }
     ensures { result ≡ spelling_length list.now }
 {
     let mut size = 0;
@@ -86,8 +89,8 @@ pub(crate) fn spelled(list: &[Entry]) -> usize
 
 /// How many bytes spell the entries; none where that is more than the longest spelling of a tree.
 pub fn measured(list: &[Entry]) -> Option<usize>
-    ensures some { IfSome result (λ size. (size ≡ spelling_length list.now) × (size ≤ 524288)) }
-    ensures none { IfNone result (524288 < spelling_length list.now) }
+    ensures some { IfSome result (λ size. (size ≡ spelling_length list.now) × (size ≤ 526336)) }
+    ensures none { IfNone result (526336 < spelling_length list.now) }
 {
     let mut size = 0;
     for entry in list {
@@ -101,7 +104,7 @@ pub fn measured(list: &[Entry]) -> Option<usize>
 
 /// So many nodes below the root, so many bytes and so many names in each directory are allowed.
 pub fn is_within_limits(count: usize, length: usize, room: bool) -> bool
-    ensures { result ≡ (nat_le count 1023 && nat_le length 524288 && room) }
+    ensures { result ≡ (nat_le count 1023 && nat_le length 526336 && room) }
 {
     count <= MOST_BELOW && length <= LONGEST_SPELLING && room
 }

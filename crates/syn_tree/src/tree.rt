@@ -4,7 +4,7 @@ ghost use Rattle.std.specs.Prelude.{◌≡◌, ◌≢◌, ◌↔◌, ◌⊎◌, 
 ghost use Rattle.std.specs.Prelude.{count_by, true, false, None, Some, option_map};
 ghost use Rattle.std.specs.Prelude.{IfOk, IfErr, OnOk, OnErr};
 ghost use Rattle.syn_model.specs.Tree.{empty_directory, is_directory, subtree, replace};
-ghost use Rattle.syn_model.specs.Event.{after_edit};
+ghost use Rattle.syn_model.specs.Event.{Chmod, Put, after_edit};
 ghost use Rattle.syn_model.specs.Limits.{children, fits_part, fits_paths, fits_replica};
 ghost use Rattle.syn_model.specs.Path.{parent};
 ghost use Rattle.syn_model.specs.Standing.{edit_refusal};
@@ -12,6 +12,7 @@ ghost use Rattle.syn_placed.specs.Pairs.{AreRising, is_child};
 ghost use Rattle.syn_tree.specs.Change.{IsPreparedFor, after_change};
 ghost use Rattle.syn_tree.specs.Edits.{edit_of};
 ghost use Rattle.syn_tree.specs.Lists.{listing, contents_at, replace_refusal};
+ghost use Rattle.syn_tree.specs.Modes.{mode_of};
 ghost use Rattle.syn_tree.specs.Nodes.{part_of};
 ghost use Rattle.syn_tree.specs.Refusals.{refusal_of, refusal_in};
 
@@ -26,6 +27,7 @@ use crate::lawful::are_contents;
 use crate::measures::{
     LONGEST_SPELLING, MOST_BELOW, MOST_CHILDREN, is_within_limits, measured, spelled,
 };
+use crate::mode::Mode;
 use crate::node::Node;
 use crate::parts::{below, children, kinds};
 use crate::placing::placed;
@@ -37,7 +39,7 @@ use syn_placed::ranges::{count_children, is_directory, part_at, replace_part};
 mod reading;
 
 /// A file tree whose root is a directory, within the limits of a replica: 16,384 bytes a file, 256
-/// entries a directory, 1,024 nodes with the root, 524,288 bytes of spelling, and the limits of a
+/// entries a directory, 1,024 nodes with the root, 526,336 bytes of spelling, and the limits of a
 /// path. Contracts see it as the set of its paths, each with what stands there.
 #[derive(Debug, Drop)]
 pub struct Tree {
@@ -110,14 +112,41 @@ impl Tree {
         ensures memory { IfErr result (λ e. e ≡ TreeError.Memory) }
     {
         match edit {
-            Edit::Put(path, bytes) => {
-                let mode = mode_after_put(self, &path);
-                are_contents(mode, &bytes);
-                Change::one(alloc, &path.key(), Content::File(mode, bytes))
-            }
+            Edit::Put(path, bytes) => self.prepare_put(alloc, &path, bytes),
             Edit::MakeDir(path) => Change::one(alloc, &path.key(), Content::Dir),
             Edit::Remove(path) => Ok(Change::none(alloc, &path.key())),
+            Edit::Chmod(path, mode) => self.prepare_mode(alloc, &path, mode),
         }
+    }
+
+    /// A file with these bytes, ready to be put at the path. Refused 11 where memory is refused.
+    fn prepare_put(&self, alloc: Global, path: &Path, bytes: Vec<u8>) -> Result<Change, TreeError>
+        requires { edit_refusal self.now (Put path.now bytes.items) ≡ None }
+        ensures ready { IfOk result (λ change. IsPreparedFor self.now change) }
+        ensures gives { IfOk result (λ change. after_change self.now change
+            ≡ after_edit self.now (Put path.now bytes.items)) }
+        ensures memory { IfErr result (λ e. e ≡ TreeError.Memory) }
+    {
+        let mode = mode_after_put(self, path);
+        are_contents(mode, &bytes);
+        Change::one(alloc, &path.key(), Content::File(mode, bytes))
+    }
+
+    /// The file at the path with another mode, ready to be put there. Refused 11 where memory is
+    /// refused.
+    fn prepare_mode(&self, alloc: Global, path: &Path, mode: Mode) -> Result<Change, TreeError>
+        requires { edit_refusal self.now (Chmod path.now (mode_of mode)) ≡ None }
+        ensures ready { IfOk result (λ change. IsPreparedFor self.now change) }
+        ensures gives { IfOk result (λ change. after_change self.now change
+            ≡ after_edit self.now (Chmod path.now (mode_of mode))) }
+        ensures memory { IfErr result (λ e. e ≡ TreeError.Memory) }
+    {
+        let Some(Found::File(_, bytes)) = self.get(path) else {
+            unreachable!()
+        };
+        are_contents(mode, bytes);
+        let bytes = Vec::from_slice(alloc, bytes)?;
+        Change::one(alloc, &path.key(), Content::File(mode, bytes))
     }
 
     /// The replacement of all that is at and below the path, ready to be made, with all memory for

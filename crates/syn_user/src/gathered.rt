@@ -7,7 +7,7 @@ use crate::error::UserError;
 use std::alloc::Global;
 use syn_message::LONGEST_PIECE;
 use syn_tree::{LONGEST_SPELLING, Tree};
-use syn_wire::decode_tree;
+use syn_wire::{Version, decode_tree};
 
 /// The pieces that came of the spelling of a tree, one behind the other. How long the whole is, the
 /// first of them tells.
@@ -71,7 +71,7 @@ impl Gathered {
     pub(crate) fn tree(&self, alloc: Global) -> Result<Tree, UserError>
         ensures { IfOk result (λ tree. spelling tree ≡ self.now.bytes.items) }
     {
-        match decode_tree(alloc, &self.bytes) {
+        match decode_tree(alloc, Version::Two, &self.bytes) {
             Ok(Some((tree, []))) => Ok(tree),
             Ok(_) => Err(UserError::BadMessage),
             Err(_) => Err(UserError::Memory),

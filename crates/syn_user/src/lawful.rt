@@ -5,10 +5,12 @@ ghost use Rattle.syn_link.specs.Frames.{IsBody};
 ghost use Rattle.syn_link.specs.declared.frames.TheConstants.{MAX_BODY};
 ghost use Rattle.syn_message.specs.Users.{IsLawfulWish, IsLawfulWished, wish_fields, wish_of};
 ghost use Rattle.syn_message.specs.Users.{wished_of, wished_spelling};
+ghost use Rattle.syn_model.specs.Contents.{IsMode};
 ghost use Rattle.syn_model.specs.Event.{AreBytes, Edited};
 ghost use Rattle.syn_model.specs.Path.{IsPath};
 ghost use Rattle.syn_model.specs.Spelling.{event_spelling};
 ghost use Rattle.syn_tree.specs.Edits.{edit_of};
+ghost use Rattle.syn_tree.specs.Modes.{mode_of};
 ghost use Rattle.syn_user.specs.Exchanges.{IsTooLong};
 ghost use Rattle.syn_user.specs.inner.Parts.{HasNoBody};
 ghost use Rattle.syn_wire.specs.Events.{IsSpelledEvent};
@@ -19,7 +21,7 @@ use syn_link::MAX_BODY;
 use syn_message::{AskedByUser, UserRequest, encode_user_request};
 use syn_path::Path;
 use syn_refusal::Refusal;
-use syn_tree::Edit;
+use syn_tree::{Edit, Mode};
 
 /// The body of the request. Refused 7 where a frame takes no body of its length, and 11 where
 /// memory is refused.
@@ -71,7 +73,17 @@ fn is_lawful_edit(user: u32, edit: &Edit) -> bool
         Edit::Put(path, bytes) => is_path(path) && is_short(bytes),
         Edit::MakeDir(path) => is_path(path),
         Edit::Remove(path) => is_path(path),
+        Edit::Chmod(path, mode) => is_path(path) && is_mode(*mode),
     }
+}
+
+/// Each mode is lawful.
+fn is_mode(mode: Mode) -> bool
+    ensures lawful { IsMode (mode_of mode) }
+    ensures always { result ≡ true }
+{
+    let _ = mode.bits();
+    true
 }
 
 /// Each path is lawful.

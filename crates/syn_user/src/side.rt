@@ -24,8 +24,8 @@ use syn_tree::Tree;
 /// The session that the requests are of. A replica tells what it has to each, whichever began last.
 pub(crate) const SESSION: u64 = 1;
 
-/// The most pieces of a tree: one has 32,768 bytes, and a tree at most 524,288.
-const MOST_PIECES: u32 = 16;
+/// The most pieces of a tree: one has 32,768 bytes, and a tree at most 526,336.
+const MOST_PIECES: u32 = 17;
 
 /// How often the whole tree is begun anew, where somebody edits meanwhile.
 const MOST_TRIES: u32 = 100;

@@ -1,20 +1,23 @@
 -- The spelling of an event tells it.
 use Rattle.std.proofs.Common.{◌≡◌, ◌≢◌, ℕ, ◌∷◌, ◌++◌, length, sym, ap, ◌∙◌, None, append_assoc}
-use Rattle.std.proofs.Common.{arith}
+use Rattle.std.proofs.Common.{arith, subst, Option}
 use Rattle.std.specs.Int.{to_be_bytes, w32}
 use Rattle.syn_model.specs.Path.{Bytes, Path, IsPath, path_spelling}
+use Rattle.syn_model.specs.Version.{Version, One}
+use Rattle.syn_model.specs.Contents.{IsMode}
 use Rattle.syn_model.specs.Tree.{Tree}
-use Rattle.syn_model.specs.Event.{Token, Edited, Began, Replaced, Put, MakeDir, Remove}
-use Rattle.syn_model.specs.Event.{IsLawfulToken}
-use Rattle.syn_model.specs.Spelling.{spelling, token_spelling, event_spelling}
+use Rattle.syn_model.specs.Event.{Event, Token, Edited, Began, Replaced, Put, MakeDir, Remove}
+use Rattle.syn_model.specs.Event.{Chmod, IsLawfulToken}
+use Rattle.syn_model.specs.Spelling.{event_spelling_in, spelling_in, token_spelling}
 use Rattle.syn_model.specs.Laws.{NoSpellingBeginsAnother}
 use Rattle.syn_wire.specs.Reads.{IsReading, NoneBeginsAnother}
-use Rattle.syn_wire.specs.Events.{Both, IsFile, IsNumber32, IsNumber64, IsSpelledEvent}
-use Rattle.syn_wire.specs.Events.{both_spelling, file_spelling, number_spelling, number64_spelling}
-use Rattle.syn_wire.specs.Trees.{IsOptionalTree}
+use Rattle.syn_wire.specs.Events.{Both, IsEventInEach, IsFile, IsNumber32, IsNumber64}
+use Rattle.syn_wire.specs.Events.{IsSpelledEventIn, both_spelling, file_spelling, mode_spelling}
+use Rattle.syn_wire.specs.Events.{number_spelling, number64_spelling}
+use Rattle.syn_wire.specs.Trees.{IsOptionalTreeIn}
 use Rattle.syn_wire.specs.Laws.{NoEventBeginsAnother}
 use Rattle.syn_wire.proofs.NameLemmas.{split, paths_tell, first_or, rest_of}
-use Rattle.syn_wire.proofs.NumberLemmas.{u32_tells, u64_tells}
+use Rattle.syn_wire.proofs.NumberLemmas.{u16_tells, u32_tells, u64_tells}
 use Rattle.syn_wire.proofs.Sequences.{both_tell}
 
 -- ---- parts
@@ -44,6 +47,19 @@ place_tells = both_tell IsNumber32 IsPath number_spelling path_spelling u32_tell
 put_tells : NoneBeginsAnother IsPutOf put_spelling
 put_tells = both_tell IsPlace IsFile place_spelling file_spelling place_tells file_tells
 
+pub mode_tells : NoneBeginsAnother IsMode mode_spelling
+mode_tells m n r s hm hn e = u16_tells m n r s (omega (arith, hm)) (omega (arith, hn)) e
+
+-- a user, a path and a mode in a row
+abbrev pub IsChmodOf : (ℕ × Path) × ℕ → Type 0
+IsChmodOf = Both IsPlace IsMode
+
+abbrev pub chmod_spelling : (ℕ × Path) × ℕ → Bytes
+chmod_spelling = both_spelling place_spelling mode_spelling
+
+chmod_tells : NoneBeginsAnother IsChmodOf chmod_spelling
+chmod_tells = both_tell IsPlace IsMode place_spelling mode_spelling place_tells mode_tells
+
 pub token_tells : NoneBeginsAnother IsLawfulToken token_spelling
 token_tells v w r s hv hw e =
     let both = both_tell IsNumber64 IsNumber32 number64_spelling number_spelling u64_tells u32_tells
@@ -63,11 +79,11 @@ IsSince = Both IsItem IsNumber64
 abbrev pub since_spelling : (Token × Path) × ℕ → Bytes
 since_spelling = both_spelling item_spelling number64_spelling
 
-abbrev pub IsReplacement : ((Token × Path) × ℕ) × Tree → Type 0
-IsReplacement = Both IsSince IsOptionalTree
+abbrev pub IsReplacement : Version → ((Token × Path) × ℕ) × Tree → Type 0
+IsReplacement version = Both IsSince (IsOptionalTreeIn version)
 
-abbrev pub replacement_spelling : ((Token × Path) × ℕ) × Tree → Bytes
-replacement_spelling = both_spelling since_spelling spelling
+abbrev pub replacement_spelling : Version → ((Token × Path) × ℕ) × Tree → Bytes
+replacement_spelling version = both_spelling since_spelling (spelling_in version)
 
 pub item_tells : NoneBeginsAnother IsItem item_spelling
 item_tells = both_tell IsLawfulToken IsPath token_spelling path_spelling token_tells paths_tell
@@ -75,19 +91,21 @@ item_tells = both_tell IsLawfulToken IsPath token_spelling path_spelling token_t
 pub since_tells : NoneBeginsAnother IsSince since_spelling
 since_tells = both_tell IsItem IsNumber64 item_spelling number64_spelling item_tells u64_tells
 
-replacement_tells : NoSpellingBeginsAnother → NoneBeginsAnother IsReplacement replacement_spelling
-replacement_tells trees =
-    both_tell IsSince IsOptionalTree since_spelling spelling since_tells
-    (λ t u r s ht hu e. trees t u r s ht.part hu.part ht.fits hu.fits e)
+replacement_tells : NoSpellingBeginsAnother → (version : Version) →
+    NoneBeginsAnother (IsReplacement version) (replacement_spelling version)
+replacement_tells trees version =
+    both_tell IsSince (IsOptionalTreeIn version) since_spelling (spelling_in version) since_tells
+    (λ t u r s ht hu e. trees version t u r s ht.part hu.part ht.fits hu.fits e)
 
-pub replacement_parts : (token : Token) (path : Path) (since : ℕ) (new : Tree) (rest : Bytes) →
-    event_spelling (Replaced token path since new) ++ rest
-    ≡ 5 ∷ (replacement_spelling (((token, path), since), new) ++ rest)
-replacement_parts token path since new rest =
+pub replacement_parts : (version : Version) (token : Token) (path : Path) (since : ℕ) (new : Tree)
+    (rest : Bytes) → event_spelling_in version (Replaced token path since new) ++ rest
+    ≡ 5 ∷ (replacement_spelling version (((token, path), since), new) ++ rest)
+replacement_parts version token path since new rest =
     ap (λ xs. 5 ∷ (xs ++ rest)) (
     sym (append_assoc (token_spelling token) (path_spelling path)
-    (number64_spelling since ++ spelling new))
-    ∙ sym (append_assoc (item_spelling (token, path)) (number64_spelling since) (spelling new))
+    (number64_spelling since ++ spelling_in version new))
+    ∙ sym (append_assoc (item_spelling (token, path)) (number64_spelling since)
+    (spelling_in version new))
     )
 
 -- ---- kinds
@@ -96,127 +114,179 @@ other_kind : {X : Type 0} (a b : ℕ) (x y : Bytes) → a ≢ b → a ∷ x ≡ 
 other_kind a b x y differ e = absurd (differ (ap (λ z. first_or z 0) e))
 
 -- the parts of a put in a row
-pub put_parts : (user : ℕ) (path : Path) (bytes rest : Bytes) → event_spelling
-    (Edited user (Put path bytes)) ++ rest ≡ 1 ∷ (put_spelling ((user, path), bytes) ++ rest)
-put_parts user path bytes rest =
+pub put_parts : (version : Version) (user : ℕ) (path : Path) (bytes rest : Bytes) →
+    event_spelling_in version (Edited user (Put path bytes)) ++ rest
+    ≡ 1 ∷ (put_spelling ((user, path), bytes) ++ rest)
+put_parts version user path bytes rest =
     ap (λ xs. 1 ∷ (xs ++ rest))
     (sym (append_assoc (number_spelling user) (path_spelling path) (file_spelling bytes)))
 
+-- and those of a change of a mode
+pub chmod_parts : (version : Version) (user : ℕ) (path : Path) (mode : ℕ) (rest : Bytes) →
+    event_spelling_in version (Edited user (Chmod path mode)) ++ rest
+    ≡ 6 ∷ (chmod_spelling ((user, path), mode) ++ rest)
+chmod_parts version user path mode rest =
+    ap (λ xs. 6 ∷ (xs ++ rest))
+    (sym (append_assoc (number_spelling user) (path_spelling path) (mode_spelling mode)))
+
 pub event_tells : NoSpellingBeginsAnother → NoEventBeginsAnother
-event_tells trees (Edited u (Put p b)) (Edited v (Put q c)) r s hv hw e =
+event_tells trees version (Edited u (Put p b)) (Edited v (Put q c)) r s hv hw e =
     let same = put_tells ((u, p), b) ((v, q), c) r s
     ((hv.0.0, hv.0.1.0), record { bytes = hv.0.1.1; brief = hv.1 })
     ((hw.0.0, hw.0.1.0), record { bytes = hw.0.1.1; brief = hw.1 })
-    (ap rest_of (sym (put_parts u p b r) ∙ (e ∙ put_parts v q c s))) in
+    (ap rest_of (sym (put_parts version u p b r) ∙ (e ∙ put_parts version v q c s))) in
     (ap (λ x. Edited x.0.0 (Put x.0.1 x.1)) same.0, same.1)
-event_tells trees (Edited a (Put b c)) (Edited w (MakeDir x)) r s hv hw e =
+event_tells trees version (Edited a (Put b c)) (Edited w (MakeDir x)) r s hv hw e =
     other_kind 1 2 _ _ (λ same. omega (arith, same)) e
-event_tells trees (Edited a (Put b c)) (Edited w (Remove x)) r s hv hw e =
+event_tells trees version (Edited a (Put b c)) (Edited w (Remove x)) r s hv hw e =
     other_kind 1 3 _ _ (λ same. omega (arith, same)) e
-event_tells trees (Edited a (Put b c)) (Began w) r s hv hw e =
+event_tells trees version (Edited a (Put b c)) (Began w) r s hv hw e =
     other_kind 1 4 _ _ (λ same. omega (arith, same)) e
-event_tells trees (Edited a (Put b c)) (Replaced w x y z) r s hv hw e =
+event_tells trees version (Edited a (Put b c)) (Replaced w x y z) r s hv hw e =
     other_kind 1 5 _ _ (λ same. omega (arith, same)) e
-event_tells trees (Edited a (MakeDir b)) (Edited w (Put x y)) r s hv hw e =
+event_tells trees version (Edited a (Put b c)) (Edited w (Chmod x y)) r s hv hw e =
+    other_kind 1 6 _ _ (λ same. omega (arith, same)) e
+event_tells trees version (Edited a (MakeDir b)) (Edited w (Put x y)) r s hv hw e =
     other_kind 2 1 _ _ (λ same. omega (arith, same)) e
-event_tells trees (Edited u (MakeDir p)) (Edited v (MakeDir q)) r s hv hw e =
+event_tells trees version (Edited u (MakeDir p)) (Edited v (MakeDir q)) r s hv hw e =
     let same = place_tells (u, p) (v, q) r s hv.0 hw.0 (ap rest_of e) in
     (ap (λ x. Edited x.0 (MakeDir x.1)) same.0, same.1)
-event_tells trees (Edited a (MakeDir b)) (Edited w (Remove x)) r s hv hw e =
+event_tells trees version (Edited a (MakeDir b)) (Edited w (Remove x)) r s hv hw e =
     other_kind 2 3 _ _ (λ same. omega (arith, same)) e
-event_tells trees (Edited a (MakeDir b)) (Began w) r s hv hw e =
+event_tells trees version (Edited a (MakeDir b)) (Began w) r s hv hw e =
     other_kind 2 4 _ _ (λ same. omega (arith, same)) e
-event_tells trees (Edited a (MakeDir b)) (Replaced w x y z) r s hv hw e =
+event_tells trees version (Edited a (MakeDir b)) (Replaced w x y z) r s hv hw e =
     other_kind 2 5 _ _ (λ same. omega (arith, same)) e
-event_tells trees (Edited a (Remove b)) (Edited w (Put x y)) r s hv hw e =
+event_tells trees version (Edited a (MakeDir b)) (Edited w (Chmod x y)) r s hv hw e =
+    other_kind 2 6 _ _ (λ same. omega (arith, same)) e
+event_tells trees version (Edited a (Remove b)) (Edited w (Put x y)) r s hv hw e =
     other_kind 3 1 _ _ (λ same. omega (arith, same)) e
-event_tells trees (Edited a (Remove b)) (Edited w (MakeDir x)) r s hv hw e =
+event_tells trees version (Edited a (Remove b)) (Edited w (MakeDir x)) r s hv hw e =
     other_kind 3 2 _ _ (λ same. omega (arith, same)) e
-event_tells trees (Edited u (Remove p)) (Edited v (Remove q)) r s hv hw e =
+event_tells trees version (Edited u (Remove p)) (Edited v (Remove q)) r s hv hw e =
     let same = place_tells (u, p) (v, q) r s hv.0 hw.0 (ap rest_of e) in
     (ap (λ x. Edited x.0 (Remove x.1)) same.0, same.1)
-event_tells trees (Edited a (Remove b)) (Began w) r s hv hw e =
+event_tells trees version (Edited a (Remove b)) (Began w) r s hv hw e =
     other_kind 3 4 _ _ (λ same. omega (arith, same)) e
-event_tells trees (Edited a (Remove b)) (Replaced w x y z) r s hv hw e =
+event_tells trees version (Edited a (Remove b)) (Replaced w x y z) r s hv hw e =
     other_kind 3 5 _ _ (λ same. omega (arith, same)) e
-event_tells trees (Began a) (Edited w (Put x y)) r s hv hw e =
+event_tells trees version (Edited a (Remove b)) (Edited w (Chmod x y)) r s hv hw e =
+    other_kind 3 6 _ _ (λ same. omega (arith, same)) e
+event_tells trees version (Began a) (Edited w (Put x y)) r s hv hw e =
     other_kind 4 1 _ _ (λ same. omega (arith, same)) e
-event_tells trees (Began a) (Edited w (MakeDir x)) r s hv hw e =
+event_tells trees version (Began a) (Edited w (MakeDir x)) r s hv hw e =
     other_kind 4 2 _ _ (λ same. omega (arith, same)) e
-event_tells trees (Began a) (Edited w (Remove x)) r s hv hw e =
+event_tells trees version (Began a) (Edited w (Remove x)) r s hv hw e =
     other_kind 4 3 _ _ (λ same. omega (arith, same)) e
-event_tells trees (Began m) (Began n) r s hv hw e =
+event_tells trees version (Began m) (Began n) r s hv hw e =
     let same = u64_tells m n r s hv.0 hw.0 (ap rest_of e) in
     (ap (λ x. Began x) same.0, same.1)
-event_tells trees (Began a) (Replaced w x y z) r s hv hw e =
+event_tells trees version (Began a) (Replaced w x y z) r s hv hw e =
     other_kind 4 5 _ _ (λ same. omega (arith, same)) e
-event_tells trees (Replaced a b c d) (Edited w (Put x y)) r s hv hw e =
+event_tells trees version (Began a) (Edited w (Chmod x y)) r s hv hw e =
+    other_kind 4 6 _ _ (λ same. omega (arith, same)) e
+event_tells trees version (Replaced a b c d) (Edited w (Put x y)) r s hv hw e =
     other_kind 5 1 _ _ (λ same. omega (arith, same)) e
-event_tells trees (Replaced a b c d) (Edited w (MakeDir x)) r s hv hw e =
+event_tells trees version (Replaced a b c d) (Edited w (MakeDir x)) r s hv hw e =
     other_kind 5 2 _ _ (λ same. omega (arith, same)) e
-event_tells trees (Replaced a b c d) (Edited w (Remove x)) r s hv hw e =
+event_tells trees version (Replaced a b c d) (Edited w (Remove x)) r s hv hw e =
     other_kind 5 3 _ _ (λ same. omega (arith, same)) e
-event_tells trees (Replaced a b c d) (Began w) r s hv hw e =
+event_tells trees version (Replaced a b c d) (Began w) r s hv hw e =
     other_kind 5 4 _ _ (λ same. omega (arith, same)) e
-event_tells trees (Replaced t p k new) (Replaced u q l old) r s hv hw e =
-    let same = replacement_tells trees (((t, p), k), new) (((u, q), l), old) r s
+event_tells trees version (Replaced t p k new) (Replaced u q l old) r s hv hw e =
+    let same = replacement_tells trees version (((t, p), k), new) (((u, q), l), old) r s
     (((hv.0.0, hv.0.1), hv.0.2), record { part = hv.0.3; fits = hv.1.0; paths = hv.1.1 })
     (((hw.0.0, hw.0.1), hw.0.2), record { part = hw.0.3; fits = hw.1.0; paths = hw.1.1 })
-    (ap rest_of (sym (replacement_parts t p k new r) ∙ (e ∙ replacement_parts u q l old s))) in
+    (ap rest_of (sym (replacement_parts version t p k new r)
+    ∙ (e ∙ replacement_parts version u q l old s))) in
     (ap (λ x. Replaced x.0.0.0 x.0.0.1 x.0.1 x.1) same.0, same.1)
+event_tells trees version (Replaced a b c d) (Edited w (Chmod x y)) r s hv hw e =
+    other_kind 5 6 _ _ (λ same. omega (arith, same)) e
+event_tells trees version (Edited a (Chmod b c)) (Edited w (Put x y)) r s hv hw e =
+    other_kind 6 1 _ _ (λ same. omega (arith, same)) e
+event_tells trees version (Edited a (Chmod b c)) (Edited w (MakeDir x)) r s hv hw e =
+    other_kind 6 2 _ _ (λ same. omega (arith, same)) e
+event_tells trees version (Edited a (Chmod b c)) (Edited w (Remove x)) r s hv hw e =
+    other_kind 6 3 _ _ (λ same. omega (arith, same)) e
+event_tells trees version (Edited a (Chmod b c)) (Began w) r s hv hw e =
+    other_kind 6 4 _ _ (λ same. omega (arith, same)) e
+event_tells trees version (Edited a (Chmod b c)) (Replaced w x y z) r s hv hw e =
+    other_kind 6 5 _ _ (λ same. omega (arith, same)) e
+event_tells trees version (Edited u (Chmod p m)) (Edited v (Chmod q n)) r s hv hw e =
+    let same = chmod_tells ((u, p), m) ((v, q), n) r s
+    ((hv.0.0, hv.0.1.0), hv.0.1.1) ((hw.0.0, hw.0.1.0), hw.0.1.1)
+    (ap rest_of (sym (chmod_parts version u p m r) ∙ (e ∙ chmod_parts version v q n s))) in
+    (ap (λ x. Edited x.0.0 (Chmod x.0.1 x.1)) same.0, same.1)
 
 -- ---- what is read behind a kind
 
-pub put_none : (fields : Bytes) → IsReading IsPutOf put_spelling fields None →
-    IsReading IsSpelledEvent event_spelling (1 ∷ fields) None
-put_none fields none (Edited user (Put path bytes)) rest begins =
+-- what is read in each version is in this one
+pub in_each : (version : Version) (bytes fields : Bytes) (kind : ℕ)
+    (found : Option (Event × Bytes)) → bytes ≡ kind ∷ fields →
+    IsEventInEach (kind ∷ fields) found →
+    IsReading (IsSpelledEventIn version) (event_spelling_in version) bytes found
+in_each version bytes fields kind found whole each =
+    subst (λ b. IsReading (IsSpelledEventIn version) (event_spelling_in version) b found)
+    (sym whole)
+    (each version)
+
+pub put_none : (version : Version) (fields : Bytes) → IsReading IsPutOf put_spelling fields None →
+    IsReading (IsSpelledEventIn version) (event_spelling_in version) (1 ∷ fields) None
+put_none version fields none (Edited user (Put path bytes)) rest begins =
     none ((user, path), bytes) rest (record {
       lawful = (
         (begins.lawful.0.0, begins.lawful.0.1.0),
         record { bytes = begins.lawful.0.1.1; brief = begins.lawful.1 },
       );
-      spelled = ap rest_of (begins.spelled ∙ put_parts user path bytes rest);
+      spelled = ap rest_of (begins.spelled ∙ put_parts version user path bytes rest);
     })
-put_none fields none (Edited w (MakeDir x)) rest begins =
+put_none version fields none (Edited w (MakeDir x)) rest begins =
     other_kind 1 2 _ _ (λ same. omega (arith, same)) begins.spelled
-put_none fields none (Edited w (Remove x)) rest begins =
+put_none version fields none (Edited w (Remove x)) rest begins =
     other_kind 1 3 _ _ (λ same. omega (arith, same)) begins.spelled
-put_none fields none (Began w) rest begins =
+put_none version fields none (Began w) rest begins =
     other_kind 1 4 _ _ (λ same. omega (arith, same)) begins.spelled
-put_none fields none (Replaced t p k new) rest begins =
+put_none version fields none (Replaced t p k new) rest begins =
     other_kind 1 5 _ _ (λ same. omega (arith, same)) begins.spelled
+put_none version fields none (Edited w (Chmod x y)) rest begins =
+    other_kind 1 6 _ _ (λ same. omega (arith, same)) begins.spelled
 
-pub make_dir_none : (fields : Bytes) → IsReading IsPlace place_spelling fields None →
-    IsReading IsSpelledEvent event_spelling (2 ∷ fields) None
-make_dir_none fields none (Edited user (MakeDir path)) rest begins =
+pub make_dir_none : (version : Version) (fields : Bytes) → IsReading IsPlace place_spelling fields
+    None → IsReading (IsSpelledEventIn version) (event_spelling_in version) (2 ∷ fields) None
+make_dir_none version fields none (Edited user (MakeDir path)) rest begins =
     none (user, path) rest
     (record { lawful = begins.lawful.0; spelled = ap rest_of begins.spelled })
-make_dir_none fields none (Edited w (Put x y)) rest begins =
+make_dir_none version fields none (Edited w (Put x y)) rest begins =
     other_kind 2 1 _ _ (λ same. omega (arith, same)) begins.spelled
-make_dir_none fields none (Edited w (Remove x)) rest begins =
+make_dir_none version fields none (Edited w (Remove x)) rest begins =
     other_kind 2 3 _ _ (λ same. omega (arith, same)) begins.spelled
-make_dir_none fields none (Began w) rest begins =
+make_dir_none version fields none (Began w) rest begins =
     other_kind 2 4 _ _ (λ same. omega (arith, same)) begins.spelled
-make_dir_none fields none (Replaced t p k new) rest begins =
+make_dir_none version fields none (Replaced t p k new) rest begins =
     other_kind 2 5 _ _ (λ same. omega (arith, same)) begins.spelled
+make_dir_none version fields none (Edited w (Chmod x y)) rest begins =
+    other_kind 2 6 _ _ (λ same. omega (arith, same)) begins.spelled
 
-pub remove_none : (fields : Bytes) → IsReading IsPlace place_spelling fields None →
-    IsReading IsSpelledEvent event_spelling (3 ∷ fields) None
-remove_none fields none (Edited user (Remove path)) rest begins =
+pub remove_none : (version : Version) (fields : Bytes) → IsReading IsPlace place_spelling fields
+    None → IsReading (IsSpelledEventIn version) (event_spelling_in version) (3 ∷ fields) None
+remove_none version fields none (Edited user (Remove path)) rest begins =
     none (user, path) rest
     (record { lawful = begins.lawful.0; spelled = ap rest_of begins.spelled })
-remove_none fields none (Edited w (Put x y)) rest begins =
+remove_none version fields none (Edited w (Put x y)) rest begins =
     other_kind 3 1 _ _ (λ same. omega (arith, same)) begins.spelled
-remove_none fields none (Edited w (MakeDir x)) rest begins =
+remove_none version fields none (Edited w (MakeDir x)) rest begins =
     other_kind 3 2 _ _ (λ same. omega (arith, same)) begins.spelled
-remove_none fields none (Began w) rest begins =
+remove_none version fields none (Began w) rest begins =
     other_kind 3 4 _ _ (λ same. omega (arith, same)) begins.spelled
-remove_none fields none (Replaced t p k new) rest begins =
+remove_none version fields none (Replaced t p k new) rest begins =
     other_kind 3 5 _ _ (λ same. omega (arith, same)) begins.spelled
+remove_none version fields none (Edited w (Chmod x y)) rest begins =
+    other_kind 3 6 _ _ (λ same. omega (arith, same)) begins.spelled
 
-pub replaced_none : (fields : Bytes) → IsReading IsReplacement replacement_spelling fields None →
-    IsReading IsSpelledEvent event_spelling (5 ∷ fields) None
-replaced_none fields none (Replaced token path since new) rest begins =
+pub replaced_none : (version : Version) (fields : Bytes) →
+    IsReading (IsReplacement version) (replacement_spelling version) fields None →
+    IsReading (IsSpelledEventIn version) (event_spelling_in version) (5 ∷ fields) None
+replaced_none version fields none (Replaced token path since new) rest begins =
     none (((token, path), since), new) rest (record {
       lawful = (
         ((begins.lawful.0.0, begins.lawful.0.1), begins.lawful.0.2),
@@ -227,13 +297,48 @@ replaced_none fields none (Replaced token path since new) rest begins =
           paths = begins.lawful.1.1;
         },
       );
-      spelled = ap rest_of (begins.spelled ∙ replacement_parts token path since new rest);
+      spelled = ap rest_of (begins.spelled ∙ replacement_parts version token path since new rest);
     })
-replaced_none fields none (Edited w (Put x y)) rest begins =
+replaced_none version fields none (Edited w (Put x y)) rest begins =
     other_kind 5 1 _ _ (λ same. omega (arith, same)) begins.spelled
-replaced_none fields none (Edited w (MakeDir x)) rest begins =
+replaced_none version fields none (Edited w (MakeDir x)) rest begins =
     other_kind 5 2 _ _ (λ same. omega (arith, same)) begins.spelled
-replaced_none fields none (Edited w (Remove x)) rest begins =
+replaced_none version fields none (Edited w (Remove x)) rest begins =
     other_kind 5 3 _ _ (λ same. omega (arith, same)) begins.spelled
-replaced_none fields none (Began w) rest begins =
+replaced_none version fields none (Began w) rest begins =
     other_kind 5 4 _ _ (λ same. omega (arith, same)) begins.spelled
+replaced_none version fields none (Edited w (Chmod x y)) rest begins =
+    other_kind 5 6 _ _ (λ same. omega (arith, same)) begins.spelled
+
+pub chmod_none : (version : Version) (fields : Bytes) → IsReading IsChmodOf chmod_spelling fields
+    None → IsReading (IsSpelledEventIn version) (event_spelling_in version) (6 ∷ fields) None
+chmod_none version fields none (Edited user (Chmod path mode)) rest begins =
+    none ((user, path), mode) rest (record {
+      lawful = ((begins.lawful.0.0, begins.lawful.0.1.0), begins.lawful.0.1.1);
+      spelled = ap rest_of (begins.spelled ∙ chmod_parts version user path mode rest);
+    })
+chmod_none version fields none (Edited w (Put x y)) rest begins =
+    other_kind 6 1 _ _ (λ same. omega (arith, same)) begins.spelled
+chmod_none version fields none (Edited w (MakeDir x)) rest begins =
+    other_kind 6 2 _ _ (λ same. omega (arith, same)) begins.spelled
+chmod_none version fields none (Edited w (Remove x)) rest begins =
+    other_kind 6 3 _ _ (λ same. omega (arith, same)) begins.spelled
+chmod_none version fields none (Began w) rest begins =
+    other_kind 6 4 _ _ (λ same. omega (arith, same)) begins.spelled
+chmod_none version fields none (Replaced t p k new) rest begins =
+    other_kind 6 5 _ _ (λ same. omega (arith, same)) begins.spelled
+
+-- in the first version no mode is changed
+pub chmod_never : (fields : Bytes) →
+    IsReading (IsSpelledEventIn One) (event_spelling_in One) (6 ∷ fields) None
+chmod_never fields (Edited user (Chmod path mode)) rest begins = begins.lawful.0.1.2
+chmod_never fields (Edited w (Put x y)) rest begins =
+    other_kind 6 1 _ _ (λ same. omega (arith, same)) begins.spelled
+chmod_never fields (Edited w (MakeDir x)) rest begins =
+    other_kind 6 2 _ _ (λ same. omega (arith, same)) begins.spelled
+chmod_never fields (Edited w (Remove x)) rest begins =
+    other_kind 6 3 _ _ (λ same. omega (arith, same)) begins.spelled
+chmod_never fields (Began w) rest begins =
+    other_kind 6 4 _ _ (λ same. omega (arith, same)) begins.spelled
+chmod_never fields (Replaced t p k new) rest begins =
+    other_kind 6 5 _ _ (λ same. omega (arith, same)) begins.spelled

@@ -10,6 +10,7 @@ use Rattle.syn_model.specs.Tree.{Tree, Content, Pair, File, IsPart, is_present, 
 use Rattle.syn_model.specs.Limits.{children, fits_content, fits_part}
 use Rattle.syn_model.specs.Spelling.{content_spelling}
 use Rattle.syn_model.proofs.ToldSpellings.{contents_tell, digests_tell, marks_below}
+use Rattle.syn_model.proofs.VersionLemmas.{part_now}
 use Rattle.syn_model.proofs.SubtreeLemmas.{subtree-fits, subtree-is_part, subtree_smaller}
 use Rattle.syn_wire.specs.inner.Kinds.{Kind, OfContents, OfMarks, spelling_of, file_spelling_of}
 use Rattle.syn_wire.specs.inner.Kinds.{IsFileOf, IsPartOf}
@@ -29,36 +30,41 @@ root_fits t c h is =
 
 pub unfolds : (kind : Kind) (t : Tree) →
     spelling_of kind t ≡ content_spelling (file_spelling_of kind) (spelling_of kind) t (get t root)
-unfolds OfContents t = tree_unfolds t
-unfolds OfMarks t = mark_unfolds t
+unfolds (OfContents version) t = tree_unfolds version t
+unfolds (OfMarks version) t = mark_unfolds version t
 
 pub is_part : (kind : Kind) (t : Tree) → IsPartOf kind t → IsPart t
-is_part OfContents t h = h.0
-is_part OfMarks t h = h.0.part
+is_part (OfContents version) t h = part_now version t h.0
+is_part (OfMarks version) t h = part_now version t h.0.part
 
 pub is_file : (kind : Kind) (t : Tree) → IsPartOf kind t → (c : Contents) →
     get t root ≡ Some (File c) → IsFileOf kind c
-is_file OfContents t h c is =
+is_file (OfContents version) t h c is =
     let short = leb-true (length c.bytes) 16384 (root_fits t (File c) h.1 is).0 in
     (h.0.lawful root c is, omega (arith, short))
-is_file OfMarks t h c is = (h.0.part.lawful root c is, h.0.digests root c is)
+is_file (OfMarks version) t h c is = (h.0.part.lawful root c is, h.0.digests root c is)
 
 pub has_few : (kind : Kind) (t : Tree) → IsPartOf kind t → (c : Content) → get t root ≡ Some c →
     length (children t root) < 2 ^ 16
-has_few OfContents t h c is =
+has_few (OfContents version) t h c is =
     let small = leb-true (length (children t root)) 256 (root_fits t c h.1 is).1 in
     omega (arith, small)
-has_few OfMarks t h c is = let small = few_children t root h.1 in omega (arith, small)
+has_few (OfMarks version) t h c is = let small = few_children t root h.1 in omega (arith, small)
 
 pub is_part_below : (kind : Kind) (t : Tree) (n : Name) → is_present t root ≡ true →
     IsPartOf kind t → IsPartOf kind (subtree t (n ∷ []))
-is_part_below OfContents t n is h = (subtree-is_part t (n ∷ []) h.0, subtree-fits t (n ∷ []) h.1)
-is_part_below OfMarks t n is h =
+is_part_below (OfContents version) t n is h = (
+  subtree-is_part t (n ∷ []) h.0,
+  subtree-fits t
+      (n ∷ []) h.1,
+)
+is_part_below (OfMarks version) t n is h =
     let small = subtree_smaller t n [] is in
     let few = h.1 in
     (marks_below t (n ∷ []) h.0, omega (arith, small, few))
 
 -- a spelling of a file tells it
 pub files_tell : (kind : Kind) → NoneBeginsAnother (IsFileOf kind) (file_spelling_of kind)
-files_tell OfContents v w r s hv hw e = contents_tell v w r s hv.0 hw.0 hv.1 hw.1 e
-files_tell OfMarks v w r s hv hw e = digests_tell v w r s hv hw e
+files_tell (OfContents version) v w r s hv hw e =
+    contents_tell version v w r s hv.0 hw.0 hv.1 hw.1 e
+files_tell (OfMarks version) v w r s hv hw e = digests_tell version v w r s hv hw e

@@ -3,6 +3,7 @@ pub mod NumberLemmas
 pub mod Sequences
 pub mod EventLemmas
 pub mod ByteLemmas
+pub mod ContentLemmas
 pub mod GroupLemmas
 pub mod WalkLemmas
 pub mod MarkLemmas

@@ -24,10 +24,10 @@ use Rattle.syn_placed.proofs.OrderLemmas.{under_order}
 use Rattle.syn_placed.proofs.RisingLemmas.{Rising, After, each-append, each-map, are_rising}
 use Rattle.syn_placed.proofs.RisingLemmas.{rising_of, each-both}
 use Rattle.syn_placed.proofs.TreeLemmas.{entries-rising, entries-subtree, get-rising, taken}
-use Rattle.syn_wire.specs.inner.Kinds.{Kind, IsFileOf, file_spelling_of, spelling_of}
+use Rattle.syn_wire.specs.inner.Kinds.{Kind, IsContentOf, IsFileOf, file_spelling_of, spelling_of}
 use Rattle.syn_wire.specs.Reads.{BeginsWith}
 use Rattle.syn_wire.specs.Trees.{last_name_spelling}
-use Rattle.syn_wire.specs.inner.Parts.{IsChildOf, PartIsRead, PartsAreRead}
+use Rattle.syn_wire.specs.inner.Parts.{AreContentsOf, IsChildOf, PartIsRead, PartsAreRead}
 use Rattle.syn_wire.proofs.GroupLemmas.{tops}
 use Rattle.syn_wire.proofs.KindLemmas.{unfolds}
 use Rattle.syn_wire.proofs.PartsLemmas.{child_name, own_pair}
@@ -174,6 +174,7 @@ pub record ListedSoFar (kind : Kind) (at : Path) (count : ℕ) (bytes left : Byt
   pub added : new ≡ old ++ under at (listed_pairs listed)
   pub spelled : AllByRecursion (λ l. Rising l.1) listed →
       bytes ≡ listed_spelling kind listed ++ left
+  pub files : AreContentsOf kind (listed_pairs listed)
 
 each-front : {X : Type 0} (P : X → Type 0) (xs ys : List X) → AllByRecursion P (xs ++ ys) →
     AllByRecursion P xs × AllByRecursion P ys
@@ -253,6 +254,7 @@ module _ (kind : Kind) where
       spelled =
           λ _. ap (λ b. 1 ∷ b) found.spelled
           ∙ ap (λ b. b ++ left) (sym (file_of_pair file));
+      files = (found.lawful, tt);
     },
   )
 
@@ -274,8 +276,13 @@ module _ (kind : Kind) where
           below = read.0;
           whole = refl;
           spelled = λ rising. ap (λ b. 2 ∷ b) found.spelled ∙ read.2 rising;
+          files = (tt, read.3);
         },
       )
+
+  files_under : (at : Path) (es : Pairs) → AreContentsOf kind es → AreContentsOf kind (under at es)
+  files_under at [] h = tt
+  files_under at (e ∷ es) h = (h.0, files_under at es h.1)
 
   pub none_listed : (at : Path) (bytes : Bytes) (old : Pairs) →
       ListedSoFar kind at 0 bytes bytes old old
@@ -286,6 +293,7 @@ module _ (kind : Kind) where
         begin = tt;
         added = sym (append-nil old);
         spelled = λ _. refl;
+        files = tt;
       }
 
   pub one_listed : (at : Path) (count : ℕ) (bytes left after left' : Bytes) (path : Path)
@@ -324,6 +332,12 @@ module _ (kind : Kind) where
             ∙ ap (λ b. b ++ left') (ap (λ b. listed_spelling kind listed ++ b)
             (sym (append-nil own)) ∙ sym (flat_map-append (λ (l : Name × Pairs). length l.0 ∷ l.0
             ++ spelling_of kind (from_sorted l.1)) listed (one ∷ [])))));
+        files = subst (AreContentsOf kind)
+            (sym (flat_map-append (λ (l : Name × Pairs). under (l.0 ∷ []) l.1) listed (one ∷ [])))
+            (each-append (λ e. IsContentOf kind e.1) (listed_pairs listed)
+            (under (name ∷ []) part.0 ++ []) h.files
+            (subst (AreContentsOf kind) (sym (append-nil (under (name ∷ []) part.0)))
+            (files_under (name ∷ []) part.0 part.2.files)));
       }
 
   pub all_listed : (at : Path) (wanted count : ℕ) (bytes left : Bytes) (old new : Pairs) →
@@ -338,4 +352,5 @@ module _ (kind : Kind) where
         (h.spelled (parts_rise h.listed rising.1))
         ∙ (sym (append_assoc (2 ∷ to_be_bytes w16 (length h.listed)) (listed_spelling kind h.listed)
         left) ∙ ap (λ b. b ++ left) (sym (listed_spelled h.listed h.begin rising))),
+    h.files,
   )

@@ -11,29 +11,32 @@ use Rattle.syn_model.specs.Path.{Path, path_cmp, root}
 use Rattle.syn_model.specs.Tree.{Tree, Pair, HasParents, absent}
 use Rattle.syn_model.specs.Tree.{is_present}
 use Rattle.syn_model.specs.Limits.{children, fits_archive, fits_paths}
-use Rattle.syn_model.specs.MarkSpelling.{mark_spelling}
+use Rattle.syn_model.specs.MarkSpelling.{mark_spelling_in}
 use Rattle.syn_model.specs.Spelling.{content_spelling}
 use Rattle.syn_model.proofs.SpellingLemmas.{spelling_unfolds}
 use Rattle.syn_placed.specs.Pairs.{Pairs, is_child}
 use Rattle.syn_placed.proofs.CountLemmas.{length-children}
-use Rattle.syn_model.specs.Contents.{digest_spelling}
+use Rattle.syn_model.specs.Version.{Version}
+use Rattle.syn_model.specs.Contents.{digest_spelling, digest_spelling_in}
 use Rattle.syn_wire.specs.Trees.{pair_by}
 use Rattle.syn_wire.proofs.WalkLemmas.{walks_by}
 
-pub mark_unfolds : (t : Tree) →
-    mark_spelling t ≡ content_spelling digest_spelling mark_spelling t (get t root)
-mark_unfolds t = spelling_unfolds digest_spelling t
+pub mark_unfolds : (version : Version) (t : Tree) → mark_spelling_in version t
+    ≡ content_spelling (digest_spelling_in version) (mark_spelling_in version) t (get t root)
+mark_unfolds version t = spelling_unfolds (digest_spelling_in version) t
 
 -- nothing is spelled as a zero
-pub no_marks : mark_spelling absent ≡ 0 ∷ []
-no_marks =
-    mark_unfolds absent
-    ∙ ap (content_spelling digest_spelling mark_spelling absent) (get-empty path_cmp root)
+pub no_marks : (version : Version) → mark_spelling_in version absent ≡ 0 ∷ []
+no_marks version =
+    mark_unfolds version absent
+    ∙ ap (content_spelling (digest_spelling_in version) (mark_spelling_in version) absent)
+    (get-empty path_cmp root)
 
 -- marks are spelled in one walk
-pub marks_walk : (t : Tree) → HasParents t → is_present t root ≡ true →
-    mark_spelling t ≡ flat_map (pair_by digest_spelling t) (entries t)
-marks_walk t h is = walks_by digest_spelling mark_spelling mark_unfolds t h is
+pub marks_walk : (version : Version) (t : Tree) → HasParents t → is_present t root ≡ true →
+    mark_spelling_in version t ≡ flat_map (pair_by (digest_spelling_in version) t) (entries t)
+marks_walk version t h is =
+    walks_by (digest_spelling_in version) (mark_spelling_in version) (mark_unfolds version) t h is
 
 -- no directory has more names than there are nodes
 pub few_children : (t : Tree) (p : Path) → len t ≤ 4096 → length (children t p) ≤ 4096

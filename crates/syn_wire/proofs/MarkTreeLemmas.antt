@@ -1,65 +1,86 @@
 -- What is read of trees of marks.
 use Rattle.std.proofs.Common.{◌≡◌, ◌≢◌, ◌<◌, ℕ, true, [], ◌∷◌, ◌++◌, length, refl, sym, ap, ap₂}
 use Rattle.std.proofs.Common.{◌∙◌, subst, Option, Some, None, is_some, arith}
-use Rattle.std.specs.FinMap.{entries, entries_sorted, from_sorted, get, get-empty, len-entries}
+use Rattle.std.specs.FinMap.{entries, entries_sorted, from_sorted, get, get-empty}
+use Rattle.std.specs.FinMap.{get-entries, len-entries}
 use Rattle.std.proofs.lemmas.Option.{none-some}
 use Rattle.syn_model.specs.Path.{Bytes, Path, path_cmp, root}
 use Rattle.syn_model.specs.Tree.{Tree, Content, Directory, File, absent, is_present}
 use Rattle.syn_model.specs.Limits.{fits_archive}
-use Rattle.syn_model.specs.Mark.{IsMarks}
-use Rattle.syn_model.specs.MarkSpelling.{NoMarkSpellingBeginsAnother, mark_spelling}
+use Rattle.syn_model.specs.Mark.{IsMarks, IsMarksIn}
+use Rattle.syn_model.specs.MarkSpelling.{NoMarkSpellingBeginsAnother, mark_spelling_in}
 use Rattle.syn_mark.specs.Marks.{AreMarks, marks_with}
 use Rattle.syn_placed.specs.Pairs.{Pairs, AreRising, under}
 use Rattle.syn_placed.proofs.RisingLemmas.{sorted_of}
 use Rattle.syn_placed.proofs.TreeLemmas.{entries-absent, from_entries-same}
-use Rattle.syn_model.specs.Contents.{digest_spelling}
-use Rattle.syn_wire.specs.Marks.{IsMarkTree, IsOptionalMarkTree}
+use Rattle.syn_model.proofs.VersionLemmas.{marks_now}
+use Rattle.syn_model.specs.Version.{Version}
+use Rattle.syn_tree.proofs.LawfulLemmas.{each-find}
+use Rattle.syn_model.specs.Contents.{digest_spelling_in}
+use Rattle.syn_wire.specs.Marks.{IsMarkTree, IsMarkTreeIn, IsOptionalMarkTreeIn}
 use Rattle.syn_wire.specs.Marks.{NoMarksBeginOthers}
 use Rattle.syn_wire.specs.Reads.{BeginsWith, IsReading}
-use Rattle.syn_wire.specs.inner.Kinds.{OfMarks}
-use Rattle.syn_wire.specs.inner.Parts.{PartIsRead, ReadsPart, StandsAt}
+use Rattle.syn_wire.specs.inner.Kinds.{IsContentOf, OfMarks}
+use Rattle.syn_wire.specs.inner.Parts.{AreContentsOf, PartIsRead, ReadsPart, StandsAt}
 use Rattle.syn_wire.proofs.MadeLemmas.{absent_lawful, paths_stand, under_root}
 use Rattle.syn_wire.proofs.MarkLemmas.{few_nodes, few_paths, mark_unfolds}
 use Rattle.syn_wire.proofs.NameLemmas.{first_or}
 use Rattle.syn_model.specs.Spelling.{content_spelling}
 
-marks_at_root : (t : Tree) → IsMarkTree t → StandsAt OfMarks root t
-marks_at_root t h = record {
+marks_at_root : (version : Version) (t : Tree) → IsMarkTreeIn version t → StandsAt (OfMarks version)
+    root t
+marks_at_root version t h = record {
   part = (h.optional.marks, few_nodes t h.optional.fits);
   present = h.present;
   paths = paths_stand t h.optional.marks.part (few_paths t h.optional.fits);
 }
 
-module _ (bytes : Bytes) (at : Path) (old list : Pairs) (is_root : at ≡ root)
+-- marks whose digests were read in a version are marks of it
+marks_in : (version : Version) (t : Tree) → IsMarks t →
+    AreContentsOf (OfMarks version) (entries t) →
+    IsMarksIn version t
+marks_in version t marks files = record {
+  part = record {
+    parents = marks.part.parents;
+    names = marks.part.names;
+    lawful = λ p c found. (each-find (λ q content. IsContentOf (OfMarks version) content) p (File c)
+        (entries t) files (sym (get-entries t p) ∙ found)).0;
+  };
+  digests = marks.digests;
+}
+
+module _ (version : Version) (bytes : Bytes) (at : Path) (old list : Pairs) (is_root : at ≡ root)
     (empty : old ≡ []) where
   -- what begins the bytes is what was read
   the_marks : (left : Option Bytes) →
-      ReadsPart OfMarks at bytes old list left → (t : Tree) (rest : Bytes) →
-      BeginsWith IsMarkTree mark_spelling bytes t rest → (left ≡ Some rest) × (list ≡ entries t)
+      ReadsPart (OfMarks version) at bytes old list left → (t : Tree) (rest : Bytes) →
+      BeginsWith (IsMarkTreeIn version) (mark_spelling_in version) bytes t rest →
+      (left ≡ Some rest) × (list ≡ entries t)
   the_marks left read t rest begins =
-      let both = subst (λ p. ReadsPart OfMarks p bytes old list left) is_root read t rest
-      (marks_at_root t begins.lawful) begins.spelled in
+      let both = subst (λ p. ReadsPart (OfMarks version) p bytes old list left) is_root read t rest
+      (marks_at_root version t begins.lawful) begins.spelled in
       (both.0, both.1 ∙ (ap (λ es. es ++ under root (entries t)) empty ∙ under_root (entries t)))
 
-  pub no_part_read : ReadsPart OfMarks at bytes old list None →
-      IsReading IsMarkTree mark_spelling bytes None
+  pub no_part_read : ReadsPart (OfMarks version) at bytes old list None →
+      IsReading (IsMarkTreeIn version) (mark_spelling_in version) bytes None
   no_part_read none t rest begins = none-some _ (the_marks None none t rest begins).0
 
   -- so that no other list is that of marks
-  pub not_marks : (left : Bytes) → ReadsPart OfMarks at bytes old list (Some left) →
-      ¬ AreMarks list → IsReading IsMarkTree mark_spelling bytes None
+  pub not_marks : (left : Bytes) → ReadsPart (OfMarks version) at bytes old list (Some left) →
+      ¬ AreMarks list → IsReading (IsMarkTreeIn version) (mark_spelling_in version) bytes None
   not_marks left read none t rest begins =
       let same : t ≡ marks_with (entries t) = sym (from_entries-same t) in
       none (subst AreMarks (sym (the_marks (Some left) read t rest begins).1) (record {
         rising = sorted_of _ (entries_sorted t);
         present = subst (λ u. is_present u root ≡ true) same begins.lawful.present;
-        marks = subst IsMarks same begins.lawful.optional.marks;
+        marks = subst IsMarks same (marks_now version t begins.lawful.optional.marks);
         fits = subst (λ u. fits_archive u ≡ true) same begins.lawful.optional.fits;
       }))
 
   -- what was read is the tree that it makes
-  pub marks_made : (left : Bytes) (t : Tree) → PartIsRead OfMarks at bytes old list (Some left) →
-      list ≡ entries t → IsMarkTree t → BeginsWith IsMarkTree mark_spelling bytes t left
+  pub marks_made : (left : Bytes) (t : Tree) → PartIsRead (OfMarks version) at bytes old list
+      (Some left) → list ≡ entries t → IsMarkTree t →
+      BeginsWith (IsMarkTreeIn version) (mark_spelling_in version) bytes t left
   marks_made left t read all h =
       let pairs : list ≡ read.0 = read.1
       ∙ (ap₂ (λ es p. es ++ under p read.0) empty is_root ∙ under_root read.0) in
@@ -69,34 +90,43 @@ module _ (bytes : Bytes) (at : Path) (old list : Pairs) (is_root : at ≡ root)
       let same : from_sorted read.0 ≡ t = ap (λ es. from_sorted {R = path_cmp} es) whole
       ∙ from_entries-same t in
       record {
-        lawful = h;
+        lawful = record {
+          optional = record {
+            marks = marks_in version t h.optional.marks
+                (subst (AreContentsOf (OfMarks version)) whole read.2.files);
+            fits = h.optional.fits;
+          };
+          present = h.present;
+        };
         spelled = read.2.spelled rising
-            ∙ ap (λ u. mark_spelling u ++ left) same;
+            ∙ ap (λ u. mark_spelling_in version u ++ left) same;
       }
 
 -- something stands at the root of what no zero spells
-pub no_marks_there : (bytes fields : Bytes) (kind : ℕ) → bytes ≡ kind ∷ fields → kind ≢ 0 →
-    IsReading IsMarkTree mark_spelling bytes None →
-    IsReading IsOptionalMarkTree mark_spelling bytes None
-no_marks_there bytes fields kind is other none t rest begins = by_content (get t root) refl
+pub no_marks_there : (version : Version) (bytes fields : Bytes) (kind : ℕ) → bytes ≡ kind ∷ fields →
+    kind ≢ 0 → IsReading (IsMarkTreeIn version) (mark_spelling_in version) bytes None →
+    IsReading (IsOptionalMarkTreeIn version) (mark_spelling_in version) bytes None
+no_marks_there version bytes fields kind is other none t rest begins = by_content (get t root) refl
   where
     by_content : (o : Option Content) → get t root ≡ o → ⊥
     by_content None e =
         other (ap (λ b. first_or b 0) (sym is ∙ (begins.spelled ∙ ap (λ b. b ++ rest)
-        (mark_unfolds t ∙ ap (content_spelling digest_spelling mark_spelling t) e))))
+        (mark_unfolds version t
+        ∙ ap (content_spelling (digest_spelling_in version) (mark_spelling_in version) t) e))))
     by_content (Some c) e =
         none t rest (record {
           lawful = record { optional = begins.lawful; present = ap is_some e };
           spelled = begins.spelled;
         })
 
-pub none_without_byte : (bytes : Bytes) → length bytes < 1 →
-    IsReading IsOptionalMarkTree mark_spelling bytes None
-none_without_byte bytes short t rest begins =
-    by_content (get t root) (begins.spelled ∙ ap (λ b. b ++ rest) (mark_unfolds t))
+pub none_without_byte : (version : Version) (bytes : Bytes) → length bytes < 1 →
+    IsReading (IsOptionalMarkTreeIn version) (mark_spelling_in version) bytes None
+none_without_byte version bytes short t rest begins =
+    by_content (get t root) (begins.spelled ∙ ap (λ b. b ++ rest) (mark_unfolds version t))
   where
     by_content : (o : Option Content) →
-        bytes ≡ content_spelling digest_spelling mark_spelling t o ++ rest → ⊥
+        bytes ≡ content_spelling (digest_spelling_in version) (mark_spelling_in version) t o
+        ++ rest → ⊥
     by_content None e = omega (arith, ap length e, short)
     by_content (Some (File c)) e = omega (arith, ap length e, short)
     by_content (Some Directory) e = omega (arith, ap length e, short)
@@ -105,7 +135,7 @@ none_without_byte bytes short t rest begins =
 nothing_fits : fits_archive absent ≡ true
 nothing_fits = rw (len-entries, entries-absent)
 
-pub nothing_lawful : IsOptionalMarkTree absent
+pub nothing_lawful : {version : Version} → IsOptionalMarkTreeIn version absent
 nothing_lawful = record {
   marks =
       record {
@@ -116,5 +146,5 @@ nothing_lawful = record {
 }
 
 pub marks_tell : NoMarkSpellingBeginsAnother → NoMarksBeginOthers
-marks_tell tells t u r s ht hu e =
-    tells t u r s ht.marks hu.marks (few_nodes t ht.fits) (few_nodes u hu.fits) e
+marks_tell tells version t u r s ht hu e =
+    tells version t u r s ht.marks hu.marks (few_nodes t ht.fits) (few_nodes u hu.fits) e

@@ -12,6 +12,7 @@ use Rattle.syn_model.specs.Path.{Bytes, Name, Path, path_cmp, root}
 use Rattle.syn_model.specs.Tree.{Tree, Content, Pair, HasParents, subtree}
 use Rattle.syn_model.specs.Limits.{children, fits_content, fits_part}
 use Rattle.syn_model.specs.Spelling.{spelling}
+use Rattle.syn_model.specs.Version.{current_version}
 use Rattle.syn_model.proofs.PathLemmas.{same_path}
 use Rattle.syn_model.proofs.SubtreeLemmas.{subtree_children}
 use Rattle.syn_model.proofs.TreeLemmas.{get-subtree}
@@ -51,7 +52,7 @@ part_spelled t at c h is =
     let after = (subst Rising r.whole (rising-entries s)).0 in
     let same : children s root ≡ children t at =
     subtree_children t at root ∙ ap (children t) (append-nil at) in
-    spelling_walks s (subtree-parents t at h) (ap is_some there)
+    spelling_walks current_version s (subtree-parents t at h) (ap is_some there)
     ∙ (ap (flat_map (pair_spelling s)) r.whole
     ∙ ap₂ (λ (k : ℕ) (ys : Bytes). standing_spelling k c ++ ys) (ap length same)
     (sym (part_pairs t at r.below after)

@@ -12,11 +12,12 @@ use Rattle.std.proofs.lemmas.Grind.{flat_map-append}
 use Rattle.std.proofs.lemmas.List.Concat.{length-flat_map}
 use Rattle.std.proofs.lemmas.Option.{same_Some}
 use Rattle.syn_model.specs.Path.{Bytes, Name, Path, name_cmp, root}
-use Rattle.syn_model.specs.Contents.{Contents, contents_spelling}
+use Rattle.syn_model.specs.Version.{Version, current_version}
+use Rattle.syn_model.specs.Contents.{Contents, contents_spelling_in}
 use Rattle.syn_model.specs.Tree.{Tree, Content, Pair, Directory, File, HasParents, is_present}
 use Rattle.syn_model.specs.Tree.{subtree}
 use Rattle.syn_model.specs.Limits.{children, last_name_spelling_length, content_spelling_length}
-use Rattle.syn_model.specs.Spelling.{spelling, content_spelling}
+use Rattle.syn_model.specs.Spelling.{spelling_in, content_spelling}
 use Rattle.syn_model.proofs.PathLemmas.{name_itself}
 use Rattle.syn_model.proofs.TreeLemmas.{get-subtree}
 use Rattle.syn_model.proofs.HistoryLemmas.{no_file}
@@ -152,12 +153,13 @@ pub walks_by : (file : Contents → Bytes) (spell : Tree → Bytes) →
 walks_by file spell unfolds t h is =
     walked_within file spell unfolds (suc (len t)) t (omega arith) h is
 
-pub tree_unfolds : (t : Tree) →
-    spelling t ≡ content_spelling contents_spelling spelling t (get t root)
-tree_unfolds t = spelling_unfolds contents_spelling t
+pub tree_unfolds : (version : Version) (t : Tree) → spelling_in version t
+    ≡ content_spelling (contents_spelling_in version) (spelling_in version) t (get t root)
+tree_unfolds version t = spelling_unfolds (contents_spelling_in version) t
 
 pub spelling_walks : SpellingIsWalk
-spelling_walks t h is = walks_by contents_spelling spelling tree_unfolds t h is
+spelling_walks version t h is =
+    walks_by (contents_spelling_in version) (spelling_in version) (tree_unfolds version) t h is
 
 -- ---- lengths
 
@@ -178,5 +180,6 @@ pair_length t e =
 
 pub spelling_measured : SpellingIsMeasured
 spelling_measured t h is =
-    ap length (spelling_walks t h is) ∙ (length-flat_map (pair_spelling t) (entries t)
-    ∙ ap (λ f. sum_by f (entries t)) (λ i e. pair_length t e i))
+    ap length (spelling_walks current_version t h is)
+    ∙ (length-flat_map (pair_spelling t) (entries t) ∙ ap (λ f. sum_by f (entries t))
+    (λ i e. pair_length t e i))

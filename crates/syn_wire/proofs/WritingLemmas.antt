@@ -10,6 +10,7 @@ use Rattle.std.proofs.lemmas.Grind.{flat_map-append}
 use Rattle.std.proofs.lemmas.List.{take_more}
 use Rattle.std.proofs.lemmas.List.Folds.{list_all-append}
 use Rattle.syn_model.specs.Path.{Bytes, Name, Path, root}
+use Rattle.syn_model.specs.Version.{current_version}
 use Rattle.syn_model.specs.Contents.{Contents, contents_spelling}
 use Rattle.syn_model.specs.Tree.{Tree, Pair, Directory, IsTree}
 use Rattle.syn_model.specs.Limits.{children, fits_content, fits_part, fits_replica, fits_paths}
@@ -90,8 +91,8 @@ whole_written t ds count base first out h all counted begun written =
     let top = standing_spelling (length (children t root)) Directory in
     let walked : top ++ flat_map (pair_spelling t) ds ≡ spelling t =
     ap (flat_map (pair_spelling t)) all
-    ∙ sym (walks_by contents_spelling spelling tree_unfolds t h.part.parents (ap is_some h.rooted))
-    in
+    ∙ sym (walks_by contents_spelling spelling (tree_unfolds current_version) t h.part.parents
+    (ap is_some h.rooted)) in
     written ∙ (ap (λ b. b ++ flat_map (pair_spelling t) ds)
     (begun ∙ ap (λ n. base ++ standing_spelling n Directory) counted)
     ∙ (append_assoc base top (flat_map (pair_spelling t) ds) ∙ ap (λ b. base ++ b) walked))

@@ -1,7 +1,9 @@
 -- Which files are read.
 use Rattle.std.specs.Prelude.{◌<◌, ◌^◌, length}
-use Rattle.syn_model.specs.Contents.{Contents, AreLawfulContents}
+use Rattle.syn_model.specs.Version.{Version}
+use Rattle.syn_model.specs.Contents.{Contents, AreLawfulContentsIn}
 
 -- a file of a length that four bytes spell
-abbrev pub IsBriefFile : Contents → Type 0
-IsBriefFile contents = AreLawfulContents contents × (length contents.bytes < 2 ^ 32)
+abbrev pub IsBriefFileIn : Version → Contents → Type 0
+IsBriefFileIn version contents = AreLawfulContentsIn version contents
+    × (length contents.bytes < 2 ^ 32)

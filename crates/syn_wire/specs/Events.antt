@@ -1,16 +1,22 @@
 -- What an event has, part by part.
-use Rattle.std.specs.Prelude.{◌≡◌, ℕ, ◌<◌, ◌^◌, true, List, ◌++◌, length}
-use Rattle.std.specs.Int.{to_be_bytes, w32, w64}
+use Rattle.std.specs.Prelude.{◌≡◌, ℕ, ◌<◌, ◌^◌, true, List, ◌++◌, length, Option}
+use Rattle.std.specs.Int.{to_be_bytes, w16, w32, w64}
 use Rattle.syn_model.specs.Path.{Bytes}
 use Rattle.syn_model.specs.Limits.{fits_part, fits_paths}
 use Rattle.syn_model.specs.Event.{AreBytes, Event, Edited, Began, Replaced, Put, MakeDir, Remove}
-use Rattle.syn_model.specs.Event.{IsLawfulEvent}
+use Rattle.syn_model.specs.Event.{Chmod, IsLawfulEventIn}
+use Rattle.syn_model.specs.Spelling.{event_spelling_in}
+use Rattle.syn_model.specs.Version.{Version, current_version}
+use Rattle.syn_wire.specs.Reads.{IsReading}
 
 abbrev pub IsNumber32 : ℕ → Type 0
 IsNumber32 n = n < 2 ^ 32
 
 abbrev pub number_spelling : ℕ → Bytes
 number_spelling n = to_be_bytes w32 n
+
+abbrev pub mode_spelling : ℕ → Bytes
+mode_spelling mode = to_be_bytes w16 mode
 
 abbrev pub IsNumber64 : ℕ → Type 0
 IsNumber64 n = n < 2 ^ 64
@@ -39,8 +45,18 @@ abbrev pub IsShort : Event → Type 0
 IsShort (Edited user (Put path bytes)) = length bytes < 2 ^ 32
 IsShort (Edited user (MakeDir path)) = Unit {0}
 IsShort (Edited user (Remove path)) = Unit {0}
+IsShort (Edited user (Chmod path mode)) = Unit {0}
 IsShort (Began session) = Unit {0}
 IsShort (Replaced token path since new) = (fits_part new ≡ true) × (fits_paths new ≡ true)
 
+abbrev pub IsSpelledEventIn : Version → Event → Type 0
+IsSpelledEventIn version event = IsLawfulEventIn version event × IsShort event
+
 abbrev pub IsSpelledEvent : Event → Type 0
-IsSpelledEvent event = IsLawfulEvent event × IsShort event
+IsSpelledEvent event = IsSpelledEventIn current_version event
+
+-- what a reader found of an event that is spelled alike in each version
+abbrev pub IsEventInEach : Bytes → Option (Event × Bytes) → Type 0
+IsEventInEach bytes found =
+    (version : Version) → IsReading (IsSpelledEventIn version) (event_spelling_in version) bytes
+    found

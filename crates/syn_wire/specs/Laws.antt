@@ -2,8 +2,9 @@
 use Rattle.std.specs.Prelude.{◌<◌, ◌^◌}
 use Rattle.std.specs.Int.{to_be_bytes, w16, w32, w64}
 use Rattle.syn_model.specs.Path.{IsPath, path_spelling}
-use Rattle.syn_model.specs.Spelling.{event_spelling}
-use Rattle.syn_wire.specs.Events.{IsFile, IsSpelledEvent, file_spelling}
+use Rattle.syn_model.specs.Version.{Version}
+use Rattle.syn_model.specs.Spelling.{event_spelling_in}
+use Rattle.syn_wire.specs.Events.{IsFile, IsSpelledEventIn, file_spelling}
 use Rattle.syn_wire.specs.Reads.{NoneBeginsAnother}
 
 abbrev pub NoU16BeginsAnother : Type 0
@@ -22,6 +23,7 @@ NoPathBeginsAnother = NoneBeginsAnother IsPath path_spelling
 abbrev pub NoFileBeginsAnother : Type 0
 NoFileBeginsAnother = NoneBeginsAnother IsFile file_spelling
 
--- nor does the spelling of an event begin that of another
+-- nor in any version does the spelling of an event begin that of another
 abbrev pub NoEventBeginsAnother : Type 0
-NoEventBeginsAnother = NoneBeginsAnother IsSpelledEvent event_spelling
+NoEventBeginsAnother = (version : Version) → NoneBeginsAnother (IsSpelledEventIn version)
+    (event_spelling_in version)

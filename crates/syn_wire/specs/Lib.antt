@@ -1,5 +1,6 @@
 pub mod Refusals
 pub mod Reads
+pub mod Versions
 pub mod Contents
 pub mod Laws
 pub mod Events

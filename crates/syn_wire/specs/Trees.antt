@@ -3,12 +3,14 @@ use Rattle.std.specs.Prelude.{◌≡◌, ℕ, true, [], ◌∷◌, ◌++◌, len
 use Rattle.std.specs.Int.{to_be_bytes, w16}
 use Rattle.std.specs.FinMap.{entries}
 use Rattle.syn_model.specs.Path.{Bytes, Path, root}
+use Rattle.syn_model.specs.Version.{Version, current_version}
 use Rattle.syn_model.specs.Contents.{Contents, contents_front, contents_spelling}
-use Rattle.syn_model.specs.Tree.{Tree, Content, Directory, File, Pair, HasParents, IsPart, IsTree}
-use Rattle.syn_model.specs.Tree.{is_present}
+use Rattle.syn_model.specs.Contents.{contents_spelling_in}
+use Rattle.syn_model.specs.Tree.{Tree, Content, Directory, File, Pair, HasParents, IsPartIn}
+use Rattle.syn_model.specs.Tree.{IsTreeIn, is_present}
 use Rattle.syn_model.specs.Limits.{children, fits_part, fits_paths, fits_replica}
 use Rattle.syn_model.specs.Limits.{tree_spelling_length}
-use Rattle.syn_model.specs.Spelling.{spelling}
+use Rattle.syn_model.specs.Spelling.{spelling, spelling_in}
 use Rattle.syn_wire.specs.Reads.{NoneBeginsAnother}
 
 -- the last name with its length; the root has none
@@ -41,31 +43,42 @@ pair_spelling tree pair = pair_by contents_spelling tree pair
 
 -- the spelling of what is there is that of one pair after the other
 abbrev pub SpellingIsWalk : Type 0
-SpellingIsWalk = (tree : Tree) → HasParents tree → is_present tree root ≡ true → spelling tree
-    ≡ flat_map (pair_spelling tree) (entries tree)
+SpellingIsWalk = (version : Version) (tree : Tree) → HasParents tree →
+    is_present tree root ≡ true → spelling_in version tree
+    ≡ flat_map (pair_by (contents_spelling_in version) tree) (entries tree)
 
--- and is as long as the model measures
+-- and what is written is as long as the model measures
 abbrev pub SpellingIsMeasured : Type 0
 SpellingIsMeasured = (tree : Tree) → HasParents tree → is_present tree root ≡ true
     → length (spelling tree) ≡ tree_spelling_length tree
 
 -- a file, a directory with all below it, or nothing, within the limits of each and of its own paths
-pub record IsOptionalTree (t : Tree) : Type 0 where
-  pub part : IsPart t
+pub record IsOptionalTreeIn (version : Version) (t : Tree) : Type 0 where
+  pub part : IsPartIn version t
   pub fits : fits_part t ≡ true
   pub paths : fits_paths t ≡ true
+
+abbrev pub IsOptionalTree : Tree → Type 0
+IsOptionalTree t = IsOptionalTreeIn current_version t
 
 -- such a directory
-pub record IsDirectoryTree (t : Tree) : Type 0 where
-  pub tree : IsTree t
+pub record IsDirectoryTreeIn (version : Version) (t : Tree) : Type 0 where
+  pub tree : IsTreeIn version t
   pub fits : fits_part t ≡ true
   pub paths : fits_paths t ≡ true
 
--- no spelling of an optional tree begins that of another
+abbrev pub IsDirectoryTree : Tree → Type 0
+IsDirectoryTree t = IsDirectoryTreeIn current_version t
+
+-- in no version does the spelling of an optional tree begin that of another
 abbrev pub NoTreeBeginsAnother : Type 0
-NoTreeBeginsAnother = NoneBeginsAnother IsOptionalTree spelling
+NoTreeBeginsAnother =
+    (version : Version) → NoneBeginsAnother (IsOptionalTreeIn version) (spelling_in version)
 
 -- the tree of a replica
-pub record IsWholeTree (t : Tree) : Type 0 where
-  pub tree : IsTree t
+pub record IsWholeTreeIn (version : Version) (t : Tree) : Type 0 where
+  pub tree : IsTreeIn version t
   pub fits : fits_replica t ≡ true
+
+abbrev pub IsWholeTree : Tree → Type 0
+IsWholeTree t = IsWholeTreeIn current_version t

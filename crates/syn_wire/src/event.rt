@@ -1,26 +1,31 @@
 //! Events.
 ghost use Rattle.std.specs.Prelude.{◌≡◌, ◌++◌, ◌∷◌, ℕ, length, IfOk, OnOk, option_map};
+ghost use Rattle.syn_model.specs.Contents.{IsMode};
 ghost use Rattle.syn_model.specs.Path.{IsPath, path_spelling};
 ghost use Rattle.syn_model.specs.Event.{Edited, IsLawfulEdit, IsLawfulEvent, IsLawfulToken};
-ghost use Rattle.syn_model.specs.Spelling.{event_spelling, token_spelling};
+ghost use Rattle.syn_model.specs.Spelling.{event_spelling, event_spelling_in, token_spelling};
 ghost use Rattle.syn_tree.specs.Edits.{edit_of};
+ghost use Rattle.syn_tree.specs.Modes.{mode_of};
 ghost use Rattle.syn_history.specs.Events.{event_of, token_of};
-ghost use Rattle.syn_wire.specs.Events.{Both, IsFile, IsNumber32, IsNumber64, IsShort};
-ghost use Rattle.syn_wire.specs.Events.{IsSpelledEvent, both_spelling, file_spelling};
-ghost use Rattle.syn_wire.specs.Events.{number_spelling, number64_spelling};
+ghost use Rattle.syn_wire.specs.Events.{Both, IsEventInEach, IsFile, IsNumber32, IsNumber64};
+ghost use Rattle.syn_wire.specs.Events.{IsShort, IsSpelledEventIn, both_spelling, file_spelling};
+ghost use Rattle.syn_wire.specs.Events.{mode_spelling, number_spelling, number64_spelling};
 ghost use Rattle.syn_wire.specs.Reads.{IsReading};
+ghost use Rattle.syn_wire.specs.Versions.{version_of};
 
 use crate::bytes::{read_file, write_file};
+use crate::contents::{read_bits, write_mode};
 use crate::error::WireError;
 use crate::number::{read_u32, read_u64, write_u32, write_u64};
 use crate::path::{decode_path, path_length, write_path};
 use crate::spelling_laws;
 use crate::tree::write_node;
 use crate::tree_reading::decode_node;
+use crate::version::Version;
 use std::alloc::Global;
 use syn_history::{Event, Token};
 use syn_path::Path;
-use syn_tree::Edit;
+use syn_tree::{Edit, Mode};
 
 const PUT: u8 = 1;
 
@@ -31,6 +36,8 @@ const REMOVE: u8 = 3;
 const BEGAN: u8 = 4;
 
 const REPLACED: u8 = 5;
+
+const CHMOD: u8 = 6;
 
 /// The spelling of the event: its kind, and what it has.
 ///
@@ -89,6 +96,11 @@ pub fn encode_edit(alloc: Global, user: u32, edit: &Edit) -> Result<Vec<u8>, Wir
             out.push(REMOVE)?;
             write_place(&mut out, user, path)?;
         }
+        Edit::Chmod(path, mode) => {
+            out.push(CHMOD)?;
+            write_place(&mut out, user, path)?;
+            write_mode(&mut out, *mode)?;
+        }
     }
     Ok(out)
 }
@@ -101,6 +113,7 @@ pub fn edit_length(edit: &Edit) -> usize
         Edit::Put(path, bytes) => 9 + path_length(path) + bytes.len(),
         Edit::MakeDir(path) => 5 + path_length(path),
         Edit::Remove(path) => 5 + path_length(path),
+        Edit::Chmod(path, _) => 7 + path_length(path),
     }
 }
 
@@ -108,8 +121,13 @@ pub fn edit_length(edit: &Edit) -> usize
 /// of an event.
 ///
 /// Refused 11 where memory is refused.
-pub fn decode_event(alloc: Global, bytes: &[u8]) -> Result<Option<(Event, &[u8])>, WireError>
-    ensures { IfOk result (λ read. IsReading IsSpelledEvent event_spelling bytes.now
+pub fn decode_event(
+    alloc: Global,
+    version: Version,
+    bytes: &[u8],
+) -> Result<Option<(Event, &[u8])>, WireError>
+    ensures { IfOk result (λ read. IsReading (IsSpelledEventIn (version_of version))
+        (event_spelling_in (version_of version)) bytes.now
         (option_map (λ found. (event_of found.0, found.1.now)) read)) }
 {
     let [kind, fields @ ..] = bytes else {
@@ -120,14 +138,15 @@ pub fn decode_event(alloc: Global, bytes: &[u8]) -> Result<Option<(Event, &[u8])
         MAKE_DIR => read_make_dir(alloc, fields),
         REMOVE => read_remove(alloc, fields),
         BEGAN => Ok(read_began(fields)),
-        REPLACED => read_replaced(alloc, fields),
+        REPLACED => read_replaced(alloc, version, fields),
+        CHMOD => read_chmod(alloc, version, fields),
         _ => Ok(None),
     }
 }
 
 // What follows the kind of a put.
 fn read_put(alloc: Global, fields: &[u8]) -> Result<Option<(Event, &[u8])>, WireError>
-    ensures { IfOk result (λ read. IsReading IsSpelledEvent event_spelling (PUT ∷ fields.now)
+    ensures { IfOk result (λ read. IsEventInEach (PUT ∷ fields.now)
         (option_map (λ found. (event_of found.0, found.1.now)) read)) }
 {
     match read_placed_file(alloc, fields)? {
@@ -143,7 +162,7 @@ fn read_put(alloc: Global, fields: &[u8]) -> Result<Option<(Event, &[u8])>, Wire
 }
 
 fn read_make_dir(alloc: Global, fields: &[u8]) -> Result<Option<(Event, &[u8])>, WireError>
-    ensures { IfOk result (λ read. IsReading IsSpelledEvent event_spelling (MAKE_DIR ∷ fields.now)
+    ensures { IfOk result (λ read. IsEventInEach (MAKE_DIR ∷ fields.now)
         (option_map (λ found. (event_of found.0, found.1.now)) read)) }
 {
     match read_place(alloc, fields)? {
@@ -159,7 +178,7 @@ fn read_make_dir(alloc: Global, fields: &[u8]) -> Result<Option<(Event, &[u8])>,
 }
 
 fn read_remove(alloc: Global, fields: &[u8]) -> Result<Option<(Event, &[u8])>, WireError>
-    ensures { IfOk result (λ read. IsReading IsSpelledEvent event_spelling (REMOVE ∷ fields.now)
+    ensures { IfOk result (λ read. IsEventInEach (REMOVE ∷ fields.now)
         (option_map (λ found. (event_of found.0, found.1.now)) read)) }
 {
     match read_place(alloc, fields)? {
@@ -175,21 +194,26 @@ fn read_remove(alloc: Global, fields: &[u8]) -> Result<Option<(Event, &[u8])>, W
 }
 
 fn read_began(fields: &[u8]) -> Option<(Event, &[u8])>
-    ensures { IsReading IsSpelledEvent event_spelling (BEGAN ∷ fields.now)
+    ensures { IsEventInEach (BEGAN ∷ fields.now)
         (option_map (λ found. (event_of found.0, found.1.now)) result) }
 {
     let (session, rest) = read_u64(fields)?;
     Some((Event::Began { session }, rest))
 }
 
-fn read_replaced(alloc: Global, fields: &[u8]) -> Result<Option<(Event, &[u8])>, WireError>
-    ensures { IfOk result (λ read. IsReading IsSpelledEvent event_spelling (REPLACED ∷ fields.now)
+fn read_replaced(
+    alloc: Global,
+    version: Version,
+    fields: &[u8],
+) -> Result<Option<(Event, &[u8])>, WireError>
+    ensures { IfOk result (λ read. IsReading (IsSpelledEventIn (version_of version))
+        (event_spelling_in (version_of version)) (REPLACED ∷ fields.now)
         (option_map (λ found. (event_of found.0, found.1.now)) read)) }
 {
     let Some((token, path, since, after)) = read_since(alloc, fields)? else {
         return Ok(None);
     };
-    match decode_node(alloc, after)? {
+    match decode_node(alloc, version, after)? {
         Some((new, rest)) => Ok(Some((
             Event::Replaced {
                 token,
@@ -199,6 +223,50 @@ fn read_replaced(alloc: Global, fields: &[u8]) -> Result<Option<(Event, &[u8])>,
             },
             rest,
         ))),
+        None => Ok(None),
+    }
+}
+
+// What follows the kind of a change of a mode; the first version has none.
+fn read_chmod(
+    alloc: Global,
+    version: Version,
+    fields: &[u8],
+) -> Result<Option<(Event, &[u8])>, WireError>
+    ensures { IfOk result (λ read. IsReading (IsSpelledEventIn (version_of version))
+        (event_spelling_in (version_of version)) (CHMOD ∷ fields.now)
+        (option_map (λ found. (event_of found.0, found.1.now)) read)) }
+{
+    match version {
+        Version::One => Ok(None),
+        Version::Two => match read_placed_mode(alloc, fields)? {
+            Some((user, path, mode, rest)) => Ok(Some((
+                Event::Edited {
+                    user,
+                    edit: Edit::Chmod(path, mode),
+                },
+                rest,
+            ))),
+            None => Ok(None),
+        },
+    }
+}
+
+// A user, a path and a mode.
+fn read_placed_mode(
+    alloc: Global,
+    bytes: &[u8],
+) -> Result<Option<(u32, Path, Mode, &[u8])>, WireError>
+    ensures { IfOk result (λ read. IsReading (Both (Both IsNumber32 IsPath) IsMode)
+        (both_spelling (both_spelling number_spelling path_spelling) mode_spelling) bytes.now
+        (option_map (λ found. (((found.0, found.1), mode_of found.2), found.3.now)) read)) }
+{
+    spelling_laws();
+    let Some((user, path, after)) = read_place(alloc, bytes)? else {
+        return Ok(None);
+    };
+    match read_bits(after) {
+        Some((mode, rest)) => Ok(Some((user, path, mode, rest))),
         None => Ok(None),
     }
 }

@@ -4,6 +4,10 @@
 //! another. A `Node` is a file, or a directory with all that is below it. A replica's tree is
 //! spelled as one that is a directory, and what a session carries as one, or as nothing.
 //!
+//! There are two versions of it, which differ in what is spelled of a file. In the first a file has
+//! no mode, and in the second its mode stands before its length or its digest. What is written is
+//! of the second, and each reader is told the version (`Version`).
+//!
 //! # What it promises
 //!
 //! - `decode_path`, `decode_tree`, `decode_node` and `decode_event`: what is read is the spelling
@@ -23,9 +27,10 @@
 //! - `edit_length`, `path_length` and `optional_marks_length` are how many bytes the event of an
 //!   edit, a path, and marks or nothing are spelled with, before they are spelled and without
 //!   memory.
-//! - No spelling of a number, a path, a part of a tree, an event or marks begins that of another
-//!   (`spelling_laws`). So what comes after it is read without a length before it, and no bytes are
-//!   read in two ways. A tree is spelled in one walk over its entries in path order (`walk`).
+//! - In no version does a spelling of a number, a path, a part of a tree, an event or marks begin
+//!   that of another (`spelling_laws`). So what comes after it is read without a length before it,
+//!   and no bytes are read in two ways. A tree is spelled in one walk over its entries in path
+//!   order (`walk`).
 #![tactic(auto)]
 
 ghost use Rattle.syn_wire.specs.Laws.{NoU16BeginsAnother, NoU32BeginsAnother, NoU64BeginsAnother};
@@ -47,6 +52,7 @@ mod piece;
 mod readable;
 mod tree;
 mod tree_reading;
+mod version;
 mod window;
 
 pub use bytes::{LONGEST_PIECE, read_file, write_file};
@@ -61,8 +67,9 @@ pub use path::{decode_path, encode_path, path_length, write_path};
 pub use piece::{encode_piece, part_length};
 pub use tree::{encode_node, encode_tree, write_node, write_tree};
 pub use tree_reading::{decode_node, decode_tree};
+pub use version::Version;
 
-/// No spelling of a value begins that of another.
+/// In no version does the spelling of a value begin that of another.
 pub fn spelling_laws()
     ensures u16 { NoU16BeginsAnother }
     ensures u32 { NoU32BeginsAnother }
@@ -73,7 +80,8 @@ pub fn spelling_laws()
     ensures tree { NoTreeBeginsAnother }
     ensures marks { NoMarksBeginOthers }
 
-    // A tree is spelled in one walk over its entries, and as long as the model measures.
+    // A tree is spelled in one walk over its entries, and what is written is as long as the model
+    // measures.
     ensures walk { SpellingIsWalk }
     ensures measured { SpellingIsMeasured }
 {

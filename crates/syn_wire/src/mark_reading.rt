@@ -1,13 +1,15 @@
 //! What is read of trees of marks.
 ghost use Rattle.std.specs.Prelude.{◌≡◌, IfOk, option_map};
-ghost use Rattle.syn_model.specs.MarkSpelling.{mark_spelling};
+ghost use Rattle.syn_model.specs.MarkSpelling.{mark_spelling_in};
 ghost use Rattle.syn_mark.specs.Marks.{or_absent};
-ghost use Rattle.syn_wire.specs.Marks.{IsMarkTree, IsOptionalMarkTree};
+ghost use Rattle.syn_wire.specs.Marks.{IsMarkTreeIn, IsOptionalMarkTreeIn};
 ghost use Rattle.syn_wire.specs.Reads.{IsReading};
+ghost use Rattle.syn_wire.specs.Versions.{version_of};
 
 use crate::error::WireError;
 use crate::part_reading::read_part;
 use crate::tree::ABSENT;
+use crate::version::Version;
 use std::alloc::Global;
 use syn_mark::{MarkEntry, MarkTree};
 use syn_path::Path;
@@ -18,9 +20,11 @@ use syn_path::Path;
 /// Refused 11 where memory is refused.
 pub fn decode_marks(
     alloc: Global,
+    version: Version,
     bytes: &[u8],
 ) -> Result<Option<(Option<MarkTree>, &[u8])>, WireError>
-    ensures { IfOk result (λ read. IsReading IsOptionalMarkTree mark_spelling bytes.now
+    ensures { IfOk result (λ read. IsReading (IsOptionalMarkTreeIn (version_of version))
+        (mark_spelling_in (version_of version)) bytes.now
         (option_map (λ found. (or_absent found.0, found.1.now)) read)) }
 {
     let [kind, rest @ ..] = bytes else {
@@ -28,7 +32,7 @@ pub fn decode_marks(
     };
     match *kind {
         ABSENT => Ok(Some((None, rest))),
-        _ => match decode_mark_tree(alloc, bytes)? {
+        _ => match decode_mark_tree(alloc, version, bytes)? {
             Some((marks, rest)) => Ok(Some((Some(marks), rest))),
             None => Ok(None),
         },
@@ -39,12 +43,17 @@ pub fn decode_marks(
 /// rest; none where no front of them is a spelling within the limits of an archive.
 ///
 /// Refused 11 where memory is refused.
-pub fn decode_mark_tree(alloc: Global, bytes: &[u8]) -> Result<Option<(MarkTree, &[u8])>, WireError>
-    ensures { IfOk result (λ read. IsReading IsMarkTree mark_spelling bytes.now
+pub fn decode_mark_tree(
+    alloc: Global,
+    version: Version,
+    bytes: &[u8],
+) -> Result<Option<(MarkTree, &[u8])>, WireError>
+    ensures { IfOk result (λ read. IsReading (IsMarkTreeIn (version_of version))
+        (mark_spelling_in (version_of version)) bytes.now
         (option_map (λ found. (found.0, found.1.now)) read)) }
 {
     let mut list: Vec<MarkEntry> = Vec::new(alloc);
-    let Some(rest) = read_part(alloc, &mut list, Path::root(alloc), bytes)? else {
+    let Some(rest) = read_part(alloc, version, &mut list, Path::root(alloc), bytes)? else {
         return Ok(None);
     };
     let Some(marks) = MarkTree::from_vec(list) else {

@@ -58,7 +58,7 @@ pub fn write_marks(out: &mut Vec<u8>, marks: &MarkTree) -> Result<(), WireError>
 pub fn optional_marks_length(marks: Option<&MarkTree>) -> usize
     ensures length { result ≡ length
         (mark_spelling (or_absent (option_map (λ there. there.now) marks.entry))) }
-    ensures brief { result ≤ 401408 }
+    ensures brief { result ≤ 409600 }
 {
     match marks {
         None => 1,
@@ -69,7 +69,7 @@ pub fn optional_marks_length(marks: Option<&MarkTree>) -> usize
 // How many bytes spell the marks, entry by entry.
 fn marks_length(marks: &MarkTree) -> usize
     ensures length { result ≡ length (mark_spelling marks.now) }
-    ensures brief { result ≤ 401408 }
+    ensures brief { result ≤ 409600 }
 {
     let mut length = 0;
     let list = marks.as_slice();
@@ -83,10 +83,10 @@ fn marks_length(marks: &MarkTree) -> usize
 fn entry_length(entry: &MarkEntry) -> usize
     ensures length { (count : ℕ) → result ≡ length
         (last_name_spelling entry.now.0 ++ standing_by digest_spelling count entry.now.1) }
-    ensures brief { result ≤ 98 }
+    ensures brief { result ≤ 100 }
 {
     let mark = match entry.standing() {
-        Mark::File(_, digest) => 1 + digest_length(*digest),
+        Mark::File(_, digest) => 3 + digest_length(*digest),
         Mark::Dir => 3,
     };
     last_name_length(entry.path()) + mark

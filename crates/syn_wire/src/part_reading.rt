@@ -2,6 +2,7 @@
 ghost use Rattle.std.specs.Prelude.{◌≡◌, ◌∷◌, IfOk, option_map};
 ghost use Rattle.syn_wire.specs.Reads.{IsReading};
 ghost use Rattle.syn_wire.specs.Trees.{last_name_spelling};
+ghost use Rattle.syn_wire.specs.Versions.{version_of};
 ghost use Rattle.syn_wire.specs.inner.Parts.{IsChildOf, ReadsPart, ReadsParts};
 ghost use Rattle.syn_wire.specs.inner.Parts.{PartIsRead, PartsAreRead};
 
@@ -10,6 +11,7 @@ use crate::number::read_u16;
 use crate::path::read_name;
 use crate::readable::Readable;
 use crate::tree::{DIRECTORY, FILE};
+use crate::version::Version;
 use std::alloc::Global;
 use syn_path::{Path, PathError};
 use syn_placed::Placed;
@@ -19,22 +21,25 @@ use syn_placed::Placed;
 #[cycle(parts)]
 pub(crate) fn read_parts<'a, C: Readable>(
     alloc: Global,
+    version: Version,
     list: &mut Vec<Placed<C>>,
     above: &Path,
     count: u16,
     bytes: &'a [u8],
 ) -> Result<Option<&'a [u8]>, WireError>
-    ensures reads { IfOk result (λ left. ReadsParts C.kind above.now count bytes.now
-        list.old.items list.new.items (option_map (λ rest. rest.now) left)) }
-    ensures spelled { IfOk result (λ left. PartsAreRead C.kind above.now count bytes.now
-        list.old.items list.new.items (option_map (λ rest. rest.now) left)) }
+    ensures reads { IfOk result (λ left. ReadsParts (C.kind (version_of version))
+        above.now count bytes.now list.old.items list.new.items
+        (option_map (λ rest. rest.now) left)) }
+    ensures spelled { IfOk result (λ left. PartsAreRead (C.kind (version_of version))
+        above.now count bytes.now list.old.items list.new.items
+        (option_map (λ rest. rest.now) left)) }
 {
     let mut rest = bytes;
     for _read in 0..count {
         let Some((path, after)) = read_child(alloc, above, rest)? else {
             return Ok(None);
         };
-        let Some(after) = read_part(alloc, list, path, after)? else {
+        let Some(after) = read_part(alloc, version, list, path, after)? else {
             return Ok(None);
         };
         rest = after;
@@ -47,21 +52,22 @@ pub(crate) fn read_parts<'a, C: Readable>(
 #[cycle(parts)]
 pub(crate) fn read_part<'a, C: Readable>(
     alloc: Global,
+    version: Version,
     list: &mut Vec<Placed<C>>,
     path: Path,
     bytes: &'a [u8],
 ) -> Result<Option<&'a [u8]>, WireError>
-    ensures reads { IfOk result (λ left. ReadsPart C.kind path bytes.now
-        list.old.items list.new.items (option_map (λ rest. rest.now) left)) }
-    ensures spelled { IfOk result (λ left. PartIsRead C.kind path bytes.now
-        list.old.items list.new.items (option_map (λ rest. rest.now) left)) }
+    ensures reads { IfOk result (λ left. ReadsPart (C.kind (version_of version)) path
+        bytes.now list.old.items list.new.items (option_map (λ rest. rest.now) left)) }
+    ensures spelled { IfOk result (λ left. PartIsRead (C.kind (version_of version)) path
+        bytes.now list.old.items list.new.items (option_map (λ rest. rest.now) left)) }
 {
     let [kind, fields @ ..] = bytes else {
         return Ok(None);
     };
     match *kind {
-        FILE => read_file_at(alloc, list, path, fields),
-        DIRECTORY => read_directory_at(alloc, list, path, fields),
+        FILE => read_file_at(alloc, version, list, path, fields),
+        DIRECTORY => read_directory_at(alloc, version, list, path, fields),
         _ => Ok(None),
     }
 }
@@ -70,14 +76,15 @@ pub(crate) fn read_part<'a, C: Readable>(
 #[cycle(parts)]
 fn read_directory_at<'a, C: Readable>(
     alloc: Global,
+    version: Version,
     list: &mut Vec<Placed<C>>,
     path: Path,
     fields: &'a [u8],
 ) -> Result<Option<&'a [u8]>, WireError>
-    ensures reads { IfOk result (λ left. ReadsPart C.kind path
+    ensures reads { IfOk result (λ left. ReadsPart (C.kind (version_of version)) path
         (DIRECTORY ∷ fields.now) list.old.items list.new.items
         (option_map (λ rest. rest.now) left)) }
-    ensures spelled { IfOk result (λ left. PartIsRead C.kind path
+    ensures spelled { IfOk result (λ left. PartIsRead (C.kind (version_of version)) path
         (DIRECTORY ∷ fields.now) list.old.items list.new.items
         (option_map (λ rest. rest.now) left)) }
 {
@@ -86,22 +93,23 @@ fn read_directory_at<'a, C: Readable>(
     };
     let above = copied(alloc, &path)?;
     list.push(Placed::new(path, C::directory()))?;
-    read_parts(alloc, list, &above, count, below)
+    read_parts(alloc, version, list, &above, count, below)
 }
 
 // The same of a file, behind its kind.
 fn read_file_at<'a, C: Readable>(
     alloc: Global,
+    version: Version,
     list: &mut Vec<Placed<C>>,
     path: Path,
     fields: &'a [u8],
 ) -> Result<Option<&'a [u8]>, WireError>
-    ensures reads { IfOk result (λ left. ReadsPart C.kind path
+    ensures reads { IfOk result (λ left. ReadsPart (C.kind (version_of version)) path
         (FILE ∷ fields.now) list.old.items list.new.items (option_map (λ rest. rest.now) left)) }
-    ensures spelled { IfOk result (λ left. PartIsRead C.kind path
+    ensures spelled { IfOk result (λ left. PartIsRead (C.kind (version_of version)) path
         (FILE ∷ fields.now) list.old.items list.new.items (option_map (λ rest. rest.now) left)) }
 {
-    let Some((file, rest)) = C::read_file(alloc, fields)? else {
+    let Some((file, rest)) = C::read_file(alloc, version, fields)? else {
         return Ok(None);
     };
     list.push(Placed::new(path, file))?;

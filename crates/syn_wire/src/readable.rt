@@ -2,10 +2,12 @@
 ghost use Rattle.std.specs.Prelude.{◌≡◌, IfOk, option_map};
 ghost use Rattle.syn_model.specs.Tree.{Directory};
 ghost use Rattle.syn_mark.specs.Marks.{content_of};
+ghost use Rattle.syn_wire.specs.Versions.{version_of};
 ghost use Rattle.syn_wire.specs.inner.Kinds.{IsFileRead, OfMarks};
 
 use crate::contents::{read_contents, read_digest};
 use crate::error::WireError;
+use crate::version::Version;
 use std::alloc::Global;
 use syn_mark::Mark;
 use syn_placed::Standing;
@@ -13,9 +15,10 @@ use syn_tree::Content;
 
 /// What may stand at a path, as it is read.
 pub(crate) trait Readable: Standing {
+    ghost use Rattle.syn_model.specs.Version.{Version};
     ghost use Rattle.syn_wire.specs.inner.Kinds.{Kind};
 
-    ghost kind: { Kind };
+    ghost kind: { Version → Kind };
 
     /// A directory.
     fn directory() -> Self
@@ -23,8 +26,12 @@ pub(crate) trait Readable: Standing {
 
     /// What follows the kind of a file, and the rest; none where no front of the bytes is that.
     /// Refused 11 where memory is refused.
-    fn read_file(alloc: Global, fields: &[u8]) -> Result<Option<(Self, &[u8])>, WireError>
-        ensures { IfOk result (λ read. IsFileRead kind fields.now
+    fn read_file(
+        alloc: Global,
+        version: Version,
+        fields: &[u8],
+    ) -> Result<Option<(Self, &[u8])>, WireError>
+        ensures { IfOk result (λ read. IsFileRead (kind (version_of version)) fields.now
             (option_map (λ found. (Self.content found.0, found.1.now)) read)) };
 }
 
@@ -37,8 +44,12 @@ impl Readable for Content {
         Content::Dir
     }
 
-    fn read_file(alloc: Global, fields: &[u8]) -> Result<Option<(Content, &[u8])>, WireError> {
-        match read_contents(alloc, fields)? {
+    fn read_file(
+        alloc: Global,
+        version: Version,
+        fields: &[u8],
+    ) -> Result<Option<(Content, &[u8])>, WireError> {
+        match read_contents(alloc, version, fields)? {
             Some((mode, bytes, rest)) => Ok(Some((Content::File(mode, bytes), rest))),
             None => Ok(None),
         }
@@ -54,16 +65,20 @@ impl Readable for Mark {
         Mark::Dir
     }
 
-    fn read_file(_alloc: Global, fields: &[u8]) -> Result<Option<(Mark, &[u8])>, WireError> {
-        Ok(read_mark(fields))
+    fn read_file(
+        _alloc: Global,
+        version: Version,
+        fields: &[u8],
+    ) -> Result<Option<(Mark, &[u8])>, WireError> {
+        Ok(read_mark(version, fields))
     }
 }
 
 // The mark of a file, and the rest.
-fn read_mark(fields: &[u8]) -> Option<(Mark, &[u8])>
-    ensures { IsFileRead OfMarks fields.now
+fn read_mark(version: Version, fields: &[u8]) -> Option<(Mark, &[u8])>
+    ensures { IsFileRead (OfMarks (version_of version)) fields.now
         (option_map (λ found. (content_of found.0, found.1.now)) result) }
 {
-    let (mode, digest, rest) = read_digest(fields)?;
+    let (mode, digest, rest) = read_digest(version, fields)?;
     Some((Mark::File(mode, digest), rest))
 }

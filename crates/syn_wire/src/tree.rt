@@ -10,9 +10,9 @@ ghost use Rattle.syn_tree.specs.Nodes.{part_of, node_tree};
 ghost use Rattle.syn_wire.specs.Reads.{IsBeginning};
 ghost use Rattle.syn_wire.specs.Trees.{last_name_spelling, kind_spelling, standing_spelling};
 
-use crate::contents::write_contents;
+use crate::contents::{write_contents, write_front};
 use crate::error::WireError;
-use crate::number::{write_u16, write_u32};
+use crate::number::write_u16;
 use std::alloc::Global;
 use syn_path::Path;
 use syn_tree::{Entries, Found, Node, Pair, Tree};
@@ -152,7 +152,8 @@ fn write_pair(out: &mut Vec<u8>, pair: &Pair<'_>, count: usize) -> Result<(), Wi
     Ok(())
 }
 
-// Adds the kind of what was found, with the length of a file or the count of a directory.
+// Adds the kind of what was found, with the mode and the length of a file or the count of a
+// directory.
 pub(crate) fn write_kind(
     out: &mut Vec<u8>,
     found: &Found<'_>,
@@ -165,9 +166,9 @@ pub(crate) fn write_kind(
     ensures kept { IsBeginning out.old.items out.new.items }
 {
     match found {
-        Found::File(_, bytes) => {
+        Found::File(mode, bytes) => {
             out.push(FILE)?;
-            write_u32(out, bytes.len() as u32)
+            write_front(out, *mode, bytes)
         }
         Found::Dir => write_count(out, count),
     }

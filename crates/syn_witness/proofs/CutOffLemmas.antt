@@ -148,7 +148,7 @@ replacement_allowed =
 
 cuts_it : Steps armed_right (Deliver 12) cut_right
 unfolding armed_right cut_right
-cuts_it = to_side Right 1 3 (Replace 0 a_path 1 6) cut_right.right None []
+cuts_it = to_side Right 1 3 (Replace 0 a_path 1 8) cut_right.right None []
     (adds (answer right_done Done) replacement cut_right.right.journal
     [] refl (inl (Some one, inl reads_one, done_is)) refl
     (unwritten Down unarmed 0 refl (inr refl)
@@ -216,7 +216,7 @@ recovered_archive = record replaced {
   acknowledged = replaced.acknowledged ++ Kept_by what_is_due ∷ [];
 }
 
-breaks_off : Advances 7 plan (took Right 3 (Replace 0 a_path 1 6) Done)
+breaks_off : Advances 7 plan (took Right 3 (Replace 0 a_path 1 8) Done)
     (start_of armed_archive.coordinator right_replaces)
     [] (record (start_of armed_archive.coordinator right_replaces)
     { journal = cut_archive.coordinator.journal })
@@ -227,7 +227,7 @@ breaks_off =
     (record {
       planned = planned;
       at = refl;
-      due = done a_path 1 6 refl refl refl;
+      due = done a_path 1 8 refl refl refl;
       can = can_record;
       up = refl;
     })
@@ -239,7 +239,7 @@ breaks_off =
 cuts_record : Steps armed_archive (Deliver 13) cut_archive
 unfolding armed_archive cut_archive
 cuts_record = to_coordinator Right 1 3 Done cut_archive.coordinator _
-    (takes right_replaces (Replace 0 a_path 1 6) _ _ (record {
+    (takes right_replaces (Replace 0 a_path 1 8) _ _ (record {
       runs = refl;
       of_session = refl;
       asked = refl;

@@ -8,7 +8,7 @@ use Rattle.std.proofs.lemmas.Option.{none-some, same_Some}
 use Rattle.std.proofs.lemmas.List.Elements.{All-nil}
 use Rattle.syn_model.specs.Refusal.{Refusal, Device, Memory, JournalFull, Halted as Halted_before}
 use Rattle.syn_model.specs.Refusal.{Cause, first_cause}
-use Rattle.syn_model.specs.Event.{Edit, Put, MakeDir, Remove, Event, Edited}
+use Rattle.syn_model.specs.Event.{Edit, Put, MakeDir, Remove, Chmod, Event, Edited}
 use Rattle.syn_model.proofs.HistoryLemmas.{first_cause-none}
 use Rattle.syn_headline.specs.Machine.{Status, Up, Halted, Down, Arms, Meets, all_made, one_fails}
 use Rattle.syn_headline.specs.Machine.{one_stops, Journaled, unarmed, after_device}
@@ -205,6 +205,8 @@ edit_others pair machine user (MakeDir path) =
     (refl, (refl, (refl, (refl, (refl, (refl, (refl, tt)))))))
 edit_others pair machine user (Remove path) =
     (refl, (refl, (refl, (refl, (refl, (refl, (refl, tt)))))))
+edit_others pair machine user (Chmod path mode) =
+    (refl, (refl, (refl, (refl, (refl, (refl, (refl, (refl, tt))))))))
 
 start_others : (pair : ℕ) (machine : CoordinatorMachine) →
     AreOthers (start_causes pair machine ++ (true, Memory) ∷ [])

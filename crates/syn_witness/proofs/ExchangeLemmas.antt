@@ -208,17 +208,37 @@ takes_right_listing =
 
 first_bytes_lawful : AreBytes file_bytes
 first_bytes_lawful =
-    All-from_recursion (λ byte. byte < 256) file_bytes
-    (omega arith, (omega arith, (omega arith, (omega arith, (omega arith, (omega arith, tt))))))
+    All-from_recursion (λ byte. byte < 256) file_bytes (
+      omega arith,
+      (
+        omega arith,
+        (
+          omega arith,
+          (
+            omega arith,
+            (
+              omega arith,
+              (
+                omega arith,
+                (
+                  omega arith,
+                  (omega arith, tt),
+                ),
+              ),
+            ),
+          ),
+        ),
+      ),
+    )
 
 takes_first_piece : Steps fetched (Deliver 9) staging
 takes_first_piece =
-    goes_on_so fetched left_fetches Left 2 (Fetch a_path 2 0) (Piece 6 file_bytes) (Some plan)
+    goes_on_so fetched left_fetches Left 2 (Fetch a_path 2 0) (Piece 8 file_bytes) (Some plan)
     [] (start_of fetched.coordinator left_fetches) [] [] (Stage 0 0 file_bytes ∷ []) refl refl
     refl coordinator.stays (stands (start_of fetched.coordinator left_fetches)) refl refl not_last
     (asks_so number_of begun_archive (runs_with 1 (take 5 transcript) [] [] (Some plan) 0 [])
     [] (Stage 0 0 file_bytes ∷ []) tt
-    ((refl, (first_planned, refl, (refl, 6, (2, (4, omega arith, refl))))), tt) (
+    ((refl, (first_planned, refl, (refl, 8, (2, (4, omega arith, refl))))), tt) (
       (
         omega arith,
         (omega arith, omega arith, (omega arith, omega arith, first_bytes_lawful)),
@@ -231,10 +251,10 @@ takes_first_piece =
 takes_first_staged : Steps staged (Deliver 11) replacing
 takes_first_staged =
     goes_on_so staged right_stages Right 2 (Stage 0 0 file_bytes) Staged (Some plan)
-    [] (start_of staged.coordinator right_stages) [] [] (Replace 0 a_path 2 6 ∷ []) refl refl refl
+    [] (start_of staged.coordinator right_stages) [] [] (Replace 0 a_path 2 8 ∷ []) refl refl refl
     coordinator.stays (stands (start_of staged.coordinator right_stages)) refl refl not_last
     (asks_so number_of begun_archive (runs_with 1 (take 6 transcript) [] [] (Some plan) 0 [])
-    [] (Replace 0 a_path 2 6 ∷ []) tt (
+    [] (Replace 0 a_path 2 8 ∷ []) tt (
       (
         refl,
         (
@@ -259,11 +279,11 @@ takes_first_staged =
 takes_first_done : Steps replaced (Deliver 13) second_fetching
 takes_first_done =
     let walk = start_of replaced.coordinator right_replaces in
-    goes_on_so replaced right_replaces Right 3 (Replace 0 a_path 2 6) Done (Some plan)
+    goes_on_so replaced right_replaces Right 3 (Replace 0 a_path 2 8) Done (Some plan)
     [] (recorded 7 walk (Recorded a_path (mark one))) (Recorded a_path (mark one) ∷ [])
     [] (Fetch b_path 2 0 ∷ []) refl refl refl coordinator.stays
-    (keeps_so 7 plan (took Right 3 (Replace 0 a_path 2 6) Done) walk (Recorded a_path (mark one))
-    first_planned refl (done a_path 2 6 refl refl refl) can_record_first refl refl refl (ap
+    (keeps_so 7 plan (took Right 3 (Replace 0 a_path 2 8) Done) walk (Recorded a_path (mark one))
+    first_planned refl (done a_path 2 8 refl refl refl) can_record_first refl refl refl (ap
     (λ size. nat_le size 4194252) (letter_size 97 (49 ∷ [])))) refl refl (λ _ e. omega (arith, e))
     (asks_so number_of first_archive (runs_with 1 (take 7 transcript) []
     [] (Some plan) 1 (Recorded a_path (mark one) ∷ [])) [] (Fetch b_path 2 0 ∷ []) tt
@@ -277,18 +297,38 @@ takes_first_done =
 
 second_bytes_lawful : AreBytes two_bytes
 second_bytes_lawful =
-    All-from_recursion (λ byte. byte < 256) two_bytes
-    (omega arith, (omega arith, (omega arith, (omega arith, (omega arith, (omega arith, tt))))))
+    All-from_recursion (λ byte. byte < 256) two_bytes (
+      omega arith,
+      (
+        omega arith,
+        (
+          omega arith,
+          (
+            omega arith,
+            (
+              omega arith,
+              (
+                omega arith,
+                (
+                  omega arith,
+                  (omega arith, tt),
+                ),
+              ),
+            ),
+          ),
+        ),
+      ),
+    )
 
 takes_second_piece : Steps second_fetched (Deliver 15) second_staging
 takes_second_piece =
-    goes_on_so second_fetched right_fetches Right 4 (Fetch b_path 2 0) (Piece 6 two_bytes)
+    goes_on_so second_fetched right_fetches Right 4 (Fetch b_path 2 0) (Piece 8 two_bytes)
     (Some plan) [] (start_of second_fetched.coordinator right_fetches)
     [] (Stage 1 0 two_bytes ∷ []) [] refl refl refl coordinator.stays
     (stands (start_of second_fetched.coordinator right_fetches)) refl refl not_last
     (asks_so number_of first_archive (runs_with 1 (take 8 transcript) []
     [] (Some plan) 1 (Recorded a_path (mark one) ∷ [])) (Stage 1 0 two_bytes ∷ []) []
-    ((refl, (second_planned, refl, (refl, 6, (4, (7, omega arith, refl))))), tt) tt (
+    ((refl, (second_planned, refl, (refl, 8, (4, (7, omega arith, refl))))), tt) tt (
       (
         omega arith,
         (omega arith, omega arith, (omega arith, omega arith, second_bytes_lawful)),
@@ -304,12 +344,12 @@ takes_second_piece =
 takes_second_staged : Steps second_staged (Deliver 17) second_replacing
 takes_second_staged =
     goes_on_so second_staged left_stages Left 3 (Stage 1 0 two_bytes) Staged (Some plan)
-    [] (start_of second_staged.coordinator left_stages) [] (Replace 1 b_path 2 6 ∷ [])
+    [] (start_of second_staged.coordinator left_stages) [] (Replace 1 b_path 2 8 ∷ [])
     [] refl refl refl coordinator.stays
     (stands (start_of second_staged.coordinator left_stages)) refl refl not_last
     (asks_so number_of first_archive
     (runs_with 1 (take 9 transcript) [] [] (Some plan) 1 (Recorded a_path (mark one) ∷ []))
-    (Replace 1 b_path 2 6 ∷ []) [] (
+    (Replace 1 b_path 2 8 ∷ []) [] (
       (
         refl,
         (
@@ -337,17 +377,17 @@ second_fits : nat_le (record_size (kept_spelling (Recorded b_path (mark two))))
 second_fits =
     ap (λ size. nat_le size (4194252 - record_size (kept_spelling (Recorded a_path (mark one)))))
     (letter_size 98 (50 ∷ []))
-    ∙ ap (λ size. nat_le 42 (4194252 - size)) (letter_size 97 (49 ∷ []))
+    ∙ ap (λ size. nat_le 44 (4194252 - size)) (letter_size 97 (49 ∷ []))
 
 takes_second_done : Steps second_replaced (Deliver 19) exchanged
 takes_second_done =
     let walk = start_of second_replaced.coordinator left_replaces in
-    ends_so second_replaced left_replaces Left 4 (Replace 1 b_path 2 6) Done plan
+    ends_so second_replaced left_replaces Left 4 (Replace 1 b_path 2 8) Done plan
     [] (recorded 7 walk (Recorded b_path (mark two)))
     (Recorded b_path (mark two) ∷ []) refl refl refl coordinator.stays
-    (keeps_so 7 plan (took Left 4 (Replace 1 b_path 2 6) Done) walk
+    (keeps_so 7 plan (took Left 4 (Replace 1 b_path 2 8) Done) walk
     (Recorded b_path (mark two)) second_planned refl
-    (done b_path 2 6 refl refl refl) can_record_second refl refl refl second_fits) refl refl
+    (done b_path 2 8 refl refl refl) can_record_second refl refl refl second_fits) refl refl
 
 -- The whole run
 left_has : HasBoth (tree_of left_done.history) one two

@@ -37,7 +37,7 @@ use Rattle.syn_witness.proofs.WitnessSteps.{lists}
 use Rattle.syn_witness.proofs.WitnessLemmas.{edit_allowed}
 
 abbrev pub two_bytes : Bytes
-two_bytes = 1 ∷ 0 ∷ 0 ∷ 0 ∷ 1 ∷ 50 ∷ []
+two_bytes = 1 ∷ 1 ∷ 164 ∷ 0 ∷ 0 ∷ 0 ∷ 1 ∷ 50 ∷ []
 
 -- The sides and the archive, step by step
 abbrev pub left_edited : Side
@@ -100,12 +100,12 @@ messages =
     ∷ Asks Left 1 1 (ListAt root) ∷ Asks Right 1 1 (ListAt root)
     ∷ Answers Left 1 1 (Listed 2 (children left_scan.marks root))
     ∷ Answers Right 1 1 (Listed 2 (children right_scan.marks root))
-    ∷ Asks Left 1 2 (Fetch a_path 2 0) ∷ Answers Left 1 2 (Piece 6 file_bytes)
+    ∷ Asks Left 1 2 (Fetch a_path 2 0) ∷ Answers Left 1 2 (Piece 8 file_bytes)
     ∷ Asks Right 1 2 (Stage 0 0 file_bytes) ∷ Answers Right 1 2 Staged
-    ∷ Asks Right 1 3 (Replace 0 a_path 2 6) ∷ Answers Right 1 3 Done
-    ∷ Asks Right 1 4 (Fetch b_path 2 0) ∷ Answers Right 1 4 (Piece 6 two_bytes)
+    ∷ Asks Right 1 3 (Replace 0 a_path 2 8) ∷ Answers Right 1 3 Done
+    ∷ Asks Right 1 4 (Fetch b_path 2 0) ∷ Answers Right 1 4 (Piece 8 two_bytes)
     ∷ Asks Left 1 3 (Stage 1 0 two_bytes) ∷ Answers Left 1 3 Staged
-    ∷ Asks Left 1 4 (Replace 1 b_path 2 6) ∷ Answers Left 1 4 Done ∷ []
+    ∷ Asks Left 1 4 (Replace 1 b_path 2 8) ∷ Answers Left 1 4 Done ∷ []
 
 abbrev pub acks : List Ack
 acks =
@@ -121,10 +121,10 @@ transcript =
     took Left 0 (Begin 7) (Begun 2) ∷ took Right 0 (Begin 7) (Begun 2)
     ∷ took Left 1 (ListAt root) (Listed 2 (children left_scan.marks root))
     ∷ took Right 1 (ListAt root) (Listed 2 (children right_scan.marks root))
-    ∷ took Left 2 (Fetch a_path 2 0) (Piece 6 file_bytes)
-    ∷ took Right 2 (Stage 0 0 file_bytes) Staged ∷ took Right 3 (Replace 0 a_path 2 6) Done
-    ∷ took Right 4 (Fetch b_path 2 0) (Piece 6 two_bytes) ∷ took Left 3 (Stage 1 0 two_bytes) Staged
-    ∷ took Left 4 (Replace 1 b_path 2 6) Done ∷ []
+    ∷ took Left 2 (Fetch a_path 2 0) (Piece 8 file_bytes)
+    ∷ took Right 2 (Stage 0 0 file_bytes) Staged ∷ took Right 3 (Replace 0 a_path 2 8) Done
+    ∷ took Right 4 (Fetch b_path 2 0) (Piece 8 two_bytes) ∷ took Left 3 (Stage 1 0 two_bytes) Staged
+    ∷ took Left 4 (Replace 1 b_path 2 8) Done ∷ []
 
 -- The plan
 abbrev pub first_planned : Planned
@@ -194,7 +194,7 @@ right_stages = runs_with 1 (take 5 transcript) [] (waits 2 (Stage 0 0 file_bytes
 
 abbrev pub right_replaces : Running
 right_replaces =
-    runs_with 1 (take 6 transcript) [] (waits 3 (Replace 0 a_path 2 6)) (Some plan) 0 []
+    runs_with 1 (take 6 transcript) [] (waits 3 (Replace 0 a_path 2 8)) (Some plan) 0 []
 
 abbrev pub right_fetches : Running
 right_fetches =
@@ -208,7 +208,7 @@ left_stages =
 
 abbrev pub left_replaces : Running
 left_replaces =
-    runs_with 1 (take 9 transcript) (waits 4 (Replace 1 b_path 2 6))
+    runs_with 1 (take 9 transcript) (waits 4 (Replace 1 b_path 2 8))
     [] (Some plan) 1 (Recorded a_path (mark one) ∷ [])
 
 abbrev pub first_edited : World
@@ -339,7 +339,7 @@ left_first =
     ap (λ t. subtree t a_path) (put_first 97 (49 ∷ []))
     ∙ subtree-replace empty_directory a_path one
 
-first_piece : answer left_side (Piece 6 file_bytes)
+first_piece : answer left_side (Piece 8 file_bytes)
     ≡ serve 7 (has_room_for 7 (machine_of left_side)) None left_side 1 (Fetch a_path 2 0)
 first_piece =
     ap (λ bytes. answer left_side (Piece (length bytes) (take 32768 (drop 0 bytes))))
@@ -348,7 +348,7 @@ first_piece =
 pub fetches_first : Steps fetching (Deliver 8) fetched
 fetches_first =
     says_so fetching Left 1 2 (Fetch a_path 2 0) None left_side
-    (Piece 6 file_bytes) refl reads_nothing first_piece refl
+    (Piece 8 file_bytes) refl reads_nothing first_piece refl
 
 pub stages_first : Steps staging (Deliver 10) staged
 stages_first =
@@ -366,12 +366,12 @@ right_fits =
     ((root, content (49 ∷ [])) ∷ []) right-entries (file-entries (49 ∷ [])))
 
 first_done : answer right_done Done ≡ serve 7 (has_room_for 7 (machine_of right_staged))
-    (Some one) right_staged 1 (Replace 0 a_path 2 6)
+    (Some one) right_staged 1 (Replace 0 a_path 2 8)
 first_done = rw (right_root, right_fits, file_spelling (49 ∷ [])) refl
 
 pub replaces_first : Steps replacing (Deliver 12) replaced
 replaces_first =
-    adds_so replacing Right 1 3 (Replace 0 a_path 2 6) (Some one) right_done Done
+    adds_so replacing Right 1 3 (Replace 0 a_path 2 8) (Some one) right_done Done
     (Replaced (token_of 1 0) a_path 2 one) refl refl (
       file_is_part (49 ∷ []) (one_byte 49 (omega arith)),
       file_fits_part 49,
@@ -385,7 +385,7 @@ right_second =
     ap (λ t. subtree (replace t a_path one) b_path) (put_first 98 (50 ∷ []))
     ∙ stays empty_directory two one b_path a_path refl
 
-second_piece : answer right_done (Piece 6 two_bytes)
+second_piece : answer right_done (Piece 8 two_bytes)
     ≡ serve 7 (has_room_for 7 (machine_of right_done)) None right_done 1 (Fetch b_path 2 0)
 second_piece =
     ap (λ bytes. answer right_done (Piece (length bytes) (take 32768 (drop 0 bytes))))
@@ -394,7 +394,7 @@ second_piece =
 pub fetches_second : Steps second_fetching (Deliver 14) second_fetched
 fetches_second =
     says_so second_fetching Right 1 4 (Fetch b_path 2 0) (Some one) right_done
-    (Piece 6 two_bytes) refl (
+    (Piece 8 two_bytes) refl (
       file_is_part (49 ∷ []) (one_byte 49 (omega arith)),
       file_fits_part 49,
       file_fits_paths 49,
@@ -414,12 +414,12 @@ left_fits =
     ((root, content (50 ∷ [])) ∷ []) left-entries (file-entries (50 ∷ [])))
 
 second_done : answer left_done Done ≡ serve 7 (has_room_for 7 (machine_of left_staged))
-    (Some two) left_staged 1 (Replace 1 b_path 2 6)
+    (Some two) left_staged 1 (Replace 1 b_path 2 8)
 second_done = rw (left_root, left_fits, file_spelling (50 ∷ [])) refl
 
 pub replaces_second : Steps second_replacing (Deliver 18) second_replaced
 replaces_second =
-    adds_so second_replacing Left 1 4 (Replace 1 b_path 2 6) (Some two) left_done Done
+    adds_so second_replacing Left 1 4 (Replace 1 b_path 2 8) (Some two) left_done Done
     (Replaced (token_of 1 1) b_path 2 two) refl refl (
       file_is_part (50 ∷ []) (one_byte 50 (omega arith)),
       file_fits_part 50,

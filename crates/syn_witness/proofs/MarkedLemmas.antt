@@ -361,7 +361,7 @@ is_marked = record {
   fetched = record {
     position = 2;
     offset = 0;
-    total = 6;
+    total = 8;
     bytes = file_bytes;
     answered =
         record { number = 2; asked = (8, omega arith, refl); answered = (9, omega arith, refl) };

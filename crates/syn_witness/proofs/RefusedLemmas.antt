@@ -44,7 +44,7 @@ repeated = record replaced { sent = replaced.sent ++ Answers Right 1 3 Done ∷ 
 repeats : Steps replaced (Deliver 12) repeated
 unfolding repeated
 repeats =
-    says_so replaced Right 1 3 (Replace 0 a_path 1 6)
+    says_so replaced Right 1 3 (Replace 0 a_path 1 8)
     (Some one) right_done Done refl reads_one refl refl
 
 pub repeat_is_done : RepeatIsDone
@@ -110,14 +110,14 @@ touches_it =
 refuses_it : Steps touched_world (Deliver 12) refused_world
 unfolding touched_side touched_world refused_world
 refuses_it =
-    says_so touched_world Right 1 3 (Replace 0 a_path 1 6) (Some one) touched_side
+    says_so touched_world Right 1 3 (Replace 0 a_path 1 8) (Some one) touched_side
     (Refused Touched) refl reads_one refl refl
 
 ends_it : Steps refused_world (Deliver 13) ended_world
 unfolding touched_side touched_world refused_world ended_world
 ends_it =
     let walk = start_of refused_world.coordinator right_replaces in
-    ends_so refused_world right_replaces Right 3 (Replace 0 a_path 1 6) (Refused Touched) plan
+    ends_so refused_world right_replaces Right 3 (Replace 0 a_path 1 8) (Refused Touched) plan
     [] (refusing walk Touched planned) [] refl refl refl stays
     (side_refuses walk (refusing walk Touched planned)
     [] planned Touched refl refl refl refl (stands (refusing walk Touched planned))) refl refl
@@ -167,7 +167,7 @@ failed_world =
 
 fails_it : Steps armed_right (Deliver 12) halted_right
 unfolding event_then armed_right halted_right
-fails_it = to_side Right 1 3 (Replace 0 a_path 1 6) halted_right.right (Some (Refused Device)) []
+fails_it = to_side Right 1 3 (Replace 0 a_path 1 8) halted_right.right (Some (Refused Device)) []
     (adds (answer right_done Done) event_then halted_right.right.journal
     [] refl (inl (Some one, inl reads_one, done_is)) refl
     (unwritten Halted unarmed 1 refl (inl refl)
@@ -177,7 +177,7 @@ ends_failed : Steps halted_right (Deliver 13) failed_world
 unfolding event_then halted_right failed_world
 ends_failed =
     let walk = start_of halted_right.coordinator right_replaces in
-    ends_so halted_right right_replaces Right 3 (Replace 0 a_path 1 6) (Refused Device) plan
+    ends_so halted_right right_replaces Right 3 (Replace 0 a_path 1 8) (Refused Device) plan
     [] (refusing walk Device planned) [] refl refl refl stays
     (side_refuses walk (refusing walk Device planned)
     [] planned Device refl refl refl refl (stands (refusing walk Device planned))) refl refl

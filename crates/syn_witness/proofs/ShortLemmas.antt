@@ -234,7 +234,7 @@ begins_late =
 refuses_late : Steps begun_late (Deliver 12) refused_late
 unfolding opened_late started_late begun_side begun_late refused_late
 refuses_late =
-    says_so begun_late Right 1 3 (Replace 0 a_path 1 6) (Some one) begun_side
+    says_so begun_late Right 1 3 (Replace 0 a_path 1 8) (Some one) begun_side
     (Refused OldSession) refl reads_one refl refl
 
 pub late_is_old : LateIsOld

@@ -103,7 +103,7 @@ pub are_marks : (bytes : Bytes) → IsMarks (mark (file bytes))
 are_marks bytes = record { part = mark_is_part bytes; digests = mark-digests (file bytes) }
 
 pub file_spelling : (bytes : Bytes) →
-    spelling (file bytes) ≡ 1 ∷ to_be_bytes w32 (length bytes) ++ bytes
+    spelling (file bytes) ≡ 1 ∷ 1 ∷ 164 ∷ to_be_bytes w32 (length bytes) ++ bytes
 unfolding spelling_within
 file_spelling bytes =
     ap (content_spelling contents_spelling
@@ -206,9 +206,9 @@ put_allowed user n b known letter byte fits = record {
       ) refl;
 }
 
--- the record of a file's mark at a letter has 42 bytes
+-- the record of a file's mark at a letter has 44 bytes
 pub letter_size : (letter : ℕ) (bytes : Bytes) →
-    record_size (kept_spelling (Recorded (letter_path letter) (mark (file bytes)))) ≡ 42
+    record_size (kept_spelling (Recorded (letter_path letter) (mark (file bytes)))) ≡ 44
 unfolding spelling_within
 letter_size letter bytes =
     let marks = mark (file bytes) in
@@ -217,9 +217,9 @@ letter_size letter bytes =
     ap (λ content. record_size
     (2 ∷ 1 ∷ 1 ∷ letter ∷ content_spelling digest_spelling
     (spelling_within digest_spelling (len marks)) marks content)) at
-    ∙ ap (λ n. 5 + suc (suc (suc (suc (suc n))))) (length-sha256 bytes)
+    ∙ ap (λ n. 5 + suc (suc (suc (suc (suc (suc (suc n))))))) (length-sha256 bytes)
 
-pub letter_fits : (letter : ℕ) (bytes : Bytes) (room : ℕ) → 42 ≤ room →
+pub letter_fits : (letter : ℕ) (bytes : Bytes) (room : ℕ) → 44 ≤ room →
     record_size (kept_spelling (Recorded (letter_path letter) (mark (file bytes)))) ≤ room
 letter_fits letter bytes room h = subst (λ size. size ≤ room) (sym (letter_size letter bytes)) h
 

@@ -49,9 +49,9 @@ messages =
     ∷ Asks Left 1 1 (ListAt root) ∷ Asks Right 1 1 (ListAt root)
     ∷ Answers Left 1 1 (Listed 2 (children left_scan.marks root))
     ∷ Answers Right 1 1 (Listed 1 (children right_scan.marks root))
-    ∷ Asks Left 1 2 (Fetch a_path 2 0) ∷ Answers Left 1 2 (Piece 6 file_bytes)
+    ∷ Asks Left 1 2 (Fetch a_path 2 0) ∷ Answers Left 1 2 (Piece 8 file_bytes)
     ∷ Asks Right 1 2 (Stage 0 0 file_bytes) ∷ Answers Right 1 2 Staged
-    ∷ Asks Right 1 3 (Replace 0 a_path 1 6) ∷ Answers Right 1 3 Done ∷ []
+    ∷ Asks Right 1 3 (Replace 0 a_path 1 8) ∷ Answers Right 1 3 Done ∷ []
 
 abbrev pub acks : List Ack
 acks =
@@ -66,8 +66,8 @@ transcript =
     took Left 0 (Begin 7) (Begun 2) ∷ took Right 0 (Begin 7) (Begun 1)
     ∷ took Left 1 (ListAt root) (Listed 2 (children left_scan.marks root))
     ∷ took Right 1 (ListAt root) (Listed 1 (children right_scan.marks root))
-    ∷ took Left 2 (Fetch a_path 2 0) (Piece 6 file_bytes)
-    ∷ took Right 2 (Stage 0 0 file_bytes) Staged ∷ took Right 3 (Replace 0 a_path 1 6) Done ∷ []
+    ∷ took Left 2 (Fetch a_path 2 0) (Piece 8 file_bytes)
+    ∷ took Right 2 (Stage 0 0 file_bytes) Staged ∷ took Right 3 (Replace 0 a_path 1 8) Done ∷ []
 
 -- The plan
 abbrev pub planned : Planned
@@ -177,7 +177,7 @@ staged = world left_side right_staged begun_archive (Some right_stages) 12 4
 
 abbrev pub right_replaces : Running
 right_replaces =
-    runs_with 1 (take 6 transcript) [] (waits 3 (Replace 0 a_path 1 6)) (Some plan) 0 []
+    runs_with 1 (take 6 transcript) [] (waits 3 (Replace 0 a_path 1 8)) (Some plan) 0 []
 
 abbrev pub replacing : World
 replacing = world left_side right_staged begun_archive (Some right_replaces) 13 4

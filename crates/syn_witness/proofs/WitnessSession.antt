@@ -86,7 +86,7 @@ left_one =
     ap (λ t. subtree t a_path) (put_first 97 (49 ∷ []))
     ∙ subtree-replace empty_directory a_path one
 
-piece_is : answer left_side (Piece 6 file_bytes)
+piece_is : answer left_side (Piece 8 file_bytes)
     ≡ serve 7 (has_room_for 7 (machine_of left_side)) None left_side 1 (Fetch a_path 2 0)
 piece_is =
     ap (λ bytes. answer left_side (Piece (length bytes) (take 32768 (drop 0 bytes))))
@@ -95,7 +95,7 @@ piece_is =
 fetches : Steps fetching (Deliver 8) fetched
 fetches =
     says_so fetching Left 1 2 (Fetch a_path 2 0) None left_side
-    (Piece 6 file_bytes) refl reads_nothing piece_is refl
+    (Piece 8 file_bytes) refl reads_nothing piece_is refl
 
 stages : Steps staging (Deliver 10) staged
 stages =
@@ -103,7 +103,7 @@ stages =
     (Stage 0 0 file_bytes) None right_staged Staged refl reads_nothing refl refl
 
 pub done_is : answer right_done Done ≡ serve 7 (has_room_for 7 (machine_of right_staged))
-    (Some one) right_staged 1 (Replace 0 a_path 1 6)
+    (Some one) right_staged 1 (Replace 0 a_path 1 8)
 unfolding tree_of
 done_is =
     let new = put-entries empty_directory one 97 (content (49 ∷ [])) alone-entries
@@ -114,7 +114,7 @@ done_is =
 
 pub replaces : Steps replacing (Deliver 12) replaced
 replaces =
-    adds_so replacing Right 1 3 (Replace 0 a_path 1 6) (Some one) right_done Done
+    adds_so replacing Right 1 3 (Replace 0 a_path 1 8) (Some one) right_done Done
     (Replaced (token_of 1 0) a_path 1 one) refl refl (
       file_is_part (49 ∷ []) (one_byte 49 (omega arith)),
       file_fits_part 49,
@@ -255,17 +255,37 @@ takes_right_listing =
 
 bytes_lawful : AreBytes file_bytes
 bytes_lawful =
-    All-from_recursion (λ byte. byte < 256) file_bytes
-    (omega arith, (omega arith, (omega arith, (omega arith, (omega arith, (omega arith, tt))))))
+    All-from_recursion (λ byte. byte < 256) file_bytes (
+      omega arith,
+      (
+        omega arith,
+        (
+          omega arith,
+          (
+            omega arith,
+            (
+              omega arith,
+              (
+                omega arith,
+                (
+                  omega arith,
+                  (omega arith, tt),
+                ),
+              ),
+            ),
+          ),
+        ),
+      ),
+    )
 
 takes_piece : Steps fetched (Deliver 9) staging
 takes_piece =
-    goes_on_so fetched left_fetches Left 2 (Fetch a_path 2 0) (Piece 6 file_bytes) (Some plan)
+    goes_on_so fetched left_fetches Left 2 (Fetch a_path 2 0) (Piece 8 file_bytes) (Some plan)
     [] (start_of fetched.coordinator left_fetches) [] [] (Stage 0 0 file_bytes ∷ [])
     refl refl refl stays (stands (start_of fetched.coordinator left_fetches)) refl refl not_last
     (asks_so number_of begun_archive (runs_with 1 (take 5 transcript) [] [] (Some plan) 0 [])
     [] (Stage 0 0 file_bytes ∷ []) tt
-    ((refl, (planned, refl, (refl, 6, (2, (4, omega arith, refl))))), tt)
+    ((refl, (planned, refl, (refl, 8, (2, (4, omega arith, refl))))), tt)
     ((omega arith, (omega arith, omega arith, (omega arith, omega arith, bytes_lawful))), tt)
     (omega arith) (omega arith) ((refl, (refl, (refl, (refl, (refl, tt))))), tt, (refl, tt))
     (omega arith, omega arith, omega arith))
@@ -273,10 +293,10 @@ takes_piece =
 takes_staged : Steps staged (Deliver 11) replacing
 takes_staged =
     goes_on_so staged right_stages Right 2 (Stage 0 0 file_bytes) Staged (Some plan)
-    [] (start_of staged.coordinator right_stages) [] [] (Replace 0 a_path 1 6 ∷ [])
+    [] (start_of staged.coordinator right_stages) [] [] (Replace 0 a_path 1 8 ∷ [])
     refl refl refl stays (stands (start_of staged.coordinator right_stages)) refl refl not_last
     (asks_so number_of begun_archive (runs_with 1 (take 6 transcript) [] [] (Some plan) 0 [])
-    [] (Replace 0 a_path 1 6 ∷ []) tt (
+    [] (Replace 0 a_path 1 8 ∷ []) tt (
       (
         refl,
         (
@@ -301,11 +321,11 @@ takes_staged =
 takes_done : Steps replaced (Deliver 13) carried
 takes_done =
     let walk = start_of replaced.coordinator right_replaces in
-    ends_so replaced right_replaces Right 3 (Replace 0 a_path 1 6) Done plan
+    ends_so replaced right_replaces Right 3 (Replace 0 a_path 1 8) Done plan
     [] (recorded 7 walk (Recorded a_path (mark one)))
     (Recorded a_path (mark one) ∷ []) refl refl refl stays
-    (keeps_so 7 plan (took Right 3 (Replace 0 a_path 1 6) Done) walk
-    (Recorded a_path (mark one)) planned refl (done a_path 1 6 refl refl refl) can_record
+    (keeps_so 7 plan (took Right 3 (Replace 0 a_path 1 8) Done) walk
+    (Recorded a_path (mark one)) planned refl (done a_path 1 8 refl refl refl) can_record
     refl refl refl (ap (λ size. nat_le size 4194252) (letter_size 97 (49 ∷ [])))) refl refl
 
 right_one : subtree (tree_of right_done.history) a_path ≡ one

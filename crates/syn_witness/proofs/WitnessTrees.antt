@@ -64,7 +64,7 @@ children_in ts path =
 abbrev pub fits_in : ℕ → List Pair → Bool
 fits_in count ts =
     nat_le count 1024 && nat_le
-    (sum_by (λ pair. last_name_spelling_length pair.0 + content_spelling_length pair.1) ts) 524288
+    (sum_by (λ pair. last_name_spelling_length pair.0 + content_spelling_length pair.1) ts) 526336
     && list_all (λ pair. fits_content pair.1 && nat_le (length (children_in ts pair.0)) 256) ts
     && list_all (λ pair. fits_path pair.0) ts
 

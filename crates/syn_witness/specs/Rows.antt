@@ -20,7 +20,7 @@ abbrev pub asked : Side → Request → Served
 asked side request = serve 7 has_room None side 1 request
 
 abbrev pub file_bytes : Bytes
-file_bytes = 1 ∷ 0 ∷ 0 ∷ 0 ∷ 1 ∷ 49 ∷ []
+file_bytes = 1 ∷ 1 ∷ 164 ∷ 0 ∷ 0 ∷ 0 ∷ 1 ∷ 49 ∷ []
 
 abbrev pub begun : Side
 begun = (asked new_side (Begin 7)).side
@@ -40,11 +40,11 @@ pub record SideRows : Type 0 where
   pub stages : (asked begun (Stage 0 0 file_bytes)).reply ≡ Staged
   pub stages_again : asked staged (Stage 0 0 file_bytes) ≡ answer staged Staged
   pub gap : asked staged (Stage 0 9 file_bytes) ≡ answer staged (Refused BadStage)
-  pub wrong_length : (asked staged (Replace 0 (a_name ∷ []) 1 5)).reply ≡ Refused BadStage
+  pub wrong_length : (asked staged (Replace 0 (a_name ∷ []) 1 7)).reply ≡ Refused BadStage
   pub next_from_middle : asked staged (Stage 1 1 file_bytes) ≡ answer staged (Refused NotStaged)
   pub next_stages : (asked staged (Stage 1 0 file_bytes)).reply ≡ Staged
   pub older : asked staged_next (Stage 0 0 file_bytes) ≡ answer staged_next (Refused OldSession)
-  pub not_staged : (asked staged_next (Replace 2 (a_name ∷ []) 1 6)).reply ≡ Refused NotStaged
+  pub not_staged : (asked staged_next (Replace 2 (a_name ∷ []) 1 8)).reply ≡ Refused NotStaged
   pub halted : serve_halted begun 1 (Begin 7) ≡ answer begun (Refused Halted)
   pub halted_stages : serve_halted begun 1 (Stage 0 0 file_bytes) ≡ answer staged Staged
   pub halted_memory : ServesHalted begun 1 (Stage 0 0 file_bytes) (answer begun (Refused Memory))

@@ -5,8 +5,9 @@ use Rattle.std.specs.Str.{bytes_eq}
 use Rattle.std.proofs.lemmas.Option.{none-some, same_Some}
 use Rattle.clap.specs.Words.{Row, Text, first_of}
 use Rattle.syn_path.specs.declared.side.Side.{Side}
+use Rattle.syn_tree.specs.Modes.{mode_digits, mode_of}
 use Rattle.syn_words.specs.Reads.{AreGiven, HasPlace, HasUser, HasValues, IsEdit, HasNumber}
-use Rattle.syn_words.specs.Reads.{IsGiven, TakesPreference, IsOtherSide}
+use Rattle.syn_words.specs.Reads.{IsGiven, IsNoMode, TakesPreference, IsOtherSide}
 use Rattle.syn_words.specs.Reads.{IsNoNumber, IsNumber, IsOtherKind, IsWrong, IsWrongIn}
 use Rattle.syn_words.specs.Reads.{MayHaveNumber, MayHaveSide, NothingReads, kind_word, side_word}
 use Rattle.syn_words.specs.Reads.{verb_of}
@@ -31,15 +32,17 @@ verb_at t =
     (cond (bytes_eq t (codes "put")) verb.Put
     (cond (bytes_eq t (codes "mkdir")) verb.MakeDir
     (cond (bytes_eq t (codes "rm")) verb.Remove
+    (cond (bytes_eq t (codes "chmod")) verb.Chmod
     (cond (bytes_eq t (codes "show")) verb.Show
     (cond (bytes_eq t (codes "check")) verb.Check
+    (cond (bytes_eq t (codes "migrate")) verb.Migrate
     (cond (bytes_eq t (codes "log")) verb.Log
     (cond (bytes_eq t (codes "export")) verb.Export
     (cond (bytes_eq t (codes "import")) verb.Import
     (cond (bytes_eq t (codes "serve")) verb.Serve
     (cond (bytes_eq t (codes "sync")) verb.Sync
     (cond (bytes_eq t (codes "run")) verb.Run
-    (cond (bytes_eq t (codes "plan")) verb.Plan verb.Simulate))))))))))))
+    (cond (bytes_eq t (codes "plan")) verb.Plan verb.Simulate))))))))))))))
 
 verb_at-word : (v : Verb) → verb_at (word_of v) ≡ v
 unfolding verb_at
@@ -47,8 +50,10 @@ verb_at-word verb.Format = refl
 verb_at-word verb.Put = refl
 verb_at-word verb.MakeDir = refl
 verb_at-word verb.Remove = refl
+verb_at-word verb.Chmod = refl
 verb_at-word verb.Show = refl
 verb_at-word verb.Check = refl
+verb_at-word verb.Migrate = refl
 verb_at-word verb.Log = refl
 verb_at-word verb.Export = refl
 verb_at-word verb.Import = refl
@@ -81,9 +86,14 @@ values_given rows (line.Format kind pair file) has =
 values_given rows (line.Edit edit) has =
     edit_given rows edit.change
     (file_given rows edit.place has.0, ((has.1.0, has.1.1), ((edit.path.now, has.2), tt)))
+values_given rows (line.Chmod moded) has = (
+  file_given rows moded.place has.0,
+  ((has.1.0, has.1.1), ((moded.path.now, has.2), ((mode_digits (mode_of moded.mode), has.3), tt))),
+)
 values_given rows (line.Show place) has = (file_given rows place has.0, tt)
 values_given rows (line.ShowPath place path) has = (file_given rows place has.0, tt)
 values_given rows (line.Check file) has = ((file.now, has), tt)
+values_given rows (line.Migrate file) has = ((file.now, has), tt)
 values_given rows (line.Log file lines) has = ((file.now, has.0), tt)
 values_given rows (line.Export exported) has =
     (file_given rows exported.place has.0, ((exported.folder.now, has.1), tt))
@@ -172,10 +182,27 @@ module _ (rows : List Row) where
   importer_right (line.Edit edit) is wrong has = no_edit edit.change verb.Import is refl
   importer_right _ is wrong has = cc
 
+  chmod_user_right : (l : Line) → verb_of l ≡ verb.Chmod →
+      IsNoNumber 32 rows (name_of value.User) → HasValues rows l → ⊥
+  unfolding is_edit
+  chmod_user_right (line.Chmod moded) is wrong has =
+      no_number 32 rows (name_of value.User) moded.user wrong has.1
+  chmod_user_right (line.Edit edit) is wrong has = no_edit edit.change verb.Chmod is refl
+  chmod_user_right _ is wrong has = cc
+
+  mode_right : (l : Line) → verb_of l ≡ verb.Chmod → IsNoMode rows → HasValues rows l → ⊥
+  unfolding is_edit
+  mode_right (line.Chmod moded) is wrong has =
+      wrong.2 moded.mode
+      (same_Some wrong.0 (mode_digits (mode_of moded.mode)) (sym wrong.1 ∙ has.3))
+  mode_right (line.Edit edit) is wrong has = no_edit edit.change verb.Chmod is refl
+  mode_right _ is wrong has = cc
+
   user_right : (l : Line) → HasUser (verb_of l) → IsNoNumber 32 rows (name_of value.User) →
       HasValues rows l → ⊥
   user_right l (inl is) wrong has = editor_right l is wrong has
-  user_right l (inr is) wrong has = importer_right l is wrong has
+  user_right l (inr (inl is)) wrong has = importer_right l is wrong has
+  user_right l (inr (inr is)) wrong has = chmod_user_right l is wrong has
 
   connections_right : (l : Line) → verb_of l ≡ verb.Serve →
       IsNoNumber 64 rows (name_of value.Connections) → HasValues rows l → ⊥
@@ -221,6 +248,7 @@ module _ (rows : List Row) where
   none_wrong l value.User wrong has = user_right l wrong.0 wrong.1 has
   none_wrong l value.Connections wrong has = connections_right l wrong.0 wrong.1 has
   none_wrong l value.Lines wrong has = lines_right l wrong.0 wrong.1 has
+  none_wrong l value.Mode wrong has = mode_right l wrong.0 wrong.1 has
   none_wrong l value.Preference wrong has = preference_right l wrong.0 wrong.1 has
   none_wrong l _ wrong has = wrong
 

@@ -2,6 +2,7 @@
 -- requires, so a value is wrong
 -- where no line is what they say.
 use Rattle.std.proofs.Common.{◌≡◌, ◌&&◌, ◌||◌, ◌∙◌, ℕ, Bool, cond, true, false, not, List, [], ◌∷◌}
+use Rattle.std.proofs.Common.{◌++◌, map}
 use Rattle.std.proofs.Common.{length, Option, Some, None, is_some, option_map, codes, refl, sym, ap}
 use Rattle.std.proofs.Common.{subst, arith, true≢false, IfSome}
 use Rattle.std.specs.List.{find, fold, list_any}
@@ -30,9 +31,10 @@ use Rattle.syn_words.specs.Reads.{AreGiven, IfValue, IsGiven, IsWrongValue, Noth
 use Rattle.syn_words.specs.Verbs.{name_of, values_of, verbs, word_of}
 use Rattle.syn_words.specs.declared.value.ValueName.{ValueName}
 use Rattle.syn_words.specs.declared.verb.Verb.{Verb}
-use Rattle.syn_words.specs.declared.verb.Verb.TheVariants.{Format, Put, MakeDir, Remove, Show}
-use Rattle.syn_words.specs.declared.verb.Verb.TheVariants.{Check, Log, Export, Import, Serve, Sync}
-use Rattle.syn_words.specs.declared.verb.Verb.TheVariants.{Run, Plan, Simulate}
+use Rattle.syn_words.specs.declared.verb.Verb.TheVariants.{Format, Put, MakeDir, Remove, Chmod}
+use Rattle.syn_words.specs.declared.verb.Verb.TheVariants.{Show}
+use Rattle.syn_words.specs.declared.verb.Verb.TheVariants.{Check, Migrate, Log, Export, Import}
+use Rattle.syn_words.specs.declared.verb.Verb.TheVariants.{Serve, Sync, Run, Plan, Simulate}
 use Rattle.syn_words.specs.declared.error.LineError.{LineError}
 use Rattle.syn_words.specs.declared.error.LineError.TheVariants.{Usage, Value, Memory}
 use Rattle.syn_words.specs.inner.Lacking.{IsLackOf}
@@ -246,8 +248,14 @@ stands MakeDir =
     record { named = refl; gives = refl; requires = (refl, refl, (refl, refl, (refl, refl, tt))) }
 stands Remove =
     record { named = refl; gives = refl; requires = (refl, refl, (refl, refl, (refl, refl, tt))) }
+stands Chmod = record {
+  named = refl;
+  gives = refl;
+  requires = (refl, refl, (refl, refl, (refl, refl, (refl, refl, tt))));
+}
 stands Show = record { named = refl; gives = refl; requires = (refl, refl, tt) }
 stands Check = record { named = refl; gives = refl; requires = (refl, refl, tt) }
+stands Migrate = record { named = refl; gives = refl; requires = (refl, refl, tt) }
 stands Log = record { named = refl; gives = refl; requires = (refl, refl, tt) }
 stands Export = record { named = refl; gives = refl; requires = (refl, refl, (refl, refl, tt)) }
 stands Import =
@@ -281,42 +289,14 @@ help_sound name words answers other e =
         (bytes_eq-Decides name (codes "help")).1 (sym ((bytes_eq-Decides (codes "help") name).0 is))
     go false is hit = absurd (true≢false (sym hit))
 
+verbs_sound : (vs : List Verb) (rest : List Shape) → AreSound rest →
+    AreSound (map sub_of vs ++ rest)
+verbs_sound [] rest all = all
+verbs_sound (v ∷ vs) rest all = (verb_sound v, verbs_sound vs rest all)
+
 sound : AreSound (built (with_verbs top_app verbs)).subs
 unfolding clap_on_literals
-sound = (
-  verb_sound Format,
-  (
-    verb_sound Put,
-    (
-      verb_sound MakeDir,
-      (
-        verb_sound Remove,
-        (
-          verb_sound Show,
-          (
-            verb_sound Check,
-            (
-              verb_sound Log,
-              (
-                verb_sound Export,
-                (
-                  verb_sound Import,
-                  (
-                    verb_sound Serve,
-                    (
-                      verb_sound Sync,
-                      (verb_sound Run, (verb_sound Plan, (verb_sound Simulate, (help_sound, tt)))),
-                    ),
-                  ),
-                ),
-              ),
-            ),
-          ),
-        ),
-      ),
-    ),
-  ),
-)
+sound = verbs_sound verbs (built_leaf help_shape ∷ []) (help_sound, tt)
 
 -- ---- what the words name
 

@@ -7,9 +7,10 @@ use Rattle.syn_words.specs.declared.value.ValueName.{ValueName}
 use Rattle.syn_words.specs.declared.value.ValueName.TheVariants.{Path, Connections, Lines}
 use Rattle.syn_words.specs.declared.value.ValueName.TheVariants.{Preference}
 use Rattle.syn_words.specs.declared.verb.Verb.{Verb}
-use Rattle.syn_words.specs.declared.verb.Verb.TheVariants.{Format, Put, MakeDir, Remove, Show}
-use Rattle.syn_words.specs.declared.verb.Verb.TheVariants.{Check, Log, Export, Import, Serve, Sync}
-use Rattle.syn_words.specs.declared.verb.Verb.TheVariants.{Run, Plan, Simulate}
+use Rattle.syn_words.specs.declared.verb.Verb.TheVariants.{Format, Put, MakeDir, Remove, Chmod}
+use Rattle.syn_words.specs.declared.verb.Verb.TheVariants.{Show}
+use Rattle.syn_words.specs.declared.verb.Verb.TheVariants.{Check, Migrate, Log, Export, Import}
+use Rattle.syn_words.specs.declared.verb.Verb.TheVariants.{Serve, Sync, Run, Plan, Simulate}
 
 abbrev pub required_rule : Text → Rule
 required_rule id = record (new_rule id) { required = true }
@@ -47,8 +48,10 @@ with_options Format app = app
 with_options Put app = with_served app
 with_options MakeDir app = with_served app
 with_options Remove app = with_served app
+with_options Chmod app = with_served app
 with_options Show app = with_served (with_rule app (new_rule (name_of Path)))
 with_options Check app = app
+with_options Migrate app = app
 with_options Log app = with_rule app (new_rule (name_of Lines))
 with_options Export app = with_served (with_rule
     (with_rule (with_rule app (new_rule (name_of Path))) (flag_rule (codes "update")))

@@ -9,6 +9,8 @@ use Rattle.clap.specs.declared.error.Error.{Error}
 use Rattle.clap.specs.declared.error.kind.ErrorKind.TheVariants.{DisplayHelp, DisplayVersion}
 use Rattle.syn_path.specs.declared.side.Side.{Side}
 use Rattle.syn_path.specs.declared.side.Side.TheVariants as side
+use Rattle.syn_tree.specs.Modes.{mode_digits, mode_of}
+use Rattle.syn_tree.specs.declared.mode.Mode.{Mode}
 use Rattle.syn_words.specs.App.{syn_app}
 use Rattle.syn_words.specs.Verbs.{edit_verb, name_of, values_of, word_of}
 use Rattle.syn_words.specs.declared.error.LineError.{LineError}
@@ -95,9 +97,11 @@ TakesPreference _ = ⊥
 abbrev pub verb_of : Line → Verb
 verb_of (line.Format kind pair file) = verb.Format
 verb_of (line.Edit edit) = edit_verb edit.change
+verb_of (line.Chmod moded) = verb.Chmod
 verb_of (line.Show place) = verb.Show
 verb_of (line.ShowPath place path) = verb.Show
 verb_of (line.Check file) = verb.Check
+verb_of (line.Migrate file) = verb.Migrate
 verb_of (line.Log file lines) = verb.Log
 verb_of (line.Export exported) = verb.Export
 verb_of (line.Import imported) = verb.Import
@@ -114,10 +118,15 @@ HasValues rows (line.Format kind pair file) = HasText rows (name_of value.Kind) 
 HasValues rows (line.Edit edit) = HasPlace rows edit.place
     × HasNumber 32 rows (name_of value.User) edit.user
     × HasText rows (name_of value.Path) edit.path.now
+HasValues rows (line.Chmod moded) = HasPlace rows moded.place
+    × HasNumber 32 rows (name_of value.User) moded.user
+    × HasText rows (name_of value.Path) moded.path.now
+    × HasText rows (name_of value.Mode) (mode_digits (mode_of moded.mode))
 HasValues rows (line.Show place) = HasPlace rows place × (first_of (name_of value.Path) rows ≡ None)
 HasValues rows (line.ShowPath place path) = HasPlace rows place
     × HasText rows (name_of value.Path) path.now
 HasValues rows (line.Check file) = HasText rows (name_of value.File) file.now
+HasValues rows (line.Migrate file) = HasText rows (name_of value.File) file.now
 HasValues rows (line.Log file lines) = HasText rows (name_of value.File) file.now
     × MayHaveNumber 64 rows (name_of value.Lines) lines
 HasValues rows (line.Export exported) = HasPlace rows exported.place
@@ -175,6 +184,11 @@ abbrev pub IsOtherSide : List Row → Type 0
 IsOtherSide rows = (text : Text) × HasText rows (name_of value.Preference) text
     × ((preferred : Side) → text ≢ side_word preferred)
 
+-- the text given for MODE is no three octal digits
+abbrev pub IsNoMode : List Row → Type 0
+IsNoMode rows = (text : Text) × HasText rows (name_of value.Mode) text
+    × ((mode : Mode) → text ≢ mode_digits (mode_of mode))
+
 -- the text given for the id is no number of so many bits
 abbrev pub IsNoNumber : ℕ → List Row → Text → Type 0
 IsNoNumber bits rows id = (text : Text) × HasText rows id text × ((n : ℕ) → ¬ IsNumber bits text n)
@@ -184,11 +198,11 @@ IsEdit v = (change : Change) × (v ≡ edit_verb change)
 
 -- the command has a user
 abbrev pub HasUser : Verb → Type 0
-HasUser v = IsEdit v ⊎ (v ≡ verb.Import)
+HasUser v = IsEdit v ⊎ ((v ≡ verb.Import) ⊎ (v ≡ verb.Chmod))
 
 -- this value of the command is wrong: the KIND or the PAIR of a format, the USER of an edit or an
--- import, the number of connections of a server, that of the lines of a log, or the side that a
--- session is to prefer
+-- import, the MODE of a file, the number of connections of a server, that of the lines of a log, or
+-- the side that a session is to prefer
 abbrev pub IsWrong : Verb → List Row → ValueName → Type 0
 IsWrong v rows value.Kind = (v ≡ verb.Format) × IsOtherKind rows
 IsWrong v rows value.Pair = (v ≡ verb.Format) × IsNoNumber 64 rows (name_of value.Pair)
@@ -196,6 +210,7 @@ IsWrong v rows value.User = HasUser v × IsNoNumber 32 rows (name_of value.User)
 IsWrong v rows value.Connections =
     (v ≡ verb.Serve) × IsNoNumber 64 rows (name_of value.Connections)
 IsWrong v rows value.Lines = (v ≡ verb.Log) × IsNoNumber 64 rows (name_of value.Lines)
+IsWrong v rows value.Mode = (v ≡ verb.Chmod) × IsNoMode rows
 IsWrong v rows value.Preference = TakesPreference v × IsOtherSide rows
 IsWrong v rows _ = ⊥
 

@@ -7,11 +7,12 @@ use Rattle.syn_words.specs.declared.value.ValueName.{ValueName}
 use Rattle.syn_words.specs.declared.value.ValueName.TheVariants.{Command, Kind, Pair, User, File}
 use Rattle.syn_words.specs.declared.value.ValueName.TheVariants.{Path, Folder, Address, Connections}
 use Rattle.syn_words.specs.declared.value.ValueName.TheVariants.{Lines, Archive, Left, Right}
-use Rattle.syn_words.specs.declared.value.ValueName.TheVariants.{Script, Preference}
+use Rattle.syn_words.specs.declared.value.ValueName.TheVariants.{Mode, Script, Preference}
 use Rattle.syn_words.specs.declared.verb.Verb.{Verb}
-use Rattle.syn_words.specs.declared.verb.Verb.TheVariants.{Format, Put, MakeDir, Remove, Show}
-use Rattle.syn_words.specs.declared.verb.Verb.TheVariants.{Check, Log, Export, Import, Serve, Sync}
-use Rattle.syn_words.specs.declared.verb.Verb.TheVariants.{Run, Plan, Simulate}
+use Rattle.syn_words.specs.declared.verb.Verb.TheVariants.{Format, Put, MakeDir, Remove, Chmod}
+use Rattle.syn_words.specs.declared.verb.Verb.TheVariants.{Show}
+use Rattle.syn_words.specs.declared.verb.Verb.TheVariants.{Check, Migrate, Log, Export, Import}
+use Rattle.syn_words.specs.declared.verb.Verb.TheVariants.{Serve, Sync, Run, Plan, Simulate}
 
 -- the word of a command
 abbrev pub word_of : Verb → Text
@@ -19,8 +20,10 @@ word_of Format = codes "format"
 word_of Put = codes "put"
 word_of MakeDir = codes "mkdir"
 word_of Remove = codes "rm"
+word_of Chmod = codes "chmod"
 word_of Show = codes "show"
 word_of Check = codes "check"
+word_of Migrate = codes "migrate"
 word_of Log = codes "log"
 word_of Export = codes "export"
 word_of Import = codes "import"
@@ -32,8 +35,8 @@ word_of Simulate = codes "simulate"
 
 -- all commands
 abbrev pub verbs : List Verb
-verbs = Format ∷ Put ∷ MakeDir ∷ Remove ∷ Show ∷ Check ∷ Log ∷ Export ∷ Import ∷ Serve ∷ Sync
-    ∷ Run ∷ Plan ∷ Simulate ∷ []
+verbs = Format ∷ Put ∷ MakeDir ∷ Remove ∷ Chmod ∷ Show ∷ Check ∷ Migrate ∷ Log ∷ Export ∷ Import
+    ∷ Serve ∷ Sync ∷ Run ∷ Plan ∷ Simulate ∷ []
 
 -- the id of a value for `clap`
 abbrev pub name_of : ValueName → Text
@@ -43,6 +46,7 @@ name_of Pair = codes "PAIR"
 name_of User = codes "USER"
 name_of File = codes "FILE"
 name_of Path = codes "PATH"
+name_of Mode = codes "MODE"
 name_of Folder = codes "DIR"
 name_of Address = codes "ADDR"
 name_of Connections = codes "N"
@@ -59,8 +63,10 @@ values_of Format = Kind ∷ Pair ∷ File ∷ []
 values_of Put = File ∷ User ∷ Path ∷ []
 values_of MakeDir = File ∷ User ∷ Path ∷ []
 values_of Remove = File ∷ User ∷ Path ∷ []
+values_of Chmod = File ∷ User ∷ Path ∷ Mode ∷ []
 values_of Show = File ∷ []
 values_of Check = File ∷ []
+values_of Migrate = File ∷ []
 values_of Log = File ∷ []
 values_of Export = File ∷ Folder ∷ []
 values_of Import = File ∷ User ∷ Folder ∷ []

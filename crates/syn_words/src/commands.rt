@@ -119,7 +119,9 @@ fn with_optional<'a>(
     ensures globals { IfOk result (λ c. (out-Command c).has_globals ≡ false) }
 {
     match verb {
-        Verb::Put | Verb::MakeDir | Verb::Remove => with_flag(alloc, command, "served", SERVED),
+        Verb::Put | Verb::MakeDir | Verb::Remove | Verb::Chmod => {
+            with_flag(alloc, command, "served", SERVED)
+        }
         Verb::Show => {
             let help: &'a str = ValueName::Path.help(verb);
             let path = Arg::new(alloc, "PATH").help(help);
@@ -146,7 +148,7 @@ fn with_optional<'a>(
             with_flag(alloc, preferring, "served", BOTH_SERVED)
         }
         Verb::Simulate => with_flag(alloc, command, "trace", TRACE),
-        Verb::Format | Verb::Check => Ok(command),
+        Verb::Format | Verb::Check | Verb::Migrate => Ok(command),
     }
 }
 

@@ -20,7 +20,9 @@ mod verb;
 mod words;
 
 pub use error::LineError;
-pub use line::{Asked, Change, EditLine, Existing, ExportLine, ImageKind, ImportLine, Line, Place};
+pub use line::{
+    Asked, Change, ChmodLine, EditLine, Existing, ExportLine, ImageKind, ImportLine, Line, Place,
+};
 pub use value::ValueName;
 pub use verb::Verb;
 pub use words::read_words;

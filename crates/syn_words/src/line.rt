@@ -3,6 +3,7 @@ ghost use Rattle.std.specs.Prelude.{◌≡◌};
 ghost use Rattle.syn_words.specs.Places.{text_of};
 
 use syn_path::Side;
+use syn_tree::Mode;
 
 /// What an image holds.
 #[derive(Clone, Copy, Debug, PartialEq, Eq)]
@@ -65,6 +66,15 @@ pub struct EditLine<'a> {
     pub path: &'a str,
 }
 
+/// A change of the mode of a file of a replica, by a user.
+#[derive(Clone, Copy, Debug, PartialEq, Eq)]
+pub struct ChmodLine<'a> {
+    pub place: Place<'a>,
+    pub user: u32,
+    pub path: &'a str,
+    pub mode: Mode,
+}
+
 /// An export of a directory of a replica into a folder. With no path it is the root.
 #[derive(Clone, Copy, Debug, PartialEq, Eq)]
 pub struct ExportLine<'a> {
@@ -95,6 +105,8 @@ pub enum Line<'a> {
     },
     /// Edits a replica.
     Edit(EditLine<'a>),
+    /// Changes the mode of a file of a replica.
+    Chmod(ChmodLine<'a>),
     /// Prints a whole image.
     Show {
         place: Place<'a>,
@@ -106,6 +118,10 @@ pub enum Line<'a> {
     },
     /// Prints the numbers of the image in a file.
     Check {
+        file: &'a str,
+    },
+    /// Makes the image of version 1 in a file one of version 2.
+    Migrate {
         file: &'a str,
     },
     /// Prints the last events of the replica in a file, so many at most.

@@ -4,16 +4,18 @@ ghost use Rattle.clap.specs.Words.{found_of, rows_of};
 ghost use Rattle.syn_words.specs.Reads.{HasExisting, HasNumber, HasPlace, HasText, IsNoNumber};
 ghost use Rattle.syn_words.specs.Reads.{MayHaveNumber, MayHaveSide, TakesPreference, kind_word};
 ghost use Rattle.syn_words.specs.Verbs.{edit_verb, name_of};
+ghost use Rattle.syn_tree.specs.Modes.{mode_digits, mode_of};
 ghost use Rattle.syn_words.specs.inner.Lacking.{IsLack, IsLineOf};
 ghost use Rattle.syn_words.specs.declared.line.Change.{Change as Edits};
 
 use crate::error::LineError;
-use crate::line::{Change, EditLine, Existing, ExportLine, ImageKind, ImportLine, Line};
+use crate::line::{Change, ChmodLine, EditLine, Existing, ExportLine, ImageKind, ImportLine, Line};
 use crate::value::ValueName;
-use crate::values::{image_kind, is_set, number, optional_text, place, side, text, user};
+use crate::values::{image_kind, is_set, mode, number, optional_text, place, side, text, user};
 use crate::verb::Verb;
 use clap::ArgMatches;
 use syn_path::Side;
+use syn_tree::Mode;
 
 /// The line of the command, or the first value of it that is missing or wrong.
 pub(crate) fn line_of<'a>(verb: Verb, found: &ArgMatches<'a>) -> Result<Line<'a>, LineError>
@@ -25,8 +27,10 @@ pub(crate) fn line_of<'a>(verb: Verb, found: &ArgMatches<'a>) -> Result<Line<'a>
         Verb::Put => edit_line(Change::Put, found),
         Verb::MakeDir => edit_line(Change::MakeDir, found),
         Verb::Remove => edit_line(Change::Remove, found),
+        Verb::Chmod => chmod_line(found),
         Verb::Show => show_line(found),
         Verb::Check => check_line(found),
+        Verb::Migrate => migrate_line(found),
         Verb::Log => log_line(found),
         Verb::Export => export_line(found),
         Verb::Import => import_line(found),
@@ -91,6 +95,38 @@ fn user_given(found: &ArgMatches<'_>) -> Result<u32, LineError>
     user(text(found, ValueName::User)?)
 }
 
+fn chmod_line<'a>(found: &ArgMatches<'a>) -> Result<Line<'a>, LineError>
+    ensures ok { IfOk result (IsLineOf Verb.Chmod (rows_of (found_of found.now))) }
+    ensures lacks { IfErr result (IsLack Verb.Chmod (rows_of (found_of found.now))) }
+{
+    let place = place(found)?;
+    let user = chmod_user_given(found)?;
+    let path = text(found, ValueName::Path)?;
+    let mode = mode_given(found)?;
+    Ok(Line::Chmod(ChmodLine {
+        place,
+        user,
+        path,
+        mode,
+    }))
+}
+
+fn chmod_user_given(found: &ArgMatches<'_>) -> Result<u32, LineError>
+    ensures ok { IfOk result (HasNumber 32 (rows_of (found_of found.now))
+        (name_of ValueName.User)) }
+    ensures lacks { IfErr result (IsLack Verb.Chmod (rows_of (found_of found.now))) }
+{
+    user(text(found, ValueName::User)?)
+}
+
+fn mode_given(found: &ArgMatches<'_>) -> Result<Mode, LineError>
+    ensures ok { IfOk result (λ mode. HasText (rows_of (found_of found.now))
+        (name_of ValueName.Mode) (mode_digits (mode_of mode))) }
+    ensures lacks { IfErr result (IsLack Verb.Chmod (rows_of (found_of found.now))) }
+{
+    mode(text(found, ValueName::Mode)?)
+}
+
 /// What is to be printed: what stands at a path, or with no path the whole image.
 fn show_line<'a>(found: &ArgMatches<'a>) -> Result<Line<'a>, LineError>
     ensures ok { IfOk result (IsLineOf Verb.Show (rows_of (found_of found.now))) }
@@ -109,6 +145,14 @@ fn check_line<'a>(found: &ArgMatches<'a>) -> Result<Line<'a>, LineError>
 {
     let file = text(found, ValueName::File)?;
     Ok(Line::Check { file })
+}
+
+fn migrate_line<'a>(found: &ArgMatches<'a>) -> Result<Line<'a>, LineError>
+    ensures ok { IfOk result (IsLineOf Verb.Migrate (rows_of (found_of found.now))) }
+    ensures lacks { IfErr result (IsLack Verb.Migrate (rows_of (found_of found.now))) }
+{
+    let file = text(found, ValueName::File)?;
+    Ok(Line::Migrate { file })
 }
 
 fn log_line<'a>(found: &ArgMatches<'a>) -> Result<Line<'a>, LineError>

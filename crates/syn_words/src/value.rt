@@ -13,6 +13,7 @@ pub enum ValueName {
     User,
     File,
     Path,
+    Mode,
     Folder,
     Address,
     Connections,
@@ -36,6 +37,7 @@ impl ValueName {
             ValueName::User => "USER",
             ValueName::File => "FILE",
             ValueName::Path => "PATH",
+            ValueName::Mode => "MODE",
             ValueName::Folder => "DIR",
             ValueName::Address => "ADDR",
             ValueName::Connections | ValueName::Lines => "N",
@@ -55,6 +57,7 @@ impl ValueName {
                 "a decimal number below 2^64"
             }
             ValueName::User => "a decimal number below 2^32",
+            ValueName::Mode => "three octal digits",
             ValueName::Preference => "'left' or 'right'",
             _ => "there",
         }
@@ -92,6 +95,8 @@ impl ValueName {
             ValueName::User => "The number of the user who makes the edit, below 2^32",
             ValueName::File => "The file that has the image",
             ValueName::Path => "A path in the image: '.' for its root, else names parted by '/'",
+            ValueName::Mode =>
+                "Three octal digits: what the owner, the group and all others may do",
             ValueName::Folder => "The folder, which is missing or empty without '--update'",
             ValueName::Address => "HOST:PORT to listen at",
             ValueName::Connections => "Ends when N connections were served, below 2^64",
@@ -110,7 +115,7 @@ impl ValueName {
 /// What the help of the command says of its file.
 fn file_help(verb: Verb) -> &'static str {
     match verb {
-        Verb::Put | Verb::MakeDir | Verb::Remove | Verb::Show => {
+        Verb::Put | Verb::MakeDir | Verb::Remove | Verb::Chmod | Verb::Show => {
             "The file that has the image, or with '--served' HOST:PORT of its server"
         }
         Verb::Export | Verb::Import => {

@@ -7,12 +7,15 @@ ghost use Rattle.syn_words.specs.Verbs.{name_of};
 ghost use Rattle.syn_words.specs.declared.error.LineError.TheVariants.{Value};
 ghost use Rattle.syn_words.specs.declared.line.ImageKind.{ImageKind};
 ghost use Rattle.syn_path.specs.declared.side.Side.{Side as Named};
+ghost use Rattle.syn_tree.specs.Modes.{mode_digits, mode_of};
+ghost use Rattle.syn_tree.specs.declared.mode.Mode.{Mode as Bits};
 
 use crate::error::LineError;
 use crate::line::{ImageKind, Place};
 use crate::value::ValueName;
 use clap::ArgMatches;
 use syn_path::Side;
+use syn_tree::Mode;
 
 /// The text that is given for the value.
 #[tactic(auto, using(crate::proofs::LineLemmas::first_value_rows))]
@@ -111,5 +114,17 @@ pub(crate) fn side(text: &str) -> Result<Side, LineError>
         "left" => Ok(Side::Left),
         "right" => Ok(Side::Right),
         _ => Err(LineError::Value(ValueName::Preference)),
+    }
+}
+
+/// The mode that the three octal digits of the text say.
+pub(crate) fn mode(text: &str) -> Result<Mode, LineError>
+    ensures ok { IfOk result (λ mode. text.now ≡ mode_digits (mode_of mode)) }
+    ensures value { IfErr result (λ error. error ≡ Value ValueName.Mode) }
+    ensures nothing { OnErr result ((mode : Bits) → text.now ≢ mode_digits (mode_of mode)) }
+{
+    match Mode::parse(text) {
+        Some(mode) => Ok(mode),
+        None => Err(LineError::Value(ValueName::Mode)),
     }
 }

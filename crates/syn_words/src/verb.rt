@@ -16,10 +16,14 @@ pub enum Verb {
     MakeDir,
     /// Removes what stands there.
     Remove,
+    /// Changes the mode of a file.
+    Chmod,
     /// Prints an image, or what stands at a path.
     Show,
     /// Prints the numbers of an image.
     Check,
+    /// Makes an image of version 1 one of version 2.
+    Migrate,
     /// Prints the last events of a replica.
     Log,
     /// Writes a part of a replica into a folder.
@@ -40,13 +44,15 @@ pub enum Verb {
 
 impl Verb {
     /// All commands, in the order of the help.
-    pub const ALL: [Verb; 14] = [
+    pub const ALL: [Verb; 16] = [
         Verb::Format,
         Verb::Put,
         Verb::MakeDir,
         Verb::Remove,
+        Verb::Chmod,
         Verb::Show,
         Verb::Check,
+        Verb::Migrate,
         Verb::Log,
         Verb::Export,
         Verb::Import,
@@ -66,8 +72,10 @@ impl Verb {
             Verb::Put => "put",
             Verb::MakeDir => "mkdir",
             Verb::Remove => "rm",
+            Verb::Chmod => "chmod",
             Verb::Show => "show",
             Verb::Check => "check",
+            Verb::Migrate => "migrate",
             Verb::Log => "log",
             Verb::Export => "export",
             Verb::Import => "import",
@@ -88,7 +96,15 @@ impl Verb {
             Verb::Put | Verb::MakeDir | Verb::Remove => {
                 &[ValueName::File, ValueName::User, ValueName::Path]
             }
-            Verb::Show | Verb::Check | Verb::Log => &[ValueName::File],
+            Verb::Chmod => {
+                &[
+                    ValueName::File,
+                    ValueName::User,
+                    ValueName::Path,
+                    ValueName::Mode,
+                ]
+            }
+            Verb::Show | Verb::Check | Verb::Migrate | Verb::Log => &[ValueName::File],
             Verb::Export => &[ValueName::File, ValueName::Folder],
             Verb::Import => &[ValueName::File, ValueName::User, ValueName::Folder],
             Verb::Serve => &[ValueName::File, ValueName::Address],
@@ -109,8 +125,13 @@ impl Verb {
             Verb::Remove => {
                 "Removes what is at PATH, with all below it, as an edit of the user numbered USER"
             }
+            Verb::Chmod => {
+                "Gives the file at PATH the mode MODE, as an edit of the user numbered USER"
+            }
             Verb::Show => "Prints an image, or a file or a directory of it",
             Verb::Check => "Opens an image, and prints its numbers",
+            Verb::Migrate =>
+                "Makes an image of version 1 one of version 2, which this program reads",
             Verb::Log => "Prints the last events of a replica, the newest first",
             Verb::Export => "Writes a replica, or a directory of it, into the folder DIR",
             Verb::Import => {
@@ -137,8 +158,10 @@ pub(crate) fn read_verb(word: &str) -> Option<Verb>
         "put" => Some(Verb::Put),
         "mkdir" => Some(Verb::MakeDir),
         "rm" => Some(Verb::Remove),
+        "chmod" => Some(Verb::Chmod),
         "show" => Some(Verb::Show),
         "check" => Some(Verb::Check),
+        "migrate" => Some(Verb::Migrate),
         "log" => Some(Verb::Log),
         "export" => Some(Verb::Export),
         "import" => Some(Verb::Import),

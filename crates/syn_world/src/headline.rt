@@ -54,9 +54,9 @@ pub fn run<D: SimulatedDisk>(
 
 /// Opens the world of a pair again from its three disks, after a stop of all of its machines.
 ///
-/// Refused 9 where a device call fails, 11 where memory is refused, and 18, 19 and 20 where the
+/// Refused 9 where a device call fails, 11 where memory is refused, and 18, 26, 19 and 20 where the
 /// disks are no pair's, as [`World::open`] is; the disks of a run that was safe are refused for
-/// none of these three. The disks come back, and nothing is written.
+/// none of these four. The disks come back, and nothing is written.
 pub fn recover<D: SimulatedDisk>(
     alloc: Global,
     disks: Disks<D>,

@@ -17,8 +17,8 @@ impl<D: SimulatedDisk> World<D> {
     /// and nothing was sent or acknowledged yet.
     ///
     /// Refused 9 where a device call fails, 11 where memory is refused, 18 where a disk holds no
-    /// image, 19 where it means nothing that its machine holds, and 20 where the disks are not of
-    /// one pair. The disks come back, and nothing is written.
+    /// image, 26 where that is of version 1, 19 where it means nothing that its machine holds, and
+    /// 20 where the disks are not of one pair. The disks come back, and nothing is written.
     pub fn open(alloc: Global, disks: Disks<D>) -> Result<World<D>, (Refusal, Disks<D>)>
         ensures opened { (pair : ℕ) (stores : Stores)
             → StandFor D.Limit.seen D.Limit.arms pair disks stores

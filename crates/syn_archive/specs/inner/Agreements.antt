@@ -3,14 +3,17 @@ use Rattle.std.specs.Prelude.{ℕ, List, Option}
 use Rattle.syn_model.specs.Path.{Bytes}
 use Rattle.syn_model.specs.Tree.{Tree}
 use Rattle.syn_model.specs.Archive.{Archive}
-use Rattle.syn_model.specs.ArchiveImage.{ArchiveStandsFor}
+use Rattle.syn_model.specs.ArchiveImage.{ArchiveStandsFor, ArchiveStandsForIn}
+use Rattle.syn_model.specs.MarkSpelling.{IsOldArchiveImage}
+use Rattle.syn_model.specs.Version.{One}
 use Rattle.syn_mark.specs.Changes.{IsPreparedFor, after_change}
-use Rattle.syn_archive.specs.Disks.{StandsForNone, StandsForOther}
+use Rattle.syn_archive.specs.Disks.{StandsForNone, StandsForNoneIn, StandsForOther}
 use Rattle.syn_archive.specs.declared.agreed.Agreed.{Agreed}
 use Rattle.syn_archive.specs.declared.agreed.Update.{Update}
 use Rattle.syn_archive.specs.declared.agreed.Update.TheVariants.{Session, Marks}
 use Rattle.syn_archive.specs.declared.error.ArchiveError.{ArchiveError}
 use Rattle.syn_archive.specs.declared.error.ArchiveError.TheVariants.{Memory, Damaged, WrongPair}
+use Rattle.syn_archive.specs.declared.error.ArchiveError.TheVariants.{OldVersion}
 
 -- the archive of the model
 abbrev pub agreed_archive : Agreed → Archive
@@ -44,9 +47,21 @@ Gives image payloads agreed =
 -- why it stands for none of the wanted pair
 abbrev pub IsUnread : ArchiveError → Option ℕ → Bytes → List Bytes → Type 0
 IsUnread Memory wanted image payloads = Unit {0}
-IsUnread Damaged wanted image payloads = StandsForNone image payloads
+IsUnread Damaged wanted image payloads =
+    (¬ IsOldArchiveImage image) × StandsForNone image payloads
 IsUnread WrongPair wanted image payloads = StandsForOther wanted image payloads
+IsUnread OldVersion wanted image payloads = IsOldArchiveImage image
 IsUnread _ wanted image payloads = ⊥
+
+-- the same in the first version, of any pair
+abbrev pub GivesOld : Bytes → List Bytes → Agreed → Type 0
+GivesOld image payloads agreed =
+    ArchiveStandsForIn One agreed.pair image payloads (agreed_archive agreed)
+
+abbrev pub IsUnreadOld : ArchiveError → Bytes → List Bytes → Type 0
+IsUnreadOld Memory image payloads = Unit {0}
+IsUnreadOld Damaged image payloads = StandsForNoneIn One image payloads
+IsUnreadOld _ image payloads = ⊥
 
 -- and why for none of the same pair
 abbrev pub IsUnreadAgain : ArchiveError → Agreed → Bytes → List Bytes → Type 0

@@ -1,10 +1,11 @@
 //! An opening: an archive finds out what a disk, or its own, stands for.
 ghost use Rattle.std.specs.Prelude.{◌≡◌, ◌≢◌, ◌⊎◌, ◌<◌, ◌^◌, ℕ, true, false, Some, IfOk, IfErr};
-ghost use Rattle.std.specs.Prelude.{OnOk, MatchResult};
+ghost use Rattle.std.specs.Prelude.{IsErrAnd, OnOk, MatchResult};
 ghost use Rattle.syn_disk.specs.Calls.{MakesAtLeast};
 ghost use Rattle.syn_disk.specs.Stops.{Untouched};
 ghost use Rattle.syn_model.specs.Archive.{Archive as KeptArchive, Kept, after_kept};
-ghost use Rattle.syn_archive.specs.Disks.{DiskStands, IsOpenRefusal, IsReopenRefusal, IsWanted};
+ghost use Rattle.syn_archive.specs.Disks.{DiskStands, IsOldDisk, IsOpenRefusal};
+ghost use Rattle.syn_archive.specs.Disks.{IsReopenRefusal, IsWanted};
 ghost use Rattle.syn_archive.specs.Refusals.{AfterReads, CountsFailures, refusal_of};
 ghost use Rattle.syn_model.specs.Refusal.{Memory};
 
@@ -22,9 +23,10 @@ impl<D: Disk> Archive<D> {
 
     /// Opens what the disk holds.
     ///
-    /// Refused 9 where a device call fails, 18 where the disk holds no image, 19 where its layout
-    /// is broken or it means nothing that an archive holds, 20 where it is of another pair than the
-    /// one given, and 11 where memory is refused; the disk comes back. Nothing is written.
+    /// Refused 9 where a device call fails, 18 where the disk holds no image, 26 where its image is
+    /// of the first version, 19 where its layout is broken or it means nothing that an archive
+    /// holds, 20 where it is of another pair than the one given, and 11 where memory is refused.
+    /// The disk comes back, and nothing is written.
     pub fn open(alloc: Global, disk: D, pair: Option<u64>) -> Result<Archive<D>, (ArchiveError, D)>
         // It shows what the disk stands for, and stands for each archive that the disk stands for.
         ensures given { IfOk result (λ archive.
@@ -43,6 +45,11 @@ impl<D: Disk> Archive<D> {
             → DiskStands number (D.seen disk) kept → IsWanted pair number
             → IfErr result (λ refused.
             (refused.0 ≡ ArchiveError.Device) ⊎ (refused.0 ≡ ArchiveError.Memory)) }
+
+        // A disk of the first version is refused for that, or 9 or 11.
+        ensures old { IsOldDisk (D.seen disk) → IsErrAnd result (λ refused.
+            (refused.0 ≡ ArchiveError.OldVersion) ⊎ ((refused.0 ≡ ArchiveError.Device)
+            ⊎ (refused.0 ≡ ArchiveError.Memory))) }
 
         ensures untouched { MatchResult result
             (λ archive. Untouched D.seen D.may_leave D.moment D.left_since disk (disk_of archive))

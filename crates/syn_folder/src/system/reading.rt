@@ -3,8 +3,9 @@
 use crate::error::FolderError;
 use crate::stranger::{Strangeness, Stranger};
 use std::alloc::{AllocError, Global};
-use std::fs::{Files, OpenOptions};
+use std::fs::{Files, Metadata, OpenFile, OpenOptions};
 use std::io::{self, Read};
+use std::os::unix::fs::PermissionsExt;
 use syn_path::{Name, Path, PathError};
 use syn_tree::{Content, Entries, Entry, LONGEST_FILE, Mode, Tree, TreeError};
 
@@ -63,6 +64,14 @@ fn tree_of(alloc: Global, found: Vec<Entry>) -> Result<Tree, FolderError> {
     }
 }
 
+/// The nine permission bits of a file; what else its mode has, a replica has not.
+fn mode_of(file: Metadata) -> Mode {
+    match Mode::new((file.permissions().mode() & 0o777) as u16) {
+        Some(mode) => mode,
+        None => Mode::NEW_FILE,
+    }
+}
+
 impl<F: Files> Reading<'_, '_, F> {
     /// Looks at what stands at the path.
     fn look(&mut self, alloc: Global, path: Path) -> Result<(), FolderError> {
@@ -86,12 +95,13 @@ impl<F: Files> Reading<'_, '_, F> {
     fn read(&mut self, alloc: Global, place: &str, path: Path) -> Result<(), FolderError> {
         let mut options = OpenOptions::new();
         let file = options.read(true).open(self.files, place)?;
+        let mode = mode_of(file.metadata()?);
         let mut bytes = Vec::new(alloc);
         file.take(LONGEST_FILE as u64 + 1).read_to_end(&mut bytes)?;
         if bytes.len() > LONGEST_FILE {
             self.note(alloc, path, Strangeness::Size)
         } else {
-            let entry = Entry::new(alloc, &path.key(), Content::File(Mode::NewFile, bytes))?;
+            let entry = Entry::new(alloc, &path.key(), Content::File(mode, bytes))?;
             self.found.push(entry)?;
             Ok(())
         }

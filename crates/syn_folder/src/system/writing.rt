@@ -2,10 +2,12 @@
 
 use crate::system::reading::{PART, place_of};
 use std::alloc::Global;
-use std::fs::{Files, OpenFile, OpenOptions};
+use std::fs::{Files, OpenFile, OpenOptions, Permissions};
 use std::io::{self, Write};
+use std::os::unix::fs::PermissionsExt;
 use syn_path::{Name, Path};
-use syn_tree::{Edit, Tree};
+use syn_tree::checking::mode_after_put;
+use syn_tree::{Edit, Found, Mode, Tree};
 
 /// Makes the edit in the folder, which holds the tree.
 pub(super) fn make<F: Files>(
@@ -18,7 +20,7 @@ pub(super) fn make<F: Files>(
     match edit {
         Edit::Put(path, bytes) => {
             check_above(alloc, files, root, path)?;
-            put(alloc, files, root, path, bytes)
+            put(alloc, files, root, path, mode_after_put(tree, path), bytes)
         }
         Edit::MakeDir(path) => {
             check_above(alloc, files, root, path)?;
@@ -34,6 +36,13 @@ pub(super) fn make<F: Files>(
                 None => false,
             };
             remove(alloc, files, root, path, is_directory)
+        }
+        Edit::Chmod(path, mode) => {
+            let Some(Found::File(_, bytes)) = tree.get(path) else {
+                return Err(io::Error::from(io::ErrorKind::NotFound));
+            };
+            check_above(alloc, files, root, path)?;
+            put(alloc, files, root, path, *mode, bytes)
         }
     }
 }
@@ -51,13 +60,14 @@ fn check_above<F: Files>(alloc: Global, files: &F, root: &str, path: &Path) -> i
     Ok(())
 }
 
-/// Writes the bytes into a file beside the path, and gives it the path's name: so the file is there
-/// whole, or is what it was.
+/// Writes the bytes into a file beside the path, with the mode, and gives it the path's name: so
+/// the file is there whole, or is what it was, and no symbolic link is followed.
 fn put<F: Files>(
     alloc: Global,
     files: &F,
     root: &str,
     path: &Path,
+    mode: Mode,
     bytes: &[u8],
 ) -> io::Result<()> {
     let whole = place_of(alloc, root, path.names())?;
@@ -66,7 +76,7 @@ fn put<F: Files>(
     part.push_str(PART)?;
     // A part of an export that was cut off goes. It is no file of anybody's: see its name.
     let _ = files.remove_file(part.as_str());
-    let moved = match write_new(files, part.as_str(), bytes) {
+    let moved = match write_new(files, part.as_str(), mode, bytes) {
         Ok(()) => files.rename(part.as_str(), whole.as_str()),
         refused => refused,
     };
@@ -84,14 +94,15 @@ fn above(path: &Path) -> &[Name] {
     }
 }
 
-/// Writes the bytes into a file that is new, so that no symbolic link is followed. The modes of
-/// files will be set here.
-fn write_new<F: Files>(files: &F, place: &str, bytes: &[u8]) -> io::Result<()> {
+/// Writes the bytes into a file that is new, so that no symbolic link is followed. It has the mode
+/// whatever the process masks.
+fn write_new<F: Files>(files: &F, place: &str, mode: Mode, bytes: &[u8]) -> io::Result<()> {
     let mut file = OpenOptions::new()
         .write(true)
         .create_new(true)
         .open(files, place)?;
     file.write_all(bytes)?;
+    file.set_permissions(Permissions::from_mode(mode.bits() as u32))?;
     file.sync_data()
 }
 

@@ -27,7 +27,8 @@ use syn_refusal::Refusal;
 /// written, and the disk comes back where it is refused.
 ///
 /// Refused 9 where a device call fails, 11 where memory is refused, 18 where the disk holds no
-/// image, 19 where it means no archive, and 20 where that is of another pair.
+/// image, 26 where that is of version 1, 19 where it means no archive, and 20 where that is of
+/// another pair.
 pub fn start_coordinator<D: SimulatedDisk>(
     alloc: Global,
     disk: D,

@@ -3,10 +3,12 @@ ghost use Rattle.std.specs.Prelude.{◌≡◌, ◌≢◌, ℕ};
 ghost use Rattle.syn_headline.specs.SideMachine.{SideMachine, UserEdits};
 ghost use Rattle.syn_host.specs.declared.outcome.Outcome.TheVariants as outcomes;
 ghost use Rattle.syn_message.specs.Requests.{request_of};
+ghost use Rattle.syn_model.specs.Contents.{IsMode};
 ghost use Rattle.syn_model.specs.Event.{AreBytes, IsLawfulEvent};
 ghost use Rattle.syn_model.specs.Path.{IsPath};
 ghost use Rattle.syn_replica.specs.Edits.{event_by};
 ghost use Rattle.syn_replica.specs.Replica.{IsHalted, disk_of, position_shown};
+ghost use Rattle.syn_tree.specs.Modes.{mode_of};
 
 use super::{SideAnswer, SideCall, UpSide};
 use crate::disk::SimulatedDisk;
@@ -17,7 +19,7 @@ use syn_message::Request;
 use syn_path::Path;
 use syn_recovery::device_laws;
 use syn_refusal::Refusal;
-use syn_tree::Edit;
+use syn_tree::{Edit, Mode};
 
 impl<D: SimulatedDisk> UpSide<D> {
     ghost use Rattle.syn_host.specs.Sides.{AnswerIsStep, CallIsStep, RunsAs, Settles, SettlesAdded};
@@ -108,7 +110,18 @@ fn is_lawful(user: u32, edit: &Edit)
         }
         Edit::MakeDir(path) => is_path(path),
         Edit::Remove(path) => is_path(path),
+        Edit::Chmod(path, mode) => {
+            is_path(path);
+            is_mode(*mode);
+        }
     }
+}
+
+/// The mode is a lawful one.
+fn is_mode(mode: Mode)
+    ensures { IsMode (mode_of mode) }
+{
+    let _ = mode.bits();
 }
 
 /// The path is a lawful one.

@@ -65,7 +65,8 @@ impl<D: Disk> SideHost<D> {
 /// pair where none is given. Nothing is written, and the disk comes back where it is refused.
 ///
 /// Refused 9 where a device call fails, 11 where memory is refused, 18 where the disk holds no
-/// image, 19 where it means no replica, and 20 where that is of another pair than the one given.
+/// image, 26 where that is of version 1, 19 where it means no replica, and 20 where that is of
+/// another pair than the one given.
 pub fn start_side<D: SimulatedDisk>(
     alloc: Global,
     disk: D,

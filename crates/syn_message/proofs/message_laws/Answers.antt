@@ -18,4 +18,4 @@ returns-clause-wishes c =
 
 pub returns-clause-tellings : goal.returns-clause-tellings
 returns-clause-tellings c =
-    let laws = c.spelling_laws.ensures in telling_tells laws.u32 laws.u64 laws.file
+    let laws = c.spelling_laws.ensures in telling_tells laws.u32 laws.u64

@@ -21,6 +21,7 @@ use std::alloc::Global;
 use syn_disk::Disk;
 use syn_journal::{Place, Reopened};
 use syn_standing::{ReplicaError, Standing, opening_laws, read_replica};
+use syn_wire::Version;
 
 impl<D: Disk> Replica<D> {
     ghost use Rattle.syn_replica.specs.Replica.{pair_of, standing_shown, tried_shown, disk_of};
@@ -153,7 +154,13 @@ impl<D: Disk> Replica<D> {
             → meaning bytes ≡ Ok (value_read found.now.image found.now.records)
             → IsReopenRefusal e (pair_of self.now) (position_shown self.now) bytes) }
     {
-        let (_pair, standing) = read_replica(alloc, &found.image, Some(self.pair), &found.records)?;
+        let (_pair, standing) = read_replica(
+            alloc,
+            Version::Two,
+            &found.image,
+            Some(self.pair),
+            &found.records,
+        )?;
         if standing.trail().position() < self.position() {
             return Err(ReplicaError::Damaged);
         }

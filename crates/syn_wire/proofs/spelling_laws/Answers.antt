@@ -24,8 +24,8 @@ pub returns-clause-event : goal.returns-clause-event
 returns-clause-event c = event_tells c.spelling_laws.ensures.tells
 
 pub returns-clause-tree : goal.returns-clause-tree
-returns-clause-tree c t u r s ht hu e =
-    c.spelling_laws.ensures.tells t u r s ht.part hu.part ht.fits hu.fits e
+returns-clause-tree c version t u r s ht hu e =
+    c.spelling_laws.ensures.tells version t u r s ht.part hu.part ht.fits hu.fits e
 
 pub returns-clause-walk : goal.returns-clause-walk
 returns-clause-walk c = spelling_walks

@@ -1,39 +1,46 @@
--- The two kinds of trees, of contents and of marks. They are spelled alike but for their files.
-use Rattle.std.specs.Prelude.{◌≡◌, ◌≤◌, ◌<◌, ◌^◌, true, length, Option, Some, None}
+-- The two kinds of trees, of contents and of marks, in each version. They are spelled alike but for
+-- their files.
+use Rattle.std.specs.Prelude.{◌≡◌, ◌≤◌, true, Option, Some, None}
 use Rattle.std.specs.FinMap.{len}
 use Rattle.syn_model.specs.Path.{Bytes}
-use Rattle.syn_model.specs.Contents.{Contents, AreLawfulContents, IsDigest, contents_spelling}
-use Rattle.syn_model.specs.Contents.{digest_spelling}
-use Rattle.syn_model.specs.Tree.{Tree, Content, File, IsPart}
-use Rattle.syn_model.specs.Mark.{IsMarks}
+use Rattle.syn_model.specs.Version.{Version}
+use Rattle.syn_model.specs.Contents.{Contents, IsDigestIn, contents_spelling_in}
+use Rattle.syn_model.specs.Contents.{digest_spelling_in}
+use Rattle.syn_model.specs.Tree.{Tree, Content, Directory, File, IsPartIn}
+use Rattle.syn_model.specs.Mark.{IsMarksIn}
 use Rattle.syn_model.specs.Limits.{fits_part, most_nodes}
-use Rattle.syn_model.specs.Spelling.{spelling}
-use Rattle.syn_model.specs.MarkSpelling.{mark_spelling}
-use Rattle.syn_wire.specs.Contents.{IsBriefFile}
+use Rattle.syn_model.specs.Spelling.{spelling_in}
+use Rattle.syn_model.specs.MarkSpelling.{mark_spelling_in}
+use Rattle.syn_wire.specs.Contents.{IsBriefFileIn}
 use Rattle.syn_wire.specs.Reads.{BeginsWith, IsReading}
 
 pub data Kind : Type 0 where
-  OfContents : Kind
-  OfMarks : Kind
+  OfContents : Version → Kind
+  OfMarks : Version → Kind
 
 abbrev pub spelling_of : Kind → Tree → Bytes
-spelling_of OfContents = spelling
-spelling_of OfMarks = mark_spelling
+spelling_of (OfContents version) = spelling_in version
+spelling_of (OfMarks version) = mark_spelling_in version
 
 -- what is spelled of a file, and of a mark
 abbrev pub file_spelling_of : Kind → Contents → Bytes
-file_spelling_of OfContents = contents_spelling
-file_spelling_of OfMarks = digest_spelling
+file_spelling_of (OfContents version) = contents_spelling_in version
+file_spelling_of (OfMarks version) = digest_spelling_in version
 
 -- a file of a length that four bytes spell, or a digest
 abbrev pub IsFileOf : Kind → Contents → Type 0
-IsFileOf OfContents contents = IsBriefFile contents
-IsFileOf OfMarks digest = IsDigest digest
+IsFileOf (OfContents version) contents = IsBriefFileIn version contents
+IsFileOf (OfMarks version) digest = IsDigestIn version digest
 
 -- what may stand at a path of such a tree, within the limits there
 abbrev pub IsPartOf : Kind → Tree → Type 0
-IsPartOf OfContents t = IsPart t × (fits_part t ≡ true)
-IsPartOf OfMarks t = IsMarks t × (len t ≤ most_nodes)
+IsPartOf (OfContents version) t = IsPartIn version t × (fits_part t ≡ true)
+IsPartOf (OfMarks version) t = IsMarksIn version t × (len t ≤ most_nodes)
+
+-- a file that may be spelled, or a directory
+abbrev pub IsContentOf : Kind → Content → Type 0
+IsContentOf kind Directory = Unit {0}
+IsContentOf kind (File contents) = IsFileOf kind contents
 
 -- what a reader found behind the kind of a file: the file, or that none is there
 abbrev pub IsFileRead : Kind → Bytes → Option (Content × Bytes) → Type 0

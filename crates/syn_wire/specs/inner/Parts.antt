@@ -7,7 +7,7 @@ use Rattle.std.specs.FinMap.{entries, from_sorted, get}
 use Rattle.syn_model.specs.Path.{Bytes, Name, Path, root, IsPath}
 use Rattle.syn_model.specs.Tree.{Tree, Content, is_present}
 use Rattle.syn_placed.specs.Pairs.{Pairs, AreRising, rooted, under}
-use Rattle.syn_wire.specs.inner.Kinds.{Kind, IsPartOf, spelling_of}
+use Rattle.syn_wire.specs.inner.Kinds.{Kind, IsContentOf, IsPartOf, spelling_of}
 
 -- what stands at a path, within the limits there
 pub record StandsAt (kind : Kind) (at : Path) (t : Tree) : Type 0 where
@@ -47,12 +47,17 @@ ReadsParts kind at count bytes old new left = (parts : Parts) (rest : Bytes)
     → length parts ≡ count → StandIn kind at parts → bytes ≡ parts_spelling kind parts ++ rest →
     (left ≡ Some rest) × (new ≡ old ++ parts_pairs at parts)
 
+-- each file among the pairs may be spelled
+abbrev pub AreContentsOf : Kind → Pairs → Type 0
+AreContentsOf kind pairs = AllByRecursion (λ pair. IsContentOf kind pair.1) pairs
+
 -- pairs of a part as they were read: the bytes spell their tree, if they stand in path order
 pub record IsRead (kind : Kind) (bytes : Bytes) (pairs : Pairs) (rest : Bytes) : Type 0 where
   pub content : Content
   pub below : Pairs
   pub whole : pairs ≡ (root, content) ∷ below
   pub spelled : AreRising pairs → bytes ≡ spelling_of kind (from_sorted pairs) ++ rest
+  pub files : AreContentsOf kind pairs
 
 -- where something is left, such pairs were added
 abbrev pub PartIsRead : Kind → Path → Bytes → Pairs → Pairs → Option Bytes → Type 0
@@ -66,4 +71,4 @@ PartsAreRead kind at count bytes old new None = Unit {0}
 PartsAreRead kind at count bytes old new (Some rest) =
     (pairs : Pairs) × (new ≡ old ++ under at pairs)
     × (AreRising (rooted pairs) → 2 ∷ to_be_bytes w16 count ++ bytes
-    ≡ spelling_of kind (from_sorted (rooted pairs)) ++ rest)
+    ≡ spelling_of kind (from_sorted (rooted pairs)) ++ rest) × AreContentsOf kind pairs

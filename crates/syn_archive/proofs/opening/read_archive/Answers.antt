@@ -1,6 +1,7 @@
-use Rattle.std.proofs.Common.{◌<◌, ◌^◌, sym, subst}
+use Rattle.std.proofs.Common.{sym, subst}
 use Rattle.std.proofs.lemmas.Result.{err_from_is_err_and}
-use Rattle.syn_model.specs.ArchiveImage.{AllKept, ArchiveStandsFor}
+use Rattle.syn_model.specs.ArchiveImage.{AllKeptIn, ArchiveStandsForIn}
+use Rattle.syn_wire.specs.Versions.{version_of}
 use Rattle.syn_archive.specs.inner.Openings.{archive_read, bytes_of_each}
 use Rattle.syn_archive.proofs.OpeningLemmas.{stands_of, same_image}
 use Rattle.syn_archive.proofs.opening.read_archive.Goals as goal
@@ -12,32 +13,12 @@ returns-in_err-keep_each-clause-damaged c =
     let is = c.in_ok-archive.ensures.read in
     let image = c.args.image.now in
     rw (p.1, p.2) (λ damaged pair archive fits stands.
-    let same = same_image c.opening_laws.ensures.one image pair c.in_ok-archive.archive.pair
-    stands.first (archive_read c.in_ok-archive.archive)
+    let same = same_image c.opening_laws.ensures.one (version_of c.args.version) image pair
+    c.in_ok-archive.archive.pair stands.first (archive_read c.in_ok-archive.archive)
     (record { fits = fits; sound = stands.sound; spelled = stands.image_is }) is in
     c.in_err-keep_each.ensures.damaged damaged stands.kept
-    (subst (λ a. AllKept a stands.kept) same stands.allowed) stands.payloads_are)
-
-pub returns-then-is_other-clause-other : goal.returns-then-is_other-clause-other
-returns-then-is_other-clause-other c other =
-    let is = c.in_ok-archive.ensures.read in
-    let image = c.args.image.now in
-    let payloads = bytes_of_each c.args.payloads.now in
-    let last = archive_read c.keep_each.new.archive in
-    let asked = c.is_other.ensures.other c.if-is_other.true in
-    let same = c.in_ok-keep_each.ensures.pair in
-    record {
-      pair = c.keep_each.new.archive.pair;
-      fits = subst (λ n. n < 2 ^ 64) (sym same) is.fits;
-      archive = last;
-      stands =
-          subst (λ n. ArchiveStandsFor n image payloads last) (sym same)
-          (stands_of image payloads c.in_ok-archive.archive.pair
-          (archive_read c.in_ok-archive.archive) last is c.in_ok-keep_each.ensures.replays);
-      asked = asked.0;
-      wanted_is = asked.1;
-      differ = asked.2;
-    }
+    (subst (λ a. AllKeptIn (version_of c.args.version) a stands.kept) same stands.allowed)
+    stands.payloads_are)
 
 pub returns-clause-stands : goal.returns-clause-stands
 returns-clause-stands c =
@@ -45,6 +26,7 @@ returns-clause-stands c =
     let image = c.args.image.now in
     let payloads = bytes_of_each c.args.payloads.now in
     let last = archive_read c.keep_each.new.archive in
-    subst (λ n. ArchiveStandsFor n image payloads last) (sym c.in_ok-keep_each.ensures.pair)
-    (stands_of image payloads c.in_ok-archive.archive.pair
+    subst (λ n. ArchiveStandsForIn (version_of c.args.version) n image payloads last)
+    (sym c.in_ok-keep_each.ensures.pair)
+    (stands_of (version_of c.args.version) image payloads c.in_ok-archive.archive.pair
     (archive_read c.in_ok-archive.archive) last is c.in_ok-keep_each.ensures.replays)

@@ -3,6 +3,7 @@ use Rattle.std.proofs.lemmas.List.{nil_from_length}
 use Rattle.syn_image.specs.Images.{image_of, spelled_image}
 use Rattle.syn_journal.specs.Layout.{meaning}
 use Rattle.syn_journal.specs.Opened.{value_read}
+use Rattle.syn_model.specs.Version.{current_version}
 use Rattle.syn_log.proofs.KnownLemmas.{told_in_all}
 use Rattle.syn_standing.specs.Readings.{bytes_of_each}
 use Rattle.syn_log.proofs.reading.read_log.Goals as goal
@@ -23,11 +24,11 @@ returns g c =
       standing = (image_of image).1;
       sound = read.lawful.1;
       image =
-          sym c.deref.ensures.value
-          ∙ (read.spelled ∙ (ap (λ bs. spelled_image (image_of image) ++ bs) rest
-          ∙ append-nil (spelled_image (image_of image))));
+          sym c.deref-2.ensures.value
+          ∙ (read.spelled ∙ (ap (λ bs. spelled_image current_version (image_of image) ++ bs) rest
+          ∙ append-nil (spelled_image current_version (image_of image))));
       events = adds.events;
-      payloads = ap bytes_of_each (sym c.deref-2.ensures.value) ∙ adds.spelled;
+      payloads = ap bytes_of_each (sym c.deref-3.ensures.value) ∙ adds.spelled;
       told = told_in_all c.new-logged.result.items c.push_touches.new.logged.items
           c.push_touches-2.new.logged.items c.push_events.new.logged.items
           c.touches.result.0.now c.touches.result.1.now image.trail.touches c.position.result

@@ -7,6 +7,7 @@ use Rattle.syn_model.specs.Spelling.{event_spelling}
 use Rattle.syn_message.proofs.WholeLemmas.{no_end, no_value}
 use Rattle.syn_message.proofs.WishLemmas.{edit_none}
 use Rattle.syn_message.proofs.user_reading.read_edit.Goals as goal
+use Rattle.syn_model.specs.Version.{Two}
 use Rattle.syn_wire.specs.Events.{IsSpelledEvent}
 use Rattle.syn_wire.specs.Reads.{IsReading}
 
@@ -26,7 +27,7 @@ returns-then-not-is_empty c =
     (option_map (λ found. (event_of found.0, found.1.now)) o)) c.in-Some.is
     c.in_ok-event.ensures in
     edit_none fields (λ user edit lawful.
-    no_end IsSpelledEvent event_spelling c.spelling_laws.ensures.event fields
+    no_end IsSpelledEvent event_spelling (c.spelling_laws.ensures.event Two) fields
     c.in-Some.rest.now (event_of c.in-Some.event) found
     (λ none. false≢true (c.if-not-is_empty.ensures ∙ ap (λ xs. length xs == 0) none))
     (Edited user edit) lawful)

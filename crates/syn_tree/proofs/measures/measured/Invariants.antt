@@ -3,4 +3,4 @@ use Rattle.syn_placed.specs.Pairs.{spelling_length}
 use Rattle.syn_tree.proofs.measures.measured.Given as goal
 
 abbrev pub invariant-loop-entry : goal.invariant-loop-entry
-invariant-loop-entry l = (l.size ≡ spelling_length (take l.entry-index l.list)) × (l.size ≤ 524288)
+invariant-loop-entry l = (l.size ≡ spelling_length (take l.entry-index l.list)) × (l.size ≤ 526336)

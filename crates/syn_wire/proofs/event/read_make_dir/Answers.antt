@@ -4,7 +4,7 @@ use Rattle.syn_wire.proofs.EventLemmas.{IsPlace, place_spelling, make_dir_none}
 use Rattle.syn_wire.proofs.event.read_make_dir.Goals as goal
 
 pub returns-in-None : goal.returns-in-None
-returns-in-None c =
-    make_dir_none c.args.fields.now
+returns-in-None c version =
+    make_dir_none version c.args.fields.now
     (subst (λ o. IsReading IsPlace place_spelling c.args.fields.now (option_map
     (λ found. ((found.0, found.1), found.2.now)) o)) c.in-None.is c.in_ok-user.ensures)

@@ -3,6 +3,7 @@ use Rattle.std.specs.FinMap.{len-entries}
 use Rattle.std.proofs.Math.Seq.{take-length}
 use Rattle.syn_model.specs.Limits.{children}
 use Rattle.syn_model.specs.Contents.{digest_spelling}
+use Rattle.syn_model.specs.Version.{current_version}
 use Rattle.syn_wire.specs.Trees.{pair_by}
 use Rattle.syn_wire.proofs.MarkLemmas.{few_nodes, marks_walk, measured_more}
 use Rattle.syn_wire.proofs.marks.marks_length.Goals as goal
@@ -29,7 +30,8 @@ returns-clause-length c =
     omega (arith, c.loop-entry-test.false, c.loop-entry.auto.entry-index-end) in
     c.loop-entry.invariant.so_far ∙ ap length (ap (flat_map (pair_by digest_spelling t))
     (ap (λ n. take n list) ended ∙ (take-length list ∙ c.as_slice-list.ensures.all))
-    ∙ sym (marks_walk t c.as_slice-list.ensures.marks.part.parents c.as_slice-list.ensures.present))
+    ∙ sym (marks_walk current_version t c.as_slice-list.ensures.marks.part.parents
+    c.as_slice-list.ensures.present))
 
 pub returns-clause-brief : goal.returns-clause-brief
 returns-clause-brief c =

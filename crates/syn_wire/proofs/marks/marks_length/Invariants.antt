@@ -7,5 +7,5 @@ abbrev pub invariant-loop-entry : goal.invariant-loop-entry
 invariant-loop-entry l = record {
   so_far : l.length ≡ length
       (flat_map (pair_by digest_spelling l.marks) (take l.entry-index l.list));
-  small : l.length ≤ 98 * l.entry-index;
+  small : l.length ≤ 100 * l.entry-index;
 }

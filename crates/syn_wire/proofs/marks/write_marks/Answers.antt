@@ -3,6 +3,7 @@ use Rattle.std.proofs.Common.{arith}
 use Rattle.std.proofs.Math.Seq.{take-length}
 use Rattle.syn_model.specs.Limits.{children}
 use Rattle.syn_model.specs.Contents.{digest_spelling}
+use Rattle.syn_model.specs.Version.{current_version}
 use Rattle.syn_wire.specs.Trees.{pair_by}
 use Rattle.syn_model.proofs.ExitLemmas.{on_ok_of_exit}
 use Rattle.syn_wire.proofs.ByteLemmas.{begins_further}
@@ -36,7 +37,8 @@ returns-clause-added c =
     c.loop-entry.invariant
     ∙ ap (λ b. c.args.out.now.items ++ b) (ap (flat_map (pair_by digest_spelling t))
     (ap (λ n. take n list) ended ∙ (take-length list ∙ c.as_slice-list.ensures.all))
-    ∙ sym (marks_walk t c.as_slice-list.ensures.marks.part.parents c.as_slice-list.ensures.present))
+    ∙ sym (marks_walk current_version t c.as_slice-list.ensures.marks.part.parents
+    c.as_slice-list.ensures.present))
 
 pub returns-clause-kept : goal.returns-clause-kept
 returns-clause-kept c = (_, c.loop-entry.invariant)

@@ -1,4 +1,5 @@
 use Rattle.std.proofs.Common.{◌+◌, ◌-◌, length}
+use Rattle.syn_wire.specs.Versions.{version_of}
 use Rattle.syn_wire.proofs.ListedLemmas.{ListedSoFar}
 use Rattle.syn_wire.proofs.PartsLemmas.{ReadSoFar}
 use Rattle.syn_wire.proofs.part_reading.+parts.Given as goal
@@ -17,8 +18,8 @@ decreases-read_part g l = (16 - length l.path) + (16 - length l.path) + (16 - le
 
 abbrev pub invariant-read_parts-loop-read : goal.invariant-read_parts-loop-read
 invariant-read_parts-loop-read g l = record {
-  so_far : ReadSoFar g.C.Readable.kind l.above l.count l._read l.bytes l.rest l.initial.list.items
-      l.list.items;
-  spelled : ListedSoFar g.C.Readable.kind l.above l._read l.bytes l.rest l.initial.list.items
-      l.list.items;
+  so_far : ReadSoFar (g.C.Readable.kind (version_of l.version)) l.above l.count l._read l.bytes
+      l.rest l.initial.list.items l.list.items;
+  spelled : ListedSoFar (g.C.Readable.kind (version_of l.version)) l.above l._read l.bytes l.rest
+      l.initial.list.items l.list.items;
 }

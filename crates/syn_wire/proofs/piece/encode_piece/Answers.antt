@@ -4,6 +4,7 @@ use Rattle.std.specs.FinMap.{get}
 use Rattle.syn_model.specs.Path.{Bytes}
 use Rattle.syn_model.specs.Spelling.{spelling}
 use Rattle.syn_model.specs.Tree.{subtree}
+use Rattle.syn_model.specs.Version.{current_version}
 use Rattle.syn_tree.specs.Contents.{found_content}
 use Rattle.syn_tree.proofs.StripLemmas.{subtree_none}
 use Rattle.syn_wire.proofs.NodeLemmas.{absent_spelled}
@@ -22,7 +23,7 @@ returns c =
       | in-None+in_ok-push-in-None w ↦
           let none : get t at ≡ None = sym c.get.ensures
           ∙ ap (option_map (λ found. found_content found)) w.in-None.is in
-          let spelled : 0 ∷ [] ≡ spelling (subtree t at) = sym absent_spelled
+          let spelled : 0 ∷ [] ≡ spelling (subtree t at) = sym (absent_spelled current_version)
           ∙ ap spelling (subtree_none t at c.entries-whole.ensures.tree.part.parents none) in
           rw w.window-is ((w.in_ok-push-in-None.ensures offset [] c.new-window.ensures).piece
           ∙ ap (λ (bytes : Bytes). take 32768 (drop offset bytes)) spelled)

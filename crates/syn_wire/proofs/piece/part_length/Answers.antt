@@ -4,6 +4,7 @@ use Rattle.std.specs.FinMap.{get}
 use Rattle.syn_model.specs.Path.{root}
 use Rattle.syn_model.specs.Spelling.{spelling}
 use Rattle.syn_model.specs.Tree.{subtree}
+use Rattle.syn_model.specs.Version.{current_version}
 use Rattle.syn_model.proofs.TreeLemmas.{get-subtree}
 use Rattle.syn_tree.specs.Contents.{found_content}
 use Rattle.syn_tree.proofs.PartLemmas.{subtree-parents}
@@ -27,5 +28,5 @@ returns-in-None c =
     let at = c.args.path.now in
     let none : get t at ≡ None = sym c.get.ensures
     ∙ ap (option_map (λ found. found_content found)) c.in-None.is in
-    sym (ap length absent_spelled) ∙ ap (λ s. length (spelling s))
+    sym (ap length (absent_spelled current_version)) ∙ ap (λ s. length (spelling s))
     (subtree_none t at c.entries-whole.ensures.tree.part.parents none)

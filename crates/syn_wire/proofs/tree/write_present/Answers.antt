@@ -1,6 +1,7 @@
 use Rattle.std.proofs.Common.{◌++◌, ◌∷◌, [], List, ℕ, length, sym, ap, ap₂, ◌∙◌, subst}
 use Rattle.std.proofs.Common.{append_assoc, arith}
 use Rattle.syn_model.specs.Contents.{AreLawfulContents, contents_spelling, contents_with}
+use Rattle.syn_model.specs.Version.{current_version}
 use Rattle.syn_model.specs.Tree.{File, IsPart}
 use Rattle.syn_tree.proofs.ChangeLemmas.{lawful_part}
 use Rattle.std.proofs.lemmas.Result.{on_ok_weaker}
@@ -25,7 +26,7 @@ returns-in_ok-push-in-File-clause-added c =
     let mode = mode_of c.in-File.mode in
     let file = λ (b : List ℕ). contents_spelling (contents_with mode b) in
     let spelled = ap (λ n. spelling (node_tree n)) c.in-File.is
-    ∙ file_spelled (contents_with mode bytes) in
+    ∙ file_spelled current_version (contents_with mode bytes) in
     on_ok_weaker c.write_contents.result (λ e.
     e ∙ (ap₂ (λ x y. x ++ file y) c.in_ok-push-in-File.ensures.items c.deref.ensures.value
     ∙ (append_assoc out (1 ∷ []) (file bytes) ∙ ap (λ b. out ++ b) (sym spelled))))

@@ -1,4 +1,5 @@
 use Rattle.std.proofs.Common.{ap}
+use Rattle.syn_model.specs.Version.{current_version}
 use Rattle.syn_archive.specs.Refusals.{refusal_of}
 use Rattle.syn_archive.specs.inner.Agreements.{agreed_archive}
 use Rattle.syn_archive.specs.inner.Openings.{bytes_of_each}
@@ -7,8 +8,9 @@ use Rattle.syn_archive.proofs.agreed.AgreedState.read_again.Goals as goal
 
 pub returns-in-Ok-clause-one : goal.returns-in-Ok-clause-one
 returns-in-Ok-clause-one c other fits given =
-    one_given c.opening_laws.ensures.one c.args.image.now (bytes_of_each c.args.payloads.now) other
-    _ fits c.in-Ok.ensures.fits given c.in-Ok.ensures.stands
+    one_given c.opening_laws.ensures.one current_version c.args.image.now
+    (bytes_of_each c.args.payloads.now) other _ fits c.in-Ok.ensures.fits given
+    c.in-Ok.ensures.stands
 
 pub returns-in-Err-clause-unread : goal.returns-in-Err-clause-unread
 returns-in-Err-clause-unread c =

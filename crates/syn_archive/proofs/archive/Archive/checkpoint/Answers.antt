@@ -5,6 +5,7 @@ use Rattle.syn_journal.specs.Layout.{image_alone, longest_image, IsBeforeOrAfter
 use Rattle.syn_journaled.specs.Endings.{ended}
 use Rattle.syn_journaled.specs.Journaled.{generation_after}
 use Rattle.syn_model.specs.Limits.{greatest_image}
+use Rattle.syn_model.specs.Version.{current_version}
 use Rattle.syn_model.specs.MarkSpelling.{archive_spelling}
 use Rattle.syn_model.specs.ArchiveImage.{ArchiveStandsFor}
 use Rattle.syn_archive.specs.Archive.{KeepsOrCompacts, generation_shown, left_shown, pair_of, shown}
@@ -68,7 +69,8 @@ returns-clause-greatest g c kept stands =
     let old = c.args.self.now in
     let image = archive_spelling (pair_of old) (shown old) in
     let fits = laws.image_fits (pair_of old) kept
-    (laws.sound (pair_of old) stands.value.image stands.value.payloads kept stands.means) in
+    (laws.sound current_version (pair_of old) stands.value.image stands.value.payloads kept
+    stands.means) in
     let never : longest_image < length image → ⊥ = not_longer (length image)
     (length (archive_spelling (pair_of old) kept))
     (ap (λ a. length (archive_spelling (pair_of old) a)) stands.remembers) fits in (

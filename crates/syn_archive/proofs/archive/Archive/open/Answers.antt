@@ -1,5 +1,5 @@
-use Rattle.syn_archive.proofs.MeaningLemmas.{lawful_refusal, open_refusal, stands_for_each}
-use Rattle.syn_archive.proofs.MeaningLemmas.{stands_shown}
+use Rattle.syn_archive.proofs.MeaningLemmas.{lawful_refusal, no_old_opened, old_refusal}
+use Rattle.syn_archive.proofs.MeaningLemmas.{open_refusal, stands_for_each, stands_shown}
 use Rattle.syn_archive.proofs.archive.Archive.open.Goals as goal
 
 pub returns-in-Ok-clause-given : goal.returns-in-Ok-clause-given
@@ -25,3 +25,12 @@ pub returns-in-Err-clause-lawful : goal.returns-in-Err-clause-lawful
 returns-in-Err-clause-lawful g c number kept fits stands is =
     lawful_refusal c.opening_laws.ensures.one c.in-Err.refused.0 c.args.pair
     (g.D.Disk.seen c.args.disk) number kept fits stands is (returns-in-Err-clause-refusals g c)
+
+pub returns-in-Ok-clause-old : goal.returns-in-Ok-clause-old
+returns-in-Ok-clause-old g c old =
+    absurd (no_old_opened _ (g.D.Disk.seen c.args.disk) c.in-Ok.ensures.opened old)
+
+pub returns-in-Err-clause-old : goal.returns-in-Err-clause-old
+returns-in-Err-clause-old g c old =
+    old_refusal c.in-Err.refused.0 c.args.pair (g.D.Disk.seen c.args.disk) old
+    (returns-in-Err-clause-refusals g c)

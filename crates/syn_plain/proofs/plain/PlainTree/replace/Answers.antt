@@ -31,8 +31,8 @@ returns-in_default-clause-refused c other =
     let t = c.args.self.now in
     let u = part_of c.args.new in
     let place = sym c.check_place.ensures ∙ ap refusal_in c.in_ok-check_place.was in
-    let large : 524288 < spelling_length c.in_ok-added.added.items =
-    subst (λ xs. 524288 < spelling_length xs) c.deref.ensures.value c.in_default.ensures.none in
+    let large : 526336 < spelling_length c.in_ok-added.added.items =
+    subst (λ xs. 526336 < spelling_length xs) c.deref.ensures.value c.in_default.ensures.none in
     replace_answer t c.args.path.now u place ∙ ap (λ b. if b then None else Some Full)
     (ap (λ p. fits_replica (replace t p u)) (sym c.key.ensures)
     ∙ nowhere_size c.key.result u c.in_ok-added.added.items

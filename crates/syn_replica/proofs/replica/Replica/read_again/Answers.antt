@@ -5,8 +5,7 @@ use Rattle.syn_history.specs.Past.{Past}
 use Rattle.syn_model.specs.Image.{Gives}
 use Rattle.syn_standing.specs.Readings.{GivesOtherPair}
 use Rattle.syn_standing.specs.Readings.{bytes_of_each}
-use Rattle.syn_replica.proofs.MeaningLemmas.{meaning_refusal}
-use Rattle.syn_replica.proofs.ReopenLemmas.{of_open}
+use Rattle.syn_replica.proofs.MeaningLemmas.{reopen_refusal}
 use Rattle.syn_replica.proofs.replica.Replica.read_again.Goals as goal
 
 pub returns-in_err-_pair-clause-cause : goal.returns-in_err-_pair-clause-cause
@@ -15,15 +14,15 @@ returns-in_err-_pair-clause-cause g c =
     let p = err_from_is_err_and c.from_residual.result c.from_residual.ensures.1 in
     let value = value_read c.args.found.now.image c.args.found.now.records in
     let refused = c.in_err-_pair in
-    rw (p.1, p.2) (λ bytes means. of_open refused.field-0.0 own.pair own.standing.position bytes
-    (meaning_refusal refused.field-0.0 (Some own.pair) bytes value means refused.ensures.refusals
+    rw (p.1, p.2) (λ bytes means. reopen_refusal refused.field-0.0 own.pair own.standing.position
+    bytes value means refused.ensures.refusals
     (λ damaged pair standing fits gives. refused.ensures.damaged damaged pair standing fits
     (subst (λ q. Gives pair c.deref.result.now q standing)
     (ap bytes_of_each (sym c.deref-2.ensures.value))
     (subst (λ i. Gives pair i value.payloads standing) (sym c.deref.ensures.value) gives)))
     (λ other. subst (λ q. GivesOtherPair (Some own.pair) value.image q)
     (ap bytes_of_each c.deref-2.ensures.value) (subst (λ i. GivesOtherPair (Some own.pair) i
-    (bytes_of_each c.deref-2.result.now)) c.deref.ensures.value (refused.ensures.other other)))))
+    (bytes_of_each c.deref-2.result.now)) c.deref.ensures.value (refused.ensures.other other))))
 
 pub returns-then-position-clause-cause : goal.returns-then-position-clause-cause
 returns-then-position-clause-cause g c bytes means =

@@ -19,7 +19,7 @@ below_is c =
     ∙ (ap₂ (λ p xs. filter (is_below p) xs) c.key.ensures c.deref.ensures.value
     ∙ sym (below_rooted c.args.path.now c.self.inside.list.items))
 
-short : (c : goal.After-part_below) → spelling_length c.part_below.result.now ≤ 524288
+short : (c : goal.After-part_below) → spelling_length c.part_below.result.now ≤ 526336
 short c =
     let ds = c.self.inside.list.items in
     omega (
