@@ -20,10 +20,11 @@ _syn() {
         */--prefer) mapfile -t COMPREPLY < <(compgen -W 'left right' -- "$word"); return ;;
         :/* | =/* | */: | */= | */--connections) return ;;
     esac
-    local commands='format put mkdir rm show check log export import serve sync run plan simulate help'
+    local commands='format put mkdir rm chmod show check migrate log export import serve sync run'
+    commands+=' plan simulate help'
     case $command in
         '') options+=' -V --version' ;;
-        put | mkdir | rm | show) options+=' --served' ;;
+        put | mkdir | rm | chmod | show) options+=' --served' ;;
         sync | run) options+=' --prefer' ;;
         plan) options+=' --prefer --served' ;;
         export) options+=' --update --delete --served' ;;
@@ -38,10 +39,12 @@ _syn() {
     case $command/$place$served in
         /0* | help/0) action=(-W "$commands") ;;
         format/0) action=(-W 'replica archive') ;;
-        put/0-served | mkdir/0-served | rm/0-served | show/0-served) action=(-A hostname) ;;
+        put/0-served | mkdir/0-served | rm/0-served) action=(-A hostname) ;;
+        chmod/0-served | show/0-served) action=(-A hostname) ;;
         export/0-served | import/0-served | plan/[01]-served) action=(-A hostname) ;;
         serve/1 | sync/1 | sync/2) action=(-A hostname) ;;
-        format/2 | put/0 | mkdir/0 | rm/0 | show/0 | check/0 | log/0) action=(-f) ;;
+        format/2 | put/0 | mkdir/0 | rm/0 | chmod/0 | show/0) action=(-f) ;;
+        check/0 | migrate/0 | log/0) action=(-f) ;;
         export/1* | import/2*) action=(-d) ;;
         export/0 | import/0 | serve/0 | sync/0 | run/[012] | simulate/0) action=(-f) ;;
         plan/[012] | plan/2-served) action=(-f) ;;

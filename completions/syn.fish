@@ -1,5 +1,6 @@
 # Completion of syn for fish: put this file into ~/.config/fish/completions.
-set -l commands format put mkdir rm show check log export import serve sync run plan simulate help
+set -l commands format put mkdir rm chmod show check migrate log export import serve sync run \
+    plan simulate help
 set -l first "not __fish_seen_subcommand_from $commands"
 complete -c syn -f
 complete -c syn -s v -l verbose -d 'Explain a refusal, and tell each item of a session'
@@ -9,8 +10,10 @@ complete -c syn -n $first -a format -d 'Make a file an image'
 complete -c syn -n $first -a put -d 'Put standard input at a path'
 complete -c syn -n $first -a mkdir -d 'Make a directory'
 complete -c syn -n $first -a rm -d 'Remove what is at a path'
+complete -c syn -n $first -a chmod -d 'Change the mode of a file'
 complete -c syn -n $first -a show -d 'Print an image, or a part of it'
 complete -c syn -n $first -a check -d 'Open an image, and print its numbers'
+complete -c syn -n $first -a migrate -d 'Make an image of version 1 one of version 2'
 complete -c syn -n $first -a log -d 'Print the last events of a replica'
 complete -c syn -n $first -a export -d 'Write a replica into a folder'
 complete -c syn -n $first -a import -d 'Make a replica what a folder is'
@@ -22,8 +25,8 @@ complete -c syn -n $first -a simulate -d 'Run a script of steps on machines in m
 complete -c syn -n $first -a help -d 'Explain the program, or a command'
 complete -c syn -n '__fish_seen_subcommand_from help' -a "$commands"
 complete -c syn -n '__fish_seen_subcommand_from format' -a 'replica archive'
-complete -c syn -n '__fish_seen_subcommand_from put mkdir rm show export import plan' -l served \
-    -d 'Ask the server at HOST:PORT in the place of FILE'
+complete -c syn -n '__fish_seen_subcommand_from put mkdir rm chmod show export import plan' \
+    -l served -d 'Ask the server at HOST:PORT in the place of FILE'
 complete -c syn -n '__fish_seen_subcommand_from sync run plan' -l prefer -x -a 'left right' \
     -d 'Put this side over the other where both changed'
 complete -c syn -n '__fish_seen_subcommand_from serve' -l connections -x \
