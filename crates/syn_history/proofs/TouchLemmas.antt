@@ -76,6 +76,7 @@ lawful_past past position session token paths h tree is_tree fits =
     record {
       tree = is_tree;
       fits = fits;
+      old = λ two. absurd (cc two);
       position = position;
       floor = leb-true past.floor past.position first.0;
       session = session;

@@ -1,5 +1,6 @@
 -- The image of a replica tells its pair and what it keeps.
-use Rattle.std.proofs.Common.{◌≡◌, ◌<◌, ◌≤◌, ◌^◌, ◌+◌, ℕ, zero, suc, true, List, [], ◌∷◌, ◌++◌}
+use Rattle.std.proofs.Common.{◌≡◌, ◌<◌, ◌≤◌, ◌^◌, ◌+◌, ◌-◌, ℕ, zero, suc, true, List, [], ◌∷◌}
+use Rattle.std.proofs.Common.{◌++◌}
 use Rattle.std.proofs.Common.{length, take, drop, slice_index_or, All, Option, Some, None, IfSome}
 use Rattle.std.proofs.Common.{refl, sym, ap, ap₂, ◌∙◌, subst, append_assoc, append-nil, arith}
 use Rattle.std.specs.Prelude.{bytes_eq}
@@ -9,13 +10,13 @@ use Rattle.std.proofs.lemmas.List.{length-append, take-append-drop, take_more}
 use Rattle.std.proofs.lemmas.List.Elements.{All-head, All-tail, All-cons, All-nil, All-append}
 use Rattle.std.proofs.lemmas.Grind.{flat_map-append}
 use Rattle.syn_model.specs.Path.{Bytes, IsPath, path_spelling}
-use Rattle.syn_model.specs.Tree.{Tree, IsTreeIn}
+use Rattle.syn_model.specs.Tree.{Tree}
 use Rattle.syn_model.proofs.VersionLemmas.{standing_now, tree_now}
 use Rattle.syn_model.specs.Event.{Token, IsLawfulToken}
 use Rattle.syn_model.specs.Spelling.{spelling_in, token_spelling}
-use Rattle.syn_model.specs.Version.{Version}
+use Rattle.syn_model.specs.Version.{Version, One}
 use Rattle.syn_model.specs.Laws.{NoSpellingBeginsAnother}
-use Rattle.syn_model.specs.Limits.{greatest}
+use Rattle.syn_model.specs.Limits.{greatest, greatest_old_spelling}
 use Rattle.syn_model.specs.Standing.{Touch, Standing, most_touches}
 use Rattle.syn_model.specs.Image.{IsStanding, IsStandingIn, replica_front, last_token_spelling}
 use Rattle.syn_model.specs.Image.{touch_spelling}
@@ -33,6 +34,7 @@ use Rattle.syn_image.specs.Images.{IsTouch, AreTouches, touches_spelling}
 use Rattle.syn_image.specs.inner.Pasts.{Two, AreTwo, two_spelling, AreFour, four_spelling}
 use Rattle.syn_image.specs.inner.Pasts.{AreFences, fences_spelling, IsPast, past_spelling}
 use Rattle.syn_image.specs.inner.Pasts.{AreSoMany, each_spelling}
+use Rattle.syn_image.specs.inner.Trees.{IsImageTree}
 
 -- ---- the numbers and the last token
 
@@ -197,11 +199,12 @@ past_tells =
 -- ---- versions
 
 -- what an image may hold, it may in a version that its tree is one of
-standing_in : (version : Version) (standing : Standing) → IsTreeIn version standing.tree →
+standing_in : (version : Version) (standing : Standing) → IsImageTree version standing.tree →
     IsStanding standing → IsStandingIn version standing
 standing_in version standing tree is = record {
-  tree = tree;
+  tree = tree.whole.tree;
   fits = is.fits;
+  old = tree.old;
   position = is.position;
   floor = is.floor;
   session = is.session;
@@ -210,6 +213,22 @@ standing_in version standing tree is = record {
   touches = is.touches;
   rising = is.rising;
 }
+
+-- a tree that took more bytes than the first version has begins no image of it
+pub too_long : NoSpellingBeginsAnother → (version : Version) (bytes after : Bytes)
+    (tree : Tree) → version ≡ One → greatest_old_spelling < length bytes - length after →
+    BeginsWith (IsWholeTreeIn version) (spelling_in version) bytes tree after →
+    IsReading (IsImageTree version) (spelling_in version) bytes None
+too_long trees version bytes after tree old long found value rest begins =
+    let same = trees version tree value after rest found.lawful.tree.part
+    begins.lawful.whole.tree.part (whole_fits_part tree found.lawful.fits)
+    (whole_fits_part value begins.lawful.whole.fits) (sym found.spelled ∙ begins.spelled) in
+    let short = subst (λ version. length (spelling_in version value) ≤ greatest_old_spelling)
+    (sym old) (begins.lawful.old old) in
+    let taken = ap length begins.spelled
+    ∙ length-append (spelling_in version value) rest in
+    let left = ap length same.1 in
+    absurd (omega (arith, long, short, taken, left))
 
 -- ---- the image in its parts
 
@@ -303,12 +322,12 @@ module _ (version : Version) (bytes fields after : Bytes) (past : PastValue)
       (sym found.spelled
       ∙ (behind ∙ ap (drop 5) (begins.spelled ∙ image_row version value.0 value.1 rest)))
 
-  pub no_whole_tree : IsReading (IsWholeTreeIn version) (spelling_in version) after None → ⊥
-  no_whole_tree none =
+  pub no_tree : IsReading (IsImageTree version) (spelling_in version) after None → ⊥
+  no_tree none =
       none value.1.tree rest (record {
         lawful = record {
-          tree = begins.lawful.1.tree;
-          fits = begins.lawful.1.fits;
+          whole = record { tree = begins.lawful.1.tree; fits = begins.lawful.1.fits };
+          old = begins.lawful.1.old;
         };
         spelled = same_past.1;
       })
@@ -332,13 +351,13 @@ pub image_found : (version : Version) (bytes fields after rest : Bytes) (pair : 
     (tree : Tree) →
     bytes_eq (take 5 bytes) (replica_front version) ≡ true → fields ≡ drop 5 bytes →
     BeginsWith IsPast past_spelling fields (past_value pair past) after →
-    BeginsWith (IsWholeTreeIn version) (spelling_in version) after tree rest → IsLawful past →
+    BeginsWith (IsImageTree version) (spelling_in version) after tree rest → IsLawful past →
     BeginsWith (IsImage version) (spelled_image version) bytes (pair, standing_with tree past) rest
 image_found version bytes fields after rest pair past tree front behind found read lawful = record {
   lawful = (
     found.lawful.0.0.0.0,
-    standing_in version (standing_with tree past) read.lawful.tree
-        (lawful tree (tree_now version tree read.lawful.tree) read.lawful.fits),
+    standing_in version (standing_with tree past) read.lawful
+        (lawful tree (tree_now version tree read.lawful.whole.tree) read.lawful.whole.fits),
   );
   spelled =
       sym (take-append-drop 5 bytes)

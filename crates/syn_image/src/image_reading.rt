@@ -12,11 +12,17 @@ ghost use Rattle.syn_image.specs.Images.{IsLastToken, IsTouch, AreTouches, touch
 ghost use Rattle.syn_image.specs.inner.Pasts.{AreTwo, two_spelling, AreFour, four_spelling};
 ghost use Rattle.syn_image.specs.inner.Pasts.{AreFences, fences_spelling, IsPast, past_spelling};
 ghost use Rattle.syn_image.specs.inner.Pasts.{AreSoMany, each_spelling};
+ghost use Rattle.syn_image.specs.inner.Trees.{IsImageTree};
+ghost use Rattle.syn_model.specs.Spelling.{spelling_in};
 
 use crate::image::{Image, front};
 use std::alloc::Global;
 use syn_history::{Parts, Token, Touch, Trail};
+use syn_tree::Tree;
 use syn_wire::{Version, WireError, decode_path, decode_tree, read_token, read_u16, read_u64};
+
+/// The most bytes that spell the tree of an image of the first version.
+const LONGEST_OLD_TREE: usize = 524_288;
 
 /// The image of the version that the bytes begin with, and the rest; none where no front of them is
 /// the spelling of what such an image may hold: another version, a tree beyond its limits, a floor
@@ -39,13 +45,34 @@ pub fn decode_image(
     let Some((pair, parts, after)) = read_past(alloc, fields)? else {
         return Ok(None);
     };
-    let Some((tree, rest)) = decode_tree(alloc, version, after)? else {
+    let Some((tree, rest)) = read_tree(alloc, version, after)? else {
         return Ok(None);
     };
     let Some(trail) = trail_of(alloc, parts)? else {
         return Ok(None);
     };
     Ok(Some((Image { pair, tree, trail }, rest)))
+}
+
+/// The tree of an image of the version, and the rest; none where no front of the bytes spells one.
+fn read_tree(
+    alloc: Global,
+    version: Version,
+    bytes: &[u8],
+) -> Result<Option<(Tree, &[u8])>, WireError>
+    ensures { IfOk result (λ read. IsReading (IsImageTree (version_of version))
+        (spelling_in (version_of version)) bytes.now
+        (option_map (λ found. (found.0, found.1.now)) read)) }
+{
+    syn_model::spelling_laws();
+    let Some((tree, rest)) = decode_tree(alloc, version, bytes)? else {
+        return Ok(None);
+    };
+    let taken = bytes.len() - rest.len();
+    match version {
+        Version::One if taken > LONGEST_OLD_TREE => Ok(None),
+        _ => Ok(Some((tree, rest))),
+    }
 }
 
 /// The trail of these parts, where they are lawful; else none.

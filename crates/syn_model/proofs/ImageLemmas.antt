@@ -26,6 +26,7 @@ unfolding tree_of
 new_is_standing = record {
   tree = empty-is_tree;
   fits = empty_fits;
+  old = λ two. absurd (cc two);
   position = omega arith;
   floor = omega arith;
   session = omega arith;

@@ -222,6 +222,7 @@ history-is_standing history lawful =
     record {
       tree = history-is_tree history lawful;
       fits = history_fits history lawful;
+      old = λ two. absurd (cc two);
       position = position_within history lawful;
       floor = left.0;
       session = fence.0;

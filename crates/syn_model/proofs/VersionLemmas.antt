@@ -41,6 +41,7 @@ pub standing_now : (version : Version) (standing : Standing) → IsStandingIn ve
 standing_now version standing is = record {
   tree = tree_now version standing.tree is.tree;
   fits = is.fits;
+  old = λ two. absurd (cc two);
   position = is.position;
   floor = is.floor;
   session = is.session;

@@ -5,7 +5,7 @@ use Rattle.std.specs.Int.{to_be_bytes, w16, w64}
 use Rattle.syn_model.specs.Path.{Bytes, IsPath, path_spelling}
 use Rattle.syn_model.specs.Version.{Version, One, current_version, version_number}
 use Rattle.syn_model.specs.Tree.{IsTreeIn}
-use Rattle.syn_model.specs.Limits.{greatest, fits_replica}
+use Rattle.syn_model.specs.Limits.{greatest, greatest_old_spelling, fits_replica}
 use Rattle.syn_model.specs.Event.{Token, Event, IsLawfulToken}
 use Rattle.syn_model.specs.Standing.{Touch, Standing, most_touches, standing_after, AllAllowedIn}
 use Rattle.syn_model.specs.History.{History, IsHistory, standing_of}
@@ -42,6 +42,7 @@ image_spelling pair standing = image_spelling_in current_version pair standing
 pub record IsStandingIn (version : Version) (standing : Standing) : Type 0 where
   pub tree : IsTreeIn version standing.tree
   pub fits : fits_replica standing.tree ≡ true
+  pub old : version ≡ One → length (spelling_in One standing.tree) ≤ greatest_old_spelling
   pub position : standing.position ≤ greatest
   pub floor : standing.floor ≤ standing.position
   pub session : standing.session ≤ greatest

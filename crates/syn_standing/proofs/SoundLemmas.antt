@@ -223,6 +223,7 @@ stays_sound version first last events is all same tree fits =
     record {
       tree = tree;
       fits = fits;
+      old = λ two. absurd (cc two);
       position = past.position;
       floor = past.floor;
       session = past.fence.0;

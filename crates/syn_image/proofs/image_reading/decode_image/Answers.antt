@@ -8,10 +8,10 @@ use Rattle.syn_history.specs.Events.{token_of}
 use Rattle.syn_history.specs.Past.{IsLawful, standing_with}
 use Rattle.syn_history.specs.Trails.{past_from}
 use Rattle.syn_wire.specs.Reads.{BeginsWith, IsReading}
-use Rattle.syn_wire.specs.Trees.{IsWholeTreeIn}
 use Rattle.syn_wire.specs.Versions.{version_of}
 use Rattle.syn_image.specs.inner.Pasts.{IsPast, past_spelling}
-use Rattle.syn_image.proofs.ImageLemmas.{no_past, no_whole_tree, no_trail, image_found, past_value}
+use Rattle.syn_image.specs.inner.Trees.{IsImageTree}
+use Rattle.syn_image.proofs.ImageLemmas.{no_past, no_tree, no_trail, image_found, past_value}
 use Rattle.syn_image.proofs.image_reading.decode_image.Goals as goal
 
 pub returns-in_default-2 : goal.returns-in_default-2
@@ -48,11 +48,11 @@ returns-in_default-3 c value rest begins =
       found.2.now,
     )) o)) c.in-Some-2.is
     c.in_ok-pair.ensures in
-    let none = subst (λ o. IsReading (IsWholeTreeIn (version_of c.args.version))
+    let none = subst (λ o. IsReading (IsImageTree (version_of c.args.version))
     (spelling_in (version_of c.args.version))
     c.in-Some-2.after.now (option_map (λ found. (found.0, found.1.now)) o)) c.in_default-3.is
     c.in_ok-tree.ensures in
-    no_whole_tree (version_of c.args.version) c.args.bytes.now fields c.in-Some-2.after.now
+    no_tree (version_of c.args.version) c.args.bytes.now fields c.in-Some-2.after.now
     (past_value c.in-Some-2.pair (past_from parts)) (c.in-Some.ensures.cases.1
     ∙ ap (λ f. drop (length f) c.args.bytes.now) c.front.ensures) found value rest
     begins none
@@ -99,7 +99,7 @@ returns c =
       found.2.now,
     )) o)) c.in-Some-2.is
     c.in_ok-pair.ensures in
-    let read = subst (λ o. IsReading (IsWholeTreeIn (version_of c.args.version))
+    let read = subst (λ o. IsReading (IsImageTree (version_of c.args.version))
     (spelling_in (version_of c.args.version))
     c.in-Some-2.after.now (option_map (λ found. (found.0, found.1.now)) o)) c.in-Some-3.is
     c.in_ok-tree.ensures in
