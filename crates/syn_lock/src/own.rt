@@ -11,10 +11,11 @@ use crate::rule::{
 };
 use crate::view::Known;
 use atomic_table::{Seat, Table};
+use crossbeam_utils::Backoff;
+use crossbeam_utils::sync::{EventCount, Key};
 use std::alloc::Global;
 use std::snapshot::Snapshot;
 use std::sync::Wait;
-use std::thread;
 
 const POSITION: usize = 0;
 
@@ -44,6 +45,8 @@ pub struct Onlooker<S> {
 #[derive(Drop)]
 pub struct Own<S: Grows> {
     table: Table<Option<Box<S>>, Known<S>, Snapshot<S>, Discipline, Global>,
+    // Each hold that ends is told here to those who wait.
+    left: EventCount,
     ghost sized: { (table.shared.table_id.words ≡ 3) × (table.shared.table_id.slots ≡ 1) },
 }
 
@@ -66,6 +69,14 @@ fn wanting<S>(state: S) -> Refused<S>
     Refused {
         error: LockError::Memory,
         value: state,
+    }
+}
+
+// Waits until a hold ends, where the wait was announced, and else for a moment.
+fn pause<R: Wait>(rt: &R, backoff: &Backoff, announced: Option<Key<'_>>) {
+    match announced {
+        Some(key) => key.wait(rt),
+        None => backoff.snooze(),
     }
 }
 
@@ -98,7 +109,10 @@ impl<S: Grows> Own<S> {
         };
         slots.push_reserved(Some(home));
         match Table::new(alloc, &words, slots, &origin) {
-            Ok((table, _seat)) => Ok(Own { table }),
+            Ok((table, _seat)) => Ok(Own {
+                table,
+                left: EventCount::new(),
+            }),
             Err(atomic_table::Refused { mut slots }) => {
                 let Some(Some(home)) = slots.pop() else {
                     unreachable!()
@@ -306,6 +320,7 @@ impl<S: Grows> Own<S> {
         ensures given { view_of pass.new ≡ outside (view_of pass.old) }
     {
         self.table.shared.store::<Give>(&mut pass.seat, LOCK, 0);
+        self.left.notify_one();
     }
 
     // Puts the state into the slot, publishes its position and gives the lock back, in one step.
@@ -327,6 +342,7 @@ impl<S: Grows> Own<S> {
         self.table
             .shared
             .store::<Leave>(&mut pass.seat, LOCK, 2 * position);
+        self.left.notify_one();
     }
 }
 
@@ -350,11 +366,13 @@ impl<S: Grows> Pass<S> {
         ensures later { S.grows (end_of (origin_of own.now) (view_of self.old).seen)
             result.value }
     {
+        let backoff = Backoff::new();
         for _ in rt.forever() {
+            let key = backoff.is_completed().then(|| own.left.prepare_wait());
             if let Some(home) = own.take(self) {
                 return home;
             }
-            thread::yield_now();
+            pause(rt, &backoff, key);
         }
         unreachable!()
     }
