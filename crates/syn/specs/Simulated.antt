@@ -7,7 +7,7 @@ use Rattle.syn_simulate.specs.Shown.{world_shown}
 use Rattle.syn_simulate.specs.Simulations.{RunsScript}
 use Rattle.syn_world.specs.declared.world.World.{World}
 
--- the world is the one behind a script, and was printed
+-- the world is the one after a script, and was printed
 pub record PrintsRun {D : Type 0} {disk : Ghosts D} (old new : Option (List ℕ))
     (world : World D disk) : Type 0 where
   pub script : Text

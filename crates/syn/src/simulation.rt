@@ -18,7 +18,7 @@ use syn_simulate::{SimulateError, play, show_world, simulate};
 use syn_trace::draw;
 use syn_world::World;
 
-/// Runs the script in the file, and prints the world behind it, which it answers.
+/// Runs the script in the file, and prints the world after it, which it answers.
 ///
 /// The first line that says no step is told. Refused 9 where the file cannot be read or the output
 /// not be written, and 11 where memory is refused.
@@ -37,7 +37,7 @@ where
 }
 
 /// Draws each message, stop, opening and record of the script in the file, and prints the world
-/// behind it. It is refused as `run_script` is.
+/// after it. It is refused as `run_script` is.
 pub fn trace_script<F: Files, O: Write>(
     alloc: Global,
     files: &F,
@@ -58,7 +58,7 @@ pub fn let_go<D: SimulatedDisk + Drop>(world: World<D>) {
     let _ = world.into_disks();
 }
 
-/// Prints the chart of the script, which was played, and then the world behind it, which it
+/// Prints the chart of the script, which was played, and then the world after it, which it
 /// answers.
 fn print_traced<D: SimulatedDisk + Drop, O: Write>(
     alloc: Global,
@@ -101,7 +101,7 @@ fn chart_of<D: SimulatedDisk>(
     Ok(draw(alloc, &lines, player.turns(), &world.lists, &last)?)
 }
 
-/// Runs the script, and prints the world behind it, which it answers.
+/// Runs the script, and prints the world after it, which it answers.
 fn print_script<O: Write>(
     alloc: Global,
     script: &[u8],

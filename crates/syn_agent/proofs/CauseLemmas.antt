@@ -141,7 +141,7 @@ rooms room left size is some =
       ]
     ]
 
--- the first cause of two lists of causes, one looked at behind the other
+-- the first cause of two lists of causes, one looked at after the other
 pub later_none : (first second : List Cause) (side : Side) (served : Served)
     → first_cause (first ++ second) ≡ None
     → unless_refused side (first_cause first) (unless_refused side (first_cause second) served)

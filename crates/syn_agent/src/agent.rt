@@ -33,10 +33,10 @@ impl Agent {
     }
 
     /// Stages a piece for an item. The first piece of a token takes the place of what is staged;
-    /// each further one goes behind the last; one that came before is answered again.
+    /// each further one goes after the last; one that came before is answered again.
     ///
     /// Refused 14 where the token is below that of what is staged, 16 where a first piece is not
-    /// from the beginning, 17 where a piece neither came before nor goes behind the last, or
+    /// from the beginning, 17 where a piece neither came before nor goes after the last, or
     /// would pass 526,336 bytes, and 11 where memory is refused. Then what is staged stays.
     pub fn stage(&mut self, token: Token, offset: u32, bytes: Vec<u8>) -> Reply
         ensures { StagesAs self.old self.new result (token_of token) offset bytes.items }

@@ -33,7 +33,7 @@ impl Agent {
         session: u64,
         request: Request,
     ) -> Reply
-        // It is a step of the world's side, and the replica is the machine's behind it.
+        // It is a step of the world's side, and the replica is the machine's after it.
         ensures takes { (pair : ℕ) (machine : SideMachine) → IsOf pair replica.old self.old machine
             → Takes pair replica.old replica.new self.new machine session (request_of request)
             (reply_of result) }

@@ -7,7 +7,7 @@
 //!
 //! - `answer` takes a session's request to a lent replica. For every machine of the world that the
 //!   replica with its agent is (`IsOf`), the answer is a step of that machine (`takes`). That step
-//!   is `SideTakes`, which a delivery of the world uses. Behind it they are the next machine's; or
+//!   is `SideTakes`, which a delivery of the world uses. After it they are the next machine's; or
 //!   the disk is stopped, the machine is down and nothing is heard. Whatever a stop may then leave
 //!   on the disk may be the machine's (`left`).
 //! - `IsOf` says that an up machine's replica stands for its history, with the same room and
@@ -17,7 +17,7 @@
 //!   may be the machine's that was making it: an event's (`written`), or a checkpoint's
 //!   (`compacted`).
 //! - An event that a step adds is what was sent to the disk last (`Takes`: `added`). So is one that
-//!   is being written behind it and was not before (`writing`).
+//!   is being written after it and was not before (`writing`).
 //! - For every history that the replica stands for (`answers`), the answer is in one of three cases
 //!   (`Answers`). Nothing is added, and the replica stays as it was. Or one event is added, stands,
 //!   and took four device calls. Or an event should be added and the device failed, which is
@@ -40,7 +40,7 @@
 //! - `begin`, `list`, `fetch`, `stage` and `replace` are the single requests, with the same
 //!   clauses.
 //! - `stage` keeps what the definition's `stage` keeps (`StagesAs`). A staging holds at most
-//!   526,336 bytes. A piece that goes behind the last is added in place.
+//!   526,336 bytes. A piece that goes after the last is added in place.
 #![tactic(auto)]
 
 mod agent;

@@ -41,7 +41,7 @@ impl Staging {
         self.bytes.as_slice()
     }
 
-    /// Adds a further piece behind the bytes that are there, where the most are not passed. A piece
+    /// Adds a further piece after the bytes that are there, where the most are not passed. A piece
     /// that is there already stays; any other is refused 17, and 11 where memory is refused.
     pub(crate) fn add(&mut self, offset: u32, bytes: &[u8]) -> Reply
         ensures { AddsAs (staged_of self.old) (staged_of self.new) result offset bytes.now }

@@ -14,7 +14,7 @@ use Rattle.syn_image.specs.Archives.{NoArchiveBeginsAnother, NoKeptBeginsAnother
 use Rattle.syn_archive.specs.inner.Openings.{Replays, IsImageOf, OneStands, bytes_of_each}
 use Rattle.syn_archive.proofs.AlikeLemmas.{replays_nothing}
 
--- ---- the whole of what is read, and nothing behind it
+-- ---- the whole of what is read, and nothing after it
 
 module _ (version : Version) (payload : Bytes) (kept : Kept) (spelled : IsSpelledKept version kept)
     (e : payload ≡ kept_spelling_in version kept) where

@@ -50,7 +50,7 @@ stop_keeps goes_on less pair value payload archive kept left generation stands c
       left_is = less value payload ∙ ap₂ (λ n p. n - record_size p) same e;
     })
 
--- the bytes that are left are those behind the value
+-- the bytes that are left are those after the value
 pub left_behind : {D : Type 0} {disk : Ghosts D} (archive : Shown D disk) (value : Value) →
     journal.Stands (journal_of archive) value → bytes_left value ≡ left_shown archive
 left_behind archive value runs = ap (λ gate. half_size - 1 - gate) (sym runs.gate)

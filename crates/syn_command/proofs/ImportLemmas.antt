@@ -17,7 +17,7 @@ use Rattle.syn_tree.specs.declared.edit.Edit.{Edit as Planned}
 use Rattle.syn_command.proofs.MomentLemmas.{Leaves, weaker}
 use Rattle.syn_command.specs.Imports.{IsBegun, IsImported, LeavesImport, before, begun}
 
--- the tree of a history with edits of a user behind it
+-- the tree of a history with edits of a user after it
 edits_after : (tree : Tree) (user : ℕ) (edits : List Edit) →
     fold after_event tree (map (Edited user) edits) ≡ after_edits tree edits
 edits_after tree user [] = refl

@@ -84,7 +84,7 @@ one_begun replica history event bytes (inr keeps) = record {
   stands = keeps_stands keeps;
 }
 
--- a beginning behind a beginning
+-- a beginning after a beginning
 pub more_begun : (pair : ℕ) (history made events rest all : History) (bytes : List ℕ)
     → all ≡ made ++ (events ++ rest) → IsBegun pair (history ++ made) events bytes
     → IsBegun pair history all bytes
@@ -114,7 +114,7 @@ one_edit_more old between new event made x rest all history whole pair before no
     (map event rest) (map event all) bytes are
     (subst (λ p. IsBegun p (history ++ map event made) (event x ∷ []) bytes) pair begun)) now)
 
--- what a stop leaves in the course of one edit, behind a checkpoint if any
+-- what a stop leaves in the course of one edit, after a checkpoint if any
 pub edit_leaves : {D : Type 0} {disk : Ghosts D} (old between new : Replica D disk)
     (history : History) (event : Event) → pair_of between ≡ pair_of old
     → Leaves old between (λ bytes. DiskStands (pair_of old) bytes history)

@@ -10,14 +10,14 @@ use Rattle.syn_replica.specs.Disks.{DiskStands}
 use Rattle.syn_replica.specs.Replica.{Stands}
 use Rattle.syn_replica.specs.declared.replica.Replica.{Replica}
 
--- a stop leaves the history with a beginning of the events behind it
+-- a stop leaves the history with a beginning of the events after it
 pub record IsBegun (pair : ℕ) (history events : History) (bytes : List ℕ) : Type 0 where
   pub front : History
   pub behind : History
   pub are : events ≡ front ++ behind
   pub stands : DiskStands pair bytes (history ++ front)
 
--- a stop leaves the history, or that with a beginning of edits of the user behind it, which would
+-- a stop leaves the history, or that with a beginning of edits of the user after it, which would
 -- put the part in its place
 pub data LeavesImport (pair : ℕ) (history : History) (user : ℕ) (path : Path) (part : Tree)
     (bytes : List ℕ) : Type 0 where

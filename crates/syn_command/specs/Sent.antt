@@ -7,7 +7,7 @@ use Rattle.syn_user.specs.Exchanges.{IsTold}
 use Rattle.syn_user.specs.Lines.{Line}
 
 -- the edits of the user were asked for one after another, and each was answered with the position
--- behind the one before it
+-- after the one before it
 abbrev pub AreMadeInTurn : ℕ → Line → ℕ → List Edit → Line → Type 0
 AreMadeInTurn user old position [] new = new ≡ old
 AreMadeInTurn user old position (edit ∷ more) new = (between : Line)

@@ -1,4 +1,4 @@
-//! Makes a part of a replica what another tree is, in a file or behind a server.
+//! Makes a part of a replica what another tree is, in a file or after a server.
 ghost use Rattle.std.specs.Prelude.{◌≡◌, ◌+◌, ◌++◌, ◌∷◌, [], map, IfOk, OnOk, length};
 ghost use Rattle.syn_model.specs.History.{History};
 ghost use Rattle.syn_model.specs.Tree.{subtree};
@@ -127,7 +127,7 @@ fn make_room<D: Disk>(alloc: Global, replica: &mut Replica<D>) -> Result<(), Rep
     }
 }
 
-/// Asks a server for the edits, as edits of the user, and answers the position behind them. The
+/// Asks a server for the edits, as edits of the user, and answers the position after them. The
 /// first is asked of a replica that has the position, and each is told to `errors` once it is made,
 /// where `is_told` says so.
 ///
@@ -159,7 +159,7 @@ pub fn send_edits<R: Read, W: Write, E: Write>(
     Ok(last)
 }
 
-/// The position that an edit is answered with, which has to be the one behind the last.
+/// The position that an edit is answered with, which has to be the one after the last.
 ///
 /// Refused 13 where it is another: somebody else edited the replica.
 fn next_position(last: u64, made: u64) -> Result<u64, CommandError>

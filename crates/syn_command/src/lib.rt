@@ -29,11 +29,11 @@
 //! - The status of an answer is exact: 0 for one that was done, 1 for one that was refused
 //!   (`report`).
 //! - `import_part` makes what is at a path of a replica a given tree (`part`). The replica then
-//!   stands for the history with edits of the user behind it (`imported`), and for the same history
+//!   stands for the history with edits of the user after it (`imported`), and for the same history
 //!   where the tree was there already (`none`). A stop at any moment leaves the history with a
 //!   beginning of these edits (`any_moment`). `send_edits` asks a server for such edits. Where it
 //!   succeeds, they were asked for one after another, and each was answered with the position
-//!   behind the one before (`made`).
+//!   after the one before (`made`).
 #![tactic(auto)]
 
 mod check;

@@ -1,4 +1,4 @@
--- A session that has made its plan, or goes on in it, behind an answer.
+-- A session that has made its plan, or goes on in it, after an answer.
 use Rattle.std.proofs.Common.{◌≡◌, ℕ, false, ◌||◌, List, [], ◌∷◌, ◌++◌, Option, Some, None, refl}
 use Rattle.std.proofs.Common.{sym, ap, ◌∙◌, subst, ◌≤◌, arith, length, map}
 use Rattle.std.specs.Prelude.{Contains}

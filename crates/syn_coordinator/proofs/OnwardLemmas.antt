@@ -1,4 +1,4 @@
--- Where a session goes behind an answer for the item that is carried.
+-- Where a session goes after an answer for the item that is carried.
 use Rattle.std.proofs.Common.{◌≡◌, ℕ, suc, List, [], ◌∷◌, ◌++◌, None, sym, ap, ◌∙◌, subst, arith}
 use Rattle.std.specs.Option.{option_map_or}
 use Rattle.std.specs.Prelude.{MatchResult, Result, Ok, Err}

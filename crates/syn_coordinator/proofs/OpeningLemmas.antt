@@ -44,7 +44,7 @@ or_not false = refl
 six : (n : ℕ) → 6 ≤ 5 + suc n
 six n = omega arith
 
--- a record takes some bytes behind its length
+-- a record takes some bytes after its length
 takes_six : (kept : Kept) → 6 ≤ kept_size kept
 takes_six (Session session) = six (length (to_be_bytes w64 session))
 takes_six (Recorded path marks) = six (length (path_spelling path ++ mark_spelling marks))

@@ -1,4 +1,4 @@
--- Where a session is behind one item of its plan.
+-- Where a session is after one item of its plan.
 use Rattle.std.proofs.Common.{◌≡◌, ◌≤◌, ℕ, suc, IsSome, List, [], ◌++◌, Option, Some, None, refl}
 use Rattle.std.proofs.Common.{sym, ap, ◌∙◌, subst, inl, arith}
 use Rattle.std.specs.List.{slice_get}
@@ -104,7 +104,7 @@ module _ {D : Type 0} {disk : Ghosts D} (pair : ℕ) (taken : Exchange) (journal
 
   module _ (old new : Coordinator D disk) (was later : Course) (all : List Exchange)
       (at : IsAtItem was left right all before) where
-    -- nothing was asked for the item behind
+    -- nothing was asked for the item after
     pub on_past : IsPast old new pair taken journal before later left right →
         PassesOn old new pair taken journal before later left right all
     on_past past = (

@@ -235,7 +235,7 @@ module _ {D : Type 0} {disk : Ghosts D} (old new : Archive D disk) (pair : ℕ) 
             down refl (leaves_still Down unarmed 0)
       ]
 
-  -- memory was refused behind its device calls
+  -- memory was refused after its device calls
   module _ (memory : SameMemory old new) (halted : IsHalted old → IsHalted new)
       (unchanged : (kept : model.Archive) → ArchiveStands old kept → ArchiveStands new kept)
       (before : (kept : model.Archive) → ArchiveStands old kept → (bytes : Bytes) →

@@ -35,7 +35,7 @@ mod carrying;
 mod journal;
 mod opening;
 
-/// How many bytes the record of a session takes behind its length.
+/// How many bytes the record of a session takes after its length.
 const SESSION_RECORD: usize = 9;
 
 /// What runs sessions between the two replicas of a pair, one at a time, over the archive of what

@@ -32,7 +32,7 @@ impl Gates for OpenGates {
     }
 }
 
-/// A worker's gate that rings for the checkpointer behind each answer.
+/// A worker's gate that rings for the checkpointer after each answer.
 pub(crate) struct Ringing<'a, H: Wait, G> {
     rt: &'a H,
     bell: &'a Bell,

@@ -27,7 +27,7 @@ const WORKERS: usize = 62;
 /// Where a journal takes no payload of so many bytes, the checkpointer makes a checkpoint.
 const LEAST_ROOM: usize = 1_048_576;
 
-/// How long a server waits behind an `accept` that failed, so that it does not turn hot.
+/// How long a server waits after an `accept` that failed, so that it does not turn hot.
 const PAUSE_MILLIS: u64 = 100;
 
 /// What a server keeps to.
@@ -67,7 +67,7 @@ pub(crate) type Server<'a, H, D, L> = Service<'a, H, SharedReplica<D>, PassPool<
 ///
 /// Refused 24 where the replica's lock has no pass left for each worker and the checkpointer, and
 /// 11 where memory is refused or the checkpointer's thread cannot be made: nobody was served.
-/// Passes that were given stay out, also behind an Ok.
+/// Passes that were given stay out, also after an Ok.
 pub fn serve<H: Threads + Wait + Clock + Log + Sync, D: Disk + Send, G: Gates>(
     rt: &H,
     alloc: Global,

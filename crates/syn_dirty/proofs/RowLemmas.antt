@@ -16,7 +16,7 @@ use Rattle.syn_placed.proofs.RisingLemmas.{Rising, After, each-map}
 use Rattle.syn_placed.proofs.FindLemmas.{find_after}
 use Rattle.syn_dirty.specs.inner.Rows.{Rows, alone, among, compared, with_set}
 
--- behind a path, and so for each row and those behind it
+-- after a path, and so for each row and those after it
 abbrev pub AfterRow : Path → Rows → Type 0
 AfterRow path rows = AllByRecursion (λ row. path_cmp path row.0 ≡ Less) rows
 

@@ -40,7 +40,7 @@ pub(crate) fn rows_of<'a>(
     Ok(rows)
 }
 
-/// The first path of the two, whether they differ at it, and what each has behind it; none where
+/// The first path of the two, whether they differ at it, and what each has after it; none where
 /// both are empty.
 fn first_row<'a>(
     lefts: &'a [MarkEntry],

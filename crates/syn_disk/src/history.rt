@@ -26,7 +26,7 @@ impl<A, B> History<A, B> {
         History { past: Log::new() }
     }
 
-    /// Notes a state, behind those that are noted.
+    /// Notes a state, after those that are noted.
     pub fn note(&mut self, first: &A, second: &B)
         ensures { self.new ≡ self.old ++ (first.now, second.now) ∷ [] }
     {

@@ -91,7 +91,7 @@ compacts_left : (pair : ℕ) (old new : Journaled Archive Kept) →
 compacts_left pair old _ (compacted arms meets) = (refl, refl)
 compacts_left pair old _ (not_compacted status arms failed down meets) = (refl, refl)
 
--- the rest of a call behind its first record, or behind a checkpoint
+-- the rest of a call after its first record, or after a checkpoint
 after_one : (old between new : Journaled Archive Kept) (what : Kept) (kept : List Kept)
     (P : Kept → Type 0) → CanKeep old.value what → between.value ≡ after_kept old.value what →
     between.status ≡ old.status → IsLeft between new kept P → IsLeft old new (what ∷ kept) P

@@ -64,7 +64,7 @@ abbrev pub record_size : Bytes → ℕ
 record_size payload = 5 + length payload
 
 -- the bytes of a half of the disk but for the image, what stands before it
--- (a gate, a generation, its length) and a gate behind it
+-- (a gate, a generation, its length) and a gate after it
 abbrev pub room_behind : Bytes → ℕ
 room_behind image = half_size - (14 + length image)
 

@@ -23,7 +23,7 @@
 //! - `build_index` makes the index by which `touched` is quick, and changes nothing else (`same`).
 //!   A new trail has one, and a trail that was read from an image has none.
 //! - `position`, `floor`, `last_session`, `last_token` and `touches` read the trail. The touches
-//!   come as two slices, the second behind the first, oldest first, at most 4,096 (`all`, `count`).
+//!   come as two slices, the second after the first, oldest first, at most 4,096 (`all`, `count`).
 //! - `from_parts` takes what an image has of a trail (`parts`) exactly where it is lawful. Then,
 //!   with each tree within the limits, it is what an image may hold (`lawful`). Where it gives
 //!   none, no tree makes a standing of it (`none`).

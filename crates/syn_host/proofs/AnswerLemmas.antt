@@ -1,4 +1,4 @@
--- What a side's machine is behind a request.
+-- What a side's machine is after a request.
 use Rattle.std.proofs.Common.{◌≡◌, ◌≢◌, ◌⊎◌, ◌∙◌, ◌+◌, ℕ, true, false, List, [], ◌∷◌, ◌++◌, Option}
 use Rattle.std.proofs.Common.{Some, None, inl, inr, refl, sym, ap, subst, arith, length-append}
 use Rattle.std.proofs.lemmas.Bool.{false≢true}

@@ -284,7 +284,7 @@ module _ {D : Type 0} {disk : Ghosts D} (pair : ℕ) (old new : Replica D disk) 
               (met breaks.0 Down unarmed 0 meets)
         ]
 
-    -- memory was refused behind its device calls
+    -- memory was refused after its device calls
     pub reopen_refused : refused_in outcome ≡ why.Memory ∷ []
         → (Stands old machine.journal.value → Stands new machine.journal.value)
         → (IsHalted old → IsHalted new) → failed_by new ≡ failed_by old → MadeReadsMeet

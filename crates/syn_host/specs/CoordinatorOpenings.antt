@@ -25,7 +25,7 @@ OpeningIsStep pair machine before Step opening =
     IsStep pair machine before Step opening.coordinator (gives_found opening.found)
     (causes_in opening.refused)
 
--- A coordinator behind another opening, which found this or was refused so. It goes on; or its
+-- A coordinator after another opening, which found this or was refused so. It goes on; or its
 -- machine stopped, and nothing is told
 pub record SettlesFound {D : Type 0} {disk : Ghosts D} (coordinator : Coordinator D disk)
     (found : Option Record) (refused : Option Code) (opening : CoordinatorOpening D disk)

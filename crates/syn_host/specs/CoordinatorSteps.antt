@@ -52,7 +52,7 @@ pub record IsToTell {D : Type 0} {disk : Ghosts D} (coordinator : Coordinator D 
   pub refusals : (pair : ℕ) (machine : CoordinatorMachine) → Stands coordinator pair machine →
       causes_in outcome.refused ≡ refusals_at machine.journal.status
 
--- A coordinator behind a call that was made, with what was then to tell. It goes on; or its machine
+-- A coordinator after a call that was made, with what was then to tell. It goes on; or its machine
 -- stopped, and nothing is told but what was kept before
 pub record Settles {D : Type 0} {disk : Ghosts D} (coordinator : Coordinator D disk)
     (told : Call) (refusals_at : Status → List Refusal) (call : CoordinatorCall D disk)

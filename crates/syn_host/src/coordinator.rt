@@ -42,7 +42,7 @@ pub struct DownCoordinator<D> {
     pub tried: Option<Tried>,
 }
 
-/// A coordinator behind a step, with what came of it. Of that nothing is told where memory for it
+/// A coordinator after a step, with what came of it. Of that nothing is told where memory for it
 /// is refused.
 #[derive(Drop)]
 pub struct CoordinatorCall<D: Disk> {
@@ -80,7 +80,7 @@ impl<D: SimulatedDisk> CoordinatorHost<D> {
         }
     }
 
-    /// So many device calls are still made, and the machine stops behind the last of them; at 0 it
+    /// So many device calls are still made, and the machine stops after the last of them; at 0 it
     /// stops at once, and the session that runs is lost.
     pub fn stop(self, calls: u64) -> CoordinatorHost<D>
         ensures { (pair : ℕ) (machine : CoordinatorMachine) → IsCoordinator pair self machine
@@ -164,7 +164,7 @@ fn is_device(error: ArchiveError) -> bool
     error == ArchiveError::Device
 }
 
-/// The coordinator behind a checkpoint that was made. Where its device failed, it is refused 9.
+/// The coordinator after a checkpoint that was made. Where its device failed, it is refused 9.
 fn settle_compacted<D: SimulatedDisk>(
     alloc: Global,
     coordinator: Coordinator<D>,

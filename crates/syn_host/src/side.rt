@@ -38,14 +38,14 @@ pub enum SideHost<D: Disk> {
     Down(DownSide<D>),
 }
 
-/// A side behind a step, with what came of it.
+/// A side after a step, with what came of it.
 #[derive(Drop)]
 pub struct SideCall<D: Disk> {
     pub side: SideHost<D>,
     pub outcome: Outcome,
 }
 
-/// A side behind a request, with its reply. There is none where its machine is down.
+/// A side after a request, with its reply. There is none where its machine is down.
 #[derive(Drop)]
 pub struct SideAnswer<D: Disk> {
     pub call: SideCall<D>,

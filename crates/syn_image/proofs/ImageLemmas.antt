@@ -55,7 +55,7 @@ last_token_tells (Some v) (Some w) r s hv hw e =
     let same = token_tells v w r s hv hw (ap rest_of e) in
     (ap (λ t. Some t) same.0, same.1)
 
--- the kind of a token has the token behind it
+-- the kind of a token has the token after it
 pub no_token_behind : (bytes fields : Bytes) → bytes ≡ 1 ∷ fields →
     IsReading IsLawfulToken token_spelling fields None →
     IsReading IsLastToken last_token_spelling bytes None
@@ -157,7 +157,7 @@ one_touch_more i touches t bytes rest after h e found = (
       ∙ ap (λ xs. xs ++ after) (sym (flat_map-append touch_spelling touches (t ∷ []))))),
 )
 
--- a number with so many touches behind it
+-- a number with so many touches after it
 pub no_count : (bytes : Bytes) → IsReading (λ n. n < 2 ^ 16) (to_be_bytes w16) bytes None →
     IsReading AreTouches touches_spelling bytes None
 no_count bytes none v rest begins =

@@ -64,7 +64,7 @@ in_each version bytes fields kind found whole each =
     subst (λ b. IsReading (IsSpelledKept version) (kept_spelling_in version) b found) (sym whole)
     (each version)
 
--- behind the kind of a record there is what is recorded
+-- after the kind of a record there is what is recorded
 pub no_record : (version : Version) (fields : Bytes) →
     IsReading (IsRecorded version) (recorded_spelling version) fields None →
     IsReading (IsSpelledKept version) (kept_spelling_in version) (2 ∷ fields) None
@@ -108,7 +108,7 @@ archives_tell marks version v w r s hv hw e =
       tree.1,
     )
 
--- behind the front stand two numbers and marks whose root is a directory
+-- after the front stand two numbers and marks whose root is a directory
 module _ (version : Version) (bytes fields : Bytes) (behind : fields ≡ drop 5 bytes)
     (value : ℕ × Archive) (rest : Bytes)
     (begins : BeginsWith (IsSpelledArchive version) (spelled_archive version) bytes value rest)

@@ -79,7 +79,7 @@ fn write_two(out: &mut Vec<u8>, first: u64, second: u64) -> Result<(), WireError
     Ok(())
 }
 
-/// Adds the last token behind a mark that there is one, or the mark that there is none.
+/// Adds the last token after a mark that there is one, or the mark that there is none.
 fn write_last_token(out: &mut Vec<u8>, token: Option<Token>) -> Result<(), WireError>
     ensures { OnOk result (out.new.items ≡ out.old.items
         ++ last_token_spelling (option_map token_of token)) }

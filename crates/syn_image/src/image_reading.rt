@@ -169,7 +169,7 @@ fn read_last_token(bytes: &[u8]) -> Option<(Option<Token>, &[u8])>
     }
 }
 
-/// The touches, behind their number.
+/// The touches, after their number.
 fn read_touches(alloc: Global, bytes: &[u8]) -> Result<Option<(Vec<Touch>, &[u8])>, WireError>
     ensures { IfOk result (λ read. IsReading AreTouches touches_spelling bytes.now
         (option_map (λ found. (found.0.items, found.1.now)) read)) }

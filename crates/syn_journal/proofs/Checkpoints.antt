@@ -215,7 +215,7 @@ module _ (disk : List ℕ) (half : Half) (generation gate : ℕ) (value : Value)
       long disk half image body
       (to_be_bytes w64 (generation + 1)) next.whole.size refl next.spells next.fits
 
-  -- any bytes behind the closed gate
+  -- any bytes after the closed gate
   staged : (after : List ℕ) → Torn (start_of half + 1) (length body) disk after →
       IsWhole after (other_half half) generation gate value
   staged after torn = stays_by_closed disk half generation gate value next.whole after torn.size
@@ -223,7 +223,7 @@ module _ (disk : List ℕ) (half : Half) (generation gate : ℕ) (value : Value)
       (start_of half + 1) (length body) i (omega arith) (omega (arith, size, next.fits)) from to))
       (ap (λ byte. byte == open_gate) (torn.before (start_of half) (omega arith)) ∙ closed)
 
-  -- the whole body behind it, and any byte in it
+  -- the whole body after it, and any byte in it
   module _ (after : List ℕ)
       (torn : Torn (start_of half) 1 (overwritten disk (start_of half + 1) body) after) where
     not_yet : is_open after half ≡ false → IsWhole after (other_half half) generation gate value

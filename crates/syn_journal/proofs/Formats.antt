@@ -70,7 +70,7 @@ module _ (start : List ℕ) (half : Half) (image body word : List ℕ) (size : l
       ap (λ k. get_or opened_gate k 0) (sym same)
       ∙ overwritten-in with_body base (open_gate ∷ []) fits_gate 0 (omega arith)
 
-  -- any byte in the gate, behind which the body stands
+  -- any byte in the gate, after which the body stands
   module _ (final : List ℕ) (torn : Torn base 1 with_body final) where
     long_final : length final ≡ length start
     long_final = torn.size ∙ length-overwritten start (base + 1) body fits_body

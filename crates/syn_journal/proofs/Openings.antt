@@ -36,7 +36,7 @@ pub if_err_by : {T E : Type 0} (r : Result T E) (Q P : E → Type 0) →
 if_err_by (Ok x) Q P is leads = tt
 if_err_by (Err e) Q P is leads = leads e is
 
--- a number of 4 bytes and what stands behind it
+-- a number of 4 bytes and what stands after it
 pub with_word : (disk : List ℕ) (at n : ℕ) (word bytes : List ℕ) → word ≡ take 4 (drop at disk) →
     bytes ≡ take n (drop (at + 4) disk) → length bytes ≡ n →
     take (4 + length bytes) (drop at disk) ≡ word ++ bytes

@@ -94,7 +94,7 @@ module _ (old : List ℕ) (at : ℕ) (bytes : List ℕ) (fits : at + length byte
       ∙ get_or-append_right bytes _ (length bytes) (i - at) 0 refl (omega arith)
       ∙ get_or-drop (at + length bytes) old (i - at - length bytes) 0 ∙ ap (λ k. get_or old k 0) n
 
--- a part and what stands behind it
+-- a part and what stands after it
 pub next_part : (disk : List ℕ) (at n at' : ℕ) (p q : List ℕ) → drop at disk ≡ p ++ q →
     length p ≡ n → at' ≡ at + n → (take n (drop at disk) ≡ p) × (drop at' disk ≡ q)
 next_part disk at n at' p q is size next = (

@@ -102,7 +102,7 @@ module _ (disk : List ℕ) (half : Half) (generation gate : ℕ) (value : Value)
       still_whole after size inside (same_current disk after size half
       (λ i from to. inside i from (omega (arith, nine, to))) outside ∙ whole.is_current) closed
 
-  -- any bytes behind the closed gate
+  -- any bytes after the closed gate
   pub behind_gate : (n : ℕ) (after : List ℕ) → gate + 1 + n ≤ half_size →
       Torn (base + gate + 1) n disk after → IsWhole after half generation gate value
   behind_gate n after fits torn = kept after torn.size (λ i from to. torn.before i (omega arith))
@@ -110,7 +110,7 @@ module _ (disk : List ℕ) (half : Half) (generation gate : ℕ) (value : Value)
       (apart half (base + gate + 1) n i (omega arith) (omega arith) from (omega (arith, to))))
       (λ opened. whole.closed (sym (torn.before (base + gate) (omega arith)) ∙ opened))
 
-  -- a whole record behind the gate, and any byte in the gate
+  -- a whole record after the gate, and any byte in the gate
   module _ (payload body : List ℕ) (spells : body ≡ body_of_record payload)
       (fits : gate + 6 + length payload ≤ half_size) where
     pub long : length body ≡ 5 + length payload
@@ -223,7 +223,7 @@ module _ (disk : List ℕ) (half : Half) (generation gate : ℕ) (value : Value)
         (omega (arith, length-overwritten disk (base + gate + 1) body in_disk, in_disk)) in
         same_gate disk after (size after torn) (other_half half) (outside after torn)
 
-    -- the whole record behind the open gate
+    -- the whole record after the open gate
     pub appended : IsWhole (overwritten (overwritten disk (base + gate + 1) body) (base + gate)
         (open_gate ∷ [])) half generation (gate + (5 + length payload)) (with_payload value payload)
     appended =

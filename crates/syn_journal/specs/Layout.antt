@@ -2,7 +2,7 @@
 --
 -- A disk has two halves. A half holds a gate, which is open at the byte a5, a generation of 8
 -- bytes, the image's length of 4, the image, and then records: each a gate, a length of 4 bytes and
--- a payload. Behind the last record stands a closed gate. Numbers are big endian. The current half
+-- a payload. After the last record stands a closed gate. Numbers are big endian. The current half
 -- is the open one of the greatest generation.
 use Rattle.std.specs.Prelude.{◌≡◌, ◌⊎◌, ◌+◌, ◌-◌, ◌==◌, ℕ, zero, suc, nat_lt, nat_le, Bool, true}
 use Rattle.std.specs.Prelude.{false, if◌then◌else◌, List, [], ◌∷◌, ◌++◌, length, take, drop}
@@ -100,7 +100,7 @@ value_in disk (Err fault) = Err fault
 unfoldable pub meaning : List ℕ → Result Value Fault
 meaning disk = value_in disk (current disk)
 
--- how a record is written, and what stands behind the generation of a half up to the next gate
+-- how a record is written, and what stands after the generation of a half up to the next gate
 abbrev pub record_of : List ℕ → List ℕ
 record_of payload = open_gate ∷ (to_be_bytes w32 (length payload) ++ payload)
 
@@ -131,7 +131,7 @@ abbrev pub value_or_empty : Result Value Fault → Value
 value_or_empty (Ok value) = value
 value_or_empty (Err fault) = image_alone []
 
--- how many bytes are left behind the records, but for the closed gate
+-- how many bytes are left after the records, but for the closed gate
 abbrev pub bytes_left : Value → ℕ
 bytes_left value = half_size - 1 - size_of value
 

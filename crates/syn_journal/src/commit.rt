@@ -1,4 +1,4 @@
-//! The device calls that put something behind a closed gate and then open the gate.
+//! The device calls that put something after a closed gate and then open the gate.
 ghost use Rattle.std.specs.Prelude.{◌≡◌, ◌≤◌, ◌+◌, ◌∷◌, [], length, OnOk};
 ghost use Rattle.syn_disk.specs.Calls.{MakesUpTo};
 ghost use Rattle.syn_disk.specs.Disk.{Only, overwritten, CountsFailure};
@@ -9,7 +9,7 @@ ghost use Rattle.syn_journal.specs.Layout.{open_gate};
 use crate::layout::OPEN_GATE;
 use syn_disk::{DISK_SIZE, DeviceFailed, Disk};
 
-/// Writes `body` behind the gate, syncs, opens the gate, and syncs.
+/// Writes `body` after the gate, syncs, opens the gate, and syncs.
 pub fn commit<D: Disk>(disk: &mut D, gate: usize, body: &[u8]) -> Result<(), DeviceFailed>
     requires within { gate + 1 + length body.now ≤ DISK_SIZE }
 
@@ -19,7 +19,7 @@ pub fn commit<D: Disk>(disk: &mut D, gate: usize, body: &[u8]) -> Result<(), Dev
         ≡ overwritten (overwritten (D.seen disk.old) (gate + 1) body.now) gate (open_gate ∷ [])) }
     ensures durable { OnOk result (Only (D.seen disk.new) (D.may_leave disk.new)) }
 
-    // A stop at any moment leaves any bytes behind the untouched gate, or any gate before the body.
+    // A stop at any moment leaves any bytes after the untouched gate, or any gate before the body.
     ensures any_moment { Only (D.seen disk.old) (D.may_leave disk.old)
         → LeavesOnly D.moment D.left_since disk.old disk.new
         (IsStagedOrOpened (D.seen disk.old) gate body.now) }

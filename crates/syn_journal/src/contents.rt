@@ -151,7 +151,7 @@ fn read_image<D: Disk>(alloc: Global, disk: &mut D, half: Half) -> Result<Vec<u8
     read_bytes(alloc, disk, half.start() + IMAGE_AT, size)
 }
 
-// The payloads from this gate on, and the closed gate behind the last.
+// The payloads from this gate on, and the closed gate after the last.
 fn read_records<D: Disk>(
     alloc: Global,
     disk: &mut D,
@@ -185,7 +185,7 @@ fn read_records<D: Disk>(
     Ok((records, gate))
 }
 
-// The payload behind an open gate.
+// The payload after an open gate.
 fn read_record<D: Disk>(
     alloc: Global,
     disk: &mut D,

@@ -14,7 +14,7 @@
 //!        gate of the next record, and so on up to one that is closed
 //! ```
 //!
-//! The current half is the open one of the greatest generation. An append writes behind the closed
+//! The current half is the open one of the greatest generation. An append writes after the closed
 //! gate and opens it last; a checkpoint does the same with the gate of the other half.
 ghost use Rattle.std.specs.Prelude.{◌≡◌, ◌↔◌, ◌⊎◌, ◌≤◌, ◌<◌, ◌+◌, ◌-◌, ◌++◌, ◌∷◌, [], ℕ, true};
 ghost use Rattle.std.specs.Prelude.{false, List, length, Ok, IfOk, IfErr, OnOk, OnErr, MatchResult};
@@ -341,7 +341,7 @@ impl<D: Limit> Journal<D> {
     }
 }
 
-// The length, the payload, and the closed gate behind it.
+// The length, the payload, and the closed gate after it.
 fn record_body(alloc: Global, payload: &[u8]) -> Result<Vec<u8>, AllocError>
     requires { length payload.now < half_size }
     ensures { IfOk result (λ body. body.items ≡ body_of_record payload.now) }
@@ -353,7 +353,7 @@ fn record_body(alloc: Global, payload: &[u8]) -> Result<Vec<u8>, AllocError>
     Ok(body)
 }
 
-// The generation, the image's length, the image, and the closed gate behind it.
+// The generation, the image's length, the image, and the closed gate after it.
 fn image_body(alloc: Global, generation: u64, image: &[u8]) -> Result<Vec<u8>, AllocError>
     requires { length image.now ≤ longest_image }
     ensures { IfOk result (λ body. body.items ≡ body_of_image generation image.now) }

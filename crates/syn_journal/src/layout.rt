@@ -4,10 +4,10 @@ use crate::half::HALF_SIZE;
 /// The byte of an open gate. Any other closes it.
 pub const OPEN_GATE: u8 = 0xa5;
 
-/// Where the length of the image stands, behind the gate and the generation.
+/// Where the length of the image stands, after the gate and the generation.
 pub const IMAGE_LENGTH_AT: usize = 9;
 
-/// Where the image begins, behind its length.
+/// Where the image begins, after its length.
 pub const IMAGE_AT: usize = 13;
 
 /// What a record has before its payload: its gate and its length.

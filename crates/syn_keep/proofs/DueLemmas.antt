@@ -294,7 +294,7 @@ module _ {D : Type 0} {disk : Ghosts D} (new : Archive D disk) (pair : ℕ) (mac
         by due (step.breaks less moves) = checkpoint_breaks ready no_room less moves
         by due (step.no_memory is) = no_memory is
 
--- behind a checkpoint the machine goes on, or was stopped
+-- after a checkpoint the machine goes on, or was stopped
 module _ {D : Type 0} {disk : Ghosts D} (new : Archive D disk) (pair : ℕ) (machine : Journal) where
   pub stopped_behind : is_stopped (disk.arms (disk_of new)) ≡ true →
       Checkpoints new pair machine None → Checkpoints new pair machine (Some (Ends refusal.Device))

@@ -22,7 +22,7 @@ abbrev pub CountsFailures : Due → ℕ → ℕ → Type 0
 CountsFailures (Ends refusal.Device) old new = old < new
 CountsFailures _ old new = new ≡ old
 
--- or its machine was stopped right behind a checkpoint, and nothing failed
+-- or its machine was stopped right after a checkpoint, and nothing failed
 abbrev pub CountsFailuresOrStops : Due → Bool → ℕ → ℕ → Type 0
 CountsFailuresOrStops due stopped old new = CountsFailures due old new
     ⊎ ((due ≡ Ends refusal.Device) × (stopped ≡ true) × (new ≡ old))

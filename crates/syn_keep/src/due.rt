@@ -46,7 +46,7 @@ pub enum Due {
 /// The item is refused as the archive refuses the record: 6 at the root, 2 where the parent is no
 /// directory, 7 where the archive would pass a limit; and 7 where no checkpoint can be made.
 /// The session ends 10 where the archive is halted, 9 where a device call fails or the machine is
-/// stopped behind the checkpoint, 8 where that leaves no room either, and 11 where memory is
+/// stopped after the checkpoint, 8 where that leaves no room either, and 11 where memory is
 /// refused. An item that is refused leaves the archive as it was.
 pub fn keep_due<D: Limit>(alloc: Global, archive: &mut Archive<D>, kept: &Kept) -> Due
     requires { IsOfItem (kept_of kept.now) }
@@ -70,7 +70,7 @@ pub fn keep_due<D: Limit>(alloc: Global, archive: &mut Archive<D>, kept: &Kept) 
     }
 }
 
-/// Records behind a checkpoint what the archive does not refuse and has no room for.
+/// Records after a checkpoint what the archive does not refuse and has no room for.
 fn write_behind<D: Limit>(alloc: Global, archive: &mut Archive<D>, kept: &Kept) -> Due
     requires { IsOfItem (kept_of kept.now) }
     ensures settles { (pair : ℕ) (machine : Journal) → IsMachine archive.old pair machine

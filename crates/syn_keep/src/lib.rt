@@ -14,7 +14,7 @@
 //!   8 where a checkpoint leaves no room, and 11 for memory.
 //! - An item that is refused leaves the archive just as it was, with its disk (`refused`).
 //! - The count of failed device calls grows exactly where the session ends for the device, but for
-//!   a stop right behind the checkpoint (`failures`). The pair stays (`pair`).
+//!   a stop right after the checkpoint (`failures`). The pair stays (`pair`).
 //! - `refusal_for` is why the archive refuses the record, but for its journal and its device.
 //! - `Tried` is a record that was being written as a device call failed, with the room and the
 //!   generation that the archive showed (`IsTriedBy`). `found` gives it where the archive, which

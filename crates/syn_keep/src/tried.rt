@@ -8,7 +8,7 @@ use syn_disk::Disk;
 use syn_image::Kept;
 
 /// A record that was being written as a device call failed, with what the archive's journal showed
-/// behind it. Whether the disk has the record shows when it is opened again.
+/// after it. Whether the disk has the record shows when it is opened again.
 #[derive(Debug, Drop)]
 pub struct Tried {
     pub(crate) kept: Kept,

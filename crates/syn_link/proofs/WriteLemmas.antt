@@ -35,7 +35,7 @@ pub on_err : {T E : Type 0} {P : Type 0} (result : Result T E) → P → OnErr r
 on_err (Ok value) p = tt
 on_err (Err error) p = p
 
--- the first of the rest goes behind what is done
+-- the first of the rest goes after what is done
 pub moves_front : (all done rest : List ℕ) (n : ℕ) → all ≡ done ++ rest →
     all ≡ (done ++ take n rest) ++ take (length rest - n) (drop n rest)
 moves_front all done rest n e =

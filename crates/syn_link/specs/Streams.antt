@@ -1,4 +1,4 @@
--- What comes over a connection: the bytes that were held, and behind them those that a reader gave.
+-- What comes over a connection: the bytes that were held, and after them those that a reader gave.
 use Rattle.std.specs.Prelude.{◌≡◌, ◌++◌, Option, None}
 use Rattle.std.specs.Io.KnownBytes.{Consumes, IsAtEnd}
 use Rattle.syn_link.specs.Frames.{Bytes, IsFront, ClaimsNothing, ClaimsTooMuch}

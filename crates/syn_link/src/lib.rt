@@ -1,4 +1,4 @@
-//! Frames on a byte stream: what two machines say to each other comes in bodies, each behind its
+//! Frames on a byte stream: what two machines say to each other comes in bodies, each after its
 //! length.
 //!
 //! A frame is a length of four bytes, the highest first, and a body of 1 to 65,536 bytes. A stream

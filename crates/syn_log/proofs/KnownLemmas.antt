@@ -1,4 +1,4 @@
--- One event more behind those that are told.
+-- One event more after those that are told.
 use Rattle.std.proofs.Common.{◌≡◌, ◌∙◌, ◌+◌, ◌++◌, ◌∷◌, [], ℕ, List, length, map, refl, sym, ap}
 use Rattle.std.proofs.Common.{add-zero, add_assoc, ap₂, append_assoc, append-nil, arith}
 use Rattle.std.proofs.Common.{length-append}
@@ -67,7 +67,7 @@ one_added first last payloads payload event old new one so_far spelled is = reco
       ∙ (sym (add_assoc first (length so_far.adds.events) 1) ∙ ap (λ n. n + 1) so_far.at);
 }
 
--- the touches in two parts, and the events behind them
+-- the touches in two parts, and the events after them
 pub told_in_all : (none one two all : List Logged) (older newer touches : List Touch)
     (first position : ℕ) (events : List Event) → none ≡ []
     → entries_of one ≡ entries_of none ++ touched older

@@ -6,7 +6,7 @@ use Rattle.std.proofs.lemmas.List.{drop_more, reverse-append}
 use Rattle.syn_log.specs.Printed.{lines_of, logged_line}
 use Rattle.syn_log.specs.declared.logged.Logged.{Logged}
 
--- one event more behind the newest ones
+-- one event more after the newest ones
 pub one_older : (all : List Logged) (at : ℕ) (other : Logged) → at < length all →
     lines_of (reverse (drop at all))
     ≡ lines_of (reverse (drop (at + 1) all)) ++ logged_line (get_or all at other)

@@ -40,14 +40,14 @@ events_from position [] = []
 events_from position (event ∷ more) =
     (position + 1, OfEvent event) ∷ events_from (position + 1) more
 
--- payloads are the spellings of events, which stand behind what was there
+-- payloads are the spellings of events, which stand after what was there
 pub record AddsEvents (first : ℕ) (payloads : List Bytes) (old new : List Logged)
     : Type 0 where
   pub events : List Event
   pub spelled : payloads ≡ map event_spelling events
   pub added : entries_of new ≡ entries_of old ++ events_from first events
 
--- A disk has the image of a standing, and behind it the payloads of events. Of the events before
+-- A disk has the image of a standing, and after it the payloads of events. Of the events before
 -- the image its last touches are told, and the others whole, the oldest first
 pub record TellsLast (bytes : Bytes) (logged : List Logged) : Type 0 where
   pub value : Value

@@ -39,7 +39,7 @@ pub fn read_log<D: Disk + Drop>(alloc: Global, disk: D) -> Result<Vec<Logged>, R
     Ok(logged)
 }
 
-/// Puts the touches behind what is there.
+/// Puts the touches after what is there.
 fn push_touches(
     alloc: Global,
     logged: &mut Vec<Logged>,
@@ -57,7 +57,7 @@ fn push_touches(
     Ok(())
 }
 
-/// Puts the events that the payloads are behind what is there, the first at the position.
+/// Puts the events that the payloads are after what is there, the first at the position.
 fn push_events(
     alloc: Global,
     logged: &mut Vec<Logged>,

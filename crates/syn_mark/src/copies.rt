@@ -11,7 +11,7 @@ use syn_path::{Name, Path, PathError};
 use syn_placed::{Placed, Standing};
 use syn_tree::TreeError;
 
-/// Equal names, put behind those that are there. Refused 11 where memory is refused, and for no
+/// Equal names, put after those that are there. Refused 11 where memory is refused, and for no
 /// other cause.
 fn push_names(alloc: Global, names: &mut Vec<Name>, source: &[Name]) -> Result<(), PathError>
     ensures ok { OnOk result (names.new.items ≡ names.old.items ++ source.now) }
@@ -23,7 +23,7 @@ fn push_names(alloc: Global, names: &mut Vec<Name>, source: &[Name]) -> Result<(
     Ok(())
 }
 
-/// The path of these names with the others behind them.
+/// The path of these names with the others after them.
 ///
 /// Refused 1 where it would pass the limits of a path, and 11 where memory is refused.
 fn joined(alloc: Global, above: &[Name], below: &[Name]) -> Result<Path, PathError>
@@ -36,7 +36,7 @@ fn joined(alloc: Global, above: &[Name], below: &[Name]) -> Result<Path, PathErr
     Path::from_names(names)
 }
 
-/// Puts the entries behind those that are there, each with the path before its own.
+/// Puts the entries after those that are there, each with the path before its own.
 ///
 /// Refused 7 where a path would pass its limits, and 11 where memory is refused.
 pub(crate) fn push_under<C: Standing>(
@@ -76,7 +76,7 @@ pub(crate) fn below<C: Standing>(
     Ok(copies)
 }
 
-/// Puts an entry below the path behind those that are there, without the path before its own.
+/// Puts an entry below the path after those that are there, without the path before its own.
 fn push_below<C: Standing>(
     alloc: Global,
     copies: &mut Vec<Placed<C>>,

@@ -75,7 +75,7 @@ fn fits_below(at: &Path, path: &Path) -> bool
         && at.spelling_length() + path.spelling_length() <= 256
 }
 
-/// The mark alone, and behind it the entries below the path, each without the path before its own.
+/// The mark alone, and after it the entries below the path, each without the path before its own.
 /// Refused 11 where memory is refused.
 pub(crate) fn copy_part(
     alloc: Global,

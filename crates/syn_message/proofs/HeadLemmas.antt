@@ -1,4 +1,4 @@
--- The front of a body, and what stands behind it.
+-- The front of a body, and what stands after it.
 use Rattle.std.proofs.Common.{◌≡◌, ◌≢◌, ◌++◌, ◌∙◌, ◌<◌, ◌^◌, ℕ, None, ap, append_assoc, sym}
 use Rattle.std.specs.Int.{to_be_bytes, w32, w64}
 use Rattle.syn_model.specs.Path.{Bytes}
@@ -8,7 +8,7 @@ use Rattle.syn_message.specs.inner.Heads.{head_spelling}
 use Rattle.syn_wire.specs.Laws.{NoU32BeginsAnother, NoU64BeginsAnother}
 use Rattle.syn_wire.specs.Reads.{IsReading}
 
--- a body has a front behind its kind
+-- a body has a front after its kind
 pub no_head : (IsLawful : ℕ × ℕ → Type 0) (body : Bytes)
     → IsReading IsLawful head_spelling (behind body) None
     → (kind session number : ℕ) (fields : Bytes) → IsLawful (session, number)
@@ -22,7 +22,7 @@ no_head IsLawful body none kind session number fields lawful is =
           ∙ sym (append_assoc first second fields));
     })
 
--- it tells its kind, session and number, and what stands behind them
+-- it tells its kind, session and number, and what stands after them
 pub body_tells : NoU32BeginsAnother → NoU64BeginsAnother → (k s n k' s' n' : ℕ) (f f' : Bytes)
     → s < 2 ^ 64 → s' < 2 ^ 64 → n < 2 ^ 32 → n' < 2 ^ 32
     → body_spelling k s n f ≡ body_spelling k' s' n' f'

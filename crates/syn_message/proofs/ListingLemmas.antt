@@ -57,7 +57,7 @@ entry_tells v w r s hv hw e =
     let mark = mark_tells v.1 w.1 r s hv.1 hw.1 name.1 in
     (ap₂ (λ x y. (x, y)) name.0 mark.0, mark.1)
 
--- where no mark stands behind the name there is no entry
+-- where no mark stands after the name there is no entry
 pub no_mark : (bytes after : Bytes) (name : Name) → BeginsWith IsName name_spelling bytes name after
     → IsReading IsDigestOrDirectory mark_spelling after None
     → IsReading IsEntry entry_spelling bytes None
@@ -158,7 +158,7 @@ one_more i entries entry bytes rest after h e found = (
       ∙ ap (λ xs. xs ++ after) (sym (flat_map-append entry_spelling entries (entry ∷ []))))),
 )
 
--- what stands behind the number of entries is so many of them
+-- what stands after the number of entries is so many of them
 pub counted : NoU16BeginsAnother → (bytes after : Bytes) (count : ℕ)
     → BeginsWith (λ n. n < 2 ^ 16) (to_be_bytes w16) bytes count after → (entries : Entries)
     → IsListing entries → bytes ≡ entries_spelling entries

@@ -6,7 +6,7 @@ use Rattle.std.proofs.Common.{◌≡◌, ◌≢◌, ◌∙◌, [], ◌++◌, Lis
 use Rattle.syn_message.specs.Bodies.{IsWholeReading}
 use Rattle.syn_wire.specs.Reads.{BeginsWith, IsReading, NoneBeginsAnother}
 
--- what stands behind the first byte
+-- what stands after the first byte
 abbrev pub behind : Bytes → Bytes
 behind body = take (length body - 1) (drop 1 body)
 
@@ -15,7 +15,7 @@ behind_first kind rest =
     let one : length (kind ∷ rest) - 1 ≡ length rest = omega arith in
     ap (λ n. take n rest) one ∙ take-length rest
 
--- the first byte of a body, and what stands behind it
+-- the first byte of a body, and what stands after it
 abbrev pub first_of : Bytes → ℕ
 first_of [] = 0
 first_of (x ∷ xs) = x
@@ -43,14 +43,14 @@ module _ {A B : Type 0} (P : A → Type 0) (Q : B → Type 0) (f : A → List �
       → (a : A) (b : B) → P a → bytes ≢ f a ++ g b
   no_front bytes none a b lawful is = none a (g b) (record { lawful = lawful; spelled = is })
 
-  -- the rest behind the first is no second one
+  -- the rest after the first is no second one
   pub no_rest : NoneBeginsAnother P f → (bytes after : List ℕ) (first : A)
       → BeginsWith P f bytes first after → IsWholeReading Q g after None
       → (a : A) (b : B) → P a → Q b → bytes ≢ f a ++ g b
   no_rest tells bytes after first found none a b lawful second is =
       none b second (tells first a after (g b) found.lawful lawful (sym found.spelled ∙ is)).1
 
--- two spellings with nothing behind them
+-- two spellings with nothing after them
 pub alone : {A : Type 0} (P : A → Type 0) (f : A → Bytes) → NoneBeginsAnother P f → (a b : A)
     → P a → P b → f a ≡ f b → a ≡ b
 alone P f tells a b p q same =

@@ -48,7 +48,7 @@ reply_kind model.Staged = STAGED
 reply_kind model.Done = DONE
 reply_kind (model.Refused why) = REFUSED
 
--- what stands behind the number
+-- what stands after the number
 abbrev pub reply_fields : model.Reply → Bytes
 reply_fields (model.Begun position) = to_be_bytes w64 position
 reply_fields (model.Listed position entries) = to_be_bytes w64 position ++ entries_spelling entries

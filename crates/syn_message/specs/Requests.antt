@@ -36,7 +36,7 @@ kind_of (model.Fetch path since offset) = FETCH
 kind_of (model.Stage item offset bytes) = STAGE
 kind_of (model.Replace item path since size) = REPLACE
 
--- what stands behind the number
+-- what stands after the number
 abbrev pub fields_spelling : model.Request → Bytes
 fields_spelling (model.Begin pair) = to_be_bytes w64 pair
 fields_spelling (model.ListAt path) = path_spelling path

@@ -35,7 +35,7 @@ pub(crate) fn read_head(bytes: &[u8]) -> Option<(u64, u32, &[u8])>
     Some((session, number, rest))
 }
 
-/// The number behind a session of 0, and the rest.
+/// The number after a session of 0, and the rest.
 pub(crate) fn read_user_head(bytes: &[u8]) -> Option<(u32, &[u8])>
     ensures { IsReading IsUserHead head_spelling bytes.now
         (option_map (λ found. ((0, found.0), found.1.now)) result) }

@@ -117,7 +117,7 @@ fn read_entry(alloc: Global, bytes: &[u8]) -> Result<Option<((Name, Mark), &[u8]
     }
 }
 
-/// A name behind its length, and the rest.
+/// A name after its length, and the rest.
 fn read_name(alloc: Global, bytes: &[u8]) -> Result<Option<(Name, &[u8])>, WireError>
     ensures { IfOk result (λ read. IsReading IsName name_spelling bytes.now
         (option_map (λ found. (found.0, found.1.now)) read)) }

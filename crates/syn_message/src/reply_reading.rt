@@ -38,7 +38,7 @@ pub fn decode_reply(alloc: Global, body: &[u8]) -> Result<Option<Answered>, Wire
     }
 }
 
-/// What stands behind the number, in a reply of the kind.
+/// What stands after the number, in a reply of the kind.
 fn read_fields(alloc: Global, kind: u8, fields: &[u8]) -> Result<Option<Reply>, WireError>
     ensures { IfOk result (λ read. ReadsReply kind fields.now (option_map reply_of read)) }
 {
@@ -102,7 +102,7 @@ fn read_piece(alloc: Global, fields: &[u8]) -> Result<Option<Reply>, WireError>
     Ok(Some(Reply::Piece { total, bytes }))
 }
 
-/// At most `LONGEST_PIECE` bytes behind their length, with nothing behind them.
+/// At most `LONGEST_PIECE` bytes after their length, with nothing after them.
 fn read_fetched(alloc: Global, bytes: &[u8]) -> Result<Option<Vec<u8>>, WireError>
     ensures { IfOk result (λ read. IsWholeReading IsFetchedBytes file_spelling bytes.now
         (option_map (λ piece. piece.items) read)) }
@@ -144,7 +144,7 @@ fn read_refused(fields: &[u8]) -> Option<Reply>
     Some(Reply::Refused(why))
 }
 
-/// A refusal by its number, with nothing behind it.
+/// A refusal by its number, with nothing after it.
 pub(crate) fn read_refusal(fields: &[u8]) -> Option<Refusal>
     ensures { IsWholeReading IsRefusal refusal_spelling fields.now (option_map cause_of result) }
 {

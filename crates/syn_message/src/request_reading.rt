@@ -38,7 +38,7 @@ pub fn decode_request(alloc: Global, body: &[u8]) -> Result<Option<Asked>, WireE
     }
 }
 
-/// What stands behind the number, in a request of the kind.
+/// What stands after the number, in a request of the kind.
 fn read_fields(alloc: Global, kind: u8, fields: &[u8]) -> Result<Option<Request>, WireError>
     ensures { IfOk result (λ read. ReadsFields kind fields.now (option_map request_of read)) }
 {
@@ -113,7 +113,7 @@ fn read_stage(alloc: Global, fields: &[u8]) -> Result<Option<Request>, WireError
     }))
 }
 
-/// From 1 to `LONGEST_PIECE` bytes behind their length, with nothing behind them.
+/// From 1 to `LONGEST_PIECE` bytes after their length, with nothing after them.
 fn read_piece(alloc: Global, bytes: &[u8]) -> Result<Option<Vec<u8>>, WireError>
     ensures { IfOk result (λ read. IsWholeReading IsPieceBytes file_spelling bytes.now
         (option_map (λ piece. piece.items) read)) }
@@ -152,7 +152,7 @@ fn read_replace(alloc: Global, fields: &[u8]) -> Result<Option<Request>, WireErr
     }))
 }
 
-/// A position and a number, with nothing behind them.
+/// A position and a number, with nothing after them.
 fn read_last(bytes: &[u8]) -> Option<(u64, u32)>
     ensures { ReadsLast bytes.now result }
 {

@@ -30,7 +30,7 @@ pub fn decode_user_request(alloc: Global, body: &[u8]) -> Result<Option<AskedByU
     }
 }
 
-/// What stands behind the number, in a request of the kind.
+/// What stands after the number, in a request of the kind.
 fn read_wish(alloc: Global, kind: u8, fields: &[u8]) -> Result<Option<UserRequest>, WireError>
     ensures { IfOk result (λ read. ReadsWish kind fields.now (option_map wish_of read)) }
 {

@@ -35,7 +35,7 @@ pub fn decode_user_reply(alloc: Global, body: &[u8]) -> Result<Option<AnsweredTo
     }
 }
 
-/// What stands behind the number, in a reply of the kind.
+/// What stands after the number, in a reply of the kind.
 fn read_told(alloc: Global, kind: u8, fields: &[u8]) -> Result<Option<UserReply>, WireError>
     ensures { IfOk result (λ read. ReadsTold kind fields.now (option_map told_of read)) }
 {
@@ -74,7 +74,7 @@ fn read_refused(fields: &[u8]) -> Option<UserReply>
     Some(UserReply::Refused(why))
 }
 
-/// What stands at a path, with nothing behind it.
+/// What stands at a path, with nothing after it.
 fn read_found(alloc: Global, fields: &[u8]) -> Result<Option<Option<Content>>, WireError>
     ensures { IfOk result (λ read. IsWholeReading IsFound found_spelling fields.now
         (option_map (option_map content_of) read)) }

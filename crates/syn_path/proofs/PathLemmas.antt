@@ -169,7 +169,7 @@ prefix_from_test p q h = let rest = is_prefix-is p q h in (rest.0, sym rest.1)
 pub test_from_append : (p rest : Path) → is_prefix p (p ++ rest) ≡ true
 test_from_append p rest = ap is_some (strip_prefix-append p rest)
 
--- the first name is printed, and then each other behind a slash
+-- the first name is printed, and then each other after a slash
 pub printed-split : (p : Path) (x : Name) → 0 < length p → x ≡ slice_index_or p 0 x → printed_name x
     ++ flat_map (λ other. 47 ∷ printed_name other) (take (length p - 1) (drop 1 p)) ≡ printed_form p
 printed-split [] x some is = absurd (omega arith)

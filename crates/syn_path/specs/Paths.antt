@@ -37,7 +37,7 @@ printed_char c = if is_escaped c then codes "\\x" ++ padded_hex c else encode_ut
 abbrev pub printed_name : Bytes → Bytes
 printed_name name = flat_map printed_char (chars name)
 
--- the first name, and each other behind a slash
+-- the first name, and each other after a slash
 abbrev pub printed_form : Path → Bytes
 printed_form [] = codes "."
 printed_form (name ∷ names) = printed_name name ++ flat_map (λ other. 47 ∷ printed_name other) names

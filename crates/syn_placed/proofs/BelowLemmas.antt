@@ -12,7 +12,7 @@ use Rattle.syn_placed.proofs.OrderLemmas.{not_before, first_of_all, under_prefix
 use Rattle.syn_placed.proofs.RisingLemmas.{Rising, Each, each-map, each-both, each-filter}
 use Rattle.syn_placed.proofs.RisingLemmas.{filter-keeps, rising-filter}
 
--- a path is no prefix of one that it stands behind
+-- a path is no prefix of one that it stands after
 longer : (at p : Path) → path_cmp at p ≡ Less → is_prefix p at ≡ false
 longer at p less = by_test (is_prefix p at) refl
   where
@@ -20,7 +20,7 @@ longer at p less = by_test (is_prefix p at) refl
     by_test true is = absurd (true≢false (sym (ap is_lt less) ∙ not_before p at is))
     by_test false is = refl
 
--- what is at or below a path, and not at it, stands behind it
+-- what is at or below a path, and not at it, stands after it
 behind_place : (at p : Path) → is_prefix at p ≡ true → eq_by_cmp path_cmp p at ≡ false →
     path_cmp at p ≡ Less
 behind_place at p inside other = by_rest (strip_prefix at p) refl inside

@@ -118,7 +118,7 @@ child_deeper at p n r out true is =
     ∙ (ap (is_prefix at) (sym (parent-append at n r) ∙ child_parent p (at ++ n ∷ r) is) ∙ out)))
 child_deeper at p n r out false is = refl
 
--- paths behind another are not the root
+-- paths after another are not the root
 below_root : (at p q : Path) (us : Pairs) → is_prefix at p ≡ false → After q us →
     kids p (under at us) ≡ 0
 below_root at p q [] out h = refl

@@ -75,7 +75,7 @@ missing q (x ∷ es) d h e =
     different true same other = absurd (other (sym (same_path q x.0 same)))
     different false same other = ap (λ b. cond b (Some x.1) (find path_cmp q es)) same
 
-    -- it comes later, and so do all behind it
+    -- it comes later, and so do all after it
     later : (o : Ordering) → path_cmp q x.0 ≡ o → is_before q x ≡ false → x.0 ≢ q → After q es
     later Less less low other = after_more q x.0 es less h.0
     later Equal same low other = absurd (other (sym (same_path q x.0 (ap is_eq same))))

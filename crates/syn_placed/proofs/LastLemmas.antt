@@ -1,4 +1,4 @@
--- Pairs that are looked at one by one rise as long as each stands behind the last.
+-- Pairs that are looked at one by one rise as long as each stands after the last.
 use Rattle.std.proofs.Common.{◌≡◌, ◌<◌, ◌+◌, ℕ, [], ◌∷◌, ◌++◌, length, take, sym, ap, ◌∙◌, subst}
 use Rattle.std.proofs.Common.{slice_index_or, Less, drop}
 use Rattle.std.specs.List.{AllByRecursion}
@@ -49,7 +49,7 @@ next_less : (front : Pairs) (last : Path) (c : Content) (x : Pair) →
 next_less [] last c x h = h.0.0
 next_less (e ∷ front) last c x h = next_less front last c x h.1
 
--- a pair behind the last of those before it
+-- a pair after the last of those before it
 pub rising-next : (list : Pairs) (i : ℕ) (x : Pair) (last : Path) → i < length list →
     x ≡ slice_index_or list i x → IsLast (rooted (take i list)) last → AreRising (rooted list) →
     path_cmp last x.0 ≡ Less

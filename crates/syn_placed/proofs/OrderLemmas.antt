@@ -93,7 +93,7 @@ before_under a at [] h = ap (path_cmp a) (append-nil at) ∙ less_of (path_cmp a
 before_under a at (n ∷ q) h =
     path_total.trans a at (at ++ n ∷ q) (less_of (path_cmp a at) h) (first_of_all at n q)
 
--- what stands behind a place stands behind all below it
+-- what stands after a place stands after all below it
 pub under_behind : (at q c : Path) → is_lt (path_cmp c at) ≡ false → is_prefix at c ≡ false →
     path_cmp (at ++ q) c ≡ Less
 under_behind [] q c low out = absurd (true≢false out)

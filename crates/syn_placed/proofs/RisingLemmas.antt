@@ -1,5 +1,5 @@
 -- Pairs whose paths strictly rise fall into those before a path, those at and below it, and those
--- behind.
+-- after.
 use Rattle.std.proofs.Math.Seq.{take-append_seam, drop-append_seam}
 use Rattle.std.proofs.lemmas.List.Sums.{length-filter, count_by-le-length}
 use Rattle.std.proofs.Common.{◌≡◌, ◌≤◌, ◌+◌, length, length-append, take, drop, T, Bool, true}
@@ -58,7 +58,7 @@ filter-drops p [] h = refl
 filter-drops p (x ∷ xs) h =
     ap (λ b. cond b (x ∷ filter p xs) (filter p xs)) h.0 ∙ filter-drops p xs h.1
 
--- behind a path, and so for each pair and those behind it
+-- after a path, and so for each pair and those after it
 abbrev pub After : Path → Pairs → Type 0
 After path es = AllByRecursion (λ e. path_cmp path e.0 ≡ Less) es
 
@@ -266,7 +266,7 @@ rising-replaced at es us h k =
     (before_all_under at e.0 us x) (before_all_behind at e.0 es x)) (before at es)
     (each-filter (is_before at) es))
 
--- none of those in the part or behind it stands before the place
+-- none of those in the part or after it stands before the place
 pub none_after : (at : Path) (es : Pairs) → NoneOf (is_before at) (within at es ++ behind at es)
 none_after at es = each-append (λ e. is_before at e ≡ false) (within at es) (behind at es)
     (each-map (λ e. is_within at e ≡ true) (λ e. is_before at e ≡ false)
@@ -274,7 +274,7 @@ none_after at es = each-append (λ e. is_before at e ≡ false) (within at es) (
     (each-map (λ e. (is_before at e ≡ false) × (is_within at e ≡ false))
     (λ e. is_before at e ≡ false) (λ e h. h.0) (behind at es) (behind_parts at es))
 
--- what is left behind those before the place
+-- what is left after those before the place
 pub after_before : (at : Path) (es : Pairs) → Rising es →
     drop (length (before at es)) es ≡ within at es ++ behind at es
 after_before at es h =

@@ -1,4 +1,4 @@
--- What is in front of the part at and below a path and what is behind it, by their numbers.
+-- What is in front of the part at and below a path and what is after it, by their numbers.
 use Rattle.std.proofs.Common.{◌≡◌, ◌≤◌, ◌+◌, ◌-◌, ℕ, List, ◌++◌, length, length-append, take, drop}
 use Rattle.std.proofs.Common.{sym, ap, ap₂, ◌∙◌, append_assoc, arith, take-append-drop, drop-drop}
 use Rattle.std.proofs.Common.{length-take-le}
@@ -21,7 +21,7 @@ back_is at es h =
 
 -- ---- runs that are put in and taken out by turning the rest
 
--- a list that is as long as another, with what the other has behind that length, is the list
+-- a list that is as long as another, with what the other has after that length, is the list
 whole_of : {X : Type 0} (xs items : List X) (n : ℕ) → length xs ≡ length items → n ≡ length items →
     take n (xs ++ drop (length xs) items) ≡ xs
 whole_of xs items n same long =

@@ -22,7 +22,7 @@ tree_with pairs = from_sorted (rooted pairs)
 abbrev pub AreRising : Pairs → Type 0
 AreRising pairs = is_sorted path_cmp pairs ≡ true
 
--- the pairs before a path, those at and below it, and those behind these
+-- the pairs before a path, those at and below it, and those after these
 abbrev pub is_before : Path → Pair → Bool
 is_before at pair = is_lt (path_cmp pair.0 at)
 

@@ -1,4 +1,4 @@
--- What a transfer asks behind an answer that is not the last.
+-- What a transfer asks after an answer that is not the last.
 use Rattle.std.proofs.Common.{◌≡◌, false, Result, Ok, Err}
 use Rattle.std.specs.Prelude.{IfOk}
 use Rattle.syn_headline.specs.Coordinator.{is_last}

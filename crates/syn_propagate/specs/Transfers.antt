@@ -64,7 +64,7 @@ IsAsking (Ask side asked) = Unit {0}
 IsAsking Done = ⊥
 IsAsking (Refused why) = ⊥
 
--- the last answer is that a side refused, or that the replacement is done: it goes on behind no
+-- the last answer is that a side refused, or that the replacement is done: it goes on after no
 -- other
 abbrev pub EndsBy : Carriage → Request → model.Reply → Next → Type 0
 EndsBy c request reply (Ask side asked) = is_last reply ≡ false

@@ -18,13 +18,13 @@
 //!   whole is staged (`IsWhole`) it is the replacement, with the length that the source said.
 //! - `Done` comes only with `WasCarried`: the target answered done to the replacement, whose bytes
 //!   were fetched piece by piece and staged at their places (`WasStaged`).
-//! - It goes on behind no last answer, and is done behind that of its replacement alone (`ends`).
+//! - It goes on after no last answer, and is done after that of its replacement alone (`ends`).
 //!   What it waits for is for what it carries (`transfer_laws`).
 //! - `Refused` is a side's own refusal, and each one is passed on (`refused`). The step's own are
 //!   23 and 11 (`TransferError`). After 11 it is as it was, and takes the same answer again
 //!   (`unchanged`). After any other it is over (`over`), and each further step is refused 23
 //!   (`misfit`).
-//! - Memory is refused only for the first request, and behind a piece that is staged or that has no
+//! - Memory is refused only for the first request, and after a piece that is staged or that has no
 //!   bytes (`memory`). A piece with bytes is handed on, and a refusal and the end are passed on,
 //!   without any.
 #![tactic(auto)]

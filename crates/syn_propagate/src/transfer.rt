@@ -87,7 +87,7 @@ impl Transfer {
             → reply ≡ Some (answer.Refused why) → WaitsFor self.old taken to request
             → result ≡ Ok (Next.Refused why) }
 
-        // It goes on behind no last answer, and is done behind that of its replacement alone.
+        // It goes on after no last answer, and is done after that of its replacement alone.
         ensures ends { (taken : Exchanges) (to : Which) (request : Asked) (answer : Answer)
             → reply ≡ Some answer → WaitsFor self.old taken to request
             → IfOk result (EndsBy (carriage_of self.old) request (reply_of answer)) }
@@ -191,7 +191,7 @@ impl Transfer {
         Ok(self.carriage.stage(offset, bytes))
     }
 
-    /// Goes on behind a piece that is staged.
+    /// Goes on after a piece that is staged.
     fn go_on(&mut self, alloc: Global, end: u32, total: u32) -> Result<Next, TransferError>
         ensures carriage { carriage_of self.new ≡ carriage_of self.old }
         ensures asking { IfOk result IsAsking }

@@ -13,7 +13,7 @@ use Rattle.syn_model.proofs.PathLemmas.{path_total, same_path, path_itself}
 use Rattle.syn_dirty.specs.Paths.{is_among}
 use Rattle.syn_recon.specs.inner.Walks.{Row, Rows, on_left, on_right, on_both, among, merged}
 
--- behind a path
+-- after a path
 abbrev pub After : Path → List Path → Type 0
 After p qs = AllByRecursion (λ q. path_cmp p q ≡ Less) qs
 
@@ -178,7 +178,7 @@ Agree L R ls rs =
 abbrev Flags : List Path → List Path → Rows → Type 0
 Flags L R rows = AllByRecursion (Says L R) rows
 
--- no path behind another is that one
+-- no path after another is that one
 other_of : (l q : Path) (ls rs : List Path) → After l ls → After l rs →
     (is_among ls q || is_among rs q) ≡ true → eq_by_cmp path_cmp q l ≡ false
 other_of l q ls rs a b e =

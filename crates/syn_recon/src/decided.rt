@@ -117,7 +117,7 @@ fn is_same_part(left: &MarkTree, right: &MarkTree, path: &Path) -> bool
     left.is_same_at(right, path)
 }
 
-/// Puts the item for the path, if there is one, behind those that are there. Refused 11 where
+/// Puts the item for the path, if there is one, after those that are there. Refused 11 where
 /// memory is refused.
 pub(crate) fn push_item(
     alloc: Global,

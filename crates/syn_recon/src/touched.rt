@@ -9,8 +9,8 @@ use syn_path::Path;
 /// A path, whether it is dirty on the left, and whether on the right.
 pub(crate) type Touched<'a> = (&'a Path, bool, bool);
 
-/// The first path of two lists behind so many of each, where it is dirty, and how many of each are
-/// then passed; none where nothing is behind.
+/// The first path of two lists after so many of each, where it is dirty, and how many of each are
+/// then passed; none where nothing is left.
 pub(crate) fn next_touched<'s, 'a>(
     lefts: &'s [&'a Path],
     left_passed: usize,

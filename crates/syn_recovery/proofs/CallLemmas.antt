@@ -119,7 +119,7 @@ stop_of o n e = ap (λ o. option_map_or (λ calls. calls) o 0) e
 no_stop_of : (o : Option ℕ) → o ≡ None → option_map_or (λ calls. calls) o 0 ≡ 0
 no_stop_of o e = ap (λ o. option_map_or (λ calls. calls) o 0) e
 
--- the call behind those that were made is not armed among them
+-- the call after those that were made is not armed among them
 not_before : (made : ℕ) (fail : ℕ) → IsBefore (suc made) fail →
     IsBefore made fail × (fail ≢ suc made)
 not_before made fail (inl none) = (inl none, λ same. omega (arith, none, same))
@@ -134,7 +134,7 @@ module _ (old new : DiskArms) (open_ : is_stopped old ≡ false) where
       goes_on still (subst (λ arms. Meets (armed_at old) calls Up arms 0) (left_of calls old new n m
       was is a.failure less) (all_made a.not_failed (subst (IsBefore calls) (sym was) before)))
 
-  -- the stop came behind the last of them
+  -- the stop came after the last of them
   goes_down_behind : (calls : ℕ) → old.stop ≡ Some calls → calls ≢ 0 → IsBefore calls old.failure →
       is_stopped new ≡ true → CallsMeet old new calls Up 0
   goes_down_behind zero at some before down = absurd (some refl)

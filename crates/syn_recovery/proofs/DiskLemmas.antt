@@ -6,7 +6,7 @@ use Rattle.syn_journal.specs.declared.half.Half.{Half}
 use Rattle.syn_model.specs.Path.{Bytes}
 use Rattle.syn_recovery.specs.Meaning.{Keeping, MayBeOf, MayMean, as_kept, compacted, with_record}
 
--- an image alone leaves what stands behind it
+-- an image alone leaves what stands after it
 pub behind_image : (image : Bytes) → bytes_left (image_alone image) ≡ room_behind image
 behind_image image = less (length image)
   where

@@ -6,7 +6,7 @@ use Rattle.syn_headline.specs.Machine.{Journaled, Arms, opened, recovered, Meets
 use Rattle.syn_headline.specs.Machine.{reopened, with_record as and_record, Up}
 use Rattle.syn_recovery.specs.Meaning.{Keeping, MayMean, as_kept, with_record, compacted, OpensTo}
 
--- behind an image alone stands no record
+-- after an image alone stands no record
 alone_room : (image : Bytes) → room_behind image ≡ bytes_left (image_alone image)
 alone_room image = omega arith
 

@@ -13,13 +13,13 @@
 //! - `device_laws`: what a journal's `calls` clause says of a disk's arms is what the world says
 //!   that the machine met (`Meets`). A call that succeeds met all its device calls (`made`), one
 //!   that is refused 9 met a failure (`broken`), and an opening as many as it makes (`reads`). In
-//!   each the machine is down exactly where the disk is stopped behind the call.
+//!   each the machine is down exactly where the disk is stopped after the call.
 //! - `headline`: three disks of a pair are a start of a run (`start`), and a run from them is crash
 //!   safe (`crash_safe`).
 //! - What the code of a world owes beside its steps is one invariant, `MayBeLeft`: whatever a stop
 //!   may leave on the three disks may be of their machines then. `syn_world` keeps it, for each
 //!   disk by itself (`AreLeft`): each step of its world carries it on. So whatever a stop may leave
-//!   behind its `run` is crash safe (`AreSafe`), and `recover` opens that. It rests on the
+//!   after its `run` is crash safe (`AreSafe`), and `recover` opens that. It rests on the
 //!   `any_moment` of a replica and of an archive, which tells what is kept, the bytes that are left
 //!   and the generation.
 #![tactic(auto)]

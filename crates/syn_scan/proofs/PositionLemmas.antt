@@ -1,4 +1,4 @@
--- Answers in path order: where one stands, and what stands in front of it and behind it.
+-- Answers in path order: where one stands, and what stands in front of it and after it.
 use Rattle.std.proofs.Common.{◌≡◌, ◌<◌, ◌≤◌, ℕ, Bool, true, false, cond, not, T, List, [], ◌∷◌}
 use Rattle.std.proofs.Common.{◌++◌, filter, length, length-append, map, ◌||◌, take, drop}
 use Rattle.std.proofs.Common.{slice_index_or, refl, sym, ap, ap₂, ◌∙◌, subst, Some, None, Ordering}
@@ -24,7 +24,7 @@ is_earlier path entry = is_lt (path_cmp entry.0 path)
 abbrev pub later : Path → Answers → Answers
 later path list = filter (λ entry. not (is_earlier path entry)) list
 
--- behind a path
+-- after a path
 abbrev pub Behind : Path → Answers → Type 0
 Behind path list = AllByRecursion (λ e. path_cmp path e.0 ≡ Less) list
 
@@ -60,7 +60,7 @@ behind_more : (q p : Path) (es : Answers) → path_cmp q p ≡ Less → Behind p
 behind_more q p [] less h = tt
 behind_more q p (e ∷ es) less h = (path_total.trans q p e.0 less h.0, behind_more q p es less h.1)
 
--- what is behind a path is not before it
+-- what is after a path is not before it
 late : (q p : Path) → path_cmp q p ≡ Less → is_lt (path_cmp p q) ≡ false
 late q p h = ap is_lt (path_total.antisymm p q ∙ ap ordering_reverse h)
 
@@ -148,7 +148,7 @@ after q x rest up low other Equal is =
 after q x rest up low other Greater is =
     absurd (true≢false (sym (ap is_lt (path_total.antisymm x.0 q ∙ ap ordering_reverse is)) ∙ low))
 
--- the element behind a front is the first of the rest
+-- the element after a front is the first of the rest
 pub seam : {X : Type 0} (ys zs : List X) (x : X) → length ys < length (ys ++ zs) →
     x ≡ slice_index_or (ys ++ zs) (length ys) x → (rest : List X) × (zs ≡ x ∷ rest)
 seam [] [] x l is = absurd (omega arith)
@@ -163,7 +163,7 @@ ended (y ∷ ys) zs l = ended ys zs (omega arith)
 no_Some : {X : Type 0} (x : X) → Some x ≡ None → ⊥
 no_Some x bad = cc
 
--- where nothing is found a new answer stands behind the earlier ones
+-- where nothing is found a new answer stands after the earlier ones
 placed : (q : Path) (v : ℕ) (xs : Answers) → Rising xs → find path_cmp q xs ≡ None →
     put path_cmp q v xs ≡ earlier q xs ++ (q, v) ∷ later q xs
 placed q v [] up miss = refl

@@ -137,7 +137,7 @@ impl Scanner {
         let place = self.scan.place_of(path);
         self.scan.take(alloc, path, position, listing)?;
         take_back(&mut self.out, path);
-        // What it shows stands right behind it, and is still to be handed out.
+        // What it shows stands right after it, and is still to be handed out.
         self.passed = self.passed.min(place);
         Ok(())
     }
@@ -211,7 +211,7 @@ fn directory_of(alloc: Global, entries: Vec<(Name, Mark)>) -> Result<MarkTree, S
     }
 }
 
-/// Puts the names, each with its mark, behind the entries that are there. Refused 11 where memory
+/// Puts the names, each with its mark, after the entries that are there. Refused 11 where memory
 /// is refused, and for no other cause.
 fn push_entries(
     alloc: Global,

@@ -22,7 +22,7 @@ say_silent (first ∷ lines) steps line said utf8 silent = (
   ],
 )
 
--- a line more says its step behind the others
+-- a line more says its step after the others
 pub say_step : (lines : List Text) (steps : List Line) (line : Text) (step : Line) →
     SaySteps lines steps → IsUtf8 line → Says line step →
     SaySteps (lines ++ line ∷ []) (steps ++ step ∷ [])
@@ -50,7 +50,7 @@ said_fit (first ∷ lines) steps said = elim said.1 [
   | inr s ↦ All-cons IsFit first lines (said.0, inr (s.0, s.3)) (said_fit lines s.1 s.4)
 ]
 
--- the first line that is not fit, behind lines that say steps
+-- the first line that is not fit, after lines that say steps
 pub first_fault : {W : Type 0} (text : W → Text) (lines : List W) (i : ℕ) (d : W)
     (steps : List Line) → i < length lines → SaySteps (map text (take i lines)) steps →
     ¬ IsFit (text (get_or lines i d)) → IsFirstFault (map text lines) (i + 1)

@@ -50,7 +50,7 @@ verb_is verb.Reopen = refl
 one_verb : (v w : Verb) → verb_word v ≡ verb_word w → v ≡ w
 one_verb v w e = sym (verb_is v) ∙ ap verb_at e ∙ verb_is w
 
--- what the words behind a verb say, the words with it say
+-- what the words after a verb say, the words with it say
 pub said_behind : (v : Verb) (words : List Text) (line : Line) → SayBehind v words line →
     Say (verb_word v ∷ words) line
 said_behind verb.Edit words (has.Edit side user edit) s =
@@ -92,7 +92,7 @@ behind_said words (has.Reopen m) s = record { rest = _; parts = s; said = refl }
 head_is : (x y : Text) (xs ys : List Text) → x ∷ xs ≡ y ∷ ys → (x ≡ y) × (xs ≡ ys)
 head_is x y xs ys e = (cc, cc)
 
--- where the words behind a verb say nothing, the words with it say nothing
+-- where the words after a verb say nothing, the words with it say nothing
 pub nothing_said : (v : Verb) (words : List Text) → NothingBehind v words →
     NothingSaid (verb_word v ∷ words)
 nothing_said v words nothing line s =

@@ -4,7 +4,7 @@ use Rattle.std.proofs.Common.{take, length-drop, append-nil, sym, ap, arith}
 use Rattle.std.proofs.lemmas.List.{take_all}
 use Rattle.std.specs.List.{flat_map, join_with_byte}
 
--- the first piece, and each other behind the byte
+-- the first piece, and each other after the byte
 pub join-flat : {W : Type 0} (text : W → List ℕ) (b : ℕ) (first : W) (others : List W) →
     join_with_byte b (map text (first ∷ others))
     ≡ text first ++ flat_map (λ word. b ∷ text word) others

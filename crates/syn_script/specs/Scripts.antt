@@ -5,7 +5,7 @@ use Rattle.std.specs.Str.{IsUtf8}
 use Rattle.syn_script.specs.Words.{Says, Text}
 use Rattle.syn_script.specs.declared.line.Line.{Line}
 
--- The lines of a text, which line feeds part. Behind a last line feed this has an empty line more,
+-- The lines of a text, which line feeds part. After a last line feed this has an empty line more,
 -- which says nothing.
 abbrev pub lines_of : Text → List Text
 lines_of text = slice_split (λ b. b == 10) text

@@ -1,4 +1,4 @@
-//! The step of each row, by the words behind the first.
+//! The step of each row, by the words after the first.
 ghost use Rattle.std.specs.Prelude.{◌≡◌, IfOk, IfErr, IfSome, IfNone, map};
 ghost use Rattle.syn_script.specs.Words.{Say, SayEdit};
 ghost use Rattle.syn_script.specs.inner.Rows.{NoEdit, NothingBehind, NothingSaid, SayBehind};
@@ -27,7 +27,7 @@ pub(crate) fn read_words(alloc: Global, words: &[&str]) -> Result<Line, LineErro
     read_behind(alloc, verb, words)
 }
 
-/// The step that the words behind the first say.
+/// The step that the words after the first say.
 fn read_behind(alloc: Global, verb: Verb, words: &[&str]) -> Result<Line, LineError>
     ensures ok { IfOk result (λ line. SayBehind verb (map (λ word. word.now) words.now) line) }
     ensures bad { IfErr result (λ e. e ≡ LineError.Nothing

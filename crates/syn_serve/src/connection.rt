@@ -104,7 +104,7 @@ impl<R: Read, W: Write> Connection<R, W> {
 
     /// Serves the connection until the other side closes it, one request after another.
     ///
-    /// Refused as `serve_next` is, by the first exchange that is refused: nothing is read behind
+    /// Refused as `serve_next` is, by the first exchange that is refused: nothing is read after
     /// it, and the connection is to be closed.
     pub fn serve<H: Wait, D: Disk, G: Gate>(
         &mut self,

@@ -32,7 +32,7 @@
 //!   - A user is told what the edit of one thread answers, or what stands at the path (`Grants`:
 //!     `Edits` and `Gets` of `syn_shared`). What is staged stays.
 //! - `serve` is any number of exchanges that answered, and the one that did not (`serves`:
-//!   `Serves`). Nothing is read behind a refusal.
+//!   `Serves`). Nothing is read after a refusal.
 //! - What the pass saw last is grown further by each of these calls (`later`).
 //! - A `Gate` is passed before each hold and after it, outside the lock, with the request's kind.
 //!   No clause speaks of it.

@@ -257,7 +257,7 @@ conflicts_to cursor plan = filter_map (λ planned. conflict_at planned.item) (ta
 
 module _ (plan : Plan) (cursor : ℕ) (planned : Planned)
     (at : slice_get plan cursor ≡ Some planned) where
-  -- past a conflict its path is behind those before it
+  -- past a conflict its path is after those before it
   pub conflict_past : (path : Path) → planned.item ≡ Conflict path →
       conflicts_to (suc cursor) plan ≡ conflicts_to cursor plan ++ path ∷ []
   unfolding listed

@@ -1,4 +1,4 @@
--- How far a session has come with a new plan, and behind an item.
+-- How far a session has come with a new plan, and after an item.
 use Rattle.std.specs.Prelude.{[], ◌++◌, Some, suc, ◌∷◌}
 use Rattle.syn_headline.specs.Planning.{Planned}
 use Rattle.syn_model.specs.Archive.{Kept}
@@ -11,7 +11,7 @@ use Rattle.syn_session.specs.Stages.{Reached}
 abbrev pub first_reached : Plan → Reached
 first_reached plan = record { plan = Some plan; cursor = 0; kept = []; refused = [] }
 
--- How far a session came behind an item: it is past, its record is kept, or it is refused so
+-- How far a session came after an item: it is past, its record is kept, or it is refused so
 abbrev pub past_at : Reached → Reached
 past_at reached = record reached { cursor = suc reached.cursor }
 

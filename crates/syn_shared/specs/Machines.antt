@@ -76,7 +76,7 @@ module _ {D : Type 0} {disk : Ghosts D} (pair : ℕ) (left : Replica D disk) (ag
         IsOf pair left agent machine → CompactsSide (Err e)
 
   -- Another opening of the side by at least one device call: it gives what the disk may mean; or
-  -- the machine stopped in it, its device failed, or memory was refused behind the device calls
+  -- the machine stopped in it, its device failed, or memory was refused after the device calls
   pub data ReopensSide : Result Unit ReplicaError → Type 0 where
     opens : (calls : ℕ) (journal : Journaled History Event) (events : List Event) → 1 ≤ calls →
         Opens (side_layout pair) IsAllowed machine.journal calls journal events →

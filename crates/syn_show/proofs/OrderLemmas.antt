@@ -22,7 +22,7 @@ swapped true false x y rest h = refl
 swapped false true x y rest h = refl
 swapped false false x y rest h = refl
 
--- the head of a list that is not empty, and what is behind it
+-- the head of a list that is not empty, and what is after it
 abbrev head_or : {X : Type 0} → X → List X → X
 head_or d [] = d
 head_or d (x ∷ xs) = x

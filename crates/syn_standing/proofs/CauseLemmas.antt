@@ -37,7 +37,7 @@ first_skips [] b e = refl
 first_skips ((true, why) ∷ a) b e = absurd (none-some _ (sym e))
 first_skips ((false, why) ∷ a) b e = first_skips a b e
 
--- and the first of some causes is the first of them with others behind
+-- and the first of some causes is the first of them before others
 pub first_stays : (a b : List Cause) (why : Refusal) → first_cause a ≡ Some why →
     first_cause (a ++ b) ≡ Some why
 first_stays [] b why e = absurd (none-some _ e)

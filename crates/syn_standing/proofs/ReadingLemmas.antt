@@ -23,7 +23,7 @@ use Rattle.syn_standing.specs.declared.error.ReplicaError.TheVariants.{Damaged, 
 use Rattle.syn_standing.specs.declared.error.ReplicaError.TheVariants.{OldVersion}
 use Rattle.syn_standing.proofs.AlikeLemmas.{replays_nothing}
 
--- ---- the whole of what is read, and nothing behind it
+-- ---- the whole of what is read, and nothing after it
 
 module _ (version : Version) (payload : Bytes) (event : Event)
     (spelled : IsSpelledEventIn version event)
@@ -55,7 +55,7 @@ module _ (version : Version) (image : Bytes) (pair : ℕ) (standing : Standing)
       (tell version other (pair, standing) rest
       [] read.lawful (is.fits, is.sound) (sym read.spelled ∙ image_alone)).1
 
--- with nothing behind it the whole is what was read
+-- with nothing after it the whole is what was read
 pub event_whole : (version : Version) (payload rest : Bytes) (event : Event) →
     BeginsWith (IsSpelledEventIn version) (event_spelling_in version) payload event rest →
     rest ≡ [] →

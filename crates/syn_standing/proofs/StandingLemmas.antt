@@ -68,7 +68,7 @@ module _ (standing : Standing) where
       ∙ ap first_cause (sym (append_assoc (place_causes standing.tree path)
       (full_causes (replace standing.tree path new)) (full_position standing.position)))
 
-  -- behind that come the tree's causes
+  -- after that come the tree's causes
   pub tree_at : (event : Event) (refusal : Refusal) →
       first_cause (early_causes standing event) ≡ None →
       tree_refusal standing.tree event ≡ Some refusal → refusal_at standing event ≡ Some refusal

@@ -1,7 +1,7 @@
 //! What a replica keeps of its history in memory: the tree that the history leaves, and its trail.
 //!
 //! An event is checked here and made here, with no disk. How it is read from an image and from the
-//! payloads behind it stands here too.
+//! payloads after it stands here too.
 //!
 //! # What it promises
 //!
@@ -16,7 +16,7 @@
 //! - `check_untouched` tells whether an event touched a path since a position, of each history that
 //!   the standing is of (`cause`).
 //! - `read_replica` reads in a version, and gives the pair and the standing that an image and the
-//!   payloads behind it give in it (`gives`). No other could be given (`one`), and an image may
+//!   payloads after it give in it (`gives`). No other could be given (`one`), and an image may
 //!   hold it (`sound`). It is refused 19 only where they give none (`damaged`), and 20 only where
 //!   they give another pair than the wanted one (`other`). The index of its trail is built once,
 //!   after the last payload (`build_index`).

@@ -120,7 +120,7 @@ module _ {D : Type 0} {disk : Ghosts D} where
   calls_refused old new pair machine act device e (inr is) does stands silent frames =
       calls_none new pair machine (stands is)
 
-  -- calls behind calls
+  -- calls after calls
   pub calls_twice : (middle new : Coordinator D disk) (pair : ℕ) (machine : CoordinatorMachine)
       (first second : List Message) (calls : Calls middle pair machine first)
       → stops middle ≡ false → Calls new pair calls.reached second
@@ -220,7 +220,7 @@ module _ {D : Type 0} {disk : Ghosts D} where
   drives_silent new pair machine lines from calls =
       silent_at (stops new) new pair machine lines from calls refl
 
-  -- one behind the other
+  -- one after the other
   pub drives_twice : (middle new : Coordinator D disk) (pair : ℕ) (machine : CoordinatorMachine)
       (lines heard later : Lines) (from via to : Outlets)
       (first : Drives middle pair machine lines heard from via) → stops middle ≡ false
@@ -357,7 +357,7 @@ module _ {D : Type 0} {disk : Ghosts D} where
       (λ call side is. ap (λ m. frames_to side m) is) in
       (one.0, subst (Begins preference) (sym one.2) (at_once one.1 []))
 
-  -- so does one behind a checkpoint
+  -- so does one after a checkpoint
   pub starts_behind : (preference : Option Which) (old middle new : Coordinator D disk) (pair : ℕ)
       (machine : CoordinatorMachine) (messages : List Message)
       (made : Calls middle pair machine []) (first : Call)

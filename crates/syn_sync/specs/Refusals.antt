@@ -9,7 +9,7 @@ use Rattle.syn_coordinator.specs.Coordinators.{all_causes, checkpoint_causes, de
 use Rattle.syn_coordinator.specs.declared.coordinator.Coordinator.{Coordinator}
 
 -- A start is refused so; or it is refused 8, and then the checkpoint is refused so, or the start
--- behind it. Or a device call failed, or the machine was stopped; or a session still runs that
+-- after it. Or a device call failed, or the machine was stopped; or a session still runs that
 -- nothing ends
 pub data Refuses {D : Type 0} {disk : Ghosts D} (old new : Coordinator D disk) (pair : ℕ)
     (machine : CoordinatorMachine) : Refusal → Type 0 where

@@ -280,7 +280,7 @@ fn start<D: Limit>(
     }
 }
 
-/// Starts a session behind a checkpoint, which makes room for its number. It was refused 8 before.
+/// Starts a session after a checkpoint, which makes room for its number. It was refused 8 before.
 fn start_behind<D: Limit>(
     alloc: Global,
     coordinator: &mut Coordinator<D>,

@@ -37,10 +37,10 @@
 //! - Where a link closes, no side is ready in time or has to answer, the session is given up: at
 //!   most nine ticks end it 25, which the coordinator reports.
 //! - A start that is refused 8 makes a checkpoint and starts again, once.
-//! - After Ok the acts begin with a start, maybe behind that checkpoint (`drives`: `Begins`). No
+//! - After Ok the acts begin with a start, maybe after that checkpoint (`drives`: `Begins`). No
 //!   session runs then, and the machine was not stopped (`ended`, `goes`).
 //! - A refusal is the first cause of the start; or, where that is 8, of the checkpoint, or of the
-//!   start behind it (`refused`: `Refuses`). It is 9 where a device call failed or the machine was
+//!   start after it (`refused`: `Refuses`). It is 9 where a device call failed or the machine was
 //!   stopped, and 25 where a session still runs that nothing ends.
 #![tactic(auto)]
 

@@ -10,10 +10,10 @@ pub trait Watch {
     /// The request was sent. Where its link was closed, nothing was written.
     fn sent(&mut self, sending: &Sending);
 
-    /// The side replied. The coordinator takes the reply behind this call.
+    /// The side replied. The coordinator takes the reply after this call.
     fn heard(&mut self, from: Side, answered: &Answered);
 
-    /// The plan of the session has so many items. It is told behind each reply that the coordinator
+    /// The plan of the session has so many items. It is told after each reply that the coordinator
     /// took and that did not end the session, once there is a plan.
     fn planned(&mut self, items: usize);
 

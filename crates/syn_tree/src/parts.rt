@@ -15,7 +15,7 @@ use std::alloc::Global;
 use syn_path::{Key, Name};
 use syn_placed::Standing;
 
-/// Puts the entries behind those that are there, each with the path before its own.
+/// Puts the entries after those that are there, each with the path before its own.
 ///
 /// Refused 7 where a path would pass its limits, and 11 where memory is refused.
 pub(crate) fn push_under(
@@ -53,7 +53,7 @@ pub fn below(alloc: Global, list: &[Entry], at: &Key) -> Result<Vec<Entry>, Tree
     Ok(copies)
 }
 
-/// Puts an entry below the path behind those that are there, without the path before its own.
+/// Puts an entry below the path after those that are there, without the path before its own.
 fn push_below(
     alloc: Global,
     copies: &mut Vec<Entry>,

@@ -66,7 +66,7 @@ fetched_more position offset end a b c (first ∷ more) piece ends (between, rep
           on came is,
     )
 
--- pieces that came, and what they are one behind the other
+-- pieces that came, and what they are one after the other
 abbrev pub Gathers : ℕ → SideLine → SideLine → Bytes → Type 0
 Gathers position a b bytes = (pieces : Pieces) × AreFetched position a 0 pieces b
     × (bytes_of pieces ≡ bytes)

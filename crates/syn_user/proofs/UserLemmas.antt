@@ -55,7 +55,7 @@ if_err : {A E : Type 0} → (P Q : E → Type 0) (r : Result A E) → ((e : E) �
 if_err P Q (Ok a) to holds = holds
 if_err P Q (Err e) to holds = to e holds
 
--- the line behind a request that was written
+-- the line after a request that was written
 abbrev pub sent_line : Line → Option Bytes → ℕ → Line
 sent_line line written next = record {
   given = line.given;
@@ -180,7 +180,7 @@ module _ (A : Type 0) (old new : Line) (wish : Wish) where
   unheard_goes TooLarge unheard shut = shut
   unheard_goes BadMessage unheard shut = shut
 
-  -- it goes on behind a refusal of the replica alone
+  -- it goes on after a refusal of the replica alone
   pub fails_goes : (why : UserError) → Fails old new wish why
       → new.goes ≡ goes_behind {A = A} (Err why)
   fails_goes why (failed.refused refusal told) = told.goes

@@ -105,7 +105,7 @@ module _ (old new : Line) (wish : Wish) where
     unheard : (error : UserError) → old.goes ≡ true → IsSent old new (wished_at old wish) →
         IsUnheard old new (wished_at old wish) error → new.goes ≡ false → Fails error
 
--- a connection goes on behind an answer and behind a refusal of the replica
+-- a connection goes on after an answer and after a refusal of the replica
 abbrev pub goes_behind : {A : Type 0} → Result A UserError → Bool
 goes_behind (Ok value) = true
 goes_behind (Err (Refused why)) = true

@@ -74,7 +74,7 @@ IsListing _ = ⊥
 abbrev pub root_from : ℕ → ℕ → Request
 root_from position offset = Fetch [] position offset
 
--- pieces with the length of all that they are of, and their bytes one behind the other
+-- pieces with the length of all that they are of, and their bytes one after the other
 abbrev pub Pieces : Type 0
 Pieces = List (ℕ × Bytes)
 
@@ -94,7 +94,7 @@ pub record ArePiecesOf (position : ℕ) (old new : SideLine) (tree : Tree) : Typ
   pub came : AreFetched position old 0 pieces new
   pub spells : bytes_of pieces ≡ spelling tree
 
--- some pieces came, and behind them that the replica was edited since the position
+-- some pieces came, and after them that the replica was edited since the position
 pub record IsTouchedSince (position : ℕ) (old new : SideLine) : Type 0 where
   pub pieces : Pieces
   pub between : SideLine

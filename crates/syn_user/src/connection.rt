@@ -200,7 +200,7 @@ impl<R: Read, W: Write> UserConnection<R, W> {
     }
 }
 
-/// The number of the request behind that of this number.
+/// The number of the request after that of this number.
 pub(crate) fn number_after(number: u32) -> u32
     ensures { result ≡ number_after number }
 {

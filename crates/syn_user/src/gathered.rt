@@ -9,7 +9,7 @@ use syn_message::LONGEST_PIECE;
 use syn_tree::{LONGEST_SPELLING, Tree};
 use syn_wire::{Version, decode_tree};
 
-/// The pieces that came of the spelling of a tree, one behind the other. How long the whole is, the
+/// The pieces that came of the spelling of a tree, one after the other. How long the whole is, the
 /// first of them tells.
 #[derive(Drop)]
 pub(crate) struct Gathered {

@@ -14,14 +14,14 @@
 //!   is a reply to just this request (`ok`: `IsTold`). A refusal has its cause (`err`: `Fails`). It
 //!   is the replica's own, or 9, 11, 21, 22 or 23 of the connection. Or it is 7 for an edit that no
 //!   frame takes, which is not sent.
-//! - The connection goes on exactly behind an Ok and a refusal of the replica (`goes`). On a closed
+//! - The connection goes on exactly after an Ok and a refusal of the replica (`goes`). On a closed
 //!   one each call is refused 9, and nothing is written (`closed`).
 //!
 //! A `SideConnection` asks what a session asks, and begins none. `list` writes the frame of a
 //! listing, and answers the reply to just that, which came in the next frame (`replied`:
 //! `IsReplied`). A refusal of the replica came so, too (`refused`). `tree` answers the position
 //! that a listing of the root told, and the tree that the pieces spell which were asked for at that
-//! position, one behind the other (`shown`: `ShowsTree`).
+//! position, one after the other (`shown`: `ShowsTree`).
 #![tactic(auto)]
 
 mod connection;

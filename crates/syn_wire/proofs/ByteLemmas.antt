@@ -30,7 +30,7 @@ pub behind : (xs ys : Bytes) → AreBytes (xs ++ ys) → AreBytes ys
 behind [] ys h = h
 behind (x ∷ xs) ys h = behind xs ys (All-tail IsByte x (xs ++ ys) h)
 
--- a count with so many bytes behind it is the spelling of a file, and the rest follows
+-- a count with so many bytes after it is the spelling of a file, and the rest follows
 pub file_spelled : (bytes after file rest : Bytes) (count : ℕ) →
     bytes ≡ to_be_bytes w32 count ++ after → file ≡ take count after → rest ≡ drop count after →
     length file ≡ count → bytes ≡ file_spelling file ++ rest
@@ -47,7 +47,7 @@ file_spelled bytes after file rest count spelled front back counted =
 pub begins_alike : (old new : Bytes) → new ≡ old → IsBeginning old new
 begins_alike old new same = ([], same ∙ sym (append-nil old))
 
--- more was added behind
+-- more was added at the end
 pub begins_more : (old mid new more : Bytes) → IsBeginning old mid → new ≡ mid ++ more →
     IsBeginning old new
 begins_more old mid new more h added =
@@ -58,7 +58,7 @@ pub begins_further : (old mid new : Bytes) → IsBeginning old mid → IsBeginni
     IsBeginning old new
 begins_further old mid new h then = begins_more old mid new then.0 h then.1
 
--- a file behind its length
+-- a file after its length
 pub file_added : (front file mid new : Bytes) → mid ≡ front ++ to_be_bytes w32 (length file) →
     new ≡ mid ++ file → new ≡ front ++ file_spelling file
 file_added front file mid new begun added =

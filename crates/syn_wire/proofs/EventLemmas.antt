@@ -218,7 +218,7 @@ event_tells trees version (Edited u (Chmod p m)) (Edited v (Chmod q n)) r s hv h
     (ap rest_of (sym (chmod_parts version u p m r) ∙ (e ∙ chmod_parts version v q n s))) in
     (ap (λ x. Edited x.0.0 (Chmod x.0.1 x.1)) same.0, same.1)
 
--- ---- what is read behind a kind
+-- ---- what is read after a kind
 
 -- what is read in each version is in this one
 pub in_each : (version : Version) (bytes fields : Bytes) (kind : ℕ)

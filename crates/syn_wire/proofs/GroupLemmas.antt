@@ -72,7 +72,7 @@ below_less n m q h = by_name (name_cmp n m) refl h
     by_name Equal e k = absurd (true≢false (sym (ap is_lt k)))
     by_name Greater e k = absurd (true≢false (sym (ap is_lt k)))
 
--- nothing is below a place that an earlier pair is behind
+-- nothing is below a place that an earlier pair is after
 none_within : (at p : Path) (es : Pairs) → After p es → is_lt (path_cmp p at) ≡ false →
     is_prefix at p ≡ false → NoneOf (is_within at) es
 none_within at p es h low out =
@@ -130,7 +130,7 @@ abbrev first_of : Path → Name → Name
 first_of [] d = d
 first_of (n ∷ q) d = n
 
--- it holds behind the pair of a name, of that name
+-- it holds after the pair of a name, of that name
 led_top : (n m : Name) (c : Content) (es : Pairs) → path_cmp (n ∷ []) (m ∷ []) ≡ Less →
     After (m ∷ []) es → Led n ((m ∷ [], c) ∷ es) → Led m es
 led_top n m c es less a h x k q is = by_case (h x k q (some_more (x ∷ k ∷ q) (m ∷ [], c) es is))
@@ -149,7 +149,7 @@ led_top n m c es less a h x k q is = by_case (h x k q (some_more (x ∷ k ∷ q)
         absurd (true≢false (sym is ∙ ap is_some gone))
     by_case (inr some) = by_path (eq_by_cmp path_cmp (x ∷ []) (m ∷ [])) refl some
 
--- and behind a longer path, of the same name
+-- and after a longer path, of the same name
 led_on : (n m k : Name) (q : Path) (c : Content) (es : Pairs) → Led n ((m ∷ k ∷ q, c) ∷ es) →
     Led n es
 led_on n m k q c es h x y r is = by_case (h x y r (some_more (x ∷ y ∷ r) (m ∷ k ∷ q, c) es is))
@@ -169,7 +169,7 @@ not_led m k q c es a is =
     true≢false (sym is ∙ (ap (λ b. is_some (cond b (Some c) (find path_cmp (m ∷ []) es)))
     (not_longer m m k q) ∙ ap is_some gone))
 
--- the pairs behind that of a name: its own, and the groups of the later names
+-- the pairs after that of a name: its own, and the groups of the later names
 grouped : (n : Name) (es : Pairs) → After (n ∷ []) es → Rising es → Led n es →
     es ≡ within (n ∷ []) es ++ groups es (tops es)
 grouped n [] a r h = refl

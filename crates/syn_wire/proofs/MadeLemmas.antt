@@ -93,7 +93,7 @@ stands_at_root version t h = record {
 
 -- ---- directories
 
--- a directory's count and parts stand behind its kind
+-- a directory's count and parts stand after its kind
 pub no_directory_read : (version : Version) (fields : Bytes) →
     IsReading (λ n. n < 2 ^ 16) (to_be_bytes w16) fields None → (t : Tree) (rest : Bytes) →
     IsDirectoryTreeIn version t → 2 ∷ fields ≡ spelling_in version t ++ rest → ⊥
@@ -246,7 +246,7 @@ file_read version fields file after found short = record {
 
 -- ---- kinds
 
--- behind the kind of a directory stands a directory
+-- after the kind of a directory stands a directory
 pub directory_none : (version : Version) (fields : Bytes) → IsReading (IsDirectoryTreeIn version)
     (spelling_in version) (2 ∷ fields) None → IsReading (IsOptionalTreeIn version)
     (spelling_in version)

@@ -31,7 +31,7 @@ names_tell v w r s hv hw e =
     let heads : length v ≡ length w = ap (λ xs. first_or xs 0) e in
     split v w r s heads (ap rest_of e)
 
--- ---- a name behind its length
+-- ---- a name after its length
 
 -- no byte is there for the length
 pub no_length : (bytes : Bytes) → length bytes < 1 → (value : Name) (rest : Bytes) →
@@ -170,7 +170,7 @@ first_and_rest (x ∷ xs) l = ap (λ ys. x ∷ ys) (sym (take-all (length xs) xs
 
 -- ---- what is written of a path
 
--- one name more behind its length
+-- one name more after its length
 pub name_added : (names : Path) (i : ℕ) (name : Name) (text bytes front old pushed new : Bytes) →
     i < length names → name ≡ slice_index_or names i name → text ≡ name → bytes ≡ text →
     old ≡ front ++ names_spelling (take i names) → pushed ≡ old ++ length text ∷ [] →

@@ -1,4 +1,4 @@
--- One value behind another.
+-- One value after another.
 use Rattle.std.proofs.Common.{ℕ, List, ◌++◌, sym, ap, ap₂, ◌∙◌, None, append_assoc}
 use Rattle.syn_wire.specs.Reads.{BeginsWith, IsReading, NoneBeginsAnother}
 use Rattle.syn_wire.specs.Events.{Both, both_spelling}
@@ -14,7 +14,7 @@ module _ {A B : Type 0} (P : A → Type 0) (Q : B → Type 0) (f : A → List �
             ∙ append_assoc (f pair.0) (g pair.1) rest;
       })
 
-  -- nor where no second one is behind the first
+  -- nor where no second one is after the first
   pub second_none : NoneBeginsAnother P f → (bytes after : List ℕ) (a : A) →
       BeginsWith P f bytes a after → IsReading Q g after None →
       IsReading (Both P Q) (both_spelling f g) bytes None

@@ -24,7 +24,7 @@ IsNumber64 n = n < 2 ^ 64
 abbrev pub number64_spelling : ℕ → Bytes
 number64_spelling n = to_be_bytes w64 n
 
--- one value behind another
+-- one value after another
 abbrev pub Both : {A B : Type 0} → (A → Type 0) → (B → Type 0) → A × B → Type 0
 Both P Q pair = P pair.0 × Q pair.1
 

@@ -19,7 +19,7 @@ NoU64BeginsAnother = NoneBeginsAnother (λ n. n < 2 ^ 64) (to_be_bytes w64)
 abbrev pub NoPathBeginsAnother : Type 0
 NoPathBeginsAnother = NoneBeginsAnother IsPath path_spelling
 
--- nor bytes behind their length others
+-- nor bytes after their length others
 abbrev pub NoFileBeginsAnother : Type 0
 NoFileBeginsAnother = NoneBeginsAnother IsFile file_spelling
 

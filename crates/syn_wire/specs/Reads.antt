@@ -19,7 +19,7 @@ abbrev pub NoneBeginsAnother : {V : Type 0} → (V → Type 0) → (V → List �
 NoneBeginsAnother {V} IsLawful spelling = (v w : V) (r s : List ℕ) → IsLawful v → IsLawful w
     → spelling v ++ r ≡ spelling w ++ s → (v ≡ w) × (r ≡ s)
 
--- the old bytes begin the new ones: something may have been added behind them, and nothing else
+-- the old bytes begin the new ones: something may have been added after them, and nothing else
 -- changed
 abbrev pub IsBeginning : List ℕ → List ℕ → Type 0
 IsBeginning old new = (added : List ℕ) × (new ≡ old ++ added)

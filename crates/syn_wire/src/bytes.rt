@@ -11,7 +11,7 @@ use std::alloc::Global;
 /// The most bytes of a spelling that a session carries at a time.
 pub const LONGEST_PIECE: usize = 32_768;
 
-// The bytes behind their length, and the rest. Takes no memory, so that a length is believed only
+// The bytes after their length, and the rest. Takes no memory, so that a length is believed only
 // once its bytes are seen.
 pub(crate) fn split_file(bytes: &[u8]) -> Option<(&[u8], &[u8])>
     ensures { IsReading IsFile file_spelling bytes.now
@@ -27,7 +27,7 @@ pub(crate) fn split_file(bytes: &[u8]) -> Option<(&[u8], &[u8])>
     Some(after.split_at(length))
 }
 
-/// The bytes that stand behind their length of four bytes, and the rest; none where no front of the
+/// The bytes that stand after their length of four bytes, and the rest; none where no front of the
 /// bytes is that.
 ///
 /// Refused 11 where memory is refused, and only where the bytes are there.
@@ -43,7 +43,7 @@ pub fn read_file(alloc: Global, bytes: &[u8]) -> Result<Option<(Vec<u8>, &[u8])>
     Ok(Some((file.to_vec(alloc)?, rest)))
 }
 
-/// Adds the bytes behind their length of four bytes. Refused 11 where memory is refused; a
+/// Adds the bytes after their length of four bytes. Refused 11 where memory is refused; a
 /// beginning of it may then have been added.
 pub fn write_file(out: &mut Vec<u8>, file: &[u8]) -> Result<(), WireError>
     requires { length file.now < 2 ^ 32 }

@@ -15,7 +15,7 @@
 //!   bytes is such a spelling (`IsReading`). What is written is the spelling. Of the part that a
 //!   replacement puts, the limits of each file and directory and of its paths are part of the
 //!   spelling. Its number of nodes and its size are not.
-//! - `write_path`, `write_node`, `write_tree` and `write_marks` add the spelling behind the bytes
+//! - `write_path`, `write_node`, `write_tree` and `write_marks` add the spelling after the bytes
 //!   that are there. After a refusal those still begin what is there (`kept`).
 //! - `encode_marks` writes the spelling of marks, and `decode_marks` and `decode_mark_tree` read
 //!   it, exactly as trees are read. Of marks the limits of an archive are part of the spelling:

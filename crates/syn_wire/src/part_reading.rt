@@ -72,7 +72,7 @@ pub(crate) fn read_part<'a, C: Readable>(
     }
 }
 
-// The same of a directory, behind its kind.
+// The same of a directory, after its kind.
 #[cycle(parts)]
 fn read_directory_at<'a, C: Readable>(
     alloc: Global,
@@ -96,7 +96,7 @@ fn read_directory_at<'a, C: Readable>(
     read_parts(alloc, version, list, &above, count, below)
 }
 
-// The same of a file, behind its kind.
+// The same of a file, after its kind.
 fn read_file_at<'a, C: Readable>(
     alloc: Global,
     version: Version,

@@ -90,7 +90,7 @@ fn read_names(
     Ok(Some((names, rest)))
 }
 
-// A name behind its length, and the rest.
+// A name after its length, and the rest.
 pub(crate) fn read_name(alloc: Global, bytes: &[u8]) -> Result<Option<(Name, &[u8])>, WireError>
     ensures { IfOk result (λ read. IsReading IsName name_spelling bytes.now
         (option_map (λ found. (found.0, found.1.now)) read)) }

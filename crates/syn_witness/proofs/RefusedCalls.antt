@@ -80,7 +80,7 @@ edited_world = record (with_room new_room) {
   acknowledged = Happened Left (Edited 1 put_one) ∷ [];
 }
 
--- causes that do not stand leave it to those behind them
+-- causes that do not stand leave it to those after them
 behind_none : (xs ys : List Cause) → first_cause xs ≡ None → first_cause (xs ++ ys) ≡ first_cause ys
 behind_none [] ys e = refl
 behind_none (x ∷ xs) ys e =

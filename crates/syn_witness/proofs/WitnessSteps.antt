@@ -57,7 +57,7 @@ room_after room events = fold (λ room event. room - record_size (event_spelling
 abbrev pub room_of : History → ℕ
 room_of history = room_after new_room history
 
--- what is left of an archive's room behind these records
+-- what is left of an archive's room after these records
 abbrev pub archive_left : ℕ → List Kept → ℕ
 archive_left room kept = fold (λ room kept. room - record_size (kept_spelling kept)) room kept
 

@@ -32,7 +32,7 @@
 //! The runs show these:
 //!
 //! - A stop cuts off an edit, a start, a replacement, a record of the archive and a checkpoint, and
-//!   the opening behind it gives it back. Of an edit that failed and of a checkpoint, that an
+//!   the opening after it gives it back. Of an edit that failed and of a checkpoint, that an
 //!   opening gives it back or not is shown both ways.
 //! - A device call fails in an edit, a replacement, a start and a reopening.
 //! - Sessions carry a file, one each way and a removal. They mark what an earlier one carried, a
@@ -128,7 +128,7 @@ pub fn short_witnesses()
 /// its archive's device failed. No side is asked for a listing before both have begun, and no item
 /// is refused or recorded before the session came to it. No checkpoint is made within an answer but
 /// for a record that does not fit, which is kept next, and no session ends 8 without it. No machine
-/// is halted, no step is refused 9 and no session ends 9 but behind a device call that failed.
+/// is halted, no step is refused 9 and no session ends 9 but after a device call that failed.
 pub fn forbidden()
     ensures up { StaysWithoutStop }
     ensures stops { StopsAsArmed }

@@ -91,7 +91,7 @@ pub rows_are : (m : ArgMatches) (app : App) (words : List Text) → app ≡ syn_
 rows_are m app words same matches =
     let P : App → Type 0 = λ a. HasMatchesOf a words m in (subst P same matches syn_is_simple).0
 
--- a flag before the command or behind it, said of the words
+-- a flag before the command or after it, said of the words
 pub asks_why : (flag : Bool) (words : List Text) (top rows : List Row) (name : Text) →
     top ≡ matches_of syn_app words → subcommand_of syn_app words ≡ Some (name, rows) →
     (IsTrue flag ↔ (IsSet top (codes "verbose") ⊎ IsSet rows (codes "verbose"))) →

@@ -234,12 +234,12 @@ abbrev pub AsksHelp : List Text → Type 0
 AsksHelp words = IsAmong DisplayHelp (fault_of syn_app words)
     ⊎ IsAmong DisplayVersion (fault_of syn_app words)
 
--- the flag is used behind the command
+-- the flag is used after the command
 abbrev pub IsSetIn : Option (Text × List Row) → Text → Type 0
 IsSetIn None id = ⊥
 IsSetIn (Some found) id = IsSet found.1 id
 
--- the words ask for an explanation, before the command or behind it
+-- the words ask for an explanation, before the command or after it
 abbrev pub AsksWhy : List Text → Type 0
 AsksWhy words = IsSet (matches_of syn_app words) (codes "verbose")
     ⊎ IsSetIn (subcommand_of syn_app words) (codes "verbose")

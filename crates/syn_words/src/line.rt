@@ -30,7 +30,7 @@ pub enum Change {
 pub enum Place<'a> {
     /// In the file of this name.
     File(&'a str),
-    /// Behind the server at this HOST:PORT. The text is looked at when it is used.
+    /// After the server at this HOST:PORT. The text is looked at when it is used.
     Served(&'a str),
 }
 

@@ -25,14 +25,14 @@ module _ {D : Type 0} {disk : Ghosts D} (old new : Coordinator D disk) (pair : �
     pub asks_so : AsksSo old new pair taken journal before course left right all asks
     pub later : suc before.cursor ≤ asks_so.2.after.cursor
 
-  -- the answer does not end the session, and it asks for this; behind a last one, for a later item
+  -- the answer does not end the session, and it asks for this; after a last one, for a later item
   pub record CarriesOn (asks : Side × Asked) : Type 0 where
     pub fault : fault_of all taken.side taken.request taken.reply ≡ None
     pub asks_so : AsksSo old new pair taken journal before course left right
         (all ++ taken ∷ []) asks
     pub last : is_last taken.reply ≡ true → asks_so.2.after.cursor ≢ before.cursor
 
-  -- the session ends with the answer at once, or behind it
+  -- the session ends with the answer at once, or after it
   pub data EndsCarrying : Ended → Type 0 where
     at_once : (why : Refusal) →
         (fault_of all taken.side taken.request taken.reply ≡ Some (cause_of why))

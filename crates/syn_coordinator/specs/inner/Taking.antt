@@ -62,7 +62,7 @@ pub record TakesOn {D : Type 0} {disk : Ghosts D} (new : Archive D disk) (pair :
   pub tells : Tells session (reaching running taken after)
   pub may : MayGoOn now.value session (reaching running taken after) asks
 
--- It ends with the answer at once; or behind it; or the machine is down. It remembers what could
+-- It ends with the answer at once; or after it; or the machine is down. It remembers what could
 -- not be kept
 pub data TakesEnd {D : Type 0} {disk : Ghosts D} (new : Archive D disk) (tried : Option Tried)
     (pair : ℕ) (journal : Journal) (running : Running) (taken : Exchange) (session : Session)

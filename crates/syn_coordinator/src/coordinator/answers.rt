@@ -43,7 +43,7 @@ impl<D: Limit> Coordinator<D> {
     /// An answer that no request waits for is ignored. A session ends with the refusal of its
     /// begin or of a listing; 22 where a scan grows too large; 23 where the answer does not belong
     /// to its request; 9 where a device call fails, and 10 where one had failed before; 8 where a
-    /// record does not fit in the archive's journal, even behind a checkpoint; 11 where memory is
+    /// record does not fit in the archive's journal, even after a checkpoint; 11 where memory is
     /// refused; and with none of these where it comes through its plan.
     pub fn on_reply(
         &mut self,

@@ -1,4 +1,4 @@
-//! How a coordinator goes on behind an answer for the item that is carried.
+//! How a coordinator goes on after an answer for the item that is carried.
 ghost use Rattle.std.specs.Prelude.{◌≡◌, ℕ, List, MatchResult, slice_get, Some, true};
 ghost use Rattle.syn_headline.specs.Coordinator.{Exchange, IsDue, IsFor};
 ghost use Rattle.syn_headline.specs.Network.{Which};

@@ -189,7 +189,7 @@ impl<D: Limit> Coordinator<D> {
 
     /// Goes on through the plan, until it asks for the first piece of an item, or the session ends.
     /// It ends without a refusal where no item is left, and else as an item ends it. It ends 11
-    /// behind 2^64 - 1 items, and no plan has as many.
+    /// after 2^64 - 1 items, and no plan has as many.
     pub(super) fn walk(
         &mut self,
         alloc: Global,

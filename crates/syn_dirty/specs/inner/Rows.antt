@@ -17,7 +17,7 @@ Rows = List Row
 abbrev pub alone : Pair → Row
 alone pair = (pair.0, true)
 
--- a pair of the one side among those of the other, with what is behind it
+-- a pair of the one side among those of the other, with what is after it
 abbrev pub among : Pair → (Pairs → Rows) → Pairs → Rows
 among left behind [] = alone left ∷ behind []
 among left behind (right ∷ rights) = by_order (path_cmp left.0 right.0)

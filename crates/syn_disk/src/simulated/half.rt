@@ -14,7 +14,7 @@ use crate::bytes::{copy_out, copy_range, extend, overwrite};
 use crate::disk::HALF_SIZE;
 use std::alloc::{AllocError, Global};
 
-/// Room for all bytes is taken at once. Behind those that are kept all are zero, synced and not
+/// Room for all bytes is taken at once. After those that are kept all are zero, synced and not
 /// written.
 #[derive(Drop)]
 pub struct Half {

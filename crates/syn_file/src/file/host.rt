@@ -83,7 +83,7 @@ impl HostFile for File {
     }
 }
 
-// The place that `lseek` finds from `from` on; none where it is behind the end of the file. Where
+// The place that `lseek` finds from `from` on; none where it is after the end of the file. Where
 // the file system does not tell, all is kept.
 fn seek(file: &File, from: u64, whence: i32) -> io::Result<Option<u64>> {
     let found = libc::lseek(file.as_raw_fd(), from.cast_signed(), whence);

@@ -11,7 +11,7 @@ use std::os::unix::fs::FileExt;
 use syn_disk::HALF_SIZE;
 use syn_disk::bytes::{copy_out, extend, overwrite};
 
-/// Half a disk, up to the last byte that was used. All behind it are zero.
+/// Half a disk, up to the last byte that was used. All after it are zero.
 ///
 /// Room for the whole half is taken at once, and the system gives it as it is used.
 #[derive(Drop)]

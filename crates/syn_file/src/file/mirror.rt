@@ -85,7 +85,7 @@ fn load<H: HostFile>(file: &H, image: &mut Image) -> io::Result<()> {
     Ok(())
 }
 
-// The place, or the end of a disk where it is behind that.
+// The place, or the end of a disk where it is after that.
 fn within(place: u64) -> usize
     ensures { result ≤ DISK_SIZE }
 {

@@ -1,4 +1,4 @@
-//! A coordinator is opened: from its disk alone, behind a stop of its machine, or again.
+//! A coordinator is opened: from its disk alone, after a stop of its machine, or again.
 ghost use Rattle.std.specs.Prelude.{◌≡◌, ℕ, IfErr, IfOk, MatchResult, Some};
 ghost use Rattle.syn_disk.specs.Disk.{NothingNew};
 ghost use Rattle.syn_headline.specs.Coordinator.{CoordinatorMachine, coordinator_kind};
@@ -60,7 +60,7 @@ pub fn start_coordinator<D: SimulatedDisk>(
     }
 }
 
-/// A coordinator behind an opening.
+/// A coordinator after an opening.
 #[derive(Drop)]
 pub struct CoordinatorOpening<D: Disk> {
     pub coordinator: CoordinatorHost<D>,
@@ -150,7 +150,7 @@ fn reopen_up<D: SimulatedDisk>(alloc: Global, coordinator: Coordinator<D>) -> Co
     }
 }
 
-/// The coordinator behind another opening, of which this is to be told. Where its machine stopped
+/// The coordinator after another opening, of which this is to be told. Where its machine stopped
 /// in the call, nothing is told.
 fn settle_found<D: SimulatedDisk>(
     coordinator: Coordinator<D>,

@@ -108,7 +108,7 @@ fn is_device(error: SessionError) -> bool
     error == SessionError::Device
 }
 
-/// The coordinator behind a start that was made, and sent this. Where its device failed, it is
+/// The coordinator after a start that was made, and sent this. Where its device failed, it is
 /// refused 9.
 fn settle_started<D: SimulatedDisk>(
     alloc: Global,

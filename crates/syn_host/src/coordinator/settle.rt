@@ -35,7 +35,7 @@ pub(crate) fn down<D: SimulatedDisk>(coordinator: Coordinator<D>) -> Coordinator
     })
 }
 
-/// The coordinator behind a call that was made, of which this is to be told. Where its machine
+/// The coordinator after a call that was made, of which this is to be told. Where its machine
 /// stopped in the call, nothing is told but what was kept before.
 pub(crate) fn settle<D: SimulatedDisk>(
     alloc: Global,

@@ -83,7 +83,7 @@ impl<D: SimulatedDisk> UpSide<D> {
         }
     }
 
-    /// The side behind a call that may have added an event.
+    /// The side after a call that may have added an event.
     fn settle_since(self, position: u64) -> SideCall<D>
         ensures same { position ≡ position_shown self.replica
             → Settles self position outcomes.Nothing result }

@@ -69,7 +69,7 @@ impl<D: SimulatedDisk> SideHost<D> {
         }
     }
 
-    /// So many device calls are still made, and the machine stops behind the last of them; at 0 it
+    /// So many device calls are still made, and the machine stops after the last of them; at 0 it
     /// stops at once.
     pub fn stop(self, calls: u64) -> SideHost<D>
         ensures { (pair : ℕ) (machine : SideMachine) → IsHost pair self machine

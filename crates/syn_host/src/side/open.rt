@@ -1,4 +1,4 @@
-//! A side is opened behind a stop of its machine, or again.
+//! A side is opened after a stop of its machine, or again.
 ghost use Rattle.std.specs.Prelude.{◌≡◌, ℕ, IfOk, option_map};
 ghost use Rattle.syn_headline.specs.MachineSteps.{Does, Open, Reopen};
 ghost use Rattle.syn_headline.specs.SideMachine.{SideMachine, side_kind};
@@ -108,7 +108,7 @@ impl<D: SimulatedDisk> UpSide<D> {
         }
     }
 
-    /// The side behind a reopening, before which so many events had been acknowledged and this had
+    /// The side after a reopening, before which so many events had been acknowledged and this had
     /// been sent to the disk last.
     fn settle_opened(self, position: u64, tried: Option<Vec<u8>>) -> SideCall<D>
         ensures { SettlesOpened self position (option_map (λ spelled. spelled.items) tried) result }

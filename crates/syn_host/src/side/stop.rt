@@ -28,7 +28,7 @@ impl<D: SimulatedDisk> UpSide<D> {
         self.arm(Arm::Fail(call))
     }
 
-    /// So many device calls are still made, and the machine stops behind the last of them.
+    /// So many device calls are still made, and the machine stops after the last of them.
     pub fn stop_after(self, calls: u64) -> UpSide<D>
         requires { calls ≢ 0 }
         ensures runs { (pair : ℕ) (machine : SideMachine) → RunsAs pair self machine
@@ -83,7 +83,7 @@ impl<D: SimulatedDisk> UpSide<D> {
         }
     }
 
-    /// The side behind a call, before which so many events had been acknowledged. Where the machine
+    /// The side after a call, before which so many events had been acknowledged. Where the machine
     /// stopped in it, nothing comes of the call.
     pub(crate) fn settle(self, position: u64, outcome: Outcome) -> SideCall<D>
         ensures { Settles self position outcome result }
@@ -101,7 +101,7 @@ impl<D: SimulatedDisk> UpSide<D> {
         }
     }
 
-    /// The same behind a call that added an event, which is acknowledged.
+    /// The same after a call that added an event, which is acknowledged.
     pub(crate) fn settle_added(self, position: u64) -> SideCall<D>
         ensures { SettlesAdded self position result }
     {

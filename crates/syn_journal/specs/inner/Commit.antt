@@ -1,4 +1,4 @@
--- What stands behind a gate before it is opened, and what a stop leaves meanwhile.
+-- What stands after a gate before it is opened, and what a stop leaves meanwhile.
 use Rattle.std.specs.Prelude.{◌≡◌, ◌⊎◌, ◌<◌, ◌≤◌, ◌+◌, ◌^◌, ◌++◌, ◌∷◌, [], ℕ, if◌then◌else◌, List}
 use Rattle.std.specs.Prelude.{length}
 use Rattle.std.specs.Int.{w32, w64, to_be_bytes}
@@ -7,16 +7,16 @@ use Rattle.syn_journal.specs.declared.half.Half.{Half}
 use Rattle.syn_journal.specs.Layout.{longest_image, start_of, other_half, is_open, Value}
 use Rattle.syn_journal.specs.inner.Whole.{IsWhole}
 
--- behind the gate of a half: the generation, the image, and the closed gate behind it
+-- after the gate of a half: the generation, the image, and the closed gate after it
 abbrev pub body_of_image : ℕ → List ℕ → List ℕ
 body_of_image generation image =
     to_be_bytes w64 generation ++ to_be_bytes w32 (length image) ++ image ++ 0 ∷ []
 
--- behind the gate of a record: the payload, and the closed gate behind it
+-- after the gate of a record: the payload, and the closed gate after it
 abbrev pub body_of_record : List ℕ → List ℕ
 body_of_record payload = to_be_bytes w32 (length payload) ++ payload ++ 0 ∷ []
 
--- any bytes behind the gate, or any gate before the body
+-- any bytes after the gate, or any gate before the body
 abbrev pub IsStagedOrOpened : List ℕ → ℕ → List ℕ → List ℕ → Type 0
 IsStagedOrOpened old gate body disk =
     Torn (gate + 1) (length body) old disk ⊎ Torn gate 1 (overwritten old (gate + 1) body) disk

@@ -123,7 +123,7 @@ fn replace<D: Disk>(
 }
 
 // Closes a half by its gate, and syncs. The gate of one that is closed is not written: until the
-// sync a stop could leave any byte there, so that the old bytes behind it would count again.
+// sync a stop could leave any byte there, so that the old bytes after it would count again.
 fn ensure_closed<D: Disk>(disk: &mut D, half: Half, was_open: bool) -> Result<(), DeviceFailed>
     requires { is_open (D.seen disk.old) half ≡ was_open }
     ensures closed { OnOk result (is_open (D.seen disk.new) half ≡ false) }

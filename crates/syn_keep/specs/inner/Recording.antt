@@ -41,7 +41,7 @@ pub data Checkpoints {D : Type 0} {disk : Ghosts D} (new : Archive D disk) (pair
   no_memory : IsMachine new pair machine →
       Checkpoints new pair machine (Some (Ends refusal.Memory))
 
--- and the machine was not stopped behind it
+-- and the machine was not stopped after it
 pub data MakesRoomNow {D : Type 0} {disk : Ghosts D} (new : Archive D disk) (pair : ℕ)
     (machine : Journal) : Option Due → Type 0 where
   has_made : (between : Journal) → nat_le greatest machine.generation ≡ false →

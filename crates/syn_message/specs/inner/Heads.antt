@@ -27,7 +27,7 @@ pub record IsUserHead (head : ℕ × ℕ) : Type 0 where
   pub none : head.0 ≡ 0
   pub number : head.1 < 2 ^ 32
 
--- what stands behind the number of a user's request
+-- what stands after the number of a user's request
 abbrev pub IsWishOf : ℕ → Wish → Type 0
 IsWishOf kind wish = (wish_kind wish ≡ kind) × IsLawfulWish wish
 

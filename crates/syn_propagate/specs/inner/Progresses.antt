@@ -45,7 +45,7 @@ abbrev pub HasCome : Carriage → Exchanges → Option ℕ → ℕ → Type 0
 HasCome c taken None offset = offset ≡ 0
 HasCome c taken (Some total) offset = (offset < total) × HasStaged c taken total offset
 
--- what stands before the offset has come, and nothing behind it was asked for
+-- what stands before the offset has come, and nothing after it was asked for
 pub record HasReached (c : Carriage) (taken : Exchanges) (offset : ℕ) (total : Option ℕ)
     : Type 0 where
   pub told : first_total taken c.path ≡ total

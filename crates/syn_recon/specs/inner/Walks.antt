@@ -27,7 +27,7 @@ on_right path = (path, false, true)
 abbrev pub on_both : Path → Row
 on_both path = (path, true, true)
 
--- a path of the left among those of the right, with what is behind it
+-- a path of the left among those of the right, with what is after it
 abbrev pub among : Path → (List Path → Rows) → List Path → Rows
 among left behind [] = on_left left ∷ behind []
 among left behind (right ∷ rights) = by_order (path_cmp left right)

@@ -1,4 +1,4 @@
--- The rows of the table of steps, each by its first word and the words behind it.
+-- The rows of the table of steps, each by its first word and the words after it.
 use Rattle.std.specs.Prelude.{◌≡◌, List, [], ◌∷◌, Option, None, Some, codes}
 use Rattle.std.specs.Str.{IsUtf8}
 use Rattle.syn_path.specs.declared.error.PathError.{PathError}
@@ -30,7 +30,7 @@ verb_word verb.Stop = codes "stop"
 verb_word verb.Open = codes "open"
 verb_word verb.Reopen = codes "reopen"
 
--- the words behind the first say the step
+-- the words after the first say the step
 abbrev pub SayBehind : Verb → List Text → Line → Type 0
 SayBehind verb.Edit words (has.Edit side user edit) = (number : Text) × (rest : List Text)
     × (words ≡ side_word side ∷ number ∷ rest) × IsNumber 32 number user × SayEdit rest edit
@@ -49,7 +49,7 @@ SayBehind verb.Open words (has.Open m) = words ≡ machine_word m ∷ []
 SayBehind verb.Reopen words (has.Reopen m) = words ≡ machine_word m ∷ []
 SayBehind other words line = ⊥
 
--- the words behind the first say no step
+-- the words after the first say no step
 abbrev pub NothingBehind : Verb → List Text → Type 0
 NothingBehind first words = (line : Line) → ¬ SayBehind first words line
 

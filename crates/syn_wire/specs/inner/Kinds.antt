@@ -42,7 +42,7 @@ abbrev pub IsContentOf : Kind → Content → Type 0
 IsContentOf kind Directory = Unit {0}
 IsContentOf kind (File contents) = IsFileOf kind contents
 
--- what a reader found behind the kind of a file: the file, or that none is there
+-- what a reader found after the kind of a file: the file, or that none is there
 abbrev pub IsFileRead : Kind → Bytes → Option (Content × Bytes) → Type 0
 IsFileRead kind fields None = IsReading (IsFileOf kind) (file_spelling_of kind) fields None
 IsFileRead kind fields (Some found) = (file : Contents) × (found.0 ≡ File file)

@@ -1,4 +1,4 @@
--- What is read of the parts of a tree, one behind the other.
+-- What is read of the parts of a tree, one after the other.
 use Rattle.std.specs.Prelude.{◌≡◌, ℕ, true, List, [], ◌∷◌, ◌++◌, length, flat_map, Option, Some}
 use Rattle.std.specs.Prelude.{None, IsSome}
 use Rattle.std.specs.Int.{to_be_bytes, w16}

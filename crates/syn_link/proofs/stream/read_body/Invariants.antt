@@ -2,7 +2,7 @@ use Rattle.std.proofs.Common.{◌≡◌, ℕ, List, ◌++◌}
 use Rattle.std.specs.Io.KnownBytes.{Consumes}
 use Rattle.syn_link.proofs.stream.read_body.Given as goal
 
--- what came is held behind what was held
+-- what came is held after what was held
 abbrev pub invariant-loop : goal.invariant-loop
 invariant-loop g l =
     (came : List ℕ) × (l.framer ≡ l.initial.framer ++ came)

@@ -7,7 +7,7 @@ use Rattle.syn_model.specs.Path.{path_spelling}
 use Rattle.syn_message.proofs.request.write_fields.Goals as goal
 use Rattle.syn_wire.specs.Events.{file_spelling}
 
--- what is added behind two parts is added behind both
+-- what is added after two parts is added after both
 three : {T E : Type 0} (result : Result T E) (new old mid end a b d : List ℕ) → mid ≡ old ++ a
     → end ≡ mid ++ b → OnOk result (new ≡ end ++ d) → OnOk result (new ≡ old ++ (a ++ (b ++ d)))
 three (Ok done) new old mid end a b d first second third =
