@@ -19,7 +19,6 @@ use Rattle.syn_headline.specs.SideMachine.{staging_after, with_journal, has_room
 use Rattle.syn_headline.specs.SideMachine.{said, SideTakes, answers, adds, EditsSide, edits}
 use Rattle.syn_headline.specs.Network.{Which, Left, Right, Sent, Message, Asks, Answers}
 use Rattle.syn_headline.specs.Acknowledged.{Ack, Happened}
-use Rattle.syn_headline.specs.Coordinator as fine
 use Rattle.syn_headline.specs.World as fine_world
 use Rattle.syn_headline.specs.MachineSteps.{causes_at, is_halted}
 use Rattle.syn_headline.specs.World.{says}

@@ -85,13 +85,13 @@ pub record BeganAfter (session : ℕ) (found : History) (ended : History) : Type
 
 -- a complete session without edits: what it found, and what it left
 pub record IsQuietSession (before : Stores) (acknowledged : List Ack) (reports : List (Report × ℕ))
-    (report : Report) (found left : Stores) : Type 0 where
+    (report : Report) (found after : Stores) : Type 0 where
   pub acks : ℕ
   pub reported : Contains reports (report, acks)
   pub complete : report.end ≡ Complete
-  pub at_end : left ≡ stores_after before (take acks acknowledged)
-  pub left_side : BeganAfter report.session found.left left.left
-  pub right_side : BeganAfter report.session found.right left.right
+  pub at_end : after ≡ stores_after before (take acks acknowledged)
+  pub left_side : BeganAfter report.session found.left after.left
+  pub right_side : BeganAfter report.session found.right after.right
   pub started : ℕ
   pub archive : found.archive ≡ (stores_after before (take started acknowledged)).archive
   pub taken : take (started + 1) acknowledged ≡ take started acknowledged
@@ -115,24 +115,24 @@ pub record PlansWith (log : Log) (session : ℕ) (preference : Option Which) : T
 -- A complete session without edits leaves on both sides the synchronization of what it found, with
 -- what it prefers, if no two files that it found at one path differ with one digest
 abbrev pub CompleteSessionsSynchronize : Stores → Picture → Type 0
-CompleteSessionsSynchronize before world = (report : Report) (found left : Stores) →
-    IsQuietSession before world.acknowledged world.reports report found left →
+CompleteSessionsSynchronize before world = (report : Report) (found after : Stores) →
+    IsQuietSession before world.acknowledged world.reports report found after →
     AreApart (tree_of found.left) (tree_of found.right) →
     (preference : Option Which) × PlansWith world.log report.session preference
-    × IsSynchronized preference (trees_of found) (trees_of left)
+    × IsSynchronized preference (trees_of found) (trees_of after)
 
 -- And it leaves the archive of that, without this premise
 abbrev pub CompleteSessionsReconcile : Stores → Picture → Type 0
-CompleteSessionsReconcile before world = (report : Report) (found left : Stores) →
-    IsQuietSession before world.acknowledged world.reports report found left →
+CompleteSessionsReconcile before world = (report : Report) (found after : Stores) →
+    IsQuietSession before world.acknowledged world.reports report found after →
     (preference : Option Which) × PlansWith world.log report.session preference
-    × IsReconciled preference (trees_of found) (trees_of left)
+    × IsReconciled preference (trees_of found) (trees_of after)
 
 -- Its conflicts are the relevant paths that are dirty on both sides, not a directory on both, and
 -- unequal by mark; with a preference there are none
 abbrev pub ReportsItsConflicts : Stores → Picture → Type 0
-ReportsItsConflicts before world = (report : Report) (found left : Stores) →
-    IsQuietSession before world.acknowledged world.reports report found left →
+ReportsItsConflicts before world = (report : Report) (found after : Stores) →
+    IsQuietSession before world.acknowledged world.reports report found after →
     (preference : Option Which) × PlansWith world.log report.session preference
     × ((path : Path) → Contains report.conflicts path
     ↔ IsConflict preference (tree_of found.left) (tree_of found.right) found.archive.marks path)
@@ -146,15 +146,15 @@ HasCounts preference found report =
 
 -- Where it prefers a side, both sides are equal after it, and the archive has their marks
 abbrev pub PreferenceLeavesOne : Stores → Picture → Type 0
-PreferenceLeavesOne before world = (report : Report) (found left : Stores) (side : Which) →
-    IsQuietSession before world.acknowledged world.reports report found left →
+PreferenceLeavesOne before world = (report : Report) (found after : Stores) (side : Which) →
+    IsQuietSession before world.acknowledged world.reports report found after →
     PlansWith world.log report.session (Some side) →
-    AreApart (tree_of found.left) (tree_of found.right) → AreEqual (trees_of left)
+    AreApart (tree_of found.left) (tree_of found.right) → AreEqual (trees_of after)
 
 -- A complete session without edits has these counts
 abbrev pub CountsItsItems : Stores → Picture → Type 0
-CountsItsItems before world = (report : Report) (found left : Stores) →
-    IsQuietSession before world.acknowledged world.reports report found left →
+CountsItsItems before world = (report : Report) (found after : Stores) →
+    IsQuietSession before world.acknowledged world.reports report found after →
     (preference : Option Which) × PlansWith world.log report.session preference
     × HasCounts preference found report
 
@@ -192,26 +192,26 @@ pub record IsFetched (sent : Sent) (source : Which) (history : History) (session
 abbrev pub CarriedIsMarked : Stores → Picture → Type 0
 CarriedIsMarked before world =
     (side : Which) (first rest : History) (token : Token) (path : Path) (since : ℕ) (new : Tree)
-    (report : Report) (found left : Stores) →
+    (report : Report) (found after : Stores) →
     history_of found side ≡ first ++ Replaced token path since new ∷ rest →
     All (λ event. touches event path ≡ false) rest →
     IsFetched world.sent (other side) (history_of found (other side)) token.session path →
-    IsQuietSession before world.acknowledged world.reports report found left →
-    subtree left.archive.marks path ≡ mark new
+    IsQuietSession before world.acknowledged world.reports report found after →
+    subtree after.archive.marks path ≡ mark new
 
 -- It is marked too where the source had it at a position, in a directory, and nothing touched it
 -- there since: so also what an earlier run carried, of whose messages nothing is left
 abbrev pub HeldIsMarked : Stores → Picture → Type 0
 HeldIsMarked before world =
     (side : Which) (first rest : History) (token : Token) (path : Path) (since fetched : ℕ)
-    (new : Tree) (report : Report) (found left : Stores) →
+    (new : Tree) (report : Report) (found after : Stores) →
     let source = history_of found (other side) in
     history_of found side ≡ first ++ Replaced token path since new ∷ rest →
     All (λ event. touches event path ≡ false) rest →
     is_directory (tree_at source fetched) (parent path) ≡ true →
     new ≡ subtree (tree_at source fetched) path → UntouchedSince fetched source path →
-    IsQuietSession before world.acknowledged world.reports report found left →
-    subtree left.archive.marks path ≡ mark new
+    IsQuietSession before world.acknowledged world.reports report found after →
+    subtree after.archive.marks path ≡ mark new
 
 -- The machines stand for what was there before and then what was acknowledged, in order
 pub record StandsFor (before : Stores) (world : Picture) : Type 0 where
