@@ -9,7 +9,7 @@ use Rattle.syn_model.specs.Tree.{replace, is_directory, empty_directory}
 use Rattle.syn_model.specs.Mark.{mark, mark_of, AreApart}
 use Rattle.syn_model.specs.Dirty.{is_same_tree}
 use Rattle.syn_model.specs.Reconcile.{is_relevant, IsSyncedAt, IsReconciledAt, is_directory_in_both}
-use Rattle.syn_model.specs.Reconcile.{is_alike, is_settled, ConflictLeaves}
+use Rattle.syn_model.specs.Reconcile.{is_alike, is_resolved, ConflictLeaves}
 use Rattle.syn_model.specs.Plan.{Trees, scan_of, names_below, with_items_below, items_from}
 use Rattle.syn_model.specs.Plan.{most_names, with_directory, after_item, carried_out, CanBePlanned}
 use Rattle.syn_model.specs.Plan.{after_plan, PlanSynchronizes, PlanReconciles}
@@ -117,7 +117,7 @@ module _ (preference : Option Which) (a b o : Tree) (left_parents : HasParents a
   -- and the archive has the mark of both
   one_mark : (s : Trees) (p : Path) → mark (subtree s.left p) ≡ subtree s.archive p →
       mark (subtree s.right p) ≡ subtree s.archive p → is_directory_in_both a b p ≡ false →
-      is_settled preference a b (left_dirty a b o) (right_dirty a b o) p ≡ true →
+      is_resolved preference a b (left_dirty a b o) (right_dirty a b o) p ≡ true →
       IsReconciledAt preference a b (left_dirty a b o) (right_dirty a b o) s.left s.right o
       s.archive p
   one_mark s p left_has right_has z settled = record {
@@ -132,7 +132,7 @@ module _ (preference : Option Which) (a b o : Tree) (left_parents : HasParents a
 
   settled_where : (p : Path) (x y v : Bool) → left_dirty a b o p ≡ x → right_dirty a b o p ≡ y →
       is_alike a b p ≡ v → (not (x && y) || v) ≡ true →
-      is_settled preference a b (left_dirty a b o) (right_dirty a b o) p ≡ true
+      is_resolved preference a b (left_dirty a b o) (right_dirty a b o) p ≡ true
   settled_where p x y v ex ey ev e =
       or_right (is_some preference) _
       (ap₂ (λ u w. u || w) (ap₂ (λ u w. not (u && w)) ex ey) ev ∙ e)
@@ -288,9 +288,9 @@ module _ (preference : Option Which) (a b o : Tree) (left_parents : HasParents a
             ] refl
       ] refl
 
-  settled_below : (p q : Path) → is_settled preference a b (left_dirty a b o) (right_dirty a b o) p
+  settled_below : (p q : Path) → is_resolved preference a b (left_dirty a b o) (right_dirty a b o) p
       ≡ true →
-      is_settled preference a b (left_dirty a b o) (right_dirty a b o) (p ++ q) ≡ true
+      is_resolved preference a b (left_dirty a b o) (right_dirty a b o) (p ++ q) ≡ true
   settled_below p q e =
       let w = p ++ q in
       let here : Path → Bool =
