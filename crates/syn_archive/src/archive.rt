@@ -135,6 +135,13 @@ impl<D: Disk> Archive<D> {
         self.machine.is_halted()
     }
 
+    /// Whether its machine has stopped, so that no device call is made any more.
+    pub fn is_cut(&self) -> bool
+        ensures { result ≡ is_stopped (D.Disk.arms (disk_of self.now)) }
+    {
+        self.machine.is_cut()
+    }
+
     /// The disk, as the last call left it.
     pub fn into_disk(self) -> D
         ensures { result ≡ disk_of self }
@@ -449,12 +456,5 @@ impl<D: Limit> Archive<D> {
         ensures readings { SameReadings (journal_of self.old) (journal_of self.new) }
     {
         self.machine.arm(arm);
-    }
-
-    /// Whether all the device calls before a stop are made.
-    pub fn is_cut(&self) -> bool
-        ensures { result ≡ is_stopped (D.Disk.arms (disk_of self.now)) }
-    {
-        self.machine.is_cut()
     }
 }

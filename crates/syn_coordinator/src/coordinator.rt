@@ -3,6 +3,7 @@ ghost use Rattle.std.specs.Prelude.{◌≡◌, ◌≢◌, ◌++◌, ◌∷◌, [
 ghost use Rattle.std.specs.Prelude.{IfErr, IfOk, MatchResult, OnErr, OnOk, false, map, option_map};
 ghost use Rattle.std.specs.Prelude.{◌+◌, ◌<◌, ◌^◌, ◌⊎◌, ◌&&◌, not};
 ghost use Rattle.syn_archive.specs.Archive.{IsHalted, session_shown};
+ghost use Rattle.syn_disk.specs.Arms.{is_stopped};
 ghost use Rattle.syn_headline.specs.Coordinator.{CoordinatorMachine, CoordinatorStarts};
 ghost use Rattle.syn_headline.specs.Coordinator.{CoordinatorTicks, Running, report_of};
 ghost use Rattle.syn_headline.specs.Machine.{Halted, Up};
@@ -97,6 +98,13 @@ impl<D: Disk> Coordinator<D> {
         ensures { result.now ≡ archive_of self.now }
     {
         &self.archive
+    }
+
+    /// Whether its machine has stopped, so that no device call is made any more.
+    pub fn is_cut(&self) -> bool
+        ensures { result ≡ is_stopped (D.Disk.arms (device_of self.now)) }
+    {
+        self.archive.is_cut()
     }
 
     /// The archive. A session that runs is given up.

@@ -21,7 +21,7 @@ use std::thread;
 use std::thread::{Scope, Threads};
 use std::time::{Clock, Duration};
 use syn_coordinator::Coordinator;
-use syn_disk::{Disk, Limit};
+use syn_disk::Disk;
 use syn_path::Side;
 use syn_refusal::Refusal;
 use syn_shared::SharedReplica;
@@ -33,7 +33,7 @@ use syn_sync::{Driver, Link, Watch};
 /// Refused 9 where an address cannot be resolved or reached, and 12 where both are of one server,
 /// which would be marked as agreeing with itself: no session runs then. Else refused as
 /// `Driver::run` is.
-pub fn sync<H: Net<Listener = TcpListener, Stream = TcpStream>, C: Limit, V: Watch>(
+pub fn sync<H: Net<Listener = TcpListener, Stream = TcpStream>, C: Disk, V: Watch>(
     rt: &H,
     alloc: Global,
     coordinator: &mut Coordinator<C>,
@@ -88,7 +88,7 @@ pub fn run<H, D, C, G, K, V>(
 where
     H: Net<Listener = TcpListener, Stream = TcpStream> + Threads + Wait + Clock + Log + Sync,
     D: Disk + Send,
-    C: Limit + Drop,
+    C: Disk + Drop,
     G: Gates + Sync,
     K: Gates + Sync,
     V: Watch,
@@ -167,7 +167,7 @@ where
 }
 
 /// Drives a session where both servers were started, and closes the connections.
-fn drive_started<C: Limit, V: Watch>(
+fn drive_started<C: Disk, V: Watch>(
     alloc: Global,
     mut coordinator: Coordinator<C>,
     left: TcpStream,
@@ -187,7 +187,7 @@ fn drive_started<C: Limit, V: Watch>(
 }
 
 /// Drives one session over the two connections.
-fn drive<C: Limit, V: Watch>(
+fn drive<C: Disk, V: Watch>(
     alloc: Global,
     coordinator: &mut Coordinator<C>,
     mut streams: Streams<'_>,

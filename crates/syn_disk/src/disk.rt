@@ -1,6 +1,6 @@
 //! The disk as the layers above see it.
 ghost use Rattle.std.specs.Prelude.{◌≡◌, ◌≤◌, ◌+◌, ℕ, false, List, length, take, drop, OnOk, OnErr};
-ghost use Rattle.syn_disk.specs.Arms.{Arms, after_call, is_refused};
+ghost use Rattle.syn_disk.specs.Arms.{Arms, after_call, is_refused, is_stopped};
 ghost use Rattle.syn_disk.specs.Disk.{overwritten, Torn, Follows, NothingNew, Only, Elapses};
 ghost use Rattle.syn_disk.specs.Disk.{CountsFailure};
 
@@ -73,6 +73,11 @@ pub trait Disk {
         ensures count { CountsFailure result (failures self.old) (failures self.new) }
         ensures arms { arms self.new ≡ after_call (arms self.old) }
         ensures allowed { OnOk result (is_refused (arms self.old) ≡ false) };
+
+    /// Whether the disk's machine has stopped, so that no call is made any more. A disk in a file
+    /// never says so: its program is gone with its machine.
+    fn is_cut(&self) -> bool
+        ensures { result ≡ is_stopped (arms self.now) };
 
     /// This moment is one of those since an earlier one.
     ghost counts_now: { (disk : Self) (t : ℕ) (c : List ℕ) → t ≤ moment disk → may_leave disk c

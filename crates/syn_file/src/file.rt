@@ -226,4 +226,8 @@ impl<F: DiskFile + Drop> Disk for FileDisk<F> {
         self.is_lost = false;
         Ok(())
     }
+
+    fn is_cut(&self) -> bool {
+        false
+    }
 }

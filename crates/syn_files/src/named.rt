@@ -4,7 +4,7 @@ ghost use Rattle.std.specs.Prelude.{IfOk};
 use std::alloc::Global;
 use syn_archive::Archive;
 use syn_command::{CommandError, Image, open_image};
-use syn_disk::{Cut, Disk};
+use syn_disk::Disk;
 use syn_file::{Access, LockedDisk, OpenError};
 use syn_replica::Replica;
 
@@ -40,7 +40,7 @@ pub fn archive_in<N: NamedDisks>(
     alloc: Global,
     disks: &N,
     name: &str,
-) -> Result<Archive<Cut<N::Disk>>, CommandError> {
+) -> Result<Archive<N::Disk>, CommandError> {
     archive_on(alloc, disks.lock(name, Access::Write))
 }
 
@@ -49,7 +49,7 @@ pub fn archive_to_read<N: NamedDisks>(
     alloc: Global,
     disks: &N,
     name: &str,
-) -> Result<Archive<Cut<N::Disk>>, CommandError> {
+) -> Result<Archive<N::Disk>, CommandError> {
     archive_on(alloc, disks.lock(name, Access::Read))
 }
 
@@ -88,10 +88,10 @@ where
 pub(crate) fn archive_on<L: LockedDisk>(
     alloc: Global,
     locked: Result<L, OpenError>,
-) -> Result<Archive<Cut<L::Disk>>, CommandError>
+) -> Result<Archive<L::Disk>, CommandError>
 where
     L::Disk: Drop,
 {
-    let disk = Cut::new(locked?.into_disk(alloc)?);
+    let disk = locked?.into_disk(alloc)?;
     Archive::open(alloc, disk, None).map_err(|(error, _)| CommandError::from(error))
 }

@@ -58,9 +58,9 @@ pub fn print_plan<H: Net<Stream = TcpStream> + Threads + Sync, N: NamedDisks, O:
 }
 
 /// Prints what a session of the images would do.
-fn plan_opened<D: Disk, A: Disk, O: Write>(
+fn plan_opened<D: Disk, O: Write>(
     alloc: Global,
-    images: &Images<D, A>,
+    images: &Images<D>,
     preference: Option<Side>,
     output: &mut O,
 ) -> Result<Outcome, CommandError> {
@@ -77,10 +77,7 @@ fn plan_opened<D: Disk, A: Disk, O: Write>(
 
 /// Refuses what the replica would refuse the next session of the archive: 14 where it has seen a
 /// later one, and 20 where it is of another pair.
-fn check_begin<D: Disk, A: Disk>(
-    replica: &Replica<D>,
-    archive: &Archive<A>,
-) -> Result<(), ReplicaError> {
+fn check_begin<D: Disk>(replica: &Replica<D>, archive: &Archive<D>) -> Result<(), ReplicaError> {
     if replica.pair() != archive.pair() {
         return Err(ReplicaError::WrongPair);
     }

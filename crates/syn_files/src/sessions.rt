@@ -15,7 +15,7 @@ use syn_archive::Archive;
 use syn_command::{CommandError, Outcome, outcome_of};
 use syn_coordinator::Coordinator;
 use syn_daemon::{OpenGates, run, sync};
-use syn_disk::{Disk, Limit};
+use syn_disk::Disk;
 use syn_file::Access;
 use syn_path::Side;
 use syn_refusal::Refusal;
@@ -148,7 +148,7 @@ fn drive_served<H, D, V, O>(
 ) -> Result<Outcome, CommandError>
 where
     H: Net<Listener = TcpListener, Stream = TcpStream> + Clock,
-    D: Limit + Drop,
+    D: Disk + Drop,
     V: Told,
     O: Write,
 {
@@ -161,10 +161,10 @@ where
 }
 
 /// Runs a session between replicas that are open.
-fn drive_opened<H, D, C, V, O>(
+fn drive_opened<H, D, V, O>(
     rt: &H,
     alloc: Global,
-    images: Images<D, C>,
+    images: Images<D>,
     preference: Option<Side>,
     watch: &mut V,
     output: &mut O,
@@ -172,7 +172,6 @@ fn drive_opened<H, D, C, V, O>(
 where
     H: Net<Listener = TcpListener, Stream = TcpStream> + Threads + Wait + Clock + Copy + Sync,
     D: Disk + Drop + Send,
-    C: Limit + Drop,
     V: Told,
     O: Write,
 {
@@ -188,20 +187,19 @@ where
 
 /// Serves both replicas on loopback ports as long as a session between them runs. The servers log
 /// nothing.
-fn drive_shared<H, D, C, V, O>(
+fn drive_shared<H, D, V, O>(
     rt: &H,
     alloc: Global,
     left: &SharedReplica<D>,
     right: &SharedReplica<D>,
-    archive: Archive<C>,
+    archive: Archive<D>,
     preference: Option<Side>,
     watch: &mut V,
     output: &mut O,
 ) -> Result<Outcome, CommandError>
 where
     H: Net<Listener = TcpListener, Stream = TcpStream> + Threads + Wait + Clock + Copy + Sync,
-    D: Disk + Send,
-    C: Limit + Drop,
+    D: Disk + Drop + Send,
     V: Told,
     O: Write,
 {

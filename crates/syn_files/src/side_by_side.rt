@@ -4,16 +4,16 @@ use std::alloc::Global;
 use std::thread::{Threads, join};
 use syn_archive::Archive;
 use syn_command::CommandError;
-use syn_disk::{Cut, Disk};
+use syn_disk::Disk;
 use syn_file::{Access, LockedDisk, OpenError};
 use syn_replica::Replica;
 
-/// The images of a session, open: the replicas on disks `D`, and the archive on a disk `A`.
+/// The images of a session, open.
 #[derive(Drop)]
-pub(crate) struct Images<D: Disk, A: Disk> {
+pub(crate) struct Images<D: Disk> {
     pub left: Replica<D>,
     pub right: Replica<D>,
-    pub archive: Archive<A>,
+    pub archive: Archive<D>,
 }
 
 /// The images of these names, opened for this access.
@@ -29,7 +29,7 @@ pub(crate) fn images_in<H: Threads + Sync, N: NamedDisks>(
     right: &str,
     archive: &str,
     access: Access,
-) -> Result<Images<N::Disk, Cut<N::Disk>>, CommandError> {
+) -> Result<Images<N::Disk>, CommandError> {
     let left = disks.lock(left, access);
     let right = disks.lock(right, access);
     let archive = disks.lock(archive, access);
@@ -43,7 +43,7 @@ fn images_on<H: Threads + Sync, L: LockedDisk + Drop + Send>(
     left: Result<L, OpenError>,
     right: Result<L, OpenError>,
     archive: Result<L, OpenError>,
-) -> Result<Images<L::Disk, Cut<L::Disk>>, CommandError>
+) -> Result<Images<L::Disk>, CommandError>
 where
     L::Disk: Drop + Send,
 {

@@ -213,6 +213,13 @@ impl<D: Disk> Journal<D> {
         self.halted
     }
 
+    /// Whether its machine has stopped, so that no device call is made any more.
+    pub fn is_cut(&self) -> bool
+        ensures { result ≡ is_stopped (D.Disk.arms (disk_of self.now)) }
+    {
+        self.disk.is_cut()
+    }
+
     /// What it shows of its disk, which a layer above keeps while it reopens the journal.
     pub fn place(&self) -> Place
         ensures { Shows self.now result }
@@ -331,13 +338,6 @@ impl<D: Limit> Journal<D> {
         ensures readings { SameReadings self.old self.new }
     {
         self.disk.arm(arm);
-    }
-
-    /// Whether all the device calls before a stop are made.
-    pub fn is_cut(&self) -> bool
-        ensures { result ≡ is_stopped (D.Disk.arms (disk_of self.now)) }
-    {
-        self.disk.is_cut()
     }
 }
 

@@ -89,6 +89,13 @@ impl<D: Disk, S: State + Drop> Journaled<D, S> {
         self.journal.is_halted()
     }
 
+    /// Whether its machine has stopped, so that no device call is made any more.
+    pub fn is_cut(&self) -> bool
+        ensures { result ≡ is_stopped (D.Disk.arms (disk_of self.now)) }
+    {
+        self.journal.is_cut()
+    }
+
     /// The disk, as the last call left it.
     pub fn into_disk(self) -> D
         ensures { result ≡ disk_of self }
@@ -171,12 +178,5 @@ impl<D: Limit, S> Journaled<D, S> {
         ensures state { state_of self.new ≡ state_of self.old }
     {
         self.journal.arm(arm);
-    }
-
-    /// Whether all the device calls before a stop are made.
-    pub fn is_cut(&self) -> bool
-        ensures { result ≡ is_stopped (D.Disk.arms (disk_of self.now)) }
-    {
-        self.journal.is_cut()
     }
 }

@@ -21,7 +21,7 @@ ghost use Rattle.syn_image.specs.Archives.{kept_of};
 
 use std::alloc::Global;
 use syn_archive::{Archive, ArchiveError};
-use syn_disk::{Disk, Limit};
+use syn_disk::Disk;
 use syn_image::{Kept, dir_length, record_length};
 use syn_mark::{Mark, MarkTree};
 use syn_path::Path;
@@ -48,7 +48,7 @@ pub enum Due {
 /// The session ends 10 where the archive is halted, 9 where a device call fails or the machine is
 /// stopped after the checkpoint, 8 where that leaves no room either, and 11 where memory is
 /// refused. An item that is refused leaves the archive as it was.
-pub fn keep_due<D: Limit>(alloc: Global, archive: &mut Archive<D>, kept: &Kept) -> Due
+pub fn keep_due<D: Disk>(alloc: Global, archive: &mut Archive<D>, kept: &Kept) -> Due
     requires { IsOfItem (kept_of kept.now) }
     ensures settles { (pair : ℕ) (machine : Journal) → IsMachine archive.old pair machine
         → Settles archive.new pair machine (kept_of kept.now) result }
@@ -71,7 +71,7 @@ pub fn keep_due<D: Limit>(alloc: Global, archive: &mut Archive<D>, kept: &Kept) 
 }
 
 /// Records after a checkpoint what the archive does not refuse and has no room for.
-fn write_behind<D: Limit>(alloc: Global, archive: &mut Archive<D>, kept: &Kept) -> Due
+fn write_behind<D: Disk>(alloc: Global, archive: &mut Archive<D>, kept: &Kept) -> Due
     requires { IsOfItem (kept_of kept.now) }
     ensures settles { (pair : ℕ) (machine : Journal) → IsMachine archive.old pair machine
         → IsReady machine (kept_of kept.now)
@@ -172,7 +172,7 @@ fn has_room<D: Disk>(archive: &Archive<D>, kept: &Kept) -> bool
 
 /// Writes a checkpoint, so that the journal has room again, and answers nothing; or how what is due
 /// ends without one.
-fn make_room<D: Limit>(alloc: Global, archive: &mut Archive<D>) -> Option<Due>
+fn make_room<D: Disk>(alloc: Global, archive: &mut Archive<D>) -> Option<Due>
     ensures room { (pair : ℕ) (machine : Journal) → IsMachine archive.old pair machine
         → MakesRoomNow archive.new pair machine result }
     ensures failures { (due : Due) → result ≡ Some due → CountsFailuresOrStops due

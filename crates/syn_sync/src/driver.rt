@@ -25,7 +25,7 @@ use crate::watch::Watch;
 use std::alloc::Global;
 use std::io::{Read, Write};
 use syn_coordinator::Coordinator;
-use syn_disk::Limit;
+use syn_disk::Disk;
 use syn_message::{Answered, Side};
 use syn_refusal::Refusal;
 use syn_session::{Sending, SessionError};
@@ -68,7 +68,7 @@ impl<R: Read, W: Write> Driver<R, W> {
     ///
     /// Refused as `start` is, or as the checkpoint is; then no session ran. Refused 9 also where
     /// the coordinator's machine was stopped, and 25 where the session could not be ended.
-    pub fn run<D: Limit, S: Readiness, V: Watch>(
+    pub fn run<D: Disk, S: Readiness, V: Watch>(
         &mut self,
         alloc: Global,
         coordinator: &mut Coordinator<D>,
@@ -105,7 +105,7 @@ impl<R: Read, W: Write> Driver<R, W> {
 
     /// Goes on with the session until it ends, a link closes, neither side is ready in time, or the
     /// coordinator waits for nothing.
-    fn go_on<D: Limit, S: Readiness, V: Watch>(
+    fn go_on<D: Disk, S: Readiness, V: Watch>(
         &mut self,
         alloc: Global,
         coordinator: &mut Coordinator<D>,
@@ -144,7 +144,7 @@ impl<R: Read, W: Write> Driver<R, W> {
 
     /// The side that is read next, for which the coordinator waits: the one that is ready where it
     /// waits for both. None where a link is closed, neither is ready in time, or it waits for none.
-    fn next_side<D: Limit, S: Readiness>(
+    fn next_side<D: Disk, S: Readiness>(
         &self,
         coordinator: &Coordinator<D>,
         readiness: &mut S,
@@ -224,7 +224,7 @@ impl<R: Read, W: Write> Driver<R, W> {
 }
 
 /// Tells the watch how many items the plan has, and what the coordinator wrote into its archive.
-fn tell_kept<D: Limit, V: Watch>(watch: &mut V, coordinator: &Coordinator<D>) {
+fn tell_kept<D: Disk, V: Watch>(watch: &mut V, coordinator: &Coordinator<D>) {
     if let Some(items) = coordinator.planned() {
         watch.planned(items);
     }
@@ -240,7 +240,7 @@ fn tell_sent<V: Watch>(watch: &mut V, sends: &[Sending]) {
 }
 
 /// The coordinator takes the reply of the side, and answers what is to be sent.
-fn hear<D: Limit>(
+fn hear<D: Disk>(
     alloc: Global,
     coordinator: &mut Coordinator<D>,
     from: Side,
@@ -261,7 +261,7 @@ fn hear<D: Limit>(
 }
 
 /// Starts a session, and answers what is to be sent. Refused as `run` is.
-fn start<D: Limit>(
+fn start<D: Disk>(
     alloc: Global,
     coordinator: &mut Coordinator<D>,
     preference: Option<Side>,
@@ -281,7 +281,7 @@ fn start<D: Limit>(
 }
 
 /// Starts a session after a checkpoint, which makes room for its number. It was refused 8 before.
-fn start_behind<D: Limit>(
+fn start_behind<D: Disk>(
     alloc: Global,
     coordinator: &mut Coordinator<D>,
     preference: Option<Side>,
@@ -310,7 +310,7 @@ fn start_behind<D: Limit>(
 /// be sent again is dropped.
 ///
 /// Refused 9 where the machine is stopped, and 25 where the session still runs.
-fn give_up<D: Limit>(alloc: Global, coordinator: &mut Coordinator<D>) -> Result<(), Refusal>
+fn give_up<D: Disk>(alloc: Global, coordinator: &mut Coordinator<D>) -> Result<(), Refusal>
     ensures calls { (pair : ℕ) (machine : CoordinatorMachine)
         → Stands coordinator.old pair machine → Calls coordinator.new pair machine [] }
     ensures stopped { is_stopped (D.Disk.arms (device_of coordinator.old)) ≡ true
@@ -335,7 +335,7 @@ fn give_up<D: Limit>(alloc: Global, coordinator: &mut Coordinator<D>) -> Result<
 }
 
 /// Lets time go by where a session runs. It makes no device call.
-fn tick<D: Limit>(alloc: Global, coordinator: &mut Coordinator<D>)
+fn tick<D: Disk>(alloc: Global, coordinator: &mut Coordinator<D>)
     ensures calls { (pair : ℕ) (machine : CoordinatorMachine)
         → Stands coordinator.old pair machine → Calls coordinator.new pair machine [] }
     ensures archive { archive_of coordinator.new ≡ archive_of coordinator.old }

@@ -23,13 +23,13 @@ ghost use Rattle.syn_session.specs.declared.session.Session.{Session as Ran};
 use super::{Broken, Coordinator};
 use crate::ended::Ended;
 use std::alloc::Global;
-use syn_disk::{Disk, Limit};
+use syn_disk::Disk;
 use syn_message::{Reply, Request, Side};
 use syn_propagate::transfer_laws;
 use syn_refusal::Refusal;
 use syn_session::{Asks, Course, Sending, Session};
 
-impl<D: Limit> Coordinator<D> {
+impl<D: Disk> Coordinator<D> {
     ghost use Rattle.syn_coordinator.specs.Coordinators.{Breaks, BreaksNothing, BreaksOff, Does};
     ghost use Rattle.syn_coordinator.specs.Coordinators.{HaltsByFailure};
     ghost use Rattle.syn_coordinator.specs.Coordinators.{Stands, archive_of, broken, device_of};

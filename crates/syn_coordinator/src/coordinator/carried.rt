@@ -18,14 +18,14 @@ ghost use Rattle.syn_image.specs.Archives.{kept_of};
 use super::Coordinator;
 use crate::ended::Ended;
 use std::alloc::Global;
-use syn_disk::Limit;
+use syn_disk::Disk;
 use syn_image::Kept;
 use syn_message::{Reply, Request, Side};
 use syn_refusal::Refusal;
 use syn_scan::Scan;
 use syn_session::{Carrying, Course};
 
-impl<D: Limit> Coordinator<D> {
+impl<D: Disk> Coordinator<D> {
     ghost use Rattle.syn_coordinator.specs.Coordinators.{Breaks, archive_of};
     ghost use Rattle.syn_coordinator.specs.inner.Carrying.{AsksLater, CarriesOn, EndsCarrying};
     ghost use Rattle.syn_coordinator.specs.inner.Settling.{EndsSo, IsPast, IsQuiet};

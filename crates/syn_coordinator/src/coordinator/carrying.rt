@@ -25,7 +25,7 @@ ghost use Rattle.syn_image.specs.Archives.{kept_of};
 use super::{Broken, Coordinator};
 use crate::ended::Ended;
 use std::alloc::Global;
-use syn_disk::Limit;
+use syn_disk::Disk;
 use syn_image::Kept;
 use syn_keep::{Due, Tried, keep_due, refusal_for};
 use syn_message::{Request, Side};
@@ -36,7 +36,7 @@ use syn_refusal::Refusal;
 use syn_scan::Scan;
 use syn_session::{Carried, Course, Doing};
 
-impl<D: Limit> Coordinator<D> {
+impl<D: Disk> Coordinator<D> {
     ghost use Rattle.syn_coordinator.specs.Coordinators.{Breaks, archive_of, tried_shown, written};
     ghost use Rattle.syn_coordinator.specs.inner.Advancing.{BreaksBy};
     ghost use Rattle.syn_coordinator.specs.inner.Settling.{AsksSo, EndsSo, IsPast, IsQuiet};

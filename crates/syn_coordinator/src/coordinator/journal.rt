@@ -72,7 +72,7 @@ impl<D: Disk> Coordinator<D> {
     }
 }
 
-impl<D: Limit> Coordinator<D> {
+impl<D: Disk> Coordinator<D> {
     ghost use Rattle.syn_coordinator.specs.Coordinators.{Does, KeepsReadings, ReopensNot, Stands};
     ghost use Rattle.syn_coordinator.specs.Coordinators.{archive_of, device_of, broken, broken_by};
     ghost use Rattle.syn_coordinator.specs.Coordinators.{report_shown, runs, tried_shown, written};
@@ -168,6 +168,10 @@ impl<D: Limit> Coordinator<D> {
         self.broke = broke;
         found(self.tried.take(), &self.archive)
     }
+}
+
+impl<D: Limit> Coordinator<D> {
+    ghost use Rattle.syn_coordinator.specs.Coordinators.{KeepsReadings, Stands, device_of};
 
     /// Arms the archive's disk. It takes the place of an arm of its kind that is still to come.
     pub fn arm(&mut self, arm: Arm)
@@ -190,13 +194,6 @@ impl<D: Limit> Coordinator<D> {
         ensures same { KeepsReadings self.old self.new }
     {
         self.archive.arm(arm);
-    }
-
-    /// Whether all the device calls before a stop are made.
-    pub fn is_cut(&self) -> bool
-        ensures { result ≡ is_stopped (D.Disk.arms (device_of self.now)) }
-    {
-        self.archive.is_cut()
     }
 }
 

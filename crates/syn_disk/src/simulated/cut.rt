@@ -178,6 +178,12 @@ impl<D: Disk> Disk for Cut<D> {
         self.admit()?;
         self.inner.sync()
     }
+
+    fn is_cut(&self) -> bool
+        ensures { result ≡ is_stopped (arms_of self.now) }
+    {
+        self.calls_to_stop == Some(0)
+    }
 }
 
 impl<D: Disk> Limit for Cut<D> {
@@ -196,12 +202,6 @@ impl<D: Disk> Limit for Cut<D> {
                 }
             }
         }
-    }
-
-    fn is_cut(&self) -> bool
-        ensures { result ≡ is_stopped (arms_of self.now) }
-    {
-        self.calls_to_stop == Some(0)
     }
 }
 

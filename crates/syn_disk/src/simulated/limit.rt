@@ -1,7 +1,6 @@
 //! A disk that can be told which of its calls go wrong.
-ghost use Rattle.std.specs.Prelude.{◌≡◌, Bool, ℕ};
+ghost use Rattle.std.specs.Prelude.{◌≡◌, ℕ};
 ghost use Rattle.syn_disk.specs.Armed.{armed};
-ghost use Rattle.syn_disk.specs.Arms.{is_stopped};
 ghost use Rattle.syn_disk.specs.Disk.{SameOutcomes};
 
 use crate::Disk;
@@ -27,8 +26,4 @@ pub trait Limit: Disk {
         ensures past { (t : ℕ)
             → SameOutcomes (Self.Disk.left_since self.old t) (Self.Disk.left_since self.new t) }
         ensures count { Self.Disk.failures self.new ≡ Self.Disk.failures self.old };
-
-    /// Whether all the calls before a stop are made, so that no more is.
-    fn is_cut(&self) -> bool
-        ensures { result ≡ is_stopped (Self.Disk.arms self.now) };
 }

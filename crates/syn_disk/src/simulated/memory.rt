@@ -157,6 +157,10 @@ impl Disk for MemDisk {
         self.high.sync();
         Ok(())
     }
+
+    fn is_cut(&self) -> bool {
+        false
+    }
 }
 
 impl Restart for MemDisk {
