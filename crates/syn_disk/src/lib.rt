@@ -24,7 +24,8 @@
 //! - Every call says which moments it spans (`time`), so that a promise "at any moment of the call"
 //!   can be made above.
 //! - Every call goes on with the disk's arms, what it was told to refuse (`arms`), and succeeds
-//!   only where they let it (`allowed`). A disk that nobody can tell has no arms.
+//!   only where they let it (`allowed`). A disk that nobody can tell has no arms. `is_cut` says
+//!   whether they have stopped its machine.
 //!
 //! For tests and simulated machines: `MemDisk` is memory whose stops lose, keep or spoil what was
 //! not synced. `Restart` gives one of the contents that a stop may leave, and that alone from then
