@@ -12,6 +12,7 @@ use Rattle.syn_journal.specs.Refusals as journal_refusals
 use Rattle.syn_journal.specs.declared.error.JournalError.{JournalError}
 use Rattle.syn_journal.specs.declared.error.JournalError.TheVariants as refused_by
 use Rattle.syn_journaled.specs.Migrations.{Holds, IsUnwritten, Migrated, Migrates, NotMigrated}
+use Rattle.syn_journaled.specs.Migrations.{NotWritten}
 use Rattle.syn_journaled.proofs.Migrations.{after_reads, one_journal}
 use Rattle.syn_model.specs.Archive as model
 use Rattle.syn_model.specs.ArchiveImage.{ArchiveImageStands, ArchiveImagesFit, ArchiveStandsFor}
@@ -25,7 +26,7 @@ use Rattle.syn_archive.specs.Archive.{Stands, generation_shown, journal_of, pair
 use Rattle.syn_archive.specs.Disks.{DiskKeepsIn, DiskStandsIn, IsAtGreatest}
 use Rattle.syn_archive.specs.Disks.{IsMigrateRefusal, IsOldDisk, IsOpenRefusal, KeepsOrMigrates}
 use Rattle.syn_archive.specs.Disks.{StandsForNoneIn}
-use Rattle.syn_archive.specs.Refusals.{AfterReads, CountsFailures, of_journal, refusal_of}
+use Rattle.syn_archive.specs.Refusals.{AfterReads, CountsFailures, of_journal}
 use Rattle.syn_archive.specs.inner.Agreements.{GivesOld, IsUnreadOld, agreed_archive}
 use Rattle.syn_archive.specs.declared.agreed.Agreed.{Agreed}
 use Rattle.syn_archive.specs.declared.archive.Archive.{Archive}
@@ -34,7 +35,6 @@ use Rattle.syn_archive.specs.declared.error.ArchiveError.TheVariants.{NoParent, 
 use Rattle.syn_archive.specs.declared.error.ArchiveError.TheVariants.{JournalFull, Device, Halted}
 use Rattle.syn_archive.specs.declared.error.ArchiveError.TheVariants.{Memory, NoImage, Damaged}
 use Rattle.syn_archive.specs.declared.error.ArchiveError.TheVariants.{OldVersion, WrongPair}
-use Rattle.syn_archive.proofs.EndLemmas.{same_error}
 use Rattle.syn_archive.proofs.MeaningLemmas.{no_value, one_value}
 use Rattle.syn_archive.proofs.OpeningLemmas.{not_old}
 use Rattle.syn_archive.proofs.StandLemmas.{leaves_weaker}
@@ -185,20 +185,25 @@ module _ (sound : StandsForSound) (stands : ArchiveImageStands) (fit : ArchiveIm
           }
       by_cause (inr long) = absurd (omega (arith, fits, long))
 
+  by_writing : (by : JournalError) (bytes : List ℕ) →
+      NotWritten (λ a. a.pair) GivesOld image_of by bytes → IsMigrateRefusal (of_journal by) bytes
+  by_writing refused_by.Full bytes h = at_greatest bytes h
+  by_writing refused_by.JournalFull bytes h = absurd h
+  by_writing refused_by.Device bytes h = tt
+  by_writing refused_by.Halted bytes h = absurd h
+  by_writing refused_by.Memory bytes h = tt
+  by_writing refused_by.NoImage bytes h = absurd h
+  by_writing refused_by.Damaged bytes h = absurd h
+
   -- why a disk of the first version is not migrated
   pub migrate_refusal : (e : ArchiveError) (bytes : List ℕ) → IsOldDisk bytes →
-      NotMigrated (λ a. a.pair) GivesOld image_of of_journal refusal_of IsUnreadOld e bytes →
+      NotMigrated (λ a. a.pair) GivesOld image_of of_journal IsUnreadOld e bytes →
       IsMigrateRefusal e bytes
   migrate_refusal e bytes old (inl (inl h)) =
       subst (λ x. IsMigrateRefusal x bytes) (sym h.1) (by_journal h.0 bytes h.2)
   migrate_refusal e bytes old (inl (inr h)) = by_meaning e bytes h.0 h.1 old h.2
-  migrate_refusal e bytes old (inr (inl device)) =
-      subst (λ x. IsMigrateRefusal x bytes) (sym (same_error e Device device)) tt
-  migrate_refusal e bytes old (inr (inr (inl memory))) =
-      subst (λ x. IsMigrateRefusal x bytes) (sym (same_error e Memory memory)) tt
-  migrate_refusal e bytes old (inr (inr (inr full))) =
-      subst (λ x. IsMigrateRefusal x bytes) (sym (same_error e Full full.0))
-      (at_greatest bytes full.1)
+  migrate_refusal e bytes old (inr h) =
+      subst (λ x. IsMigrateRefusal x bytes) (sym h.1) (by_writing h.0 bytes h.2)
 
   -- ---- what it leaves
 

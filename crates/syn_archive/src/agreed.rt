@@ -74,8 +74,8 @@ impl State for Agreed {
         error.refusal()
     }
 
-    fn image(&self, alloc: Global) -> Result<Vec<u8>, ArchiveError> {
-        Ok(encode_archive(alloc, self.pair, self.last_session, &self.marks)?)
+    fn image(&self, alloc: Global) -> Option<Vec<u8>> {
+        encode_archive(alloc, self.pair, self.last_session, &self.marks).ok()
     }
 
     fn read(

@@ -13,6 +13,9 @@ use Rattle.syn_journal.specs.Journal.{Stands}
 use Rattle.syn_journal.specs.Journal as journal
 use Rattle.syn_journal.specs.Layout.{Fault, HasJournal, IsBeforeOrAfter, Value, generation_at}
 use Rattle.syn_journal.specs.Layout.{image_alone}
+use Rattle.syn_journal.specs.Refusals.{refusal_of}
+use Rattle.syn_journal.specs.declared.error.JournalError.{JournalError}
+use Rattle.syn_journal.specs.declared.error.JournalError.TheVariants as by_journal
 use Rattle.syn_journal.specs.declared.journal.Journal.{Journal}
 use Rattle.syn_model.specs.Refusal as why
 use Rattle.syn_model.specs.Refusal.{Refusal}
@@ -22,6 +25,7 @@ use Rattle.syn_journaled.specs.Endings.{is_device}
 use Rattle.syn_journaled.specs.Journaled.{Compacts, IsOfCheckpoint, Opened, disk_of, generation_of}
 use Rattle.syn_journaled.specs.Journaled.{journal_of, state_of}
 use Rattle.syn_journaled.specs.Migrations.{Holds, IsUnwritten, Migrates, MigratesOrBreaks}
+use Rattle.syn_journaled.specs.Migrations.{NotWritten}
 use Rattle.syn_journaled.specs.declared.journaled.Journaled.{Journaled}
 
 -- ---- what stops leave, and device calls
@@ -232,6 +236,16 @@ module _ {D S : Type 0} {disk : Ghosts D} (pair : S → ℕ)
       cause = compacts.full full;
     }
 
+    pub not_written : (by : JournalError) → ended ≡ Some (refusal_of by) →
+        NotWritten pair gives spelling by (disk.seen old)
+    not_written by_journal.Full is = unwritten is
+    not_written by_journal.Device is = tt
+    not_written by_journal.Memory is = tt
+    not_written by_journal.Halted is = absurd (running (compacts.halted.0 is))
+    not_written by_journal.JournalFull is = absurd (subst IsOfCheckpoint is compacts.refusals)
+    not_written by_journal.NoImage is = absurd (subst IsOfCheckpoint is compacts.refusals)
+    not_written by_journal.Damaged is = absurd (subst IsOfCheckpoint is compacts.refusals)
+
 -- reads of another opening before it are part of a migration
 pub after_reads : {D S : Type 0} {disk : Ghosts D} (pair : S → ℕ)
     (gives : List ℕ → List (List ℕ) → S → Type 0) (spelling : S → List ℕ) (ended : Option Refusal)
@@ -277,12 +291,3 @@ after_reads {disk = disk} pair gives spelling ended old mid new read same made m
         (λ now. ⊎_elim (λ mid. inl (read.nothing_new c mid)) (λ p. inr p) now) left)
         (then_leaves disk.moment disk.left_since old mid new (disk.may_leave old)
         (λ bytes. disk.may_leave mid bytes ⊎ P bytes) read.any_moment later)
-
--- the refusals of a checkpoint of a machine that runs
-pub refused_by : (refusal : Refusal) → IsOfCheckpoint (Some refusal) → ¬ (refusal ≡ why.Halted) →
-    (refusal ≡ why.Device) ⊎ ((refusal ≡ why.Memory) ⊎ (refusal ≡ why.Full))
-refused_by why.Halted h running = absurd (running refl)
-refused_by why.Full h running = inr (inr refl)
-refused_by why.Memory h running = inr (inl refl)
-refused_by why.Device h running = inl refl
-refused_by refusal h running = absurd h

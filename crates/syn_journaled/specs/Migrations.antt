@@ -7,7 +7,9 @@ use Rattle.syn_disk.specs.declared.disk.Disk.{Ghosts}
 use Rattle.syn_journal.specs.Journal as journal
 use Rattle.syn_journal.specs.Layout.{HasJournal, IsBeforeOrAfter, Value, image_alone, longest_image}
 use Rattle.syn_journal.specs.declared.error.JournalError.{JournalError}
-use Rattle.syn_model.specs.Refusal.{Refusal, Device, Full, Memory}
+use Rattle.syn_journal.specs.declared.error.JournalError.TheVariants.{Device, Full, Memory}
+use Rattle.syn_model.specs.Refusal.{Refusal}
+use Rattle.syn_model.specs.Refusal as refusal
 use Rattle.syn_journaled.specs.Endings.{BreaksOrReads, CountsFailures, is_device}
 use Rattle.syn_journaled.specs.Journaled.{generation_of, journal_of, state_of}
 use Rattle.syn_journaled.specs.Openings.{DiskGives, NotOpened}
@@ -43,12 +45,19 @@ module _ {S : Type 0} (pair : S → ℕ) (gives : List ℕ → List (List ℕ) �
     pub held : Holds pair gives bytes value generation state
     pub cause : (generation + 1 ≡ 2 ^ 64) ⊎ (longest_image < length (spelling state))
 
-  -- the disk is not opened, a device call fails, memory is refused, or nothing can be written
-  abbrev pub NotMigrated : {E : Type 0} → (JournalError → E) → (E → Refusal) →
+  -- the checkpoint is refused so
+  abbrev pub NotWritten : JournalError → List ℕ → Type 0
+  NotWritten Full bytes = IsUnwritten bytes
+  NotWritten Device bytes = Unit {0}
+  NotWritten Memory bytes = Unit {0}
+  NotWritten _ bytes = ⊥
+
+  -- the disk is not opened, or what it gives is not written
+  abbrev pub NotMigrated : {E : Type 0} → (JournalError → E) →
       (E → List ℕ → List (List ℕ) → Type 0) → E → List ℕ → Type 0
-  NotMigrated of_journal why IsUnread error bytes =
+  NotMigrated of_journal IsUnread error bytes =
       NotOpened of_journal (IsUnread error) error bytes
-      ⊎ ((why error ≡ Device) ⊎ ((why error ≡ Memory) ⊎ ((why error ≡ Full) × IsUnwritten bytes)))
+      ⊎ ((by : JournalError) × (error ≡ of_journal by) × NotWritten by bytes)
 
 -- a sync and reads and the six device calls of a checkpoint were made where the call succeeded, the
 -- last device call failed where 9 was answered, and none did where anything else was
@@ -70,7 +79,7 @@ pub record Migrates {D S : Type 0} (disk : Ghosts D) (pair : S → ℕ)
       Holds pair gives (disk.seen old) value generation state →
       IsBeforeOrAfter value generation (image_alone (spelling state)) (generation + 1)
       (disk.seen new)
-  pub unchanged : (why ≡ None) ⊎ ((why ≡ Some Device)
+  pub unchanged : (why ≡ None) ⊎ ((why ≡ Some refusal.Device)
       ⊎ Untouched disk.seen disk.may_leave disk.moment disk.left_since old new)
   pub failures : CountsFailures why (disk.failures old) (disk.failures new)
   pub arms : MigratesOrBreaks why (disk.arms old) (disk.arms new)

@@ -2,8 +2,9 @@
 use Rattle.std.specs.Prelude.{◌≡◌, ◌⊎◌, ℕ, List, map, Ok}
 use Rattle.std.specs.Global.{Vec}
 use Rattle.syn_journal.specs.Layout.{Value, meaning}
-use Rattle.syn_journal.specs.Refusals.{IsOpenRefusal}
+use Rattle.syn_journal.specs.Refusals.{IsOpenRefusal, refusal_of}
 use Rattle.syn_journal.specs.declared.error.JournalError.{JournalError}
+use Rattle.syn_model.specs.Refusal.{Refusal}
 
 abbrev pub bytes_of_each : List (Vec ℕ) → List (List ℕ)
 bytes_of_each payloads = map (λ payload. payload.items) payloads
@@ -14,6 +15,11 @@ pub record DiskGives {S : Type 0} (gives : List ℕ → List (List ℕ) → S �
   pub value : Value
   pub means : meaning bytes ≡ Ok value
   pub given : gives value.image value.payloads state
+
+-- it is how a refusal of the journal is answered
+abbrev pub IsOfJournal : {E : Type 0} → (JournalError → E) → (E → Refusal) → E → Type 0
+IsOfJournal of_journal why error =
+    (by : JournalError) × (error ≡ of_journal by) × (why error ≡ refusal_of by)
 
 -- the journal is refused so, or the value that it has is not read
 abbrev pub NotOpened : {E : Type 0} → (JournalError → E) → (List ℕ → List (List ℕ) → Type 0) → E →

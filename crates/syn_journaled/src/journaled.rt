@@ -9,6 +9,7 @@ ghost use Rattle.syn_journal.specs.Journal.{SameReadings};
 ghost use Rattle.syn_journal.specs.Layout.{Value, image_alone, longest_image};
 ghost use Rattle.syn_journal.specs.Refusals.{IsFormatRefusal};
 ghost use Rattle.syn_journaled.specs.Endings.{Spends, ended, is_device};
+ghost use Rattle.syn_journaled.specs.Openings.{IsOfJournal};
 ghost use Rattle.syn_model.specs.Refusal.{Device, Memory};
 
 use crate::state::State;
@@ -40,9 +41,9 @@ impl<D: Disk, S: State + Drop> Journaled<D, S> {
             journal.Stands (journal_of machine) (image_alone (S.spelling state))) }
         ensures state { IfOk result (λ machine. state_of machine ≡ state) }
         ensures generation { IfOk result (λ machine. generation_of machine ≡ 1) }
-        ensures refusals { IfErr result (λ refused. (S.why refused.0 ≡ Memory)
-            ⊎ ((by : JournalError) × (refused.0 ≡ S.of_journal by) × IsFormatRefusal by
-            × (by ≡ JournalError.Full → longest_image < length (S.spelling state)))) }
+        ensures refusals { IfErr result (λ refused. (by : JournalError)
+            × (refused.0 ≡ S.of_journal by) × IsFormatRefusal by
+            × (by ≡ JournalError.Full → longest_image < length (S.spelling state))) }
         ensures unchanged { IfErr result (λ refused. (S.why refused.0 ≡ Device)
             ⊎ (refused.1 ≡ disk)) }
 
@@ -51,9 +52,8 @@ impl<D: Disk, S: State + Drop> Journaled<D, S> {
             (λ machine. Spends D.Disk 7 None disk (disk_of machine))
             (λ refused. Spends D.Disk 7 (Some (S.why refused.0)) disk refused.1) }
     {
-        let image = match state.image(alloc) {
-            Ok(image) => image,
-            Err(error) => return Err((error, disk)),
+        let Some(image) = state.image(alloc) else {
+            return Err((S::refused(JournalError::Memory), disk));
         };
         match Journal::format(alloc, disk, &image) {
             Ok(journal) => Ok(Journaled { journal, state }),
@@ -117,6 +117,7 @@ impl<D: Disk, S: State + Drop> Journaled<D, S> {
         requires { S.ready (state_of self.old) update }
         ensures journal { Appends (journal_of self.old) (journal_of self.new) payload.now
             (ended S.why result) }
+        ensures answer { IfErr result (IsOfJournal S.of_journal S.why) }
         ensures state { MatchResult result
             (λ _. S.makes (state_of self.old) update (state_of self.new))
             (λ _. state_of self.new ≡ state_of self.old) }
@@ -138,6 +139,7 @@ impl<D: Disk, S: State + Drop> Journaled<D, S> {
     pub fn checkpoint(&mut self, alloc: Global) -> Result<(), S::Error>
         ensures journal { Compacts (journal_of self.old) (journal_of self.new)
             (S.spelling (state_of self.old)) (ended S.why result) }
+        ensures answer { IfErr result (IsOfJournal S.of_journal S.why) }
         ensures state { state_of self.new ≡ state_of self.old }
     {
         if self.journal.is_halted() {
@@ -146,9 +148,8 @@ impl<D: Disk, S: State + Drop> Journaled<D, S> {
         if self.journal.generation() == u64::MAX {
             return Err(S::refused(JournalError::Full));
         }
-        let image = match self.state.image(alloc) {
-            Ok(image) => image,
-            Err(error) => return Err(error),
+        let Some(image) = self.state.image(alloc) else {
+            return Err(S::refused(JournalError::Memory));
         };
         match self.journal.checkpoint(alloc, &image) {
             Ok(()) => Ok(()),

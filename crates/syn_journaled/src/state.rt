@@ -1,5 +1,5 @@
 //! What a machine keeps in memory, and how its disk spells it.
-ghost use Rattle.std.specs.Prelude.{◌≡◌, ◌<◌, ◌^◌, ℕ, Some, IfOk, IfErr, false};
+ghost use Rattle.std.specs.Prelude.{◌≡◌, ◌<◌, ◌^◌, ℕ, Some, IfOk, IfErr, IfSome, false};
 ghost use Rattle.syn_journal.specs.Refusals.{refusal_of};
 ghost use Rattle.syn_journaled.specs.Endings.{is_device};
 ghost use Rattle.syn_journaled.specs.Openings.{bytes_of_each};
@@ -68,10 +68,9 @@ pub trait State {
     fn refusal(error: &Self::Error) -> Refusal
         ensures { cause_of result ≡ why error.now };
 
-    /// Its image. Refused 11 where memory is refused.
-    fn image(&self, alloc: Global) -> Result<Vec<u8>, Self::Error>
-        ensures spelled { IfOk result (λ image. image.items ≡ spelling self.now) }
-        ensures memory { IfErr result (λ e. why e ≡ Memory) };
+    /// Its image; none where memory is refused.
+    fn image(&self, alloc: Global) -> Option<Vec<u8>>
+        ensures { IfSome result (λ image. image.items ≡ spelling self.now) };
 
     /// The state that the image and the payloads after it give, of the wanted pair, or of any.
     fn read(

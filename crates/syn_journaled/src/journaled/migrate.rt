@@ -23,7 +23,7 @@ impl<D: Disk, S: State + Drop> Journaled<D, S> {
     pub fn migrate(alloc: Global, disk: D) -> Result<Journaled<D, S>, (S::Error, D)>
         ensures migrated { IfOk result (Migrated S.pair S.gives_old S.spelling (D.seen disk)) }
         ensures refused { IfErr result (λ refused. NotMigrated S.pair S.gives_old S.spelling
-            S.of_journal S.why S.unread_old refused.0 (D.seen disk)) }
+            S.of_journal S.unread_old refused.0 (D.seen disk)) }
         ensures device { MatchResult result
             (λ machine. Migrates D.Disk S.pair S.gives_old S.spelling None disk (disk_of machine))
             (λ refused. Migrates D.Disk S.pair S.gives_old S.spelling (Some (S.why refused.0)) disk

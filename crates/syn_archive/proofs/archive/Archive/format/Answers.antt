@@ -1,4 +1,4 @@
-use Rattle.std.proofs.Common.{◌∙◌, inl, inr, sym, ap, subst, []}
+use Rattle.std.proofs.Common.{◌∙◌, sym, ap, subst, []}
 use Rattle.syn_journal.specs.Journal as journal
 use Rattle.syn_journal.specs.Layout.{image_alone}
 use Rattle.syn_model.specs.Archive.{new_archive}
@@ -6,9 +6,7 @@ use Rattle.syn_model.specs.ArchiveImage.{ArchiveStandsFor}
 use Rattle.syn_model.specs.MarkSpelling.{archive_spelling}
 use Rattle.syn_model.specs.Tree.{Tree}
 use Rattle.syn_archive.specs.Refusals.{IsOfFormat}
-use Rattle.syn_archive.specs.declared.error.ArchiveError.TheVariants.{Memory}
 use Rattle.syn_archive.specs.inner.Agreements.{agreed_archive}
-use Rattle.syn_archive.proofs.EndLemmas.{same_error}
 use Rattle.syn_archive.proofs.FormatLemmas.{image_fits, format_refusal}
 use Rattle.syn_archive.proofs.archive.Archive.format.Goals as goal
 
@@ -31,11 +29,8 @@ returns-in-Ok-format-clause-formatted g c =
 pub returns-in-Err-format-clause-refusals : goal.returns-in-Err-format-clause-refusals
 returns-in-Err-format-clause-refusals g c =
     let shown = ap (λ (m : Tree). record { marks = m; last_session = 0 }) c.in-Ok.ensures.ok in
-    elim c.in-Err-format.ensures.refusals as (λ _. IsOfFormat c.in-Err-format.refused.0) [
-      | inl memory ↦ subst IsOfFormat
-          (sym (same_error c.in-Err-format.refused.0 Memory memory)) tt
-      | inr h ↦ subst IsOfFormat (sym h.1) (format_refusal h.0 h.2
-          (λ full. image_fits c.args.pair
-          (archive_spelling c.args.pair (record { marks = c.in-Ok.marks; last_session = 0 }))
-          (ap (archive_spelling c.args.pair) shown) (h.3 full)))
-    ]
+    let h = c.in-Err-format.ensures.refusals in
+    subst IsOfFormat (sym h.1) (format_refusal h.0 h.2
+    (λ full. image_fits c.args.pair
+    (archive_spelling c.args.pair (record { marks = c.in-Ok.marks; last_session = 0 }))
+    (ap (archive_spelling c.args.pair) shown) (h.3 full)))

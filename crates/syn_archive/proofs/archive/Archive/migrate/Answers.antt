@@ -97,7 +97,7 @@ returns-in-Err-migrate-clause-refusals g c =
     migrate_refusal laws.sound laws.image laws.image_fits e (g.D.Disk.seen c.args.disk)
     (was_old c.in-Err.refused.0 (g.D.Disk.seen c.args.disk) c.in-OldVersion.is
     c.in-Err.ensures.refusals)
-    (subst (λ bytes. NotMigrated (λ a. a.pair) GivesOld image_of of_journal refusal_of IsUnreadOld e
+    (subst (λ bytes. NotMigrated (λ a. a.pair) GivesOld image_of of_journal IsUnreadOld e
     bytes) c.in-Err.ensures.untouched.same c.in-Err-migrate.ensures.refused)
 
 pub returns-in-Err-migrate-clause-lawful : goal.returns-in-Err-migrate-clause-lawful

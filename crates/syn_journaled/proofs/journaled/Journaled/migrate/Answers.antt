@@ -1,6 +1,6 @@
-use Rattle.std.proofs.Common.{Some, inl, inr, sym, ap, subst}
+use Rattle.std.proofs.Common.{Some, inr, sym, ap, subst}
 use Rattle.syn_journaled.specs.Migrations.{Migrates}
-use Rattle.syn_journaled.proofs.Migrations.{migrates, refused_by, running, unwritten}
+use Rattle.syn_journaled.proofs.Migrations.{migrates, not_written}
 use Rattle.syn_journaled.proofs.journaled.Journaled.migrate.Goals as goal
 
 pub returns-in-Ok-checkpoint-clause-device : goal.returns-in-Ok-checkpoint-clause-device
@@ -19,18 +19,11 @@ returns-in-Err-checkpoint-clause-device g c =
 
 pub returns-in-Err-checkpoint-clause-refused : goal.returns-in-Err-checkpoint-clause-refused
 returns-in-Err-checkpoint-clause-refused g c =
-    let why_is = g.S.State.why c.in-Err-checkpoint.error in
-    let compacts = c.in-Err-checkpoint.ensures.journal in
-    elim (refused_by why_is compacts.refusals
-    (λ halted. running g.S.State.pair g.S.State.gives_old g.S.State.spelling c.args.disk
-    c.in-Ok.machine c.in-Ok.ensures.opened c.in-Ok.ensures.device
-    (compacts.halted.0 (ap (λ r. Some r) halted)))) [
-      | inl device ↦ inr (inl device)
-      | inr (inl memory) ↦ inr (inr (inl memory))
-      | inr (inr full) ↦ inr (inr (inr (
-        full,
-        unwritten g.S.State.pair g.S.State.gives_old
-            g.S.State.spelling c.args.disk c.in-Ok.machine c.in-Ok.ensures.opened
-            c.in-Ok.ensures.device _ _ compacts (ap (λ r. Some r) full),
-      )))
-    ]
+    let answer = c.in-Err-checkpoint.ensures.answer in
+    inr (
+      answer.0,
+      answer.1,
+      not_written g.S.State.pair g.S.State.gives_old g.S.State.spelling c.args.disk
+          c.in-Ok.machine c.in-Ok.ensures.opened c.in-Ok.ensures.device _ _
+          c.in-Err-checkpoint.ensures.journal answer.0 (ap (λ r. Some r) answer.2),
+    )
