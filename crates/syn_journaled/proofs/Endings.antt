@@ -37,7 +37,7 @@ told journal.Memory = refl
 told journal.NoImage = refl
 told journal.Damaged = refl
 
-same_error : (e f : JournalError) → Some (refusal_of e) ≡ Some (refusal_of f) → e ≡ f
+pub same_error : (e f : JournalError) → Some (refusal_of e) ≡ Some (refusal_of f) → e ≡ f
 same_error e f is = sym (told e) ∙ (ap by_refusal (same_Some _ _ is) ∙ told f)
 
 counts : (e : JournalError) (old new : ℕ) → by_journal.CountsFailures e old new →

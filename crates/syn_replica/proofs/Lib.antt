@@ -5,6 +5,9 @@ pub mod MeaningLemmas
 mod VersionLemmas
 mod MigrateLemmas
 mod MigrateCauses
+mod RememberedLemmas
+mod EndLemmas
+mod WriteLemmas
 pub mod FormattedLemmas
 pub mod SessionLemmas
 pub mod GrowthLemmas

@@ -1,23 +1,22 @@
 -- Why a disk is not opened.
 use Rattle.std.proofs.Common.{◌≡◌, ℕ, List, refl, sym, ap, ◌∙◌, subst, Option, Result, Ok, Err}
-use Rattle.std.proofs.Common.{true≢false, Bool, true, false, Some, inl}
-use Rattle.syn_disk.specs.Arms.{Arms}
-use Rattle.syn_disk.specs.Calls.{MakesAtLeast}
+use Rattle.std.proofs.Common.{true≢false, Bool, true, false, Some, inl, inr}
 use Rattle.syn_journal.specs.Layout.{Value, Fault, meaning}
 use Rattle.syn_journal.specs.Refusals as journal
 use Rattle.syn_journal.specs.declared.error.JournalError.{JournalError}
 use Rattle.syn_journal.specs.declared.error.JournalError.TheVariants as refused
-use Rattle.syn_model.specs.Image.{IsOldImage}
+use Rattle.syn_journaled.specs.Openings.{NotOpened}
+use Rattle.syn_model.specs.Image.{Gives, IsOldImage}
 use Rattle.syn_replica.specs.Disks.{IsOfOtherPair, IsOldDisk, IsOpenRefusal, IsReopenRefusal}
-use Rattle.syn_standing.specs.Readings.{GivesOtherPair, GivesNothing}
-use Rattle.syn_replica.specs.Refusals.{CountsFailures, AfterReads, IsOneOf, hiding_refusals}
-use Rattle.syn_replica.specs.Refusals.{old_refusals}
-use Rattle.syn_standing.specs.Readings.{IsOfMeaning}
+use Rattle.syn_replica.specs.Refusals.{IsOneOf, hiding_refusals, old_refusals}
+use Rattle.syn_replica.specs.inner.Memories.{IsNoNext, IsUnread, IsUnreadAgain}
 use Rattle.syn_standing.specs.declared.error.ReplicaError.{ReplicaError}
 use Rattle.syn_standing.specs.declared.error.ReplicaError.TheVariants.{Tree, History, Journal}
 use Rattle.syn_standing.specs.declared.error.ReplicaError.TheVariants.{Memory, Touched, OldSession}
 use Rattle.syn_standing.specs.declared.error.ReplicaError.TheVariants.{Damaged, WrongPair}
 use Rattle.syn_standing.specs.declared.error.ReplicaError.TheVariants.{OldVersion}
+use Rattle.syn_replica.specs.declared.remembered.Remembered.{Remembered}
+use Rattle.syn_replica.proofs.VersionLemmas.{not_old}
 
 is_ok : Result Value Fault → Bool
 is_ok (Ok value) = true
@@ -46,31 +45,6 @@ journal_refusal refused.Memory wanted bytes h = tt
 journal_refusal refused.NoImage wanted bytes h = h
 journal_refusal refused.Damaged wanted bytes h = h
 
--- of a disk that means something only for lack of memory, or where a device call failed
-pub journal_hides : (e : JournalError) (wanted : Option ℕ) (bytes : List ℕ) →
-    journal.IsOpenRefusal e (meaning bytes) → IsOfOtherPair wanted bytes →
-    IsOneOf hiding_refusals (Journal e)
-journal_hides refused.Full wanted bytes h other = absurd h
-journal_hides refused.JournalFull wanted bytes h other = absurd h
-journal_hides refused.Device wanted bytes h other = refl
-journal_hides refused.Halted wanted bytes h other = absurd h
-journal_hides refused.Memory wanted bytes h other = refl
-journal_hides refused.NoImage wanted bytes h other =
-    absurd (no_value (meaning bytes) other.value _ other.means h)
-journal_hides refused.Damaged wanted bytes h other =
-    absurd (no_value (meaning bytes) other.value _ other.means h)
-
--- nor of one whose image is of version 1
-pub journal_old : (e : JournalError) (bytes : List ℕ) → journal.IsOpenRefusal e (meaning bytes) →
-    IsOldDisk bytes → IsOneOf old_refusals (Journal e)
-journal_old refused.Full bytes h old = absurd h
-journal_old refused.JournalFull bytes h old = absurd h
-journal_old refused.Device bytes h old = refl
-journal_old refused.Halted bytes h old = absurd h
-journal_old refused.Memory bytes h old = refl
-journal_old refused.NoImage bytes h old = absurd (no_value (meaning bytes) old.value _ old.means h)
-journal_old refused.Damaged bytes h old = absurd (no_value (meaning bytes) old.value _ old.means h)
-
 -- the image of such a disk is that of its value
 pub old_value : (bytes : List ℕ) (value : Value) → meaning bytes ≡ Ok value → IsOldDisk bytes →
     IsOldImage value.image
@@ -79,68 +53,107 @@ old_value bytes value means old =
     old.old
 
 -- and what its image and its payloads refuse
-pub meaning_refusal : (e : ReplicaError) (wanted : Option ℕ) (bytes : List ℕ) (value : Value) →
-    meaning bytes ≡ Ok value → IsOfMeaning e → ¬ IsOldImage value.image →
-    (e ≡ Damaged → GivesNothing value.image value.payloads) →
-    (e ≡ WrongPair → GivesOtherPair wanted value.image value.payloads) →
+by_meaning : (e : ReplicaError) (wanted : Option ℕ) (bytes : List ℕ) (value : Value) →
+    meaning bytes ≡ Ok value → IsUnread e wanted value.image value.payloads →
     IsOpenRefusal e wanted bytes
-meaning_refusal (Tree e) wanted bytes value means h young damaged other = absurd h
-meaning_refusal (History e) wanted bytes value means h young damaged other = absurd h
-meaning_refusal (Journal e) wanted bytes value means h young damaged other = absurd h
-meaning_refusal Memory wanted bytes value means h young damaged other = tt
-meaning_refusal Touched wanted bytes value means h young damaged other = absurd h
-meaning_refusal OldSession wanted bytes value means h young damaged other = absurd h
-meaning_refusal Damaged wanted bytes value means h young damaged other =
-    record { value = value; means = means; nothing = damaged refl; not_old = young }
-meaning_refusal WrongPair wanted bytes value means h young damaged other =
-    record { value = value; means = means; other = other refl }
-meaning_refusal OldVersion wanted bytes value means h young damaged other = absurd h
+by_meaning (Tree e) wanted bytes value means h = absurd h
+by_meaning (History e) wanted bytes value means h = absurd h
+by_meaning (Journal e) wanted bytes value means h = absurd h
+by_meaning Memory wanted bytes value means h = tt
+by_meaning Touched wanted bytes value means h = absurd h
+by_meaning OldSession wanted bytes value means h = absurd h
+by_meaning Damaged wanted bytes value means h =
+    record { value = value; means = means; nothing = h.1; not_old = h.0 }
+by_meaning WrongPair wanted bytes value means h =
+    record { value = value; means = means; other = h }
+by_meaning OldVersion wanted bytes value means h =
+    record { value = value; means = means; old = h }
+
+pub open_refusal : (e : ReplicaError) (wanted : Option ℕ) (bytes : List ℕ) →
+    NotOpened (λ by. Journal by) (IsUnread e wanted) e bytes → IsOpenRefusal e wanted bytes
+open_refusal e wanted bytes (inl h) =
+    subst (λ x. IsOpenRefusal x wanted bytes) (sym h.1) (journal_refusal h.0 wanted bytes h.2)
+open_refusal e wanted bytes (inr h) = by_meaning e wanted bytes h.0 h.1 h.2
 
 -- where a replica of the pair reads them again
-pub reopen_refusal : (e : ReplicaError) (pair position : ℕ) (bytes : List ℕ) (value : Value) →
-    meaning bytes ≡ Ok value → IsOfMeaning e →
-    (e ≡ Damaged → GivesNothing value.image value.payloads) →
-    (e ≡ WrongPair → GivesOtherPair (Some pair) value.image value.payloads) →
-    IsReopenRefusal e pair position bytes
-reopen_refusal (Tree e) pair position bytes value means h damaged other = absurd h
-reopen_refusal (History e) pair position bytes value means h damaged other = absurd h
-reopen_refusal (Journal e) pair position bytes value means h damaged other = absurd h
-reopen_refusal Memory pair position bytes value means h damaged other = tt
-reopen_refusal Touched pair position bytes value means h damaged other = absurd h
-reopen_refusal OldSession pair position bytes value means h damaged other = absurd h
-reopen_refusal Damaged pair position bytes value means h damaged other =
-    inl (record { value = value; means = means; nothing = damaged refl })
-reopen_refusal WrongPair pair position bytes value means h damaged other =
-    record { value = value; means = means; other = other refl }
-reopen_refusal OldVersion pair position bytes value means h damaged other = absurd h
+by_own : (e : ReplicaError) (memory : Remembered) (bytes : List ℕ) (value : Value) →
+    meaning bytes ≡ Ok value → IsNoNext e memory value.image value.payloads →
+    IsReopenRefusal e memory.pair memory.standing.position bytes
+by_own (Tree e) memory bytes value means h = absurd h
+by_own (History e) memory bytes value means h = absurd h
+by_own (Journal e) memory bytes value means h = absurd h
+by_own Memory memory bytes value means h = tt
+by_own Touched memory bytes value means h = absurd h
+by_own OldSession memory bytes value means h = absurd h
+by_own Damaged memory bytes value means (inl nothing) =
+    inl (record { value = value; means = means; nothing = nothing })
+by_own Damaged memory bytes value means (inr less) =
+    inr (record {
+      standing = less.standing;
+      gives = record { value = value; means = means; gives = less.gives };
+      fewer = less.fewer;
+    })
+by_own WrongPair memory bytes value means h =
+    record { value = value; means = means; other = h }
+by_own OldVersion memory bytes value means h = absurd h
 
--- the disk is of another pair as its value is
-pub other_value : (wanted : Option ℕ) (bytes : List ℕ) (value : Value) → meaning bytes ≡ Ok value →
-    IsOfOtherPair wanted bytes → GivesOtherPair wanted value.image value.payloads
-other_value wanted bytes value means other =
-    subst (λ v. GivesOtherPair wanted v.image v.payloads)
-    (one_value (meaning bytes) other.value value other.means means) other.other
+pub reopen_refusal : (e : ReplicaError) (memory : Remembered) (bytes : List ℕ) →
+    NotOpened (λ by. Journal by) (IsUnreadAgain e memory) e bytes →
+    IsReopenRefusal e memory.pair memory.standing.position bytes
+reopen_refusal e memory bytes (inl h) =
+    subst (λ x. IsReopenRefusal x memory.pair memory.standing.position bytes) (sym h.1)
+    (journal_refusal h.0 (Some memory.pair) bytes h.2)
+reopen_refusal e memory bytes (inr h) = by_own e memory bytes h.0 h.1 h.2.1
 
--- these make no device call that fails
-pub quiet : (e : ReplicaError) (old new : ℕ) → IsOfMeaning e → new ≡ old → CountsFailures e old new
-quiet (Tree e) old new h same = absurd h
-quiet (History e) old new h same = absurd h
-quiet (Journal e) old new h same = absurd h
-quiet Memory old new h same = same
-quiet Touched old new h same = absurd h
-quiet OldSession old new h same = absurd h
-quiet Damaged old new h same = same
-quiet WrongPair old new h same = same
-quiet OldVersion old new h same = absurd h
+-- ---- of a disk of another pair, and of one whose image is of version 1
 
-pub after_reads : (e : ReplicaError) (least : ℕ) (old new : Arms) → IsOfMeaning e →
-    MakesAtLeast least old new → AfterReads least e old new
-after_reads (Tree e) least old new h made = absurd h
-after_reads (History e) least old new h made = absurd h
-after_reads (Journal e) least old new h made = absurd h
-after_reads Memory least old new h made = made
-after_reads Touched least old new h made = absurd h
-after_reads OldSession least old new h made = absurd h
-after_reads Damaged least old new h made = made
-after_reads WrongPair least old new h made = made
-after_reads OldVersion least old new h made = absurd h
+pub hidden : (e : ReplicaError) (wanted : Option ℕ) (bytes : List ℕ) →
+    IsOpenRefusal e wanted bytes → IsOfOtherPair wanted bytes → IsOneOf hiding_refusals e
+hidden (Tree e) wanted bytes h other = absurd h
+hidden (History e) wanted bytes h other = absurd h
+hidden (Journal refused.Full) wanted bytes h other = absurd h
+hidden (Journal refused.JournalFull) wanted bytes h other = absurd h
+hidden (Journal refused.Device) wanted bytes h other = refl
+hidden (Journal refused.Halted) wanted bytes h other = absurd h
+hidden (Journal refused.Memory) wanted bytes h other = refl
+hidden (Journal refused.NoImage) wanted bytes h other =
+    absurd (no_value (meaning bytes) other.value _ other.means h)
+hidden (Journal refused.Damaged) wanted bytes h other =
+    absurd (no_value (meaning bytes) other.value _ other.means h)
+hidden Memory wanted bytes h other = refl
+hidden Touched wanted bytes h other = absurd h
+hidden OldSession wanted bytes h other = absurd h
+hidden Damaged wanted bytes h other =
+    let there = other.other in
+    absurd (h.nothing there.pair there.standing there.fits
+    (subst (λ v. Gives there.pair v.image v.payloads there.standing)
+    (one_value (meaning bytes) other.value h.value other.means h.means) there.gives))
+hidden WrongPair wanted bytes h other = refl
+hidden OldVersion wanted bytes h other =
+    let there = other.other in
+    absurd (not_old there.pair other.value.image other.value.payloads there.standing there.gives
+    (old_value bytes other.value other.means h))
+
+pub old_refusal : (e : ReplicaError) (wanted : Option ℕ) (bytes : List ℕ) → IsOldDisk bytes →
+    IsOpenRefusal e wanted bytes → IsOneOf old_refusals e
+old_refusal (Tree e) wanted bytes old h = absurd h
+old_refusal (History e) wanted bytes old h = absurd h
+old_refusal (Journal refused.Full) wanted bytes old h = absurd h
+old_refusal (Journal refused.JournalFull) wanted bytes old h = absurd h
+old_refusal (Journal refused.Device) wanted bytes old h = refl
+old_refusal (Journal refused.Halted) wanted bytes old h = absurd h
+old_refusal (Journal refused.Memory) wanted bytes old h = refl
+old_refusal (Journal refused.NoImage) wanted bytes old h =
+    absurd (no_value (meaning bytes) old.value _ old.means h)
+old_refusal (Journal refused.Damaged) wanted bytes old h =
+    absurd (no_value (meaning bytes) old.value _ old.means h)
+old_refusal Memory wanted bytes old h = refl
+old_refusal Touched wanted bytes old h = absurd h
+old_refusal OldSession wanted bytes old h = absurd h
+old_refusal Damaged wanted bytes old h =
+    absurd (h.not_old (old_value bytes h.value h.means old))
+old_refusal WrongPair wanted bytes old h =
+    let there = h.other in
+    absurd (not_old there.pair h.value.image h.value.payloads there.standing there.gives
+    (old_value bytes h.value h.means old))
+old_refusal OldVersion wanted bytes old h = refl

@@ -1,12 +1,14 @@
 -- Why a replica is not opened again, and what it stands for where it is.
 use Rattle.std.proofs.Common.{◌≡◌, ◌≤◌, ◌<◌, ◌^◌, ℕ, List, [], ◌∷◌, ◌++◌, length, refl, sym, ap}
-use Rattle.std.proofs.Common.{◌∙◌, subst, inl, inr, arith, Some, Ok, Bool, true, false, true≢false}
+use Rattle.std.proofs.Common.{◌∙◌, subst, inl, inr, arith, Some, Ok}
 use Rattle.std.proofs.lemmas.List.{length-append}
 use Rattle.syn_disk.specs.declared.disk.Disk.{Ghosts}
 use Rattle.syn_journal.specs.Layout.{Value, meaning}
 use Rattle.syn_journal.specs.Refusals as journal
 use Rattle.syn_journal.specs.declared.error.JournalError.{JournalError}
 use Rattle.syn_journal.specs.declared.error.JournalError.TheVariants as refused
+use Rattle.syn_journaled.specs.Journaled.{state_of}
+use Rattle.syn_journaled.specs.Openings.{NotOpened}
 use Rattle.syn_model.specs.Standing.{Standing}
 use Rattle.syn_model.specs.History.{History, standing_of}
 use Rattle.syn_model.specs.Version.{current_version}
@@ -16,7 +18,9 @@ use Rattle.syn_replica.specs.Growth.{KeepsUp, WithTried}
 use Rattle.syn_replica.specs.Refusals.{IsOneOf, outside_refusals}
 use Rattle.syn_replica.specs.Replica.{pair_of, position_shown, disk_of, tried_shown, Stands}
 use Rattle.syn_replica.specs.Growing.{remembered}
-use Rattle.syn_standing.specs.Readings.{OneIsGiven, IsOfMeaning}
+use Rattle.syn_replica.specs.inner.Memories.{IsUnreadAgain}
+use Rattle.syn_standing.specs.Readings.{OneIsGiven}
+use Rattle.syn_replica.specs.declared.remembered.Remembered.{Remembered}
 use Rattle.syn_replica.specs.declared.replica.Replica.{Replica}
 use Rattle.syn_standing.specs.declared.error.ReplicaError.{ReplicaError}
 use Rattle.syn_standing.specs.declared.error.ReplicaError.TheVariants.{Tree, History as OfHistory}
@@ -24,7 +28,7 @@ use Rattle.syn_standing.specs.declared.error.ReplicaError.TheVariants.{Journal, 
 use Rattle.syn_standing.specs.declared.error.ReplicaError.TheVariants.{OldSession, Damaged}
 use Rattle.syn_standing.specs.declared.error.ReplicaError.TheVariants.{WrongPair, OldVersion}
 use Rattle.syn_replica.proofs.GrowthLemmas.{disk_keeps}
-use Rattle.syn_replica.proofs.MeaningLemmas.{no_value, one_value}
+use Rattle.syn_replica.proofs.MeaningLemmas.{no_value, one_value, reopen_refusal}
 
 asked_is : (a b : ℕ) → Some a ≡ Some b → a ≡ b
 asked_is a b e = cc e
@@ -42,39 +46,6 @@ journal_outside refused.NoImage pair bytes history d h =
     absurd (no_value (meaning bytes) d.value _ d.means h)
 journal_outside refused.Damaged pair bytes history d h =
     absurd (no_value (meaning bytes) d.value _ d.means h)
-
--- a replica that runs has a value on its disk, so lack of memory and its device alone refuse to
--- read it
-pub running_outside : (bytes : List ℕ) (value : Value) →
-    meaning bytes ≡ Ok value → (e : JournalError) → journal.IsOpenRefusal e (meaning bytes) →
-    IsOneOf outside_refusals (Journal e)
-running_outside bytes value means refused.Full h = absurd h
-running_outside bytes value means refused.JournalFull h = absurd h
-running_outside bytes value means refused.Device h = refl
-running_outside bytes value means refused.Halted h = absurd h
-running_outside bytes value means refused.Memory h = refl
-running_outside bytes value means refused.NoImage h =
-    absurd (no_value (meaning bytes) value _ means h)
-running_outside bytes value means refused.Damaged h =
-    absurd (no_value (meaning bytes) value _ means h)
-
--- what shows that it is halted does not show it where it runs
-pub runs_on : (shown halted : Bool) → (shown ≡ true → halted ≡ true) → halted ≡ false →
-    shown ≡ false
-runs_on true halted is runs = absurd (true≢false (sym (is refl) ∙ runs))
-runs_on false halted is runs = refl
-
--- what is refused of a disk's meaning where memory and the device alone refuse
-pub memory_alone : (e : ReplicaError) → IsOfMeaning e → IsOneOf outside_refusals e → e ≡ Memory
-memory_alone (Tree e) of outside = absurd of
-memory_alone (OfHistory e) of outside = absurd of
-memory_alone (Journal e) of outside = absurd of
-memory_alone Memory of outside = refl
-memory_alone Touched of outside = absurd of
-memory_alone OldSession of outside = absurd of
-memory_alone Damaged of outside = cc
-memory_alone WrongPair of outside = cc
-memory_alone OldVersion of outside = absurd of
 
 -- what a disk gives that stands for a history
 module _ (one : OneIsGiven) (pair : ℕ) (bytes : List ℕ) (history : History) (fits : pair < 2 ^ 64)
@@ -118,30 +89,32 @@ module _ (one : OneIsGiven) (pair : ℕ) (bytes : List ℕ) (history : History) 
       absurd (other.differ (sym (asked_is pair other.asked other.wanted_is) ∙ same))
   outside OldVersion position early h = absurd h
 
+-- a disk that stands for a history no shorter than what is remembered is not opened for them alone
+pub unopened_outside : OneIsGiven → (memory : Remembered) (bytes : List ℕ) (history : History) →
+    DiskStands memory.pair bytes history → memory.standing.position ≤ length history →
+    (e : ReplicaError) → NotOpened (λ by. Journal by) (IsUnreadAgain e memory) e bytes →
+    IsOneOf outside_refusals e
+unopened_outside one memory bytes history d early e (inl h) =
+    subst (IsOneOf outside_refusals) (sym h.1)
+    (journal_outside h.0 memory.pair bytes history d h.2)
+unopened_outside one memory bytes history d early e (inr h) =
+    outside one memory.pair bytes history h.2.0 d e memory.standing.position early
+    (reopen_refusal e memory bytes (inr h))
+
 module _ {D : Type 0} {disk : Ghosts D} where
-  pub refused_outside : OneIsGiven → (old : Replica D disk) (history : History) →
-      KeepsUp old history → pair_of old < 2 ^ 64 → (e : ReplicaError) →
-      IsReopenRefusal e (pair_of old) (position_shown old) (disk.seen (disk_of old)) →
-      IsOneOf outside_refusals e
-  refused_outside one old history k fits e h =
+  pub kept_outside : OneIsGiven → (old : Replica D disk) (history : History) →
+      KeepsUp old history → (e : ReplicaError) →
+      NotOpened (λ by. Journal by) (IsUnreadAgain e (state_of old.machine)) e
+      (disk.seen (disk_of old)) → IsOneOf outside_refusals e
+  kept_outside one old history k e h =
       let here : position_shown old ≡ length history =
       ap (λ (s : Standing). s.position) (remembered old history k).standing in
       elim (disk_keeps old history k) as (λ _. IsOneOf outside_refusals e) [
-        | inl d ↦ outside one (pair_of old) (disk.seen (disk_of old)) history fits d e
-            (position_shown old) (omega (arith, here)) h
+        | inl d ↦ unopened_outside one (state_of old.machine) (disk.seen (disk_of old)) history d
+            (omega (arith, here)) e h
         | inr d ↦ let more = length-append history (d.0 ∷ []) in
-            outside one (pair_of old) (disk.seen (disk_of old)) (history ++ d.0 ∷ []) fits d.2 e
-            (position_shown old) (omega (arith, here, more)) h
-      ]
-
-  pub not_read_outside : (old : Replica D disk) (history : History) → KeepsUp old history →
-      (e : JournalError) → journal.IsOpenRefusal e (meaning (disk.seen (disk_of old))) →
-      IsOneOf outside_refusals (Journal e)
-  not_read_outside old history k e h =
-      elim (disk_keeps old history k) as (λ _. IsOneOf outside_refusals (Journal e)) [
-        | inl d ↦ journal_outside e (pair_of old) (disk.seen (disk_of old)) history d h
-        | inr d ↦ journal_outside e (pair_of old) (disk.seen (disk_of old))
-            (history ++ d.0 ∷ []) d.2 h
+            unopened_outside one (state_of old.machine) (disk.seen (disk_of old))
+            (history ++ d.0 ∷ []) d.2 (omega (arith, here, more)) e h
       ]
 
   pub stands_again : (old new : Replica D disk) (history : History) → pair_of new ≡ pair_of old →

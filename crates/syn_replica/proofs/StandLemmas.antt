@@ -1,34 +1,29 @@
 -- What a replica and its disk stand for goes on.
-use Rattle.std.proofs.Common.{◌≡◌, ◌⊎◌, ◌<◌, ◌≤◌, ◌^◌, ℕ, ◌+◌, ◌-◌, List, [], ◌∷◌, ◌++◌, refl, sym}
-use Rattle.std.proofs.Common.{ap, ap₂, ◌∙◌, subst, inl, inr, Result, Ok, Err, arith}
+use Rattle.std.proofs.Common.{◌≡◌, ◌⊎◌, ◌≤◌, ◌<◌, ◌^◌, ℕ, ◌+◌, ◌-◌, List, [], ◌∷◌, ◌++◌, sym}
+use Rattle.std.proofs.Common.{ap, ap₂, ◌∙◌, subst, inl, inr, Option, Some, arith}
 use Rattle.syn_disk.specs.declared.disk.Disk.{Ghosts}
-use Rattle.syn_journal.specs.Layout.{Value, Fault, half_size, longest_image, HasJournal}
+use Rattle.syn_journal.specs.Layout.{Value, half_size, HasJournal}
 use Rattle.syn_journal.specs.Layout.{LeftBehindPayload, meaning, with_payload, image_alone}
 use Rattle.syn_journal.specs.Layout.{record_size, bytes_left, IsBeforeOrAfter}
 use Rattle.syn_journal.specs.Journal as journal
+use Rattle.syn_journaled.specs.Journaled.{Opened}
 use Rattle.syn_disk.specs.Stops.{LeavesOnly}
-use Rattle.syn_model.proofs.ExitLemmas.{if_err_of_exit}
 use Rattle.syn_model.specs.Laws.{AllowedGoesOn, PayloadGoesOn, StandingSteps, ImageStands}
 use Rattle.syn_model.specs.Path.{Bytes}
 use Rattle.syn_model.specs.Event.{Event}
 use Rattle.syn_model.specs.Standing.{Standing, standing_after, refusal_at, IsAllowedAt}
 use Rattle.syn_model.specs.History.{History, IsAllowed, IsHistory, standing_of}
 use Rattle.syn_model.specs.Spelling.{event_spelling}
-use Rattle.syn_model.specs.Version.{current_version}
-use Rattle.syn_model.specs.Image.{Gives, StandsFor, image_spelling}
-use Rattle.syn_replica.specs.Disks.{DiskStands, DiskKeeps, DiskCompacted, event_size}
-use Rattle.syn_standing.specs.Readings.{OneIsGiven}
-use Rattle.syn_model.specs.Refusal as why
-use Rattle.std.specs.Prelude.{IfErr, IsErrAnd}
-use Rattle.syn_standing.specs.Refusals.{refusal_of}
-use Rattle.syn_standing.specs.declared.error.ReplicaError.{ReplicaError}
-use Rattle.syn_standing.specs.declared.error.ReplicaError.TheVariants.{Journal}
-use Rattle.syn_journal.specs.Refusals.{refusal_of as of_journal}
-use Rattle.syn_journal.specs.declared.error.JournalError.{JournalError}
-use Rattle.syn_journal.specs.declared.error.JournalError.TheVariants as journal_error
+use Rattle.syn_model.specs.Image.{StandsFor, image_spelling}
+use Rattle.syn_replica.specs.Disks.{DiskStands, DiskKeeps, DiskCompacted, IsOfOtherPair, IsOldDisk}
+use Rattle.syn_replica.specs.Disks.{event_size}
+use Rattle.syn_replica.specs.declared.remembered.Remembered.{Remembered}
 use Rattle.syn_replica.specs.declared.replica.Replica.{Replica}
+use Rattle.syn_replica.specs.inner.Memories.{Gives as Given}
 use Rattle.syn_replica.specs.Replica.{Remembers, Stands, standing_shown, pair_of, journal_of}
 use Rattle.syn_replica.specs.Replica.{disk_of, left_shown, generation_shown}
+use Rattle.syn_replica.proofs.MeaningLemmas.{old_value, one_value}
+use Rattle.syn_replica.proofs.VersionLemmas.{not_old}
 
 -- the payload of an allowed event takes the value one event on
 pub payload_stands : PayloadGoesOn → (pair : ℕ) (value : Value) (payload : Bytes)
@@ -122,77 +117,45 @@ remembers_more goes_on steps old new history event r allowed makes = record {
   standing = makes ∙ (ap (λ s. standing_after s event) r.standing ∙ sym (steps history event));
 }
 
--- a disk means one value
-same_value : (d : Result Value Fault) (a b : Value) → d ≡ Ok a → d ≡ Ok b → a ≡ b
-same_value d a b x y = ap (λ r. value_or r a) (sym x ∙ y)
-  where
-    value_or : Result Value Fault → Value → Value
-    value_or (Ok value) other = value
-    value_or (Err fault) other = other
-
--- what a replica shows of the one standing that its disk gives is kept of each history that it
--- stands for
-pub stands_for_each : OneIsGiven → {D : Type 0} {disk : Ghosts D} (replica : Replica D disk)
-    (value : Value) (bytes : List ℕ) (number : ℕ) (history : History) →
-    journal.Stands (journal_of replica) value → disk.seen (disk_of replica) ≡ bytes →
-    pair_of replica < 2 ^ 64 →
-    Gives (pair_of replica) value.image value.payloads (standing_shown replica) → number < 2 ^ 64 →
-    DiskStands number bytes history → (number ≡ pair_of replica) × Stands replica history
-stands_for_each one replica value bytes number history runs seen fits gives h d =
-    let same = same_value _ d.value value d.means (ap meaning (sym seen) ∙ runs.holds.means) in
-    let stands = subst (λ v. StandsFor number v.image v.payloads history) same d.stands in
-    let both = one current_version value.image value.payloads number (pair_of replica)
-    (standing_of history) (standing_shown replica) h fits stands.gives gives in (
-      both.0,
-      record {
-        remembers = record { lawful = stands.lawful; standing = sym both.1 };
-        value = value;
-        runs = runs;
-        means = subst (λ n. StandsFor n value.image value.payloads history) both.0 stands;
-      },
-    )
-
--- what a replica shows of what its disk gives is kept of each history that it stands for
-pub shown_of_each : {D : Type 0} {disk : Ghosts D} (replica : Replica D disk) (value : Value)
-    (bytes : List ℕ) (number : ℕ) (history : History) → journal.Stands (journal_of replica) value →
-    disk.seen (disk_of replica) ≡ bytes → DiskStands number bytes history →
-    (Gives number value.image value.payloads (standing_of history) →
-    (number ≡ pair_of replica) × (standing_of history ≡ standing_shown replica)) →
+-- a replica that has what its disk gives stands for each history that the disk stands for
+pub opened_each : {D : Type 0} {disk : Ghosts D} (replica : Replica D disk) (bytes : List ℕ)
+    (number : ℕ) (history : History) → Opened (λ m. m.pair) Given bytes replica.machine →
+    number < 2 ^ 64 → DiskStands number bytes history →
     (number ≡ pair_of replica) × Stands replica history
-shown_of_each replica value bytes number history runs seen d one =
-    let same = same_value _ d.value value d.means (ap meaning (sym seen) ∙ runs.holds.means) in
-    let stands = subst (λ v. StandsFor number v.image v.payloads history) same d.stands in
-    let both = one stands.gives in (
-      both.0,
+opened_each replica bytes number history opened fits d =
+    let other : Remembered = record { pair = number; standing = standing_of history } in
+    let same = opened.one other fits
+    (record { value = d.value; means = d.means; given = d.stands.gives }) in (
+      ap (λ m. m.pair) same,
       record {
-        remembers = record { lawful = stands.lawful; standing = sym both.1 };
-        value = value;
-        runs = runs;
-        means = subst (λ n. StandsFor n value.image value.payloads history) both.0 stands;
+        remembers =
+            record { lawful = d.stands.lawful; standing = sym (ap (λ m. m.standing) same) };
+        value = opened.value;
+        runs = opened.runs;
+        means =
+            subst (λ n. StandsFor n opened.value.image opened.value.payloads history)
+            (ap (λ m. m.pair) same)
+            (subst (λ v. StandsFor number v.image v.payloads history)
+            (one_value (meaning bytes) d.value opened.value d.means opened.means) d.stands);
       },
     )
 
--- a replica whose journal was read anew stands as it did
-pub stands_as_before : {D : Type 0} {disk : Ghosts D} (old new : Replica D disk) (value : Value)
-    (history : History) → Stands old history → journal.Stands (journal_of new) value →
-    disk.seen (disk_of new) ≡ disk.seen (disk_of old) → pair_of new ≡ pair_of old →
-    standing_shown new ≡ standing_shown old → Stands new history
-stands_as_before old new value history stands runs seen pair standing =
-    let same = same_value _ value stands.value
-    (ap meaning (sym seen) ∙ runs.holds.means) stands.runs.holds.means in
-    record {
-      remembers =
-          record {
-            lawful = stands.remembers.lawful;
-            standing = standing
-                ∙ stands.remembers.standing;
-          };
-      value = value;
-      runs = runs;
-      means =
-          subst (λ n. StandsFor n value.image value.payloads history) (sym pair) (subst
-          (λ v. StandsFor (pair_of old) v.image v.payloads history) (sym same) stands.means);
-    }
+-- a disk whose image is of version 1 is opened to no replica,
+pub no_old_opened : {D : Type 0} {disk : Ghosts D} (replica : Replica D disk) (bytes : List ℕ) →
+    Opened (λ m. m.pair) Given bytes replica.machine → IsOldDisk bytes → ⊥
+no_old_opened replica bytes opened old =
+    not_old (pair_of replica) opened.value.image opened.value.payloads (standing_shown replica)
+    opened.given (old_value bytes opened.value opened.means old)
+
+-- and one of another pair to none of the wanted one
+pub no_other_opened : {D : Type 0} {disk : Ghosts D} (replica : Replica D disk) (bytes : List ℕ)
+    (wanted : Option ℕ) → Opened (λ m. m.pair) Given bytes replica.machine →
+    ((asked : ℕ) → wanted ≡ Some asked → asked ≡ pair_of replica) → IsOfOtherPair wanted bytes → ⊥
+no_other_opened replica bytes wanted opened is other =
+    let there = other.other in
+    let same = opened.one (record { pair = there.pair; standing = there.standing }) there.fits
+    (record { value = other.value; means = other.means; given = there.gives }) in
+    there.differ (is there.asked there.wanted_is ∙ sym (ap (λ m. m.pair) same))
 
 -- its disk keeps the history with the bytes that it shows to be left
 pub keeps_now : {D : Type 0} {disk : Ghosts D} (replica : Replica D disk) (history : History) →
@@ -217,46 +180,6 @@ not_written only_now replica history stands P here = record {
   each = λ c left. subst P (sym (stands.runs.durable c (only_now _ c left))) here;
   before = λ t c le left. inl left;
 }
-
--- a checkpoint of an image that is short enough is refused 7 for its generation alone
-pub greatest_alone : (e : JournalError) (size generation : ℕ) → size ≤ longest_image →
-    (e ≡ journal_error.Full → (longest_image < size) ⊎ (generation + 1 ≡ 2 ^ 64)) →
-    of_journal e ≡ why.Full → generation + 1 ≡ 2 ^ 64
-greatest_alone journal_error.Full size generation few full same =
-    elim (full refl) as (λ _. generation + 1 ≡ 2 ^ 64) [
-      | inl long ↦ absurd (omega (arith, few, long))
-      | inr greatest ↦ greatest
-    ]
-greatest_alone journal_error.JournalFull size generation few full same = cc same
-greatest_alone journal_error.Device size generation few full same = cc same
-greatest_alone journal_error.Halted size generation few full same = cc same
-greatest_alone journal_error.Memory size generation few full same = cc same
-greatest_alone journal_error.NoImage size generation few full same = cc same
-greatest_alone journal_error.Damaged size generation few full same = cc same
-
--- and one that is too long, for that too
-of_full : (e : JournalError) (size spelled generation : ℕ) → size ≡ spelled →
-    (e ≡ journal_error.Full → (longest_image < size) ⊎ (generation + 1 ≡ 2 ^ 64)) →
-    of_journal e ≡ why.Full → (generation + 1 ≡ 2 ^ 64) ⊎ (longest_image < spelled)
-of_full journal_error.Full size spelled generation is full same =
-    elim (full refl) as (λ _. (generation + 1 ≡ 2 ^ 64) ⊎ (longest_image < spelled)) [
-      | inl long ↦ inr (subst (λ n. longest_image < n) is long)
-      | inr greatest ↦ inl greatest
-    ]
-of_full journal_error.JournalFull size spelled generation is full same = cc same
-of_full journal_error.Device size spelled generation is full same = cc same
-of_full journal_error.Halted size spelled generation is full same = cc same
-of_full journal_error.Memory size spelled generation is full same = cc same
-of_full journal_error.NoImage size spelled generation is full same = cc same
-of_full journal_error.Damaged size spelled generation is full same = cc same
-
-pub full_because : {X : Type 0} (r : Result X ReplicaError) (e : JournalError)
-    (size spelled generation : ℕ) → IsErrAnd r (λ x. x ≡ Journal e) → size ≡ spelled →
-    (e ≡ journal_error.Full → (longest_image < size) ⊎ (generation + 1 ≡ 2 ^ 64)) →
-    IfErr r (λ e. refusal_of e ≡ why.Full → (generation + 1 ≡ 2 ^ 64) ⊎ (longest_image < spelled))
-full_because r e size spelled generation is same full =
-    if_err_of_exit r (Journal e) (λ e. refusal_of e ≡ why.Full → (generation + 1 ≡ 2 ^ 64)
-    ⊎ (longest_image < spelled)) is (of_full e size spelled generation same full)
 
 -- a disk that keeps a history stands for it
 pub keeps_stands : {pair : ℕ} {history : History} {left generation : ℕ} {bytes : List ℕ} →

@@ -5,6 +5,7 @@ use Rattle.syn_disk.specs.declared.disk.Disk.{Ghosts}
 use Rattle.syn_journal.specs.Journal as journal
 use Rattle.syn_journal.specs.declared.journal.Journal.{Journal}
 use Rattle.syn_journal.specs.Layout.{Value, HasJournal, bytes_left}
+use Rattle.syn_journaled.specs.Journaled as machine
 use Rattle.syn_model.specs.Tree.{Tree}
 use Rattle.syn_model.specs.Standing.{Standing}
 use Rattle.syn_model.specs.History.{History, IsHistory, standing_of}
@@ -20,11 +21,11 @@ use Rattle.syn_replica.specs.declared.replica.Replica.{Replica}
 
 module _ {D : Type 0} {disk : Ghosts D} (replica : Replica D disk) where
   abbrev pub pair_of : ℕ
-  pair_of = replica.pair
+  pair_of = (machine.state_of replica.machine).pair
 
   -- what it has in memory: the tree, the position, the touches with their floor, and the fences
   abbrev pub standing_shown : Standing
-  standing_shown = replica.standing
+  standing_shown = (machine.state_of replica.machine).standing
 
   abbrev pub tree_shown : Tree
   tree_shown = standing_shown.tree
@@ -33,21 +34,21 @@ module _ {D : Type 0} {disk : Ghosts D} (replica : Replica D disk) where
   position_shown = standing_shown.position
 
   abbrev pub journal_of : Journal D disk
-  journal_of = replica.journal
+  journal_of = machine.journal_of replica.machine
 
   abbrev pub disk_of : D
-  disk_of = journal.disk_of replica.journal
+  disk_of = journal.disk_of journal_of
 
   -- how many bytes of its journal are left for records
   abbrev pub left_shown : ℕ
-  left_shown = journal.left_of replica.journal
+  left_shown = journal.left_of journal_of
 
   -- the length of the longest payload that its journal still takes
   abbrev pub room_shown : ℕ
-  room_shown = journal.room_of replica.journal
+  room_shown = journal.room_of journal_of
 
   abbrev pub generation_shown : ℕ
-  generation_shown = journal.generation_of replica.journal
+  generation_shown = journal.generation_of journal_of
 
   -- the spelling of the event that was last sent to the disk since it was opened
   abbrev pub tried_shown : Option Bytes
@@ -55,7 +56,7 @@ module _ {D : Type 0} {disk : Ghosts D} (replica : Replica D disk) where
 
   -- a device call failed, and the replica was not opened again since
   abbrev pub IsHalted : Type 0
-  IsHalted = journal.IsHalted replica.journal
+  IsHalted = journal.IsHalted journal_of
 
 -- what it has in memory is what is kept of the history
 pub record Remembers {D : Type 0} {disk : Ghosts D} (replica : Replica D disk) (history : History)

@@ -1,3 +1,3 @@
 -- Definitions that no public clause reaches.
 pub mod Additions
-pub mod Renewals
+pub mod Memories

@@ -91,6 +91,7 @@
 #![tactic(auto)]
 
 mod lawful;
+mod remembered;
 mod replica;
 
 pub use lawful::disk_laws;

@@ -6,10 +6,8 @@ ghost use Rattle.std.specs.FinMap.{get};
 ghost use Rattle.syn_model.specs.Tree.{is_directory};
 ghost use Rattle.syn_model.specs.Event as model;
 ghost use Rattle.syn_model.specs.History.{History, IsAllowed};
-ghost use Rattle.syn_model.specs.Image.{image_spelling};
-ghost use Rattle.syn_model.specs.Refusal.{Refusal, Device, Full, Halted, Memory, first_cause};
+ghost use Rattle.syn_model.specs.Refusal.{Refusal, Device, Halted, first_cause};
 ghost use Rattle.syn_model.specs.Spelling.{event_spelling};
-ghost use Rattle.syn_model.specs.Standing.{new_standing};
 ghost use Rattle.syn_tree.specs.Contents.{content_of};
 ghost use Rattle.syn_tree.specs.Lists.{listing};
 ghost use Rattle.syn_history.specs.Events.{event_of};
@@ -28,24 +26,24 @@ ghost use Rattle.syn_replica.specs.Steps.{add_refusal};
 ghost use Rattle.syn_standing.specs.Updates.{IsReady, IsOf, early_causes};
 ghost use Rattle.syn_replica.specs.inner.Additions.{add_refusal_at};
 ghost use Rattle.syn_wire.specs.Events.{IsShort};
-ghost use Rattle.syn_journal.specs.Journal as journal;
-ghost use Rattle.syn_journal.specs.Layout.{image_alone};
 
+use crate::remembered::Remembered;
 use std::alloc::Global;
 use syn_disk::Disk;
 use syn_history::Event;
-use syn_image::{encode_image, is_old_image};
-use syn_journal::{Journal, JournalError, Opened, layout_laws};
+use syn_journal::{JournalError, layout_laws};
+use syn_journaled::Journaled;
 use syn_model::{history_laws, worked_rows};
 use syn_path::{Name, Path};
-use syn_standing::{ReplicaError, Standing, Update, opening_laws, read_replica};
+use syn_standing::{ReplicaError, Standing, Update, opening_laws};
 use syn_tree::{Content, Edit, Found, Tree, TreeError};
-use syn_wire::{Version, edit_length, encode_event};
+use syn_wire::{edit_length, encode_event};
 
 mod checkpoint;
 mod device;
 mod growth;
 mod listing;
+mod memory;
 mod migrate;
 mod parts;
 mod reopen;
@@ -58,9 +56,7 @@ pub use session::{Piece, TokenStanding};
 /// its machine.
 #[derive(Drop)]
 pub struct Replica<D: Disk> {
-    journal: Journal<D>,
-    pair: u64,
-    standing: Standing,
+    machine: Journaled<D, Remembered>,
     /// How the event is spelled that was last sent to the disk.
     tried: Option<Vec<u8>>,
 }
@@ -68,8 +64,8 @@ pub struct Replica<D: Disk> {
 impl<D: Disk> Replica<D> {
     ghost use Rattle.syn_replica.specs.Replica.{pair_of, standing_shown, tree_shown};
     ghost use Rattle.syn_replica.specs.Replica.{position_shown, disk_of, journal_of, room_shown};
-    ghost use Rattle.syn_replica.specs.Replica.{generation_shown, IsHalted, Remembers, Stands};
-    ghost use Rattle.syn_replica.specs.Replica.{SameMemory, KeepsReadings, HasRecord};
+    ghost use Rattle.syn_replica.specs.Replica.{generation_shown, IsHalted, Stands};
+    ghost use Rattle.syn_replica.specs.Replica.{KeepsReadings, HasRecord};
     ghost use Rattle.syn_replica.specs.Replica.{KeepsBeforeOrAfter, tried_shown, Tries};
     ghost use Rattle.syn_replica.specs.Growth.{IsGrown};
 
@@ -97,18 +93,16 @@ impl<D: Disk> Replica<D> {
     {
         history_laws();
         worked_rows();
-        let (image, standing) = match blank(alloc, pair) {
-            Ok(made) => made,
+        let standing = match Standing::new(alloc) {
+            Ok(standing) => standing,
             Err(error) => return Err((error, disk)),
         };
-        match Journal::format(alloc, disk, &image) {
-            Ok(journal) => Ok(Replica {
-                journal,
-                pair,
-                standing,
+        match Journaled::format(alloc, disk, Remembered { pair, standing }) {
+            Ok(machine) => Ok(Replica {
+                machine,
                 tried: None,
             }),
-            Err((error, disk)) => Err((ReplicaError::from(error), disk)),
+            Err(refused) => Err(refused),
         }
     }
 
@@ -148,26 +142,12 @@ impl<D: Disk> Replica<D> {
             (λ refused. AfterReads 1 refused.0 (D.arms disk) (D.arms refused.1)) }
     {
         opening_laws();
-        let opened = match Journal::open(alloc, disk) {
-            Ok(opened) => opened,
-            Err((error, disk)) => return Err((ReplicaError::from(error), disk)),
-        };
-        let Opened {
-            journal,
-            image,
-            records,
-        } = opened;
-        if is_old_image(&image) {
-            return Err((ReplicaError::OldVersion, journal.into_disk()));
-        }
-        match read_replica(alloc, Version::Two, &image, pair, &records) {
-            Ok((pair, standing)) => Ok(Replica {
-                journal,
-                pair,
-                standing,
+        match Journaled::open(alloc, disk, pair) {
+            Ok(machine) => Ok(Replica {
+                machine,
                 tried: None,
             }),
-            Err(error) => Err((error, journal.into_disk())),
+            Err(refused) => Err(refused),
         }
     }
 
@@ -175,56 +155,56 @@ impl<D: Disk> Replica<D> {
     pub fn position(&self) -> u64
         ensures { result ≡ position_shown self.now }
     {
-        self.standing.trail().position()
+        self.kept().trail().position()
     }
 
     /// The position from which on it is told what was touched.
     pub fn floor(&self) -> u64
         ensures { result ≡ (standing_shown self.now).floor }
     {
-        self.standing.trail().floor()
+        self.kept().trail().floor()
     }
 
     /// The session begun last, and 0 while there is none.
     pub fn last_session(&self) -> u64
         ensures { result ≡ (standing_shown self.now).session }
     {
-        self.standing.trail().last_session()
+        self.kept().trail().last_session()
     }
 
     /// The tree, as it stands in memory.
     pub fn tree(&self) -> &Tree
         ensures { result.now ≡ tree_shown self.now }
     {
-        self.standing.tree()
+        self.kept().tree()
     }
 
     /// The number of the pair.
     pub fn pair(&self) -> u64
         ensures { result ≡ pair_of self.now }
     {
-        self.pair
+        self.machine.state().pair
     }
 
     /// The length of the longest payload that still fits in the journal, or 0 where none does.
     pub fn room(&self) -> usize
         ensures { result ≡ room_shown self.now }
     {
-        self.journal.room()
+        self.machine.room()
     }
 
     /// The generation of the current image: 1 after `format`.
     pub fn generation(&self) -> u64
         ensures { result ≡ generation_shown self.now }
     {
-        self.journal.generation()
+        self.machine.generation()
     }
 
     /// Whether a call was refused 9 since the replica was formatted or opened.
     pub fn is_halted(&self) -> bool
         ensures { (result ≡ true) ↔ IsHalted self.now }
     {
-        self.journal.is_halted()
+        self.machine.is_halted()
     }
 
     /// How the event is spelled that was last sent to the disk since the replica was formatted,
@@ -242,7 +222,7 @@ impl<D: Disk> Replica<D> {
     pub fn into_disk(self) -> D
         ensures { result ≡ disk_of self }
     {
-        self.journal.into_disk()
+        self.machine.into_disk()
     }
 
     /// What stands at the path.
@@ -258,10 +238,10 @@ impl<D: Disk> Replica<D> {
             ↔ IsHalted self.now }
         ensures refusals { IfErr result (IsOneOf reading_refusals) }
     {
-        if self.journal.is_halted() {
+        if self.is_halted() {
             return Err(ReplicaError::Journal(JournalError::Halted));
         }
-        match self.standing.tree().get(path) {
+        match self.tree().get(path) {
             Some(Found::File(mode, bytes)) => Ok(Content::File(mode, bytes.to_vec(alloc)?)),
             Some(Found::Dir) => Ok(Content::Dir),
             None => Err(ReplicaError::Tree(TreeError::Absent)),
@@ -281,10 +261,10 @@ impl<D: Disk> Replica<D> {
             ↔ IsHalted self.now }
         ensures refusals { IfErr result (IsOneOf reading_refusals) }
     {
-        if self.journal.is_halted() {
+        if self.is_halted() {
             return Err(ReplicaError::Journal(JournalError::Halted));
         }
-        Ok(self.standing.tree().list(alloc, path)?)
+        Ok(self.tree().list(alloc, path)?)
     }
 
     /// Makes the edit, and answers the new position.
@@ -342,12 +322,12 @@ impl<D: Disk> Replica<D> {
             ⊎ (journal_of self.new ≡ journal_of self.old)) }
     {
         opening_laws();
-        if self.journal.is_halted() {
+        if self.is_halted() {
             return Err(ReplicaError::Journal(JournalError::Halted));
         }
         let length = edit_length(&edit);
         let event = Event::Edited { user, edit };
-        self.standing.check(&event)?;
+        self.check(&event)?;
         self.check_room(length)?;
         self.add(alloc, event)
     }
@@ -358,7 +338,7 @@ impl<D: Disk> Replica<D> {
         ensures refused { IfErr result (λ e. (e ≡ ReplicaError.Journal JournalError.JournalFull)
             × (room_shown self.now < length)) }
     {
-        if length > self.journal.room() {
+        if length > self.room() {
             Err(ReplicaError::Journal(JournalError::JournalFull))
         } else {
             Ok(())
@@ -405,7 +385,7 @@ impl<D: Disk> Replica<D> {
             ⊎ (journal_of self.new ≡ journal_of self.old)) }
     {
         let payload = encode_event(alloc, &event)?;
-        let update = self.standing.prepare(alloc, event)?;
+        let update = self.prepare(alloc, event)?;
         self.check_room(payload.len())?;
         self.commit(alloc, payload, update)
     }
@@ -455,25 +435,14 @@ impl<D: Disk> Replica<D> {
     {
         history_laws();
         layout_laws();
-        if let Err(error) = self.journal.append(alloc, &payload) {
-            if error == JournalError::Device {
+        if let Err(error) = self.machine.write(alloc, &payload, update) {
+            // A device call failed, so that the event may be on the disk.
+            if self.is_halted() {
                 self.tried = Some(payload);
             }
-            return Err(ReplicaError::Journal(error));
+            return Err(error);
         }
         self.tried = Some(payload);
-        self.standing.make(update);
         Ok(self.position())
     }
-}
-
-/// The image of a replica with no events, and what it keeps.
-fn blank(alloc: Global, pair: u64) -> Result<(Vec<u8>, Standing), ReplicaError>
-    ensures image { IfOk result (λ made. made.0.items ≡ image_spelling pair new_standing) }
-    ensures standing { IfOk result (λ made. made.1 ≡ new_standing) }
-    ensures memory { IfErr result (λ e. refusal_of e ≡ Memory) }
-{
-    let standing = Standing::new(alloc)?;
-    let image = encode_image(alloc, pair, standing.tree(), standing.trail())?;
-    Ok((image, standing))
 }

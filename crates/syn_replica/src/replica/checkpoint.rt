@@ -15,7 +15,6 @@ ghost use Rattle.syn_replica.specs.Refusals.{CountsFailures, MakesIfDevice};
 use super::Replica;
 use std::alloc::Global;
 use syn_disk::Disk;
-use syn_image::encode_image;
 use syn_journal::JournalError;
 use syn_model::history_laws;
 use syn_standing::{ReplicaError, opening_laws};
@@ -83,19 +82,6 @@ impl<D: Disk> Replica<D> {
     {
         opening_laws();
         history_laws();
-        if self.journal.is_halted() {
-            return Err(ReplicaError::Journal(JournalError::Halted));
-        }
-        if self.journal.generation() == u64::MAX {
-            return Err(ReplicaError::Journal(JournalError::Full));
-        }
-        let image = encode_image(
-            alloc,
-            self.pair,
-            self.standing.tree(),
-            self.standing.trail(),
-        )?;
-        self.journal.checkpoint(alloc, &image)?;
-        Ok(())
+        self.machine.checkpoint(alloc)
     }
 }

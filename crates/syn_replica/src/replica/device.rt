@@ -32,13 +32,13 @@ impl<D: Limit> Replica<D> {
         ensures tried { tried_shown self.new ≡ tried_shown self.old }
         ensures readings { SameReadings (journal_of self.old) (journal_of self.new) }
     {
-        self.journal.arm(arm);
+        self.machine.arm(arm);
     }
 
     /// Whether all the device calls before a stop are made.
     pub fn is_cut(&self) -> bool
         ensures { result ≡ is_stopped (D.Disk.arms (disk_of self.now)) }
     {
-        self.journal.is_cut()
+        self.machine.is_cut()
     }
 }

@@ -13,7 +13,7 @@ impl<D: Disk> Grows for Replica<D> {
     ghost grows = { λ old new. IsGrown old new };
 
     fn position(&self) -> u64 {
-        self.standing.trail().position()
+        self.kept().trail().position()
     }
 
     ghost reflexive = { λ replica. itself replica };

@@ -42,12 +42,12 @@ impl<D: Disk> Replica<D> {
             ↔ IsHalted self.now }
         ensures refusals { IfErr result (IsOneOf reading_refusals) }
     {
-        if self.journal.is_halted() {
+        if self.is_halted() {
             return Err(ReplicaError::Journal(JournalError::Halted));
         }
         Ok(Listing {
             position: self.position(),
-            entries: list_marks(alloc, self.standing.tree(), path)?,
+            entries: list_marks(alloc, self.tree(), path)?,
         })
     }
 }

@@ -1,27 +1,19 @@
 //! A reopening: a replica finds out anew what its own disk stands for.
-ghost use Rattle.std.specs.Prelude.{◌≡◌, ◌≢◌, ◌≤◌, ◌<◌, ◌^◌, ◌⊎◌, ◌++◌, ◌∷◌, [], None, Ok, IfOk};
-ghost use Rattle.std.specs.Prelude.{IfErr, OnOk, MatchResult, List, ℕ, true, false, length};
+ghost use Rattle.std.specs.Prelude.{◌≡◌, ◌≢◌, ◌≤◌, ◌<◌, ◌⊎◌, ◌++◌, ◌∷◌, [], None, Ok};
+ghost use Rattle.std.specs.Prelude.{IfErr, OnOk, MatchResult, length};
 ghost use Rattle.syn_disk.specs.Calls.{MakesAtLeast};
 ghost use Rattle.syn_disk.specs.Stops.{Untouched};
 ghost use Rattle.syn_model.specs.Event.{Event};
 ghost use Rattle.syn_model.specs.History.{History};
 ghost use Rattle.syn_model.specs.Refusal.{Device, Memory};
-ghost use Rattle.syn_journal.specs.Layout.{meaning};
-ghost use Rattle.syn_journal.specs.Opened.{payloads_of, value_read};
-ghost use Rattle.syn_journal.specs.Places.{Shows};
-ghost use Rattle.syn_model.specs.Image.{Gives};
-ghost use Rattle.syn_model.specs.Standing as model_standing;
 ghost use Rattle.syn_replica.specs.Disks.{DiskGives, DiskStands, IsReopenRefusal};
 ghost use Rattle.syn_standing.specs.Refusals.{refusal_of};
 ghost use Rattle.syn_replica.specs.Refusals.{CountsFailures, AfterReads, IsOneOf, outside_refusals};
-ghost use Rattle.syn_standing.specs.Readings.{IsOfMeaning};
 
 use super::Replica;
 use std::alloc::Global;
 use syn_disk::Disk;
-use syn_journal::{Place, Reopened};
-use syn_standing::{ReplicaError, Standing, opening_laws, read_replica};
-use syn_wire::Version;
+use syn_standing::{ReplicaError, opening_laws};
 
 impl<D: Disk> Replica<D> {
     ghost use Rattle.syn_replica.specs.Replica.{pair_of, standing_shown, tried_shown, disk_of};
@@ -99,71 +91,12 @@ impl<D: Disk> Replica<D> {
             (λ e. AfterReads 1 e (D.arms (disk_of self.old)) (D.arms (disk_of self.new))) }
     {
         opening_laws();
-        let was_halted = self.journal.is_halted();
-        let place = self.journal.place();
-        let found = self.journal.reopen(alloc)?;
-        match self.read_again(alloc, &found) {
-            Ok(standing) => {
-                self.standing = standing;
+        match self.machine.reopen(alloc) {
+            Ok(()) => {
                 self.tried = None;
                 Ok(())
             }
-            Err(error) => {
-                self.settle(was_halted, place, error);
-                Err(error)
-            }
+            Err(error) => Err(error),
         }
-    }
-
-    /// Halts the replica where it was halted, as it was at the place, or where its disk does not
-    /// give what it remembers. Where memory was refused, one that ran goes on.
-    fn settle(&mut self, was_halted: bool, place: Place, error: ReplicaError)
-        ensures halted { was_halted ≡ true → IsHalted self.new }
-        ensures halts { refusal_of error ≢ Memory → IsHalted self.new }
-        ensures goes_on { was_halted ≡ false → error ≡ ReplicaError.Memory → self.new ≡ self.old }
-        ensures disk { disk_of self.new ≡ disk_of self.old }
-        ensures memory { SameMemory self.old self.new }
-        ensures shows { was_halted ≡ true → Shows self.new.journal place }
-        ensures readings { was_halted ≡ false → KeepsReadings self.old self.new }
-        ensures tried { tried_shown self.new ≡ tried_shown self.old }
-    {
-        if was_halted {
-            self.journal.halt_at(place);
-            return;
-        }
-        match error {
-            ReplicaError::Memory => {}
-            _ => self.journal.halt(),
-        }
-    }
-
-    /// What its own disk gives.
-    ///
-    /// Refused 19 where that is nothing or has fewer events than the replica remembers, 20 where it
-    /// is of another pair, and 11 where memory is refused.
-    fn read_again(&self, alloc: Global, found: &Reopened) -> Result<Standing, ReplicaError>
-        ensures gives { IfOk result (λ standing. Gives (pair_of self.now) found.now.image.items
-            (payloads_of found.now.records) standing) }
-        ensures one { IfOk result (λ read. (standing : model_standing.Standing)
-            → Gives (pair_of self.now) found.now.image.items (payloads_of found.now.records)
-            standing → standing ≡ read) }
-        ensures fits { pair_of self.now < 2 ^ 64 }
-        ensures later { IfOk result (λ standing. position_shown self.now ≤ standing.position) }
-        ensures refusals { IfErr result IsOfMeaning }
-        ensures cause { IfErr result (λ e. (bytes : List ℕ)
-            → meaning bytes ≡ Ok (value_read found.now.image found.now.records)
-            → IsReopenRefusal e (pair_of self.now) (position_shown self.now) bytes) }
-    {
-        let (_pair, standing) = read_replica(
-            alloc,
-            Version::Two,
-            &found.image,
-            Some(self.pair),
-            &found.records,
-        )?;
-        if standing.trail().position() < self.position() {
-            return Err(ReplicaError::Damaged);
-        }
-        Ok(standing)
     }
 }

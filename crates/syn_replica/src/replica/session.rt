@@ -123,17 +123,17 @@ impl<D: Disk> Replica<D> {
             ⊎ (journal_of self.new ≡ journal_of self.old)) }
     {
         opening_laws();
-        if self.journal.is_halted() {
+        if self.is_halted() {
             return Err(ReplicaError::Journal(JournalError::Halted));
         }
-        if pair != self.pair {
+        if pair != self.pair() {
             return Err(ReplicaError::WrongPair);
         }
         if session == self.last_session() {
             return Ok(self.position());
         }
         let event = Event::Began { session };
-        self.standing.check(&event)?;
+        self.check(&event)?;
         self.check_room(BEGAN_LENGTH)?;
         self.add(alloc, event)
     }
@@ -167,11 +167,11 @@ impl<D: Disk> Replica<D> {
         ensures halted { (result ≡ Err (ReplicaError.Journal JournalError.Halted))
             ↔ IsHalted self.now }
     {
-        if self.journal.is_halted() {
+        if self.is_halted() {
             return Err(ReplicaError::Journal(JournalError::Halted));
         }
-        self.standing.check_untouched(path, since)?;
-        let tree = self.standing.tree();
+        self.check_untouched(path, since)?;
+        let tree = self.tree();
         let bytes = encode_piece(alloc, tree, path, offset)?;
         Ok(Piece {
             total: part_length(tree, path),
@@ -184,10 +184,10 @@ impl<D: Disk> Replica<D> {
         ensures { (history : History) → Remembers self.now history
             → result ≡ how_stands history (token_of token) }
     {
-        let done = self.standing.is_done(&token);
+        let done = self.is_done(&token);
         if done {
             TokenStanding::Done
-        } else if self.standing.is_old(&token) {
+        } else if self.is_old(&token) {
             TokenStanding::Old
         } else {
             TokenStanding::Open
@@ -315,17 +315,17 @@ impl<D: Disk> Replica<D> {
         ensures halted { (result ≡ Err (ReplicaError.Journal JournalError.Halted))
             ↔ IsHalted self.now }
     {
-        if self.journal.is_halted() {
+        if self.is_halted() {
             return Err(ReplicaError::Journal(JournalError::Halted));
         }
-        if self.standing.is_done(token) {
+        if self.is_done(token) {
             return Ok(None);
         }
-        if self.standing.is_old(token) {
+        if self.is_old(token) {
             return Err(ReplicaError::OldSession);
         }
-        self.standing.check_untouched(path, since)?;
-        self.standing.tree().check_part(path, new)?;
+        self.check_untouched(path, since)?;
+        self.tree().check_part(path, new)?;
         Ok(Some(path.copy(alloc)?))
     }
 }

@@ -4,7 +4,7 @@ use Rattle.syn_replica.specs.Refusals.{IsOneOf, outside_refusals, begin_refusals
 use Rattle.syn_standing.specs.Refusals.{refusal_of, refusal_in}
 use Rattle.syn_model.specs.Event.{Began}
 use Rattle.syn_model.specs.History.{History, last_session}
-use Rattle.syn_replica.specs.Replica.{Stands, room_shown, standing_shown}
+use Rattle.syn_replica.specs.Replica.{Stands, pair_of, room_shown, standing_shown}
 use Rattle.syn_replica.proofs.RoomLemmas.{added_refusals, begun_among, refused_at, room_at}
 use Rattle.syn_replica.proofs.RoomLemmas.{room_passed}
 use Rattle.syn_replica.proofs.SessionLemmas.{begin_cause, begin_refused, begin_allowed, begun_size}
@@ -31,8 +31,8 @@ returns-clause-acknowledged g c history stands =
 pub returns-then-is_halted-clause-grown : goal.returns-then-is_halted-clause-grown
 returns-then-is_halted-clause-grown g c = itself c.args.self.now
 
-pub returns-then-pair-self-clause-grown : goal.returns-then-pair-self-clause-grown
-returns-then-pair-self-clause-grown g c = itself c.args.self.now
+pub returns-then-pair-clause-grown : goal.returns-then-pair-clause-grown
+returns-then-pair-clause-grown g c = itself c.args.self.now
 
 pub returns-then-session-last_session-clause-grown :
     goal.returns-then-session-last_session-clause-grown
@@ -53,13 +53,13 @@ pub returns-then-is_halted-clause-seen : goal.returns-then-is_halted-clause-seen
 returns-then-is_halted-clause-seen g c history stands =
     inl (keeps_now c.args.self.now history stands)
 
-pub returns-then-pair-self-clause-any_moment : goal.returns-then-pair-self-clause-any_moment
-returns-then-pair-self-clause-any_moment g c history stands =
+pub returns-then-pair-clause-any_moment : goal.returns-then-pair-clause-any_moment
+returns-then-pair-clause-any_moment g c history stands =
     not_written g.met.D.Disk.only_now c.args.self.now history stands _
     (inl (keeps_now c.args.self.now history stands))
 
-pub returns-then-pair-self-clause-seen : goal.returns-then-pair-self-clause-seen
-returns-then-pair-self-clause-seen g c history stands =
+pub returns-then-pair-clause-seen : goal.returns-then-pair-clause-seen
+returns-then-pair-clause-seen g c history stands =
     inl (keeps_now c.args.self.now history stands)
 
 pub returns-in_err-check-clause-any_moment : goal.returns-in_err-check-clause-any_moment
@@ -105,10 +105,10 @@ returns-in_err-check-clause-halts g c =
 
 pub returns-in_err-check-clause-cause : goal.returns-in_err-check-clause-cause
 returns-in_err-check-clause-cause g c history stands =
-    begin_cause (room_shown c.args.self.now) c.args.self.now.pair history c.args.pair c.args.session
+    begin_cause (room_shown c.args.self.now) (pair_of c.args.self.now) history c.args.pair c.args.session
     c.from_residual.result c.in_err-check.field-0.0
     (standing_shown c.args.self.now) c.last_session.result c.from_residual.ensures.1
-    stands.remembers.standing c.if-pair-self.false c.last_session.ensures
+    stands.remembers.standing (c.if-pair.false ∙ c.pair.ensures) c.last_session.ensures
     c.if-session-last_session.false
     (refused_at (room_shown c.args.self.now) (standing_shown c.args.self.now)
     (Began c.args.session) _ (early_at (standing_shown c.args.self.now) (Began c.args.session) _
@@ -116,10 +116,10 @@ returns-in_err-check-clause-cause g c history stands =
 
 pub returns-in_err-check-clause-refused : goal.returns-in_err-check-clause-refused
 returns-in_err-check-clause-refused g c history why stands =
-    begin_refused (room_shown c.args.self.now) c.args.self.now.pair history c.args.pair
+    begin_refused (room_shown c.args.self.now) (pair_of c.args.self.now) history c.args.pair
     c.args.session c.from_residual.result c.in_err-check.field-0.0
     (standing_shown c.args.self.now) c.last_session.result c.from_residual.ensures.1
-    stands.remembers.standing c.if-pair-self.false c.last_session.ensures
+    stands.remembers.standing (c.if-pair.false ∙ c.pair.ensures) c.last_session.ensures
     c.if-session-last_session.false
     (refused_at (room_shown c.args.self.now) (standing_shown c.args.self.now)
     (Began c.args.session) _ (early_at (standing_shown c.args.self.now) (Began c.args.session) _
@@ -128,11 +128,11 @@ returns-in_err-check-clause-refused g c history why stands =
 
 pub returns-in_err-check_room-clause-cause : goal.returns-in_err-check_room-clause-cause
 returns-in_err-check_room-clause-cause g c history stands =
-    begin_cause (room_shown c.args.self.now) c.args.self.now.pair history c.args.pair c.args.session
+    begin_cause (room_shown c.args.self.now) (pair_of c.args.self.now) history c.args.pair c.args.session
     c.from_residual-in_err-check_room.result c.in_err-check_room.field-0.0
     (standing_shown c.args.self.now) c.last_session.result
     c.from_residual-in_err-check_room.ensures.1
-    stands.remembers.standing c.if-pair-self.false c.last_session.ensures
+    stands.remembers.standing (c.if-pair.false ∙ c.pair.ensures) c.last_session.ensures
     c.if-session-last_session.false
     (room_at (room_shown c.args.self.now) (standing_shown c.args.self.now) (Began c.args.session)
     (sym c.check.ensures ∙ ap refusal_in c.in_ok-check.was) (subst (λ n. room_shown
@@ -141,11 +141,11 @@ returns-in_err-check_room-clause-cause g c history stands =
 
 pub returns-in_err-check_room-clause-refused : goal.returns-in_err-check_room-clause-refused
 returns-in_err-check_room-clause-refused g c history why stands =
-    begin_refused (room_shown c.args.self.now) c.args.self.now.pair history c.args.pair
+    begin_refused (room_shown c.args.self.now) (pair_of c.args.self.now) history c.args.pair
     c.args.session c.from_residual-in_err-check_room.result c.in_err-check_room.field-0.0
     (standing_shown c.args.self.now) c.last_session.result
     c.from_residual-in_err-check_room.ensures.1
-    stands.remembers.standing c.if-pair-self.false c.last_session.ensures
+    stands.remembers.standing (c.if-pair.false ∙ c.pair.ensures) c.last_session.ensures
     c.if-session-last_session.false
     (room_at (room_shown c.args.self.now) (standing_shown c.args.self.now) (Began c.args.session)
     (sym c.check.ensures ∙ ap refusal_in c.in_ok-check.was) (subst (λ n. room_shown
@@ -156,16 +156,16 @@ returns-in_err-check_room-clause-refused g c history why stands =
 pub returns-clause-cause : goal.returns-clause-cause
 returns-clause-cause g c history stands =
     subst (λ r. IfErr c.add.result (λ e. IsOneOf outside_refusals e ⊎ (r ≡ Some (refusal_of e))))
-    (sym (rest_at (room_shown c.args.self.now) c.args.self.now.pair history c.args.pair
+    (sym (rest_at (room_shown c.args.self.now) (pair_of c.args.self.now) history c.args.pair
     c.args.session (standing_shown c.args.self.now) c.last_session.result
-    stands.remembers.standing c.if-pair-self.false c.last_session.ensures
+    stands.remembers.standing (c.if-pair.false ∙ c.pair.ensures) c.last_session.ensures
     c.if-session-last_session.false)) c.add.ensures.cause
 
 pub returns-clause-refused : goal.returns-clause-refused
 returns-clause-refused g c history why stands e =
-    absurd (begin_allowed (room_shown c.args.self.now) c.args.self.now.pair history c.args.pair
+    absurd (begin_allowed (room_shown c.args.self.now) (pair_of c.args.self.now) history c.args.pair
     c.args.session (standing_shown c.args.self.now) c.last_session.result why
-    stands.remembers.standing c.if-pair-self.false c.last_session.ensures
+    stands.remembers.standing (c.if-pair.false ∙ c.pair.ensures) c.last_session.ensures
     c.if-session-last_session.false
     (room_passed (room_shown c.args.self.now) (standing_shown c.args.self.now)
     (Began c.args.session) (sym c.check.ensures ∙ ap refusal_in c.in_ok-check.was)

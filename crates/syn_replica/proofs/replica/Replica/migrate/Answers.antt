@@ -1,114 +1,146 @@
-use Rattle.std.proofs.Common.{None, sym, subst, rules}
-use Rattle.std.specs.Prelude.{IfErr}
-use Rattle.syn_journal.specs.Layout.{HasJournal}
+use Rattle.std.proofs.Common.{None, Some, inl, inr, sym, subst, arith}
+use Rattle.syn_journaled.proofs.Migrations.{more_made}
+use Rattle.syn_journaled.specs.Migrations.{Migrated, NotMigrated}
 use Rattle.syn_model.specs.Version.{One, Two}
-use Rattle.syn_replica.specs.Disks.{DiskKeepsIn, IsOldDisk, IsOpenRefusal}
-use Rattle.syn_replica.specs.Migrating.{IsMigrateRefusal, KeepsOrMigrates}
+use Rattle.syn_standing.specs.Refusals.{refusal_of}
+use Rattle.syn_standing.specs.declared.error.ReplicaError.TheVariants.{Journal}
+use Rattle.syn_replica.specs.Disks.{DiskKeepsIn}
 use Rattle.syn_replica.specs.Refusals.{AfterReads}
-use Rattle.syn_replica.specs.Replica.{disk_of}
-use Rattle.syn_replica.proofs.MigrateCauses.{all_lawful, migrates_lawful}
-use Rattle.syn_replica.proofs.MigrateLemmas.{each_way, in_each_version, not_both, old_disk}
-use Rattle.syn_replica.proofs.MigrateLemmas.{fewer_calls, read_twice, so_many, then_leaves_too}
+use Rattle.syn_replica.specs.Replica.{pair_of, standing_shown}
+use Rattle.syn_replica.specs.inner.Memories.{GivesOld, IsUnreadOld, image_of}
+use Rattle.syn_replica.proofs.EndLemmas.{reads}
+use Rattle.syn_replica.proofs.MigrateCauses.{migrates_greatest, migrates_lawful}
+use Rattle.syn_replica.proofs.MigrateLemmas.{any_moment, migrate_refusal, migrated_each}
+use Rattle.syn_replica.proofs.MigrateLemmas.{migrated_gives, not_both, old_disk, only_read, seen_after}
+use Rattle.syn_replica.proofs.MigrateLemmas.{was_old, whole, young_refusal}
 use Rattle.syn_replica.proofs.replica.Replica.migrate.Goals as goal
+
+-- ---- it was opened
 
 pub returns-in-Ok-clause-migrated : goal.returns-in-Ok-clause-migrated
 returns-in-Ok-clause-migrated g c One number history small there =
     let replica = c.in-Ok.replica in
     let bytes = g.D.Disk.seen c.args.disk in
-    absurd (not_both replica.pair bytes replica.standing c.in-Ok.ensures.given
+    absurd (not_both (pair_of replica) bytes (standing_shown replica) c.in-Ok.ensures.given
     (old_disk number bytes history there))
 returns-in-Ok-clause-migrated g c Two number history small there =
     c.in-Ok.ensures.each number history small there
 
-pub returns-in-Err-OldVersion-default-clause-migrated :
-    goal.returns-in-Err-OldVersion-default-clause-migrated
-returns-in-Err-OldVersion-default-clause-migrated g c =
-    let opened = c.in-Err-OldVersion-default in
-    in_each_version c.renew.result (g.D.Disk.seen opened.disk) (g.D.Disk.seen c.args.disk)
-    opened.ensures.untouched.same
-    (subst (λ e. IsOpenRefusal e None (g.D.Disk.seen c.args.disk)) opened.field-0-0-is
-    opened.ensures.refusals) c.renew.ensures.each
+-- ---- it was migrated
 
-pub returns-in-Err-OldVersion-default-clause-image :
-    goal.returns-in-Err-OldVersion-default-clause-image
-returns-in-Err-OldVersion-default-clause-image g c value generation has old =
-    c.renew.ensures.image value generation (subst (λ bytes. HasJournal bytes value generation)
-    (sym c.in-Err-OldVersion-default.ensures.untouched.same) has)
+pub returns-in-Ok-migrate-clause-gives : goal.returns-in-Ok-migrate-clause-gives
+returns-in-Ok-migrate-clause-gives g c =
+    let laws = c.history_laws.ensures in
+    migrated_gives laws.image laws.standing_fits
+    (record { machine = c.in-Ok-migrate.machine; tried = None }) _
+    c.in-Ok-migrate.ensures.migrated
 
-pub returns-in-Err-OldVersion-default-clause-any_moment :
-    goal.returns-in-Err-OldVersion-default-clause-any_moment
-returns-in-Err-OldVersion-default-clause-any_moment g c number history left generation small
-    keeps =
-    let opened = c.in-Err-OldVersion-default in
-    then_leaves_too c.renew.result c.args.disk opened.disk opened.ensures.untouched
-    (KeepsOrMigrates number history left generation)
-    (c.renew.ensures.any_moment number history left generation small
-    (subst (DiskKeepsIn One number history left generation) (sym opened.ensures.untouched.same)
-    keeps))
+pub returns-in-Ok-migrate-clause-migrated : goal.returns-in-Ok-migrate-clause-migrated
+returns-in-Ok-migrate-clause-migrated g c =
+    let laws = c.history_laws.ensures in
+    migrated_each laws.image laws.standing_fits _ (g.D.Disk.seen c.args.disk)
+    (subst (λ bytes. Migrated (λ m. m.pair) GivesOld image_of bytes c.in-Ok-migrate.machine)
+    c.in-Err.ensures.untouched.same c.in-Ok-migrate.ensures.migrated)
 
-pub returns-in-Err-OldVersion-default-clause-seen :
-    goal.returns-in-Err-OldVersion-default-clause-seen
-returns-in-Err-OldVersion-default-clause-seen g c number history left generation small keeps =
-    c.renew.ensures.seen number history left generation small
-    (subst (DiskKeepsIn One number history left generation)
-    (sym c.in-Err-OldVersion-default.ensures.untouched.same) keeps)
+pub returns-in-Ok-migrate-clause-any_moment : goal.returns-in-Ok-migrate-clause-any_moment
+returns-in-Ok-migrate-clause-any_moment g c =
+    let laws = c.history_laws.ensures in
+    let found = c.in-Err.ensures in
+    any_moment laws.image laws.standing_fits None c.args.disk _
+    (whole c.args.disk c.in-Err.refused.1 _ c.in-Err.refused.0 None c.in-OldVersion.is
+    found.untouched found.failures found.calls c.in-Ok-migrate.ensures.device)
 
-pub returns-in-Err-OldVersion-default-clause-calls :
-    goal.returns-in-Err-OldVersion-default-clause-calls
-returns-in-Err-OldVersion-default-clause-calls g c =
-    let arms = g.D.Disk.arms in
-    let opened = c.in-Err-OldVersion-default in
-    let first = subst (λ e. AfterReads 1 e (arms c.args.disk) (arms opened.disk))
-    opened.field-0-0-is opened.ensures.calls in
-    each_way c.renew.result _ _ _ _
-    (λ x made. fewer_calls 7 (arms c.args.disk) (arms opened.disk) (arms (disk_of x)) first made)
-    (λ e after. read_twice e.0 (arms c.args.disk) (arms opened.disk) (arms e.1)
-    first after)
-    c.renew.ensures.calls
+pub returns-in-Ok-migrate-clause-seen : goal.returns-in-Ok-migrate-clause-seen
+returns-in-Ok-migrate-clause-seen g c =
+    let laws = c.history_laws.ensures in
+    let found = c.in-Err.ensures in
+    seen_after laws.image laws.standing_fits None c.args.disk _
+    (whole c.args.disk c.in-Err.refused.1 _ c.in-Err.refused.0 None c.in-OldVersion.is
+    found.untouched found.failures found.calls c.in-Ok-migrate.ensures.device)
 
-pub returns-in-Err-OldVersion-default-clause-writes :
-    goal.returns-in-Err-OldVersion-default-clause-writes
-returns-in-Err-OldVersion-default-clause-writes g c old =
-    let arms = g.D.Disk.arms in
-    let opened = c.in-Err-OldVersion-default in
-    let first = subst (λ e. AfterReads 1 e (arms c.args.disk) (arms opened.disk))
-    opened.field-0-0-is opened.ensures.calls in
-    so_many c.renew.result _ 7 (arms c.args.disk) (arms opened.disk) first c.renew.ensures.calls
+pub returns-in-Ok-migrate-clause-writes : goal.returns-in-Ok-migrate-clause-writes
+returns-in-Ok-migrate-clause-writes g c old =
+    more_made 1 7 8 (g.D.Disk.arms c.args.disk) (g.D.Disk.arms c.in-Err.refused.1) _
+    (subst (λ e. AfterReads 1 e (g.D.Disk.arms c.args.disk) (g.D.Disk.arms c.in-Err.refused.1))
+    c.in-OldVersion.is c.in-Err.ensures.calls) c.in-Ok-migrate.ensures.device.arms (omega arith)
 
-pub returns-in-Err-OldVersion-default-clause-lawful :
-    goal.returns-in-Err-OldVersion-default-clause-lawful
-returns-in-Err-OldVersion-default-clause-lawful g c version number history small there =
-    let opened = c.in-Err-OldVersion-default in
-    let bytes = g.D.Disk.seen c.args.disk in
-    let old = subst (λ e. IsOpenRefusal e None bytes) opened.field-0-0-is
-    opened.ensures.refusals in
-    let refusals = c.renew.ensures.refusals (subst IsOldDisk (sym opened.ensures.untouched.same)
-    old) in
-    all_lawful version number bytes history small there c.renew.result
-    (subst (λ b. IfErr c.renew.result (λ e. IsMigrateRefusal e.0 b)) opened.ensures.untouched.same
-    refusals)
+pub returns-in-Ok-migrate-clause-calls : goal.returns-in-Ok-migrate-clause-calls
+returns-in-Ok-migrate-clause-calls g c =
+    let made = returns-in-Ok-migrate-clause-writes g c (was_old c.in-Err.refused.0
+    (g.D.Disk.seen c.args.disk) c.in-OldVersion.is c.in-Err.ensures.refusals) in
+    record { calls = made.calls; enough = omega (arith, made.enough); made = made.made }
 
-pub returns-in-Err : goal.returns-in-Err
-returns-in-Err g c =
+-- ---- the migration was refused
+
+pub returns-in-Err-migrate-clause-any_moment : goal.returns-in-Err-migrate-clause-any_moment
+returns-in-Err-migrate-clause-any_moment g c =
+    let laws = c.history_laws.ensures in
+    let found = c.in-Err.ensures in
+    any_moment laws.image laws.standing_fits (Some (refusal_of c.in-Err-migrate.refused.0))
+    c.args.disk _
+    (whole c.args.disk c.in-Err.refused.1 c.in-Err-migrate.refused.1 c.in-Err.refused.0
+    (Some (refusal_of c.in-Err-migrate.refused.0)) c.in-OldVersion.is found.untouched
+    found.failures found.calls c.in-Err-migrate.ensures.device)
+
+pub returns-in-Err-migrate-clause-seen : goal.returns-in-Err-migrate-clause-seen
+returns-in-Err-migrate-clause-seen g c =
+    let laws = c.history_laws.ensures in
+    let found = c.in-Err.ensures in
+    seen_after laws.image laws.standing_fits (Some (refusal_of c.in-Err-migrate.refused.0))
+    c.args.disk _
+    (whole c.args.disk c.in-Err.refused.1 c.in-Err-migrate.refused.1 c.in-Err.refused.0
+    (Some (refusal_of c.in-Err-migrate.refused.0)) c.in-OldVersion.is found.untouched
+    found.failures found.calls c.in-Err-migrate.ensures.device)
+
+pub returns-in-Err-migrate-clause-refusals : goal.returns-in-Err-migrate-clause-refusals
+returns-in-Err-migrate-clause-refusals g c =
+    let laws = c.history_laws.ensures in
+    let e = c.in-Err-migrate.refused.0 in
+    migrate_refusal laws.image laws.standing_fits e (g.D.Disk.seen c.args.disk)
+    (was_old c.in-Err.refused.0 (g.D.Disk.seen c.args.disk) c.in-OldVersion.is
+    c.in-Err.ensures.refusals)
+    (subst (λ bytes. NotMigrated (λ m. m.pair) GivesOld image_of (λ by. Journal by) IsUnreadOld e
+    bytes) c.in-Err.ensures.untouched.same c.in-Err-migrate.ensures.refused)
+
+pub returns-in-Err-migrate-clause-lawful : goal.returns-in-Err-migrate-clause-lawful
+returns-in-Err-migrate-clause-lawful g c version number history small there =
+    migrates_lawful version number (g.D.Disk.seen c.args.disk) history small there
+    c.in-Err-migrate.refused.0 (returns-in-Err-migrate-clause-refusals g c)
+
+pub returns-in-Err-migrate-clause-calls : goal.returns-in-Err-migrate-clause-calls
+returns-in-Err-migrate-clause-calls g c =
+    let found = c.in-Err.ensures in
+    reads c.in-Err-migrate.refused.0 1 _ _
+    (whole c.args.disk c.in-Err.refused.1 c.in-Err-migrate.refused.1 c.in-Err.refused.0
+    (Some (refusal_of c.in-Err-migrate.refused.0)) c.in-OldVersion.is found.untouched
+    found.failures found.calls c.in-Err-migrate.ensures.device).arms
+
+-- ---- it was not opened, for another cause than its version
+
+pub returns-in_default : goal.returns-in_default
+returns-in_default g c =
+    let found = c.in-Err.ensures in
     let e = c.in-Err.refused.0 in
-    let bytes = g.D.Disk.seen c.args.disk in
-    let cause : IsMigrateRefusal e bytes = search rules in
+    let seen = g.D.Disk.seen c.args.disk in
+    let cause = young_refusal e seen c.in_default.not-OldVersion found.refusals in
     record {
       given = tt;
       migrated = tt;
       tried = tt;
       gives = tt;
       image = λ value generation has old. tt;
-      same = search rules;
-      any_moment = search rules;
-      seen = search rules;
+      same = λ young. found.untouched;
+      any_moment = λ number history left generation small keeps. only_read g.D.Disk.seen
+          g.D.Disk.may_leave g.D.Disk.moment g.D.Disk.left_since c.args.disk c.in-Err.refused.1 _
+          found.untouched;
+      seen = λ number history left generation small keeps. inl
+          (subst (DiskKeepsIn One number history left generation) (sym found.untouched.same) keeps);
       refusals = cause;
-      greatest = search rules;
-      lawful =
-          λ version number history small there. migrates_lawful version number bytes history small
-          there e cause;
-      untouched = search rules;
-      failures = search rules;
-      calls = search rules;
+      greatest = λ full. migrates_greatest e seen full cause;
+      lawful = λ version number history small there. migrates_lawful version number seen history
+          small there e cause;
+      untouched = inr found.untouched;
+      failures = found.failures;
+      calls = found.calls;
       writes = λ old. tt;
     }

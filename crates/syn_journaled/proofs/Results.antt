@@ -1,0 +1,80 @@
+-- What holds of a call by how it ended.
+use Rattle.std.specs.Prelude.{◌↔◌, Result, Ok, Err, IfErr, IsErrAnd, OnOk, MatchResult}
+use Rattle.std.proofs.Common.{◌≡◌, ◌⊎◌, ◌∙◌, inl, inr, refl, sym, ap, Some, None}
+use Rattle.std.proofs.lemmas.Option.{none-some, same_Some}
+use Rattle.syn_journal.specs.Refusals.{refusal_of}
+use Rattle.syn_journal.specs.declared.error.JournalError.{JournalError}
+use Rattle.syn_model.specs.Refusal as why
+use Rattle.syn_model.specs.Refusal.{Refusal}
+use Rattle.syn_journaled.specs.Endings.{ended}
+use Rattle.syn_journaled.specs.Openings.{IsOfJournal}
+use Rattle.syn_journaled.proofs.Endings.{same_error}
+
+module _ {T E : Type 0} (which : E → Refusal) where
+  pub ok_part : (result : Result T E) (P Q : Type 0) →
+      MatchResult result (λ _. P) (λ _. Q) → ended which result ≡ None → P
+  ok_part (Ok value) P Q h is = h
+  ok_part (Err e) P Q h is = absurd (none-some _ (sym is))
+
+  pub err_part : (result : Result T E) (P Q : Type 0) →
+      MatchResult result (λ _. P) (λ _. Q) → IfErr result (λ _. Q)
+  err_part (Ok value) P Q h = tt
+  err_part (Err e) P Q h = h
+
+  pub on_ok_of : (result : Result T E) (P : Type 0) → (ended which result ≡ None → P) →
+      OnOk result P
+  on_ok_of (Ok value) P h = h refl
+  on_ok_of (Err e) P h = tt
+
+  pub if_err_of : (result : Result T E) (P : E → Type 0) →
+      ((e : E) → ended which result ≡ Some (which e) → P e) → IfErr result P
+  if_err_of (Ok value) P h = tt
+  if_err_of (Err e) P h = h e refl
+
+  pub is_err_of : (result : Result T E) (P : E → Type 0) (w : Refusal) →
+      ended which result ≡ Some w → ((e : E) → which e ≡ w → P e) → IsErrAnd result P
+  is_err_of (Ok value) P w is h = absurd (none-some _ is)
+  is_err_of (Err e) P w is h = h e (same_Some _ _ is)
+
+  pub unchanged_of : (result : Result T E) (Same : Type 0) →
+      (ended which result ≡ None)
+      ⊎ ((ended which result ≡ Some why.Device) ⊎ Same) →
+      IfErr result (λ e. (which e ≡ why.Device) ⊎ Same)
+  unchanged_of (Ok value) Same h = tt
+  unchanged_of (Err e) Same (inl none) = absurd (none-some _ (sym none))
+  unchanged_of (Err e) Same (inr (inl device)) = inl (same_Some _ _ device)
+  unchanged_of (Err e) Same (inr (inr same)) = inr same
+
+  module _ (of_journal : JournalError → E) where
+    -- it is answered as the journal refused it
+    pub answered : (result : Result T E) (by : JournalError) →
+        IfErr result (IsOfJournal of_journal which) → ended which result ≡ Some (refusal_of by) →
+        result ≡ Err (of_journal by)
+    answered (Ok value) by h is = absurd (none-some _ is)
+    answered (Err e) by h is =
+        ap (λ x. Err x)
+        (h.1 ∙ ap of_journal (same_error h.0 by (ap (λ w. Some w) (sym h.2) ∙ is)))
+
+    pub exactly_of : (result : Result T E) (by : JournalError) (P : Type 0) →
+        which (of_journal by) ≡ refusal_of by → IfErr result (IsOfJournal of_journal which) →
+        (ended which result ≡ Some (refusal_of by)) ↔ P → (result ≡ Err (of_journal by)) ↔ P
+    exactly_of result by P told answer h = (
+      λ is. h.0 (ap (ended which) is ∙ ap (λ w. Some w) told),
+      λ p. answered result by answer (h.1 p),
+    )
+
+-- what two facts of a result give
+module _ {T E : Type 0} where
+  pub on_ok_both : {P Q R : Type 0} (result : Result T E) → OnOk result P → OnOk result Q →
+      (P → Q → R) → OnOk result R
+  on_ok_both (Ok value) p q f = f p q
+  on_ok_both (Err e) p q f = tt
+
+  pub if_err_both : {P Q R : E → Type 0} (result : Result T E) → IfErr result P → IfErr result Q →
+      ((e : E) → P e → Q e → R e) → IfErr result R
+  if_err_both (Ok value) p q f = tt
+  if_err_both (Err e) p q f = f e p q
+
+  pub from_both : {P : Type 0} (result : Result T E) → OnOk result P → IfErr result (λ _. P) → P
+  from_both (Ok value) p q = p
+  from_both (Err e) p q = q

@@ -1,0 +1,95 @@
+-- What an image and payloads give a replica to remember.
+use Rattle.std.proofs.Common.{◌≡◌, ◌<◌, ◌^◌, ◌∙◌, ℕ, List, Option, Some, None, ap, ap₂, sym, inl, inr, refl}
+use Rattle.std.proofs.Common.{arith}
+use Rattle.std.proofs.lemmas.Option.{none-some, same_Some}
+use Rattle.syn_model.specs.Image.{IsOldImage}
+use Rattle.syn_model.specs.Path.{Bytes}
+use Rattle.syn_model.specs.Refusal as why
+use Rattle.syn_model.specs.Standing.{Standing}
+use Rattle.syn_model.specs.Version.{One, current_version}
+use Rattle.syn_standing.specs.Readings.{GivesNothing, GivesNothingIn, GivesOtherPair}
+use Rattle.syn_standing.specs.Readings.{GivesOtherPairIn, IsOfMeaning, OneIsGiven}
+use Rattle.syn_standing.specs.Refusals.{refusal_of}
+use Rattle.syn_standing.specs.declared.error.ReplicaError.{ReplicaError}
+use Rattle.syn_standing.specs.declared.error.ReplicaError.TheVariants.{Tree, History, Journal}
+use Rattle.syn_standing.specs.declared.error.ReplicaError.TheVariants.{Memory, Touched, OldSession}
+use Rattle.syn_standing.specs.declared.error.ReplicaError.TheVariants.{Damaged, WrongPair}
+use Rattle.syn_standing.specs.declared.error.ReplicaError.TheVariants.{OldVersion}
+use Rattle.syn_replica.specs.inner.Memories.{Gives, IsNoNext, IsUnread, IsUnreadOld}
+use Rattle.syn_replica.specs.declared.remembered.Remembered.{Remembered}
+
+-- one pair and one standing are one memory
+pub same_memory : (a b : Remembered) → a.pair ≡ b.pair → a.standing ≡ b.standing → a ≡ b
+same_memory a b pair standing =
+    ap₂ (λ (n : ℕ) (s : Standing). record { pair = n; standing = s }) pair standing
+
+-- ---- why nothing is read
+
+pub unread : (e : ReplicaError) (wanted : Option ℕ) (image : Bytes) (payloads : List Bytes) →
+    ¬ IsOldImage image → IsOfMeaning e → (e ≡ Damaged → GivesNothing image payloads) →
+    (e ≡ WrongPair → GivesOtherPair wanted image payloads) → IsUnread e wanted image payloads
+unread (Tree e) wanted image payloads young h damaged other = absurd h
+unread (History e) wanted image payloads young h damaged other = absurd h
+unread (Journal e) wanted image payloads young h damaged other = absurd h
+unread Memory wanted image payloads young h damaged other = tt
+unread Touched wanted image payloads young h damaged other = absurd h
+unread OldSession wanted image payloads young h damaged other = absurd h
+unread Damaged wanted image payloads young h damaged other = (young, damaged refl)
+unread WrongPair wanted image payloads young h damaged other = other refl
+unread OldVersion wanted image payloads young h damaged other = absurd h
+
+asked_none : {asked : ℕ} → None ≡ Some asked → ⊥
+asked_none is = none-some _ is
+
+pub unread_old : (e : ReplicaError) (image : Bytes) (payloads : List Bytes) → IsOfMeaning e →
+    (e ≡ Damaged → GivesNothingIn One image payloads) →
+    (e ≡ WrongPair → GivesOtherPairIn One None image payloads) →
+    IsUnreadOld e image payloads
+unread_old (Tree e) image payloads h damaged other = absurd h
+unread_old (History e) image payloads h damaged other = absurd h
+unread_old (Journal e) image payloads h damaged other = absurd h
+unread_old Memory image payloads h damaged other = tt
+unread_old Touched image payloads h damaged other = absurd h
+unread_old OldSession image payloads h damaged other = absurd h
+unread_old Damaged image payloads h damaged other = damaged refl
+unread_old WrongPair image payloads h damaged other = absurd (asked_none (other refl).wanted_is)
+unread_old OldVersion image payloads h damaged other = absurd h
+
+pub no_next : (e : ReplicaError) (memory : Remembered) (image : Bytes) (payloads : List Bytes) →
+    IsOfMeaning e → (e ≡ Damaged → GivesNothing image payloads) →
+    (e ≡ WrongPair → GivesOtherPair (Some memory.pair) image payloads) →
+    IsNoNext e memory image payloads
+no_next (Tree e) memory image payloads h damaged other = absurd h
+no_next (History e) memory image payloads h damaged other = absurd h
+no_next (Journal e) memory image payloads h damaged other = absurd h
+no_next Memory memory image payloads h damaged other = tt
+no_next Touched memory image payloads h damaged other = absurd h
+no_next OldSession memory image payloads h damaged other = absurd h
+no_next Damaged memory image payloads h damaged other = inl (damaged refl)
+no_next WrongPair memory image payloads h damaged other = other refl
+no_next OldVersion memory image payloads h damaged other = absurd h
+
+-- where they give what is remembered, memory alone is refused
+pub own_memory : OneIsGiven → (e : ReplicaError) (memory : Remembered) (image : Bytes)
+    (payloads : List Bytes) → memory.pair < 2 ^ 64 → Gives image payloads memory →
+    IsNoNext e memory image payloads → refusal_of e ≡ why.Memory
+own_memory one (Tree e) memory image payloads fits gives h = absurd h
+own_memory one (History e) memory image payloads fits gives h = absurd h
+own_memory one (Journal e) memory image payloads fits gives h = absurd h
+own_memory one Memory memory image payloads fits gives h = refl
+own_memory one Touched memory image payloads fits gives h = absurd h
+own_memory one OldSession memory image payloads fits gives h = absurd h
+own_memory one Damaged memory image payloads fits gives (inl nothing) =
+    absurd (nothing memory.pair memory.standing fits gives)
+own_memory one Damaged memory image payloads fits gives (inr less) =
+    let same = (one current_version image payloads memory.pair memory.pair less.standing
+    memory.standing fits fits less.gives gives).1 in
+    let as_many : less.standing.position ≡ memory.standing.position =
+    ap (λ (s : Standing). s.position) same in
+    let fewer = less.fewer in
+    absurd (omega (arith, as_many, fewer))
+own_memory one WrongPair memory image payloads fits gives other =
+    let same = (one current_version image payloads memory.pair other.pair memory.standing
+    other.standing fits other.fits gives other.gives).0 in
+    absurd (other.differ (sym (same_Some _ _ other.wanted_is) ∙ same))
+own_memory one OldVersion memory image payloads fits gives h = absurd h

@@ -1,0 +1,53 @@
+-- What a machine's write makes of a replica.
+use Rattle.std.proofs.Common.{◌≡◌, ◌++◌, ◌∷◌, [], Option, None, subst, sym}
+use Rattle.syn_disk.specs.Stops.{LeavesOnly}
+use Rattle.syn_disk.specs.declared.disk.Disk.{Ghosts}
+use Rattle.syn_journal.specs.Layout.{LeftBehindPayload, IsBeforeOrAfter, with_payload}
+use Rattle.syn_journaled.specs.Journaled.{Appends, state_of}
+use Rattle.syn_model.specs.Event.{Event}
+use Rattle.syn_model.specs.History.{History, IsAllowed}
+use Rattle.syn_model.specs.Image.{StandsFor}
+use Rattle.syn_model.specs.Laws.{AllowedGoesOn, PayloadGoesOn, StandingSteps}
+use Rattle.syn_model.specs.Path.{Bytes}
+use Rattle.syn_model.specs.Refusal.{Refusal}
+use Rattle.syn_model.specs.Spelling.{event_spelling}
+use Rattle.syn_standing.specs.Updates.{IsOf}
+use Rattle.syn_standing.specs.declared.standing.Update.{Update}
+use Rattle.syn_replica.specs.Replica.{KeepsBeforeOrAfter, Stands, disk_of, generation_shown}
+use Rattle.syn_replica.specs.Replica.{journal_of, left_shown, pair_of, standing_shown}
+use Rattle.syn_replica.specs.declared.replica.Replica.{Replica}
+use Rattle.syn_replica.specs.inner.Memories.{StepsBy}
+use Rattle.syn_replica.proofs.StandLemmas.{leaves_weaker, left_behind, payload_stands}
+use Rattle.syn_replica.proofs.StandLemmas.{remembers_more, stop_keeps}
+
+module _ {D : Type 0} {disk : Ghosts D} (old new : Replica D disk) (payload : Bytes)
+    (ended : Option Refusal)
+    (appends : Appends (journal_of old) (journal_of new) payload ended) where
+  module _ (event : Event) (spelled : payload ≡ event_spelling event) where
+    pub written_moment : PayloadGoesOn → LeftBehindPayload → (history : History) →
+        Stands old history → IsAllowed history event →
+        LeavesOnly disk.moment disk.left_since (disk_of old) (disk_of new)
+        (KeepsBeforeOrAfter old history event)
+    written_moment goes_on less history stands allowed =
+        leaves_weaker disk.moment disk.left_since _ _
+        (IsBeforeOrAfter stands.value (generation_shown old) (with_payload stands.value payload)
+        (generation_shown old)) (KeepsBeforeOrAfter old history event)
+        (stop_keeps goes_on less (pair_of old) stands.value payload history event (left_shown old)
+        (generation_shown old) stands.means allowed spelled
+        (left_behind old stands.value stands.runs)) (appends.any_moment stands.value stands.runs)
+
+    pub written_stands : AllowedGoesOn → StandingSteps → PayloadGoesOn → (update : Update) →
+        ended ≡ None → StepsBy (state_of old.machine) update (state_of new.machine) →
+        IsOf (standing_shown old) event update → (history : History) → Stands old history →
+        IsAllowed history event → Stands new (history ++ event ∷ [])
+    written_stands allows steps goes_on update none makes of history stands allowed = record {
+      remembers = remembers_more allows steps old new history event stands.remembers allowed
+          (makes.standing event of);
+      value = with_payload stands.value payload;
+      runs = appends.acknowledged none stands.value stands.runs;
+      means =
+          subst (λ n. StandsFor n stands.value.image (with_payload stands.value payload).payloads
+          (history ++ event ∷ [])) (sym makes.pair)
+          (payload_stands goes_on (pair_of old) stands.value payload history event stands.means
+          allowed spelled);
+    }

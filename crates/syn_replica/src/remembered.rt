@@ -1,0 +1,126 @@
+//! What a replica has in memory, and how its disk spells it.
+ghost use Rattle.std.specs.Prelude.{◌<◌, ◌^◌};
+ghost use Rattle.syn_model.specs.Image.{image_spelling};
+ghost use Rattle.syn_standing.specs.Refusals.{refusal_of};
+ghost use Rattle.syn_standing.specs.Updates.{IsReady};
+ghost use Rattle.syn_standing.specs.declared.error.ReplicaError.TheVariants.{Journal};
+ghost use Rattle.syn_replica.specs.inner.Memories.{Gives, GivesOld, IsUnread, IsUnreadOld};
+ghost use Rattle.syn_replica.specs.inner.Memories.{IsUnreadAgain, MayFollow, StepsBy};
+
+use std::alloc::Global;
+use syn_image::{encode_image, is_old_image};
+use syn_journal::JournalError;
+use syn_journaled::State;
+use syn_refusal::Refusal;
+use syn_standing::{ReplicaError, Standing, Update, opening_laws, read_replica};
+use syn_wire::Version;
+
+/// What a replica has in memory, for one pair.
+#[derive(Drop)]
+pub(crate) struct Remembered {
+    /// The number of the pair.
+    pub(crate) pair: u64,
+    /// What is kept of the history.
+    pub(crate) standing: Standing,
+}
+
+impl State for Remembered {
+    type Update = Update;
+
+    type Error = ReplicaError;
+
+    ghost why = { λ error. refusal_of error };
+
+    ghost of_journal = { λ error. Journal error };
+
+    ghost pair = { λ memory. memory.pair };
+
+    ghost spelling = { λ memory. image_spelling memory.pair memory.standing };
+
+    ghost gives = { Gives };
+
+    ghost unread = { IsUnread };
+
+    ghost gives_old = { GivesOld };
+
+    ghost unread_old = { IsUnreadOld };
+
+    ghost follows = { MayFollow };
+
+    ghost unread_again = { IsUnreadAgain };
+
+    ghost ready = { λ memory update. IsReady memory.standing update };
+
+    ghost makes = { StepsBy };
+
+    fn refused(error: JournalError) -> ReplicaError {
+        ReplicaError::from(error)
+    }
+
+    fn refusal(error: &ReplicaError) -> Refusal {
+        error.refusal()
+    }
+
+    fn image(&self, alloc: Global) -> Option<Vec<u8>> {
+        let standing = &self.standing;
+        encode_image(alloc, self.pair, standing.tree(), standing.trail()).ok()
+    }
+
+    fn read(
+        alloc: Global,
+        image: &[u8],
+        payloads: &[Vec<u8>],
+        wanted: Option<u64>,
+    ) -> Result<Remembered, ReplicaError> {
+        if is_old_image(image) {
+            return Err(ReplicaError::OldVersion);
+        }
+        match read_replica(alloc, Version::Two, image, wanted, payloads) {
+            Ok((pair, standing)) => Ok(Remembered { pair, standing }),
+            Err(error) => Err(error),
+        }
+    }
+
+    fn read_old(
+        alloc: Global,
+        image: &[u8],
+        payloads: &[Vec<u8>],
+    ) -> Result<Remembered, ReplicaError> {
+        match read_replica(alloc, Version::One, image, None, payloads) {
+            Ok((pair, standing)) => Ok(Remembered { pair, standing }),
+            Err(error) => Err(error),
+        }
+    }
+
+    /// Refused 19 too where they give fewer events than are remembered, so that no reopening goes
+    /// back.
+    fn read_again(
+        &self,
+        alloc: Global,
+        image: &[u8],
+        payloads: &[Vec<u8>],
+    ) -> Result<Remembered, ReplicaError> {
+        opening_laws();
+        has_64_bits(self.pair);
+        match read_replica(alloc, Version::Two, image, Some(self.pair), payloads) {
+            Ok((pair, standing)) => {
+                if standing.trail().position() < self.standing.trail().position() {
+                    return Err(ReplicaError::Damaged);
+                }
+                Ok(Remembered { pair, standing })
+            }
+            Err(error) => Err(error),
+        }
+    }
+
+    fn make(&mut self, update: Update) {
+        self.standing.make(update);
+    }
+}
+
+/// What its type says of a number.
+fn has_64_bits(number: u64)
+    ensures { number < 2 ^ 64 }
+{
+    let _ = number;
+}

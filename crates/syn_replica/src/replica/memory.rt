@@ -1,0 +1,75 @@
+//! What is asked of what a replica keeps in memory.
+ghost use Rattle.std.specs.Prelude.{◌≡◌, ◌⊎◌, None, Some, IfOk, IfErr, OnOk};
+ghost use Rattle.syn_history.specs.Events.{event_of, token_of};
+ghost use Rattle.syn_model.specs.History.{History, standing_of};
+ghost use Rattle.syn_model.specs.Refusal.{Memory, first_cause};
+ghost use Rattle.syn_model.specs.Standing.{is_old, refusal_at};
+ghost use Rattle.syn_standing.specs.Causes.{since_causes};
+ghost use Rattle.syn_standing.specs.Refusals.{refusal_in, refusal_of};
+ghost use Rattle.syn_standing.specs.Updates.{IsOf, IsReady, early_causes};
+ghost use Rattle.syn_replica.specs.inner.Additions.{is_done_at};
+
+use super::Replica;
+use std::alloc::Global;
+use syn_disk::Disk;
+use syn_history::{Event, HistoryError, Token};
+use syn_path::Path;
+use syn_standing::{ReplicaError, Standing, Update};
+
+impl<D: Disk> Replica<D> {
+    ghost use Rattle.syn_replica.specs.Replica.{standing_shown};
+
+    /// What it keeps of its history.
+    pub(super) fn kept(&self) -> &Standing
+        ensures { result.now ≡ standing_shown self.now }
+    {
+        &self.machine.state().standing
+    }
+
+    /// Why the event is not added, as far as that is seen without memory.
+    pub(super) fn check(&self, event: &Event) -> Result<(), ReplicaError>
+        ensures { refusal_in result
+            ≡ first_cause (early_causes (standing_shown self.now) (event_of event.now)) }
+    {
+        self.kept().check(event)
+    }
+
+    /// Whether the token is that of the last replacement.
+    pub(super) fn is_done(&self, token: &Token) -> bool
+        ensures { result ≡ is_done_at (standing_shown self.now) (token_of token.now) }
+    {
+        self.kept().is_done(token)
+    }
+
+    /// Whether the token is not of the session begun last, or not above the last token.
+    pub(super) fn is_old(&self, token: &Token) -> bool
+        ensures { result ≡ is_old (standing_shown self.now).session
+            (standing_shown self.now).token (token_of token.now) }
+    {
+        self.kept().is_old(token)
+    }
+
+    /// Why what was listed at the position `since` may be another now. It takes no memory.
+    pub(super) fn check_untouched(&self, path: &Path, since: u64) -> Result<(), ReplicaError>
+        ensures cause { (history : History) → standing_shown self.now ≡ standing_of history
+            → refusal_in result ≡ first_cause (since_causes history path.now since) }
+        ensures refusals { IfErr result (λ e. (e ≡ ReplicaError.Touched)
+            ⊎ (e ≡ ReplicaError.History HistoryError.BelowFloor)) }
+    {
+        self.kept().check_untouched(path, since)
+    }
+
+    /// The update that an event makes, with all memory for it.
+    pub(super) fn prepare(&self, alloc: Global, event: Event) -> Result<Update, ReplicaError>
+        requires { first_cause (early_causes (standing_shown self.now) (event_of event)) ≡ None }
+        ensures ready { IfOk result (λ update. IsReady (standing_shown self.now) update) }
+        ensures gives { IfOk result
+            (λ update. IsOf (standing_shown self.now) (event_of event) update) }
+        ensures allowed { OnOk result
+            (refusal_at (standing_shown self.now) (event_of event) ≡ None) }
+        ensures refused { IfErr result (λ e. (refusal_of e ≡ Memory)
+            ⊎ (refusal_at (standing_shown self.now) (event_of event) ≡ Some (refusal_of e))) }
+    {
+        self.kept().prepare(alloc, event)
+    }
+}
