@@ -14,7 +14,7 @@ use std::net::{Net, TcpListener, TcpStream};
 use std::sync::Wait;
 use std::thread::Threads;
 use std::time::Clock;
-use syn_command::{CommandError, Failure, Outcome, Status, print_meanings, report};
+use syn_command::{CommandError, EditsTold, Failure, Outcome, Status, print_meanings, report};
 use syn_file::HostFile;
 use syn_files::{
     Between, NamedDisks, Pairing, Telling, chmod, edit, export, import, migrate, print_image,
@@ -56,11 +56,16 @@ where
         Err(error) => return tell(&error, output, errors),
     };
     let telling = telling_of(asked.is_verbose, is_terminal);
+    let told = EditsTold {
+        each: asked.is_verbose,
+        counts: is_terminal,
+    };
     let answer = answer_of(
         rt,
         alloc,
         &asked.line,
         telling,
+        told,
         files,
         input,
         output,
@@ -122,6 +127,7 @@ fn answer_of<H, F, I, O, E>(
     alloc: Global,
     line: &Line<'_>,
     telling: Telling,
+    told: EditsTold,
     files: &F,
     input: &mut I,
     output: &mut O,
@@ -138,7 +144,7 @@ where
 {
     let disks = DisksInFiles(files);
     carry_out(
-        rt, alloc, line, telling, files, &disks, input, output, errors,
+        rt, alloc, line, telling, told, files, &disks, input, output, errors,
     )
 }
 
@@ -148,6 +154,7 @@ fn carry_out<H, F, N, I, O, E>(
     alloc: Global,
     line: &Line<'_>,
     telling: Telling,
+    told: EditsTold,
     files: &F,
     disks: &N,
     input: &mut I,
@@ -168,8 +175,7 @@ where
         (Some(pairing), Line::Plan { .. }) => print_plan(rt, alloc, disks, pairing, output)?,
         (Some(pairing), _) => run_session(rt, alloc, disks, pairing, telling, output, errors)?,
         (None, Line::Import(line)) => {
-            let is_told = telling != Telling::Nothing;
-            let position = import(rt, alloc, disks, files, line, is_told, errors)?;
+            let position = import(rt, alloc, disks, files, line, told, errors)?;
             writeln!(output, "ok {position}")?;
             Outcome::Done
         }

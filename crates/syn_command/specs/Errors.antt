@@ -37,3 +37,8 @@ IsOfStream _ = ⊥
 abbrev pub IsOfPath : CommandError → Type 0
 IsOfPath (Path error) = Unit {0}
 IsOfPath _ = ⊥
+
+-- the refusals of a folder, or of a plan over what stands in it
+abbrev pub IsOfFolder : CommandError → Type 0
+IsOfFolder (Folder error) = Unit {0}
+IsOfFolder _ = ⊥

@@ -28,17 +28,25 @@
 //! - `check_image` adds the line of numbers of the image (`printed`).
 //! - The status of an answer is exact: 0 for one that was done, 1 for one that was refused
 //!   (`report`).
-//! - `import_part` makes what is at a path of a replica a given tree (`part`). The replica then
-//!   stands for the history with edits of the user after it (`imported`), and for the same history
-//!   where the tree was there already (`none`). A stop at any moment leaves the history with a
-//!   beginning of these edits (`any_moment`). `send_edits` asks a server for such edits. Where it
-//!   succeeds, they were asked for one after another, and each was answered with the position
-//!   after the one before (`made`).
+//! - `export_part` writes what is at a path of a tree into a folder, any that is a `Folder`. The
+//!   folder's tree is that then (`whole`), or has it beside what stood elsewhere (`added`). Unless a
+//!   call of the system fails, a refusal leaves the folder as it was (`refused`).
+//! - `import_folder` makes what is at a path of a replica the tree of a folder (`part`), any that is
+//!   a `Folder`. The replica then stands for the history with edits of the user after it
+//!   (`imported`), and for the same history where the tree was there already (`none`). What can
+//!   stand in no replica refuses it (`known`), or is skipped: then the replica keeps what it has
+//!   there. A stop at any moment leaves the history with a beginning of these edits (`any_moment`),
+//!   and what the plan refuses leaves the replica as it was (`refused`). `import_part` is the same
+//!   with a tree, and `part_of` the tree that a folder gives.
+//! - `send_edits` asks a server for such edits. Where it succeeds, they were asked for one after
+//!   another, and each was answered with the position after the one before (`made`).
 #![tactic(auto)]
 
 mod check;
 mod edit;
+mod edits_told;
 mod error;
+mod export;
 mod failure;
 mod image;
 mod import;
@@ -49,10 +57,12 @@ mod telling;
 
 pub use check::check_image;
 pub use edit::{make_edit, read_edit};
+pub use edits_told::EditsTold;
 pub use error::CommandError;
+pub use export::export_part;
 pub use failure::Failure;
 pub use image::{Image, format_image, migrate_image, open_image};
-pub use import::{import_part, send_edits};
+pub use import::{import_folder, import_part, part_of, send_edits};
 pub use outcome::{Outcome, outcome_of, outcome_planned};
 pub use show::{show_image, show_path};
 pub use status::Status;

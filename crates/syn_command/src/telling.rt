@@ -52,10 +52,19 @@ fn tell_failure<E: Write>(asked: Option<&Line<'_>>, failure: &Failure, errors: &
 fn refuse<E: Write>(error: &CommandError, errors: &mut E) {
     let number = error.number();
     let _ = writeln!(errors, "syn: refused {number} {error}");
-    if let CommandError::Folder(FolderError::Strange(strangers)) = error {
-        for stranger in strangers {
-            let _ = writeln!(errors, "syn: {stranger}");
+    match error {
+        CommandError::Folder(FolderError::Strange(strangers)) => {
+            for stranger in strangers {
+                let _ = writeln!(errors, "syn: {stranger}");
+            }
         }
+        CommandError::Folder(FolderError::Changed(paths)) => {
+            for path in paths {
+                let text = path.as_str();
+                let _ = writeln!(errors, "syn: {text:?} changed while the folder was read");
+            }
+        }
+        _ => {}
     }
 }
 
@@ -110,6 +119,12 @@ fn explain<E: Write>(line: &Line<'_>, error: &CommandError, errors: &mut E) {
         }
         CommandError::Folder(FolderError::NotEmpty) => {
             writeln!(errors, ": the folder is not empty")
+        }
+        CommandError::Folder(FolderError::Strange(_)) => {
+            writeln!(errors, ": no replica can have what is named above")
+        }
+        CommandError::Folder(FolderError::Changed(_)) => {
+            writeln!(errors, ": somebody changes the folder")
         }
         CommandError::Longer => writeln!(errors, ": the file is longer than an image"),
         _ if refusal == Refusal::OldVersion => {

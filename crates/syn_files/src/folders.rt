@@ -10,13 +10,13 @@ use std::alloc::Global;
 use std::fs::Files;
 use std::io::Write;
 use std::net::{Net, TcpStream};
-use syn_change::{changes_at, copy_part};
-use syn_command::{CommandError, import_part, send_edits};
-use syn_folder::{Folder, FolderError, SystemFolder, all_known, fill, mirror, skipping, update};
+use syn_change::changes_at;
+use syn_command::{CommandError, EditsTold, export_part, import_folder, part_of, send_edits};
+use syn_folder::{Folder, FolderError, SystemFolder};
 use syn_path::Path;
 use syn_tree::Tree;
 use syn_user::UserConnection;
-use syn_words::{Existing, ExportLine, ImportLine, Place};
+use syn_words::{ExportLine, ImportLine, Place};
 
 /// Writes what the directory at the line's path has into its folder, and answers the position of
 /// the replica.
@@ -37,33 +37,32 @@ pub fn export<H: Net<Stream = TcpStream>, N: NamedDisks, F: Files>(
     match line.place {
         Place::File(name) => {
             let replica = replica_to_read(alloc, disks, name)?;
-            export_part(alloc, files, replica.tree(), &path, line)?;
+            export_into(alloc, files, replica.tree(), &path, line)?;
             Ok(replica.position())
         }
         Place::Served(address) => {
             let stream = reach(rt, address)?;
             let (position, tree) = tree_over(alloc, &stream)?;
-            export_part(alloc, files, &tree, &path, line)?;
+            export_into(alloc, files, &tree, &path, line)?;
             Ok(position)
         }
     }
 }
 
 /// Makes what is at the line's path what stands in its folder, by edits of its user, and answers
-/// the new position. Each edit is told to `errors` once it is made, where `is_told` says so, and
-/// what is skipped.
+/// the new position. As much of the edits as `told` says is told to `errors`, and what is skipped.
 ///
-/// A text that names no path is refused. Else it is refused as the folder is read, 7 where
-/// something stands in it that can stand in no replica and nothing is to be skipped, as an opening
-/// is, and as the replica or the server refuses the edits. It is refused 13 where somebody else
-/// edits what is served meanwhile: a beginning of the edits stands then.
+/// A text that names no path is refused. Else it is refused as the folder is read, as an opening
+/// is, 7 where something stands in the folder that can stand in no replica and nothing is to be
+/// skipped, and as the replica or the server refuses the edits. It is refused 13 where somebody
+/// else edits what is served meanwhile: a beginning of the edits stands then.
 pub fn import<H: Net<Stream = TcpStream>, N: NamedDisks, F: Files, E: Write>(
     rt: &H,
     alloc: Global,
     disks: &N,
     files: &F,
     line: &ImportLine<'_>,
-    is_told: bool,
+    told: EditsTold,
     errors: &mut E,
 ) -> Result<u64, CommandError>
     ensures { IfSome line.now.path (λ path.
@@ -71,19 +70,33 @@ pub fn import<H: Net<Stream = TcpStream>, N: NamedDisks, F: Files, E: Write>(
 {
     let path = path_of(alloc, line.path)?;
     let folder = SystemFolder::open(alloc, files, line.folder)?;
-    if !line.is_skipping {
-        all_known(alloc, &folder)?;
-    }
+    let (user, is_skipping) = (line.user, line.is_skipping);
     match line.place {
         Place::File(name) => {
             let mut replica = replica_in(alloc, disks, name)?;
-            let part = part_of(alloc, &folder, replica.tree(), &path, errors)?;
-            let user = line.user;
-            import_part(alloc, &mut replica, user, &path, &part, is_told, errors)
+            import_folder(
+                alloc,
+                &mut replica,
+                user,
+                &path,
+                &folder,
+                is_skipping,
+                told,
+                errors,
+            )
         }
         Place::Served(address) => {
             let stream = reach(rt, address)?;
-            import_over(alloc, &stream, line.user, &path, &folder, is_told, errors)
+            import_over(
+                alloc,
+                &stream,
+                user,
+                &path,
+                &folder,
+                is_skipping,
+                told,
+                errors,
+            )
         }
     }
 }
@@ -109,54 +122,28 @@ fn import_over<F: Folder, E: Write>(
     user: u32,
     path: &Path,
     folder: &F,
-    is_told: bool,
+    is_skipping: bool,
+    told: EditsTold,
     errors: &mut E,
 ) -> Result<u64, CommandError> {
     let (position, tree) = tree_over(alloc, stream)?;
-    let part = part_of(alloc, folder, &tree, path, errors)?;
+    let part = part_of(alloc, folder, is_skipping, &tree, path, errors)?;
     let edits = match changes_at(alloc, &tree, path, &part) {
         Ok(edits) => edits,
         Err(error) => return Err(CommandError::Folder(FolderError::Tree(error))),
     };
     let mut connection = UserConnection::new(alloc, stream, stream);
-    send_edits(
-        alloc,
-        &mut connection,
-        user,
-        position,
-        edits,
-        is_told,
-        errors,
-    )
-}
-
-/// What of the folder goes to the path of the tree. What is skipped is told to `errors`.
-fn part_of<F: Folder, E: Write>(
-    alloc: Global,
-    folder: &F,
-    tree: &Tree,
-    path: &Path,
-    errors: &mut E,
-) -> Result<Tree, FolderError> {
-    for stranger in folder.strangers() {
-        let _ = writeln!(errors, "syn: skipped {stranger}");
-    }
-    skipping(alloc, folder, tree, path)
+    send_edits(alloc, &mut connection, user, position, edits, told, errors)
 }
 
 /// Writes what the directory at the path of the tree has into the line's folder.
-fn export_part<F: Files>(
+fn export_into<F: Files>(
     alloc: Global,
     files: &F,
     tree: &Tree,
     path: &Path,
     line: &ExportLine<'_>,
 ) -> Result<(), FolderError> {
-    let part = copy_part(alloc, tree, path)?;
     let mut folder = SystemFolder::open_or_missing(alloc, files, line.folder)?;
-    match line.existing {
-        Existing::Refused => fill(alloc, &part, &mut folder),
-        Existing::Updated => update(alloc, &part, &mut folder),
-        Existing::Mirrored => mirror(alloc, &part, &mut folder),
-    }
+    export_part(alloc, tree, path, line.existing, &mut folder)
 }

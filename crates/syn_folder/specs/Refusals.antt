@@ -7,7 +7,7 @@ use Rattle.syn_model.specs.Refusal as why
 use Rattle.syn_tree.specs.Refusals.{refusal_of as of_tree}
 use Rattle.syn_tree.specs.declared.error.TreeError.TheVariants as tree
 use Rattle.syn_folder.specs.declared.error.FolderError.{FolderError}
-use Rattle.syn_folder.specs.declared.error.FolderError.TheVariants.{NotEmpty, Strange}
+use Rattle.syn_folder.specs.declared.error.FolderError.TheVariants.{Changed, NotEmpty, Strange}
 use Rattle.syn_folder.specs.declared.error.FolderError.TheVariants.{System, Tree}
 
 -- that of a call of the system that failed so
@@ -19,6 +19,7 @@ abbrev pub refusal_of : FolderError → Refusal
 refusal_of (Tree error) = of_tree error
 refusal_of NotEmpty = why.Exists
 refusal_of (Strange strangers) = why.Full
+refusal_of (Changed paths) = why.Touched
 refusal_of (System error) = refusal_in (error_kind error)
 
 -- memory was refused, before anything was written

@@ -23,6 +23,8 @@ pub enum FolderError {
     /// 7: these stand in the folder, or in the way, and can stand in no replica. Nothing was
     /// written.
     Strange(Vec<Stranger>),
+    /// 13: these paths in the folder changed while it was read. Nothing was written.
+    Changed(Vec<String>),
     /// 9, or 11 for lack of memory: a call of the system failed, for this reason. A part may be
     /// written.
     System(io::Error),
@@ -37,6 +39,7 @@ impl FolderError {
             FolderError::Tree(error) => error.refusal(),
             FolderError::NotEmpty => Refusal::Exists,
             FolderError::Strange(_) => Refusal::Full,
+            FolderError::Changed(_) => Refusal::Touched,
             FolderError::System(error) => refusal_in(error.kind()),
         }
     }

@@ -1,9 +1,12 @@
 //! Writes a tree into a folder.
-ghost use Rattle.std.specs.Prelude.{◌≡◌, ◌⊎◌, map, OnOk, IfErr, None};
+ghost use Rattle.std.specs.Prelude.{◌≡◌, ◌⊎◌, [], false, map, OnOk, IfErr, IfOk, None, Some};
+ghost use Rattle.std.specs.FinMap.{get};
 ghost use Rattle.syn_change.specs.Changes.{IsOverlaid, after_edits};
+ghost use Rattle.syn_model.specs.Path.{Path};
 ghost use Rattle.syn_model.specs.Tree.{empty_directory};
 ghost use Rattle.syn_tree.specs.Edits.{edit_of};
 ghost use Rattle.syn_folder.specs.Refusals.{IsOfSystem};
+ghost use Rattle.syn_folder.specs.Strangers.{IsApart};
 
 use crate::error::FolderError;
 use crate::folder::Folder;
@@ -17,6 +20,8 @@ use syn_tree::{Edit, Tree};
 /// Refused 4 where something stands in it, and 11 where memory is refused. Refused 9, or 11 for
 /// lack of memory, where a call of the system fails: a part may be written then.
 pub fn fill<F: Folder>(alloc: Global, wanted: &Tree, folder: &mut F) -> Result<(), FolderError>
+    ensures empty { OnOk result (F.tree folder.old ≡ empty_directory) }
+    ensures known { OnOk result (F.strangers folder.old ≡ []) }
     ensures done { OnOk result (F.tree folder.new ≡ wanted.now) }
     ensures refused { IfErr result (λ e. IsOfSystem e ⊎ (folder.new ≡ folder.old)) }
 {
@@ -32,12 +37,12 @@ pub fn fill<F: Folder>(alloc: Global, wanted: &Tree, folder: &mut F) -> Result<(
 /// is refused. Refused 9, or 11 for lack of memory, where a call of the system fails: a part may be
 /// written then.
 pub fn mirror<F: Folder>(alloc: Global, wanted: &Tree, folder: &mut F) -> Result<(), FolderError>
+    ensures known { OnOk result (F.strangers folder.old ≡ []) }
     ensures done { OnOk result (F.tree folder.new ≡ wanted.now) }
     ensures refused { IfErr result (λ e. IsOfSystem e ⊎ (folder.new ≡ folder.old)) }
 {
-    let strange = copy_all(alloc, folder.strangers())?;
-    if !strange.is_empty() {
-        return Err(FolderError::Strange(strange));
+    if !folder.strangers().is_empty() {
+        return Err(FolderError::Strange(copy_all(alloc, folder.strangers())?));
     }
     let edits = changes(alloc, folder.tree(), wanted)?;
     make_all(alloc, edits, folder)
@@ -50,6 +55,7 @@ pub fn mirror<F: Folder>(alloc: Global, wanted: &Tree, folder: &mut F) -> Result
 /// would have more than a replica may, and 11 where memory is refused. Refused 9, or 11 for lack of
 /// memory, where a call of the system fails: a part may be written then.
 pub fn update<F: Folder>(alloc: Global, wanted: &Tree, folder: &mut F) -> Result<(), FolderError>
+    ensures apart { OnOk result (IsApart (F.strangers folder.old) wanted.now) }
     ensures done { OnOk result (IsOverlaid (F.tree folder.old) wanted.now (F.tree folder.new)) }
     ensures refused { IfErr result (λ e. IsOfSystem e ⊎ (folder.new ≡ folder.old)) }
 {
@@ -91,15 +97,25 @@ fn in_the_way(
     wanted: &Tree,
     strangers: &[Stranger],
 ) -> Result<Vec<Stranger>, FolderError>
-    ensures { IfErr result (λ e. ¬ IsOfSystem e) }
+    ensures before { IfErr result (λ e. ¬ IsOfSystem e) }
+    ensures apart { IfOk result (λ found. found.items ≡ [] → IsApart strangers.now wanted.now) }
 {
     let mut found = Vec::new(alloc);
     for stranger in strangers {
-        if let Some(path) = &stranger.path {
-            if wanted.get(path).is_some() {
-                found.push(stranger.copy(alloc)?)?;
-            }
+        if is_in_the_way(wanted, stranger) {
+            found.push(stranger.copy(alloc)?)?;
         }
     }
     Ok(found)
+}
+
+/// Something is wanted at its path.
+fn is_in_the_way(wanted: &Tree, stranger: &Stranger) -> bool
+    ensures { result ≡ false → (path : Path) → stranger.now.path ≡ Some path
+        → get wanted.now path ≡ None }
+{
+    match &stranger.path {
+        Some(path) => wanted.get(path).is_some(),
+        None => false,
+    }
 }

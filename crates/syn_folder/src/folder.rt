@@ -1,25 +1,30 @@
 //! What is asked of a folder.
-ghost use Rattle.std.specs.Prelude.{◌≡◌, OnOk, IfErr};
+ghost use Rattle.std.specs.Prelude.{◌≡◌, List, OnOk, IfErr};
 ghost use Rattle.syn_model.specs.Event.{after_edit};
 ghost use Rattle.syn_model.specs.Tree.{Tree as Pairs};
 ghost use Rattle.syn_tree.specs.Edits.{edit_of};
 ghost use Rattle.syn_folder.specs.Refusals.{IsOfSystem};
+ghost use Rattle.syn_folder.specs.declared.stranger.Stranger.{Stranger as Strange};
 
 use crate::error::FolderError;
 use crate::stranger::Stranger;
 use std::alloc::Global;
 use syn_tree::{Edit, Tree};
 
-/// A folder. Contracts see the tree of the files and directories that stand in it.
+/// A folder. Contracts see the tree of the files and directories that stand in it, and what else
+/// does.
 pub trait Folder {
     ghost tree: { Self → Pairs };
+
+    ghost strangers: { Self → List Strange };
 
     /// The files and directories that stand in it.
     fn tree(&self) -> &Tree
         ensures { result.now ≡ tree self.now };
 
     /// What else stands in it.
-    fn strangers(&self) -> &[Stranger];
+    fn strangers(&self) -> &[Stranger]
+        ensures { result.now ≡ strangers self.now };
 
     /// Makes the folder itself, where it is missing.
     ///

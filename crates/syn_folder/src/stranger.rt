@@ -15,6 +15,14 @@ pub enum Strangeness {
     Kind,
     /// It is a file of more than 16,384 bytes.
     Size,
+    /// It is a directory with more than 256 names. What is in it was not looked at.
+    Names,
+    /// It may not be read.
+    Locked,
+    /// It is the folder itself, and has more files and directories than a replica.
+    Count,
+    /// It is the folder itself, and takes more bytes in all than a replica has.
+    Room,
 }
 
 /// Something of a folder that can stand in no replica.
@@ -22,7 +30,7 @@ pub enum Strangeness {
 pub struct Stranger {
     /// Its path in the folder, as text. What is no UTF-8 of it is replaced.
     pub text: String,
-    /// The same as a path, where it is one.
+    /// The same as a path, where it is one. The folder itself is the root.
     pub path: Option<Path>,
     pub why: Strangeness,
 }
@@ -55,6 +63,10 @@ impl fmt::Display for Stranger {
             Strangeness::Path => write!(f, "{text:?} lies too deep, or its path is too long"),
             Strangeness::Kind => write!(f, "{text:?} is neither a file nor a directory"),
             Strangeness::Size => write!(f, "{text:?} has more than 16384 bytes"),
+            Strangeness::Names => write!(f, "{text:?} has more than 256 names"),
+            Strangeness::Locked => write!(f, "{text:?} may not be read"),
+            Strangeness::Count => write!(f, "{text:?} has more than 1023 files and directories"),
+            Strangeness::Room => write!(f, "{text:?} takes more than 526336 bytes in all"),
         }
     }
 }

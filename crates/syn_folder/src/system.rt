@@ -9,6 +9,7 @@ use std::fs::Files;
 use std::io;
 use syn_tree::{Edit, Tree};
 
+mod looks;
 mod reading;
 mod writing;
 
@@ -30,10 +31,11 @@ pub struct SystemFolder<'a, F> {
 }
 
 impl<'a, F: Files> SystemFolder<'a, F> {
-    /// Reads the folder at the path.
+    /// Reads the folder at the path. Where it has more than a replica may, it is a stranger itself,
+    /// and its tree is empty.
     ///
-    /// Refused 9 where it cannot be read or is none, 7 where it has more than a replica may, and 11
-    /// where memory is refused.
+    /// Refused 9 where it cannot be read or is none, 13 where something changed while it was read,
+    /// and 11 where memory is refused.
     pub fn open(alloc: Global, files: &'a F, root: &'a str) -> Result<Self, FolderError> {
         let (tree, strangers) = read_folder(alloc, files, root)?;
         Ok(SystemFolder {
@@ -66,6 +68,8 @@ impl<'a, F: Files> SystemFolder<'a, F> {
 
 impl<F: Files> Folder for SystemFolder<'_, F> {
     ghost tree = { λ folder. folder.tree };
+
+    ghost strangers = { λ folder. folder.strangers.items };
 
     fn tree(&self) -> &Tree {
         &self.tree

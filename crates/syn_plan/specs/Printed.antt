@@ -7,6 +7,7 @@ use Rattle.syn_model.specs.Decision.{Item, ToLeft, ToRight, MarkSame, MarkDir, C
 use Rattle.syn_model.specs.Tree.{Tree, Content, Directory, File}
 use Rattle.syn_path.specs.Paths.{printed_form}
 use Rattle.syn_recon.specs.Items.{item_of}
+use Rattle.syn_tree.specs.Modes.{mode_digits}
 use Rattle.syn_recon.specs.declared.item.Item.{Item as Planned}
 
 -- what is done with an item
@@ -17,11 +18,12 @@ word_of (MarkSame path) = codes "mark"
 word_of (MarkDir path) = codes "mark"
 word_of (Conflict path) = codes "conflict"
 
--- what stands at a path by its mark: nothing, a directory, or a file by its digest
+-- what stands at a path by its mark: nothing, a directory, or a file by its mode and its digest
 abbrev pub mark_shown : Option Content → List ℕ
 mark_shown None = codes "-"
 mark_shown (Some Directory) = codes "d"
-mark_shown (Some (File digest)) = codes "f " ++ encode_lower digest.bytes
+mark_shown (Some (File digest)) = codes "f " ++ (mode_digits digest.mode ++ (codes " "
+    ++ encode_lower digest.bytes))
 
 -- what one of the three has at the path
 abbrev pub had_line : List ℕ → Option Content → List ℕ

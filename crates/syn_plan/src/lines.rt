@@ -115,9 +115,9 @@ fn mark_shown(alloc: Global, mark: Option<Mark>) -> Result<String, AllocError>
     match mark {
         None => String::from_str(alloc, "-"),
         Some(Mark::Dir) => String::from_str(alloc, "d"),
-        Some(Mark::File(_, digest)) => {
+        Some(Mark::File(mode, digest)) => {
             let digest = hex::encode(alloc, digest)?;
-            format!(in alloc; "f {digest}")
+            format!(in alloc; "f {mode} {digest}")
         }
     }
 }

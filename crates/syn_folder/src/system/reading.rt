@@ -2,12 +2,15 @@
 
 use crate::error::FolderError;
 use crate::stranger::{Strangeness, Stranger};
+use crate::system::looks::{Look, Looked, is_gone, is_locked, is_same};
 use std::alloc::{AllocError, Global};
 use std::fs::{Files, Metadata, OpenFile, OpenOptions};
 use std::io::{self, Read};
+use std::mem;
 use std::os::unix::fs::PermissionsExt;
 use syn_path::{Name, Path, PathError};
-use syn_tree::{Content, Entries, Entry, LONGEST_FILE, Mode, Tree, TreeError};
+use syn_tree::measures::MOST_BELOW;
+use syn_tree::{Content, Entries, Entry, LONGEST_FILE, MOST_CHILDREN, Mode, Tree, TreeError};
 
 /// The name of a file that is being written, which lies beside the one that it will be. It is too
 /// long for a name of a replica, so it is none of anybody's.
@@ -27,11 +30,16 @@ struct Reading<'f, 'r, F> {
     /// What was found, in path order.
     found: Vec<Entry>,
     strangers: Vec<Stranger>,
+    /// The folder, and each file and directory that was found, as it looked before it was read.
+    looked: Vec<Looked>,
+    /// The paths of what changed since, as text.
+    changed: Vec<String>,
 }
 
-/// What stands in the folder, and what can stand in no replica.
+/// What stands in the folder, and what can stand in no replica. Where there is more than a replica
+/// may have, the folder itself is among that, and the tree is empty.
 ///
-/// Refused 9 where the system refuses it, 7 where there is more than a replica may have, and 11
+/// Refused 9 where the system refuses it, 13 where something changed while it was read, and 11
 /// where memory is refused.
 pub(super) fn read_folder<F: Files>(
     alloc: Global,
@@ -44,23 +52,38 @@ pub(super) fn read_folder<F: Files>(
         pending: Vec::new(alloc),
         found: Vec::new(alloc),
         strangers: Vec::new(alloc),
+        looked: Vec::new(alloc),
+        changed: Vec::new(alloc),
     };
-    reading.list(alloc, &Path::root(alloc))?;
+    reading.enter(alloc)?;
     for _ in 0..MOST_LOOKED {
         let Some(path) = reading.pending.pop() else {
-            let tree = tree_of(alloc, reading.found)?;
-            return Ok((tree, reading.strangers));
+            break;
         };
         reading.look(alloc, path)?;
     }
-    Err(FolderError::Tree(TreeError::Full))
+    reading.look_again(alloc)?;
+    reading.end(alloc)
 }
 
-/// The tree of the entries.
-fn tree_of(alloc: Global, found: Vec<Entry>) -> Result<Tree, FolderError> {
+/// The tree of the entries. Refused 7 where it would pass a limit, and 11 where memory is refused.
+fn tree_of(alloc: Global, found: Vec<Entry>) -> Result<Tree, TreeError> {
     match Entries::from_vec(found) {
-        Some(entries) => Ok(Tree::from_entries(alloc, entries)?),
-        None => Err(FolderError::Tree(TreeError::Full)),
+        Some(entries) => Tree::from_entries(alloc, entries),
+        None => Err(TreeError::Full),
+    }
+}
+
+/// Why what looks so can stand in no replica; none where it can.
+fn strangeness_of(there: &Metadata) -> Option<Strangeness> {
+    if there.is_dir() {
+        None
+    } else if !there.is_file() {
+        Some(Strangeness::Kind)
+    } else if there.len() > LONGEST_FILE as u64 {
+        Some(Strangeness::Size)
+    } else {
+        None
     }
 }
 
@@ -73,47 +96,100 @@ fn mode_of(file: Metadata) -> Mode {
 }
 
 impl<F: Files> Reading<'_, '_, F> {
+    /// Looks at the folder itself.
+    fn enter(&mut self, alloc: Global) -> Result<(), FolderError> {
+        let there = self.files.metadata(self.root)?;
+        let root = Path::root(alloc);
+        let listed = read_names(alloc, self.files, self.root, &root)?;
+        self.list(alloc, root, &there, listed.as_slice())
+    }
+
     /// Looks at what stands at the path.
     fn look(&mut self, alloc: Global, path: Path) -> Result<(), FolderError> {
         let place = place_of(alloc, self.root, path.names())?;
-        let there = self.files.symlink_metadata(place.as_str())?;
-        if there.is_dir() {
-            self.list(alloc, &path)?;
-            self.found
-                .push(Entry::new(alloc, &path.key(), Content::Dir)?)?;
-        } else if !there.is_file() {
-            self.note(alloc, path, Strangeness::Kind)?;
-        } else if there.len() > LONGEST_FILE as u64 {
-            self.note(alloc, path, Strangeness::Size)?;
+        let there = match self.files.symlink_metadata(place.as_str()) {
+            Ok(there) => there,
+            Err(error) => return self.fail(alloc, path, error),
+        };
+        if let Some(why) = strangeness_of(&there) {
+            self.note(alloc, path, why)
+        } else if there.is_dir() {
+            self.descend(alloc, path, &there)
+        } else if self.found.len() > MOST_BELOW {
+            // There are too many already, so nobody asks for its bytes.
+            Ok(())
         } else {
-            self.read(alloc, place.as_str(), path)?;
+            self.read(alloc, place.as_str(), path, &there)
         }
+    }
+
+    /// Looks at the directory at the path.
+    fn descend(&mut self, alloc: Global, path: Path, there: &Metadata) -> Result<(), FolderError> {
+        match read_names(alloc, self.files, self.root, &path) {
+            Ok(listed) => self.list(alloc, path, there, listed.as_slice()),
+            Err(error) => self.fail(alloc, path, error),
+        }
+    }
+
+    /// Reads the file at the path, which looked so.
+    fn read(
+        &mut self,
+        alloc: Global,
+        place: &str,
+        path: Path,
+        there: &Metadata,
+    ) -> Result<(), FolderError> {
+        let mut options = OpenOptions::new();
+        let file = match options.read(true).open(self.files, place) {
+            Ok(file) => file,
+            Err(error) => return self.fail(alloc, path, error),
+        };
+        let look = Look::of(there);
+        let opened = file.metadata()?;
+        if Look::of(&opened) != look {
+            return self.note_change(alloc, &path);
+        }
+        let mut bytes = Vec::new(alloc);
+        file.take(LONGEST_FILE as u64).read_to_end(&mut bytes)?;
+        let entry = Entry::new(alloc, &path.key(), Content::File(mode_of(opened), bytes))?;
+        self.found.push(entry)?;
+        self.looked.push(Looked { path, look })?;
         Ok(())
     }
 
-    /// Reads the file at the path, which may have grown since it was looked at.
-    fn read(&mut self, alloc: Global, place: &str, path: Path) -> Result<(), FolderError> {
-        let mut options = OpenOptions::new();
-        let file = options.read(true).open(self.files, place)?;
-        let mode = mode_of(file.metadata()?);
-        let mut bytes = Vec::new(alloc);
-        file.take(LONGEST_FILE as u64 + 1).read_to_end(&mut bytes)?;
-        if bytes.len() > LONGEST_FILE {
-            self.note(alloc, path, Strangeness::Size)
-        } else {
-            let entry = Entry::new(alloc, &path.key(), Content::File(mode, bytes))?;
-            self.found.push(entry)?;
-            Ok(())
+    /// Notes what has these names in the directory at the path, to be looked at in order, unless
+    /// there is more than a directory of a replica may have.
+    fn list(
+        &mut self,
+        alloc: Global,
+        path: Path,
+        there: &Metadata,
+        listed: &[u8],
+    ) -> Result<(), FolderError> {
+        let mut names = self.names_of(alloc, &path, listed)?;
+        if self.count_known(alloc, &path, names.as_slice())? > MOST_CHILDREN {
+            return self.note(alloc, path, Strangeness::Names);
         }
+        if !path.names().is_empty() {
+            let entry = Entry::new(alloc, &path.key(), Content::Dir)?;
+            self.found.push(entry)?;
+        }
+        names.sort()?;
+        self.follow(alloc, &path, names.as_slice())?;
+        let look = Look::of(there);
+        self.looked.push(Looked { path, look })?;
+        Ok(())
     }
 
-    /// Notes each name in the directory at the path, to be looked at in order.
-    fn list(&mut self, alloc: Global, path: &Path) -> Result<(), FolderError> {
+    /// The names that a replica can have. The others are noted.
+    fn names_of(
+        &mut self,
+        alloc: Global,
+        path: &Path,
+        listed: &[u8],
+    ) -> Result<Vec<Name>, FolderError> {
         let mut names = Vec::new(alloc);
-        for name in read_names(alloc, self.files, self.root, path)?
-            .as_slice()
-            .split(|byte| *byte == 0)
-        {
+        for name in listed.split(|byte| *byte == 0) {
             if is_listed(name) {
                 match name_of(alloc, name)? {
                     Some(name) => names.push(name)?,
@@ -121,8 +197,32 @@ impl<F: Files> Reading<'_, '_, F> {
                 }
             }
         }
-        names.sort()?;
-        self.follow(alloc, path, names.as_slice())
+        Ok(names)
+    }
+
+    /// How many of the names in the directory are those of files and directories that a replica can
+    /// have. Where there are few names they are not looked at, and all count.
+    fn count_known(
+        &self,
+        alloc: Global,
+        path: &Path,
+        names: &[Name],
+    ) -> Result<usize, FolderError> {
+        if names.len() <= MOST_CHILDREN {
+            return Ok(names.len());
+        }
+        let mut count: usize = 0;
+        for name in names {
+            let mut place = place_of(alloc, self.root, path.names())?;
+            place.push('/')?;
+            place.push_str(name.as_str())?;
+            if let Ok(there) = self.files.symlink_metadata(place.as_str()) {
+                if strangeness_of(&there).is_none() {
+                    count = count.saturating_add(1);
+                }
+            }
+        }
+        Ok(count)
     }
 
     /// Notes the paths of the names, the last first.
@@ -150,6 +250,56 @@ impl<F: Files> Reading<'_, '_, F> {
     fn note_name(&mut self, alloc: Global, path: &Path, name: &[u8]) -> Result<(), FolderError> {
         let text = text_of(alloc, path, name)?;
         self.push_stranger(text, None, Strangeness::Name)
+    }
+
+    /// Notes what the system does not show at the path: it is gone, or may not be read. Any other
+    /// cause is refused.
+    fn fail(&mut self, alloc: Global, path: Path, error: io::Error) -> Result<(), FolderError> {
+        if is_gone(&error) {
+            self.note_change(alloc, &path)
+        } else if is_locked(&error) {
+            self.note(alloc, path, Strangeness::Locked)
+        } else {
+            Err(FolderError::System(error))
+        }
+    }
+
+    /// Notes that something changed while it was read.
+    fn note_change(&mut self, alloc: Global, path: &Path) -> Result<(), FolderError> {
+        let text = format!(in alloc; "{path}")?;
+        self.changed.push(text)?;
+        Ok(())
+    }
+
+    /// Looks at all that was read once more.
+    fn look_again(&mut self, alloc: Global) -> Result<(), FolderError> {
+        for looked in &self.looked {
+            if !is_same(alloc, self.files, self.root, looked)? {
+                let path = &looked.path;
+                let text = format!(in alloc; "{path}")?;
+                self.changed.push(text)?;
+            }
+        }
+        Ok(())
+    }
+
+    /// What was read of the folder.
+    fn end(mut self, alloc: Global) -> Result<(Tree, Vec<Stranger>), FolderError> {
+        if !self.changed.is_empty() {
+            return Err(FolderError::Changed(self.changed));
+        }
+        let why = if !self.pending.is_empty() || self.found.len() > MOST_BELOW {
+            Strangeness::Count
+        } else {
+            let found = mem::replace(&mut self.found, Vec::new(alloc));
+            match tree_of(alloc, found) {
+                Ok(tree) => return Ok((tree, self.strangers)),
+                Err(TreeError::Full) => Strangeness::Room,
+                Err(error) => return Err(FolderError::Tree(error)),
+            }
+        };
+        self.note(alloc, Path::root(alloc), why)?;
+        Ok((Tree::new(alloc)?, self.strangers))
     }
 
     fn push_stranger(

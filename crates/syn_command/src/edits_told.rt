@@ -1,0 +1,41 @@
+//! What is told of the edits of an import while they are made.
+
+use std::io::Write;
+
+/// What a terminal takes for: back to the beginning of the line, and nothing in it.
+const CLEARED: &str = "\r\x1b[K";
+
+/// How much is told of the edits of an import while they are made. What cannot be written is left
+/// out.
+#[derive(Clone, Copy, Debug, PartialEq, Eq)]
+pub struct EditsTold {
+    /// Each edit has a line, once it is made.
+    pub each: bool,
+    /// A last line says how many of all are made. It is written again in its place, so it wants a
+    /// terminal.
+    pub counts: bool,
+}
+
+impl EditsTold {
+    /// Tells that an edit is made, by its line and by how many of all are made now.
+    pub(crate) fn tell<E: Write>(self, line: &str, made: usize, all: usize, errors: &mut E) {
+        if self.counts {
+            let _ = errors.write_all(CLEARED.as_bytes());
+        }
+        if self.each {
+            let _ = errors.write_all(line.as_bytes());
+        }
+        if self.counts {
+            let _ = write!(errors, "{made} of {all} edits are made");
+            let _ = errors.flush();
+        }
+    }
+
+    /// Takes the line of the counts away.
+    pub(crate) fn end<E: Write>(self, errors: &mut E) {
+        if self.counts {
+            let _ = errors.write_all(CLEARED.as_bytes());
+            let _ = errors.flush();
+        }
+    }
+}
