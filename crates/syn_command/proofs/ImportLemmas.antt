@@ -1,5 +1,5 @@
 -- What the edits of an import leave.
-use Rattle.std.proofs.Common.{◌≡◌, ◌∙◌, ◌++◌, ◌∷◌, [], List, ℕ, map, fold, refl, sym, ap, subst}
+use Rattle.std.proofs.Common.{◌≡◌, ◌∙◌, ◌++◌, ◌∷◌, [], List, ℕ, map, fold, refl, ap, subst}
 use Rattle.syn_change.specs.Changes.{after_edits}
 use Rattle.syn_model.specs.Event.{Edit, Edited, after_event}
 use Rattle.syn_model.specs.History.{History, tree_of}

@@ -141,16 +141,33 @@ pub fn import_part<D: Disk, E: Write>(
         Ok(edits) => edits,
         Err(error) => return Err(CommandError::Folder(FolderError::Tree(error))),
     };
-    let made = make_edits(alloc, replica, user, edits, told, errors);
-    told.end(errors);
-    match made {
-        Ok(()) => Ok(replica.position()),
-        Err(error) => Err(error),
-    }
+    make_edits(alloc, replica, user, edits, told, errors)?;
+    Ok(replica.position())
 }
 
 /// Makes the edits, as edits of the user.
 fn make_edits<D: Disk, E: Write>(
+    alloc: Global,
+    replica: &mut Replica<D>,
+    user: u32,
+    edits: Vec<Edit>,
+    told: EditsTold,
+    errors: &mut E,
+) -> Result<(), CommandError>
+    ensures made { (history : History) → Stands replica.old history
+        → OnOk result (Stands replica.new (history ++ map (event_by user) edits.items)) }
+    ensures any_moment { (history : History) → Stands replica.old history
+        → LeavesOnly D.moment D.left_since (disk_of replica.old) (disk_of replica.new)
+        (IsBegun (pair_of replica.old) history (map (event_by user) edits.items)) }
+    ensures refused { IfErr result (λ e. ¬ IsOfFolder e) }
+{
+    let made = make_each(alloc, replica, user, edits, told, errors);
+    told.end(errors);
+    made
+}
+
+/// The same, with the line of the counts left standing.
+fn make_each<D: Disk, E: Write>(
     alloc: Global,
     replica: &mut Replica<D>,
     user: u32,

@@ -8,7 +8,7 @@ use Rattle.syn_replica.specs.Replica.{Stands, pair_of}
 use Rattle.syn_command.specs.Imports.{IsBegun}
 use Rattle.syn_command.proofs.MomentLemmas.{none_begun, one_edit_more, still, weaker}
 use Rattle.syn_tree.specs.declared.edit.Edit.{Edit}
-use Rattle.syn_command.proofs.import.make_edits.Goals as goal
+use Rattle.syn_command.proofs.import.make_each.Goals as goal
 
 pub loop-edit-init : goal.loop-edit-init
 loop-edit-init g c = record {

@@ -4,7 +4,7 @@ use Rattle.syn_disk.specs.Stops.{LeavesOnly}
 use Rattle.syn_model.specs.History.{History}
 use Rattle.syn_replica.specs.Edits.{event_by}
 use Rattle.syn_replica.specs.Replica.{Stands, disk_of, pair_of}
-use Rattle.syn_command.proofs.import.make_edits.Given as goal
+use Rattle.syn_command.proofs.import.make_each.Given as goal
 
 abbrev pub invariant-loop-edit : goal.invariant-loop-edit
 invariant-loop-edit g l = record {
