@@ -60,8 +60,7 @@ fn refuse<E: Write>(error: &CommandError, errors: &mut E) {
         }
         CommandError::Folder(FolderError::Changed(paths)) => {
             for path in paths {
-                let text = path.as_str();
-                let _ = writeln!(errors, "syn: {text:?} changed while the folder was read");
+                let _ = writeln!(errors, "syn: {path} changed while the folder was read");
             }
         }
         _ => {}

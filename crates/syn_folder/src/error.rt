@@ -7,7 +7,7 @@ ghost use Rattle.syn_folder.specs.Refusals.{refusal_in, refusal_of};
 use crate::stranger::Stranger;
 use std::alloc::{AllocError, AllocFailed};
 use std::{fmt, io};
-use syn_path::PathError;
+use syn_path::{Path, PathError};
 use syn_refusal::Refusal;
 use syn_tree::TreeError;
 use thiserror::Error;
@@ -24,7 +24,7 @@ pub enum FolderError {
     /// written.
     Strange(Vec<Stranger>),
     /// 13: these paths in the folder changed while it was read. Nothing was written.
-    Changed(Vec<String>),
+    Changed(Vec<Path>),
     /// 9, or 11 for lack of memory: a call of the system failed, for this reason. A part may be
     /// written.
     System(io::Error),

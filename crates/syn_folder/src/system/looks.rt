@@ -1,15 +1,15 @@
-//! Looks at a folder once more, for what changed while it was read.
+//! What was seen in a folder, and what changed between two readings of it.
 
-use crate::system::reading::place_of;
 use std::alloc::Global;
-use std::fs::{Files, Metadata};
+use std::fs::Metadata;
 use std::io;
 use std::os::unix::fs::MetadataExt;
-use syn_path::Path;
+use syn_path::{Path, PathError};
+use syn_tree::Content;
 
 /// What the system tells of a file or of a directory that differs as soon as it is written, gets
 /// another mode, or is another one of the same name. A directory is written where a name comes or
-/// goes.
+/// goes. Two changes may be too close for the system's clock, so what is read is compared, too.
 #[derive(Clone, Copy, Debug, PartialEq, Eq)]
 pub(super) struct Look {
     device: u64,
@@ -34,33 +34,70 @@ impl Look {
     }
 }
 
-/// A file or a directory of the folder, and how it looked before it was read.
+/// A file or a directory of the folder, or the folder itself: how it looked before it was read, and
+/// what was read.
 #[derive(Drop)]
-pub(super) struct Looked {
+pub(super) struct Seen {
     pub(super) path: Path,
     pub(super) look: Look,
+    pub(super) content: Content,
 }
 
-/// It looks as it did before. What is gone, or may not be looked at any more, does not.
-///
-/// Refused as the system refuses to look at it for another cause.
-pub(super) fn is_same<F: Files>(
-    alloc: Global,
-    files: &F,
-    root: &str,
-    looked: &Looked,
-) -> io::Result<bool> {
-    let names = looked.path.names();
-    let there = if names.is_empty() {
-        files.metadata(root)
-    } else {
-        files.symlink_metadata(place_of(alloc, root, names)?.as_str())
-    };
-    match there {
-        Ok(there) => Ok(Look::of(&there) == looked.look),
-        Err(error) if is_gone(&error) || is_locked(&error) => Ok(false),
-        Err(error) => Err(error),
+impl Seen {
+    /// The same was seen.
+    fn is_same(&self, other: &Seen) -> bool {
+        self.path == other.path
+            && self.look == other.look
+            && is_same_content(&self.content, &other.content)
     }
+}
+
+fn is_same_content(one: &Content, other: &Content) -> bool {
+    match (one, other) {
+        (Content::Dir, Content::Dir) => true,
+        (Content::File(mode, bytes), Content::File(other_mode, other_bytes)) => {
+            mode.is_same(*other_mode) && bytes == other_bytes
+        }
+        _ => false,
+    }
+}
+
+/// Puts to the changed paths those at which the two readings saw something else.
+///
+/// Refused where memory is refused.
+pub(super) fn note_changes(
+    alloc: Global,
+    first: &[Seen],
+    second: &[Seen],
+    changed: &mut Vec<Path>,
+) -> Result<(), PathError> {
+    for (index, one) in first.iter().enumerate() {
+        let is_there = match second.get(index) {
+            Some(other) => other.is_same(one),
+            None => false,
+        };
+        if !is_there && !second.iter().any(|other| other.is_same(one)) {
+            note(alloc, &one.path, changed)?;
+        }
+    }
+    for (index, other) in second.iter().enumerate() {
+        let is_there = match first.get(index) {
+            Some(one) => one.path == other.path,
+            None => false,
+        };
+        if !is_there && !first.iter().any(|one| one.path == other.path) {
+            note(alloc, &other.path, changed)?;
+        }
+    }
+    Ok(())
+}
+
+/// Puts the path to the changed ones, unless it is among them.
+pub(super) fn note(alloc: Global, path: &Path, changed: &mut Vec<Path>) -> Result<(), PathError> {
+    if !changed.iter().any(|other| other == path) {
+        changed.push(path.copy(alloc)?)?;
+    }
+    Ok(())
 }
 
 /// Nothing is there any more, or what was a directory above it is none.

@@ -2,7 +2,7 @@
 
 use crate::error::FolderError;
 use crate::stranger::{Strangeness, Stranger};
-use crate::system::looks::{Look, Looked, is_gone, is_locked, is_same};
+use crate::system::looks::{Look, Seen, is_gone, is_locked, note, note_changes};
 use std::alloc::{AllocError, Global};
 use std::fs::{Files, Metadata, OpenFile, OpenOptions};
 use std::io::{self, Read};
@@ -27,47 +27,40 @@ struct Reading<'f, 'r, F> {
     root: &'r str,
     /// What is still to be looked at, the last in path order first.
     pending: Vec<Path>,
-    /// What was found, in path order.
-    found: Vec<Entry>,
+    /// The folder, and the files and directories in it, in path order.
+    seen: Vec<Seen>,
     strangers: Vec<Stranger>,
-    /// The folder, and each file and directory that was found, as it looked before it was read.
-    looked: Vec<Looked>,
-    /// The paths of what changed since, as text.
-    changed: Vec<String>,
+    /// What changed between two looks at it.
+    changed: Vec<Path>,
 }
 
 /// What stands in the folder, and what can stand in no replica. Where there is more than a replica
 /// may have, the folder itself is among that, and the tree is empty.
 ///
-/// Refused 9 where the system refuses it, 13 where something changed while it was read, and 11
-/// where memory is refused.
+/// It is read twice. Refused 9 where the system refuses it, 13 where something changed meanwhile,
+/// and 11 where memory is refused.
 pub(super) fn read_folder<F: Files>(
     alloc: Global,
     files: &F,
     root: &str,
 ) -> Result<(Tree, Vec<Stranger>), FolderError> {
-    let mut reading = Reading {
-        files,
-        root,
-        pending: Vec::new(alloc),
-        found: Vec::new(alloc),
-        strangers: Vec::new(alloc),
-        looked: Vec::new(alloc),
-        changed: Vec::new(alloc),
-    };
-    reading.enter(alloc)?;
-    for _ in 0..MOST_LOOKED {
-        let Some(path) = reading.pending.pop() else {
-            break;
-        };
-        reading.look(alloc, path)?;
+    let first = Reading::of(alloc, files, root)?;
+    if first.is_over() {
+        return first.end(alloc);
     }
-    reading.look_again(alloc)?;
-    reading.end(alloc)
+    let mut second = Reading::of(alloc, files, root)?;
+    second.compare(alloc, &first)?;
+    second.end(alloc)
 }
 
-/// The tree of the entries. Refused 7 where it would pass a limit, and 11 where memory is refused.
-fn tree_of(alloc: Global, found: Vec<Entry>) -> Result<Tree, TreeError> {
+/// The tree of what was seen. Refused 7 where it would pass a limit, and 11 where memory is refused.
+fn tree_of(alloc: Global, seen: Vec<Seen>) -> Result<Tree, TreeError> {
+    let mut found = Vec::new(alloc);
+    for one in seen {
+        if !one.path.names().is_empty() {
+            found.push(Entry::new(alloc, &one.path.key(), one.content)?)?;
+        }
+    }
     match Entries::from_vec(found) {
         Some(entries) => Tree::from_entries(alloc, entries),
         None => Err(TreeError::Full),
@@ -95,7 +88,46 @@ fn mode_of(file: Metadata) -> Mode {
     }
 }
 
-impl<F: Files> Reading<'_, '_, F> {
+impl<'f, 'r, F: Files> Reading<'f, 'r, F> {
+    /// All that stands in the folder.
+    fn of(alloc: Global, files: &'f F, root: &'r str) -> Result<Self, FolderError> {
+        let mut reading = Reading {
+            files,
+            root,
+            pending: Vec::new(alloc),
+            seen: Vec::new(alloc),
+            strangers: Vec::new(alloc),
+            changed: Vec::new(alloc),
+        };
+        reading.enter(alloc)?;
+        for _ in 0..MOST_LOOKED {
+            let Some(path) = reading.pending.pop() else {
+                break;
+            };
+            reading.look(alloc, path)?;
+        }
+        Ok(reading)
+    }
+
+    /// There are more files and directories than a replica may have.
+    fn is_over(&self) -> bool {
+        !self.pending.is_empty() || self.seen.len() > MOST_BELOW + 1
+    }
+
+    /// Notes what an earlier reading saw otherwise. Where there is too much, nobody asks for it.
+    fn compare(&mut self, alloc: Global, earlier: &Reading<'_, '_, F>) -> Result<(), FolderError> {
+        if self.is_over() {
+            return Ok(());
+        }
+        let mut changed = mem::replace(&mut self.changed, Vec::new(alloc));
+        for path in &earlier.changed {
+            note(alloc, path, &mut changed)?;
+        }
+        note_changes(alloc, &earlier.seen, &self.seen, &mut changed)?;
+        self.changed = changed;
+        Ok(())
+    }
+
     /// Looks at the folder itself.
     fn enter(&mut self, alloc: Global) -> Result<(), FolderError> {
         let there = self.files.metadata(self.root)?;
@@ -115,7 +147,7 @@ impl<F: Files> Reading<'_, '_, F> {
             self.note(alloc, path, why)
         } else if there.is_dir() {
             self.descend(alloc, path, &there)
-        } else if self.found.len() > MOST_BELOW {
+        } else if self.seen.len() > MOST_BELOW + 1 {
             // There are too many already, so nobody asks for its bytes.
             Ok(())
         } else {
@@ -147,14 +179,12 @@ impl<F: Files> Reading<'_, '_, F> {
         let look = Look::of(there);
         let opened = file.metadata()?;
         if Look::of(&opened) != look {
-            return self.note_change(alloc, &path);
+            note(alloc, &path, &mut self.changed)?;
+            return Ok(());
         }
         let mut bytes = Vec::new(alloc);
         file.take(LONGEST_FILE as u64).read_to_end(&mut bytes)?;
-        let entry = Entry::new(alloc, &path.key(), Content::File(mode_of(opened), bytes))?;
-        self.found.push(entry)?;
-        self.looked.push(Looked { path, look })?;
-        Ok(())
+        self.see(path, look, Content::File(mode_of(opened), bytes))
     }
 
     /// Notes what has these names in the directory at the path, to be looked at in order, unless
@@ -170,15 +200,9 @@ impl<F: Files> Reading<'_, '_, F> {
         if self.count_known(alloc, &path, names.as_slice())? > MOST_CHILDREN {
             return self.note(alloc, path, Strangeness::Names);
         }
-        if !path.names().is_empty() {
-            let entry = Entry::new(alloc, &path.key(), Content::Dir)?;
-            self.found.push(entry)?;
-        }
         names.sort()?;
         self.follow(alloc, &path, names.as_slice())?;
-        let look = Look::of(there);
-        self.looked.push(Looked { path, look })?;
-        Ok(())
+        self.see(path, Look::of(there), Content::Dir)
     }
 
     /// The names that a replica can have. The others are noted.
@@ -256,7 +280,8 @@ impl<F: Files> Reading<'_, '_, F> {
     /// cause is refused.
     fn fail(&mut self, alloc: Global, path: Path, error: io::Error) -> Result<(), FolderError> {
         if is_gone(&error) {
-            self.note_change(alloc, &path)
+            note(alloc, &path, &mut self.changed)?;
+            Ok(())
         } else if is_locked(&error) {
             self.note(alloc, path, Strangeness::Locked)
         } else {
@@ -264,35 +289,16 @@ impl<F: Files> Reading<'_, '_, F> {
         }
     }
 
-    /// Notes that something changed while it was read.
-    fn note_change(&mut self, alloc: Global, path: &Path) -> Result<(), FolderError> {
-        let text = format!(in alloc; "{path}")?;
-        self.changed.push(text)?;
-        Ok(())
-    }
-
-    /// Looks at all that was read once more.
-    fn look_again(&mut self, alloc: Global) -> Result<(), FolderError> {
-        for looked in &self.looked {
-            if !is_same(alloc, self.files, self.root, looked)? {
-                let path = &looked.path;
-                let text = format!(in alloc; "{path}")?;
-                self.changed.push(text)?;
-            }
-        }
-        Ok(())
-    }
-
     /// What was read of the folder.
     fn end(mut self, alloc: Global) -> Result<(Tree, Vec<Stranger>), FolderError> {
         if !self.changed.is_empty() {
             return Err(FolderError::Changed(self.changed));
         }
-        let why = if !self.pending.is_empty() || self.found.len() > MOST_BELOW {
+        let why = if self.is_over() {
             Strangeness::Count
         } else {
-            let found = mem::replace(&mut self.found, Vec::new(alloc));
-            match tree_of(alloc, found) {
+            let seen = mem::replace(&mut self.seen, Vec::new(alloc));
+            match tree_of(alloc, seen) {
                 Ok(tree) => return Ok((tree, self.strangers)),
                 Err(TreeError::Full) => Strangeness::Room,
                 Err(error) => return Err(FolderError::Tree(error)),
@@ -300,6 +306,15 @@ impl<F: Files> Reading<'_, '_, F> {
         };
         self.note(alloc, Path::root(alloc), why)?;
         Ok((Tree::new(alloc)?, self.strangers))
+    }
+
+    fn see(&mut self, path: Path, look: Look, content: Content) -> Result<(), FolderError> {
+        self.seen.push(Seen {
+            path,
+            look,
+            content,
+        })?;
+        Ok(())
     }
 
     fn push_stranger(
