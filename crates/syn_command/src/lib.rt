@@ -29,15 +29,15 @@
 //! - The status of an answer is exact: 0 for one that was done, 1 for one that was refused
 //!   (`report`).
 //! - `export_part` writes what is at a path of a tree into a folder, any that is a `Folder`. The
-//!   folder's tree is that then (`whole`), or has it beside what stood elsewhere (`added`). Unless a
-//!   call of the system fails, a refusal leaves the folder as it was (`refused`).
-//! - `import_folder` makes what is at a path of a replica the tree of a folder (`part`), any that is
-//!   a `Folder`. The replica then stands for the history with edits of the user after it
-//!   (`imported`), and for the same history where the tree was there already (`none`). What can
-//!   stand in no replica refuses it (`known`), or is skipped: then the replica keeps what it has
-//!   there. A stop at any moment leaves the history with a beginning of these edits (`any_moment`),
-//!   and what the plan refuses leaves the replica as it was (`refused`). `import_part` is the same
-//!   with a tree, and `part_of` the tree that a folder gives.
+//!   folder's tree is that then (`whole`), or has it beside what stood elsewhere (`added`). A
+//!   refusal leaves the folder as it was, unless a call of the system fails (`refused`).
+//! - `import_folder` makes what is at a path of a replica the tree of a folder (`part`). Then the
+//!   replica stands for the history with edits of the user after it (`imported`), and for the same
+//!   history where the tree was there already (`none`). What can stand in no replica refuses it
+//!   (`known`), or is skipped: then the replica keeps what it has there. Whenever the machine stops,
+//!   the history has a beginning of these edits (`any_moment`), and what the plan refuses leaves the
+//!   replica as it was (`refused`). `import_part` is the same with a tree, and `part_of` the tree
+//!   that a folder gives.
 //! - `send_edits` asks a server for such edits. Where it succeeds, they were asked for one after
 //!   another, and each was answered with the position after the one before (`made`).
 #![tactic(auto)]

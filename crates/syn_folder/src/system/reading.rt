@@ -53,7 +53,9 @@ pub(super) fn read_folder<F: Files>(
     second.end(alloc)
 }
 
-/// The tree of what was seen. Refused 7 where it would pass a limit, and 11 where memory is refused.
+/// The tree of what was seen.
+///
+/// Refused 7 where it would pass a limit, and 11 where memory is refused.
 fn tree_of(alloc: Global, seen: Vec<Seen>) -> Result<Tree, TreeError> {
     let mut found = Vec::new(alloc);
     for one in seen {
