@@ -34,8 +34,8 @@
 //! - `import_folder` makes what is at a path of a replica the tree of a folder (`part`). Then the
 //!   replica stands for the history with edits of the user after it (`imported`), and for the same
 //!   history where the tree was there already (`none`). What can stand in no replica refuses it
-//!   (`known`), or is skipped: then the replica keeps what it has there. Whenever the machine stops,
-//!   the history has a beginning of these edits (`any_moment`), and what the plan refuses leaves the
+//!   (`known`), or is skipped: then the replica keeps what it has there. A stop at any time leaves
+//!   the history with a beginning of these edits (`any_moment`). What the plan refuses leaves the
 //!   replica as it was (`refused`). `import_part` is the same with a tree, and `part_of` the tree
 //!   that a folder gives.
 //! - `send_edits` asks a server for such edits. Where it succeeds, they were asked for one after
