@@ -1,4 +1,4 @@
-//! Makes a part of a replica what another tree is, in a file or behind a server.
+//! Makes a part of a replica what another tree is, in a file or after a server.
 ghost use Rattle.std.specs.Prelude.{◌≡◌, ◌+◌, ◌++◌, ◌∷◌, [], false, map, IfErr, IfOk, OnOk, length};
 ghost use Rattle.syn_folder.specs.Strangers.{directory_at, skipped};
 ghost use Rattle.syn_model.specs.History.{History};
@@ -228,7 +228,7 @@ fn make_room<D: Disk>(alloc: Global, replica: &mut Replica<D>) -> Result<(), Rep
     }
 }
 
-/// Asks a server for the edits, as edits of the user, and answers the position behind them. The
+/// Asks a server for the edits, as edits of the user, and answers the position after them. The
 /// first is asked of a replica that has the position. As much of the edits as `told` says is told
 /// to `errors`.
 ///

@@ -1,4 +1,4 @@
-//! Replicas of a name or behind a server, written into folders and made what folders are.
+//! Replicas of a name or after a server, written into folders and made what folders are.
 ghost use Rattle.std.specs.Prelude.{IfSome, IsErrAnd};
 ghost use Rattle.syn_path.specs.Paths.{NamesPath};
 ghost use Rattle.syn_model.specs.Path.{Path as ModelPath};

@@ -1,4 +1,4 @@
-//! What is done behind a session, so that the next opening is short.
+//! What is done after a session, so that the next opening is short.
 
 use std::alloc::Global;
 use syn_coordinator::Coordinator;

@@ -92,7 +92,7 @@ stop_compacts stands pair value history standing image left generation before sa
           (image_stands stands pair history standing image before.lawful same e);
     })
 
--- the bytes that are left are those behind the value
+-- the bytes that are left are those after the value
 pub left_behind : {D : Type 0} {disk : Ghosts D} (replica : Replica D disk) (value : Value) →
     journal.Stands (journal_of replica) value → bytes_left value ≡ left_shown replica
 left_behind replica value runs = ap (λ gate. half_size - 1 - gate) (sym runs.gate)

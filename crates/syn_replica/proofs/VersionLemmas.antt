@@ -5,7 +5,7 @@ use Rattle.syn_model.specs.Standing.{Standing}
 use Rattle.syn_model.specs.Version.{One, current_version}
 use Rattle.syn_model.specs.Image.{GivesIn, IsOldImage}
 
--- the byte behind the letters
+-- the byte after the letters
 version_at : Bytes → ℕ
 version_at (a ∷ b ∷ c ∷ d ∷ version ∷ rest) = version
 version_at bytes = 0

@@ -46,7 +46,7 @@ pub record DiskCompacted (pair : ℕ) (history : History) (standing : Standing) 
   pub journal : HasJournal bytes (image_alone (image_spelling pair standing)) generation
   pub stands : StandsFor pair (image_spelling pair standing) [] history
 
--- an image of the pair, and behind it the payloads of events that are allowed in turn, give this
+-- an image of the pair, and after it the payloads of events that are allowed in turn, give this
 -- standing in a version
 pub record DiskGivesIn (version : Version) (pair : ℕ) (bytes : List ℕ) (standing : Standing)
     : Type 0 where

@@ -9,7 +9,7 @@ use Rattle.syn_replica.specs.Replica.{position_shown, Remembers}
 use Rattle.syn_replica.specs.Growth.{KeepsUp, GoesOn, KeepsAll, IsGrown}
 use Rattle.syn_replica.specs.declared.replica.Replica.{Replica}
 
--- what is allowed behind events is allowed after them
+-- what is allowed after events is allowed after them
 allowed_rest : (done : History) (first more : List Event) → AllAllowed done (first ++ more)
     → AllAllowed (done ++ first) more
 allowed_rest done [] more h = subst (λ (d : History). AllAllowed d more) (sym (append-nil done)) h

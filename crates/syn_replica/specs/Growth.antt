@@ -32,7 +32,7 @@ pub record IsCutOff {D : Type 0} {disk : Ghosts D} (replica : Replica D disk) (h
 abbrev pub KeepsUp : {D : Type 0} → {disk : Ghosts D} → Replica D disk → History → Type 0
 KeepsUp replica history = Stands replica history ⊎ IsCutOff replica history
 
--- it keeps up with the history and with events behind it, each of which is allowed in turn
+-- it keeps up with the history and with events after it, each of which is allowed in turn
 pub record GoesOn {D : Type 0} {disk : Ghosts D} (replica : Replica D disk) (history : History)
     : Type 0 where
   pub more : List Event

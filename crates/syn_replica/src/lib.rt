@@ -86,7 +86,7 @@
 //! - `get` gives what the tree holds at the path, and 5 exactly where it holds nothing. `list`
 //!   gives the names of a directory in byte order with what is a directory, and 5 exactly where no
 //!   directory is. `tree` is the tree itself, without a copy.
-//! - No clause says what the calls behind an opening do of a lawful image that comes from no
+//! - No clause says what the calls after an opening do of a lawful image that comes from no
 //!   history.
 #![tactic(auto)]
 

@@ -330,10 +330,10 @@ impl<'f, 'r, F: Files> Reading<'f, 'r, F> {
     }
 }
 
-/// The names in the directory at the path, each with a zero byte behind it.
+/// The names in the directory at the path, each with a zero byte after it.
 fn read_names<F: Files>(alloc: Global, files: &F, root: &str, path: &Path) -> io::Result<Vec<u8>> {
     let mut place = place_of(alloc, root, path.names())?;
-    // Behind the slash the system follows a symbolic link, which only the folder itself may be.
+    // After the slash the system follows a symbolic link, which only the folder itself may be.
     if path.names().is_empty() {
         place.push('/')?;
     }
