@@ -12,6 +12,7 @@ ghost use Rattle.syn_tree.specs.Contents.{content_of};
 ghost use Rattle.syn_tree.specs.Lists.{listing};
 ghost use Rattle.syn_history.specs.Events.{event_of};
 ghost use Rattle.syn_journal.specs.Journal.{Takes};
+ghost use Rattle.syn_disk.specs.Arms.{is_stopped};
 ghost use Rattle.syn_disk.specs.Calls.{Makes, MakesAtLeast};
 ghost use Rattle.syn_disk.specs.Stops.{LeavesOnly, Untouched};
 ghost use Rattle.syn_standing.specs.Refusals.{refusal_of};
@@ -205,6 +206,13 @@ impl<D: Disk> Replica<D> {
         ensures { (result ≡ true) ↔ IsHalted self.now }
     {
         self.machine.is_halted()
+    }
+
+    /// Whether its machine has stopped, so that no device call is made any more.
+    pub fn is_cut(&self) -> bool
+        ensures { result ≡ is_stopped (D.Disk.arms (disk_of self.now)) }
+    {
+        self.machine.is_cut()
     }
 
     /// How the event is spelled that was last sent to the disk since the replica was formatted,

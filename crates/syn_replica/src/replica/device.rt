@@ -1,7 +1,6 @@
 //! What the replica's device is told to refuse.
 ghost use Rattle.std.specs.Prelude.{◌≡◌, ℕ};
 ghost use Rattle.syn_disk.specs.Armed.{armed};
-ghost use Rattle.syn_disk.specs.Arms.{is_stopped};
 ghost use Rattle.syn_disk.specs.Disk.{SameOutcomes};
 ghost use Rattle.syn_journal.specs.Journal.{SameReadings};
 ghost use Rattle.syn_model.specs.History.{History};
@@ -33,12 +32,5 @@ impl<D: Limit> Replica<D> {
         ensures readings { SameReadings (journal_of self.old) (journal_of self.new) }
     {
         self.machine.arm(arm);
-    }
-
-    /// Whether all the device calls before a stop are made.
-    pub fn is_cut(&self) -> bool
-        ensures { result ≡ is_stopped (D.Disk.arms (disk_of self.now)) }
-    {
-        self.machine.is_cut()
     }
 }
