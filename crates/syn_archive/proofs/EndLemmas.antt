@@ -1,5 +1,5 @@
 -- What a machine says of its calls, as an archive says it.
-use Rattle.std.specs.Prelude.{◌↔◌, Result, Ok, Err, IfErr, OnOk, MatchResult}
+use Rattle.std.specs.Prelude.{◌↔◌, Result, Ok, Err, IfErr, MatchResult}
 use Rattle.std.proofs.Common.{◌≡◌, ◌⊎◌, ◌∙◌, ℕ, inl, inr, refl, sym, ap, Some, None}
 use Rattle.std.proofs.lemmas.Option.{none-some, same_Some}
 use Rattle.syn_disk.specs.Arms.{Arms}
@@ -131,16 +131,6 @@ module _ {T : Type 0} where
   unchanged_of (Err e) Same (inr (inl device)) = inl (same_error e Device (same_Some _ _ device))
   unchanged_of (Err e) Same (inr (inr same)) = inr same
 
-  pub on_ok_of : (result : Result T ArchiveError) (P : Type 0) →
-      (ended refusal_of result ≡ None → P) → OnOk result P
-  on_ok_of (Ok value) P h = h refl
-  on_ok_of (Err e) P h = tt
-
-  pub if_err_of : (result : Result T ArchiveError) (P : ArchiveError → Type 0) →
-      ((e : ArchiveError) → ended refusal_of result ≡ Some (refusal_of e) → P e) → IfErr result P
-  if_err_of (Ok value) P h = tt
-  if_err_of (Err e) P h = h e refl
-
 checkpoint_refusal : (e : ArchiveError) → OfCheckpoint (Some (refusal_of e)) → IsOfCheckpoint e
 checkpoint_refusal NoParent h = h
 checkpoint_refusal Root h = h
@@ -168,19 +158,3 @@ pub same_err : {T : Type 0} (e f : ArchiveError) →
     ◌≡◌ {A = Result T ArchiveError} (Err e) (Err f) → e ≡ f
 unfolding error_in
 same_err e f is = ap error_in is
-
--- what two facts of a result give
-module _ {T E : Type 0} where
-  pub on_ok_both : {P Q R : Type 0} (result : Result T E) → OnOk result P → OnOk result Q →
-      (P → Q → R) → OnOk result R
-  on_ok_both (Ok value) p q f = f p q
-  on_ok_both (Err e) p q f = tt
-
-  pub if_err_both : {P Q R : E → Type 0} (result : Result T E) → IfErr result P → IfErr result Q →
-      ((e : E) → P e → Q e → R e) → IfErr result R
-  if_err_both (Ok value) p q f = tt
-  if_err_both (Err e) p q f = f e p q
-
-  pub from_both : {P : Type 0} (result : Result T E) → OnOk result P → IfErr result (λ _. P) → P
-  from_both (Ok value) p q = p
-  from_both (Err e) p q = q

@@ -1,8 +1,7 @@
 -- What a machine's write makes of an archive.
-use Rattle.std.specs.Prelude.{Result, Ok, Err, IfErr, MatchResult}
+use Rattle.std.specs.Prelude.{Result, Ok, Err, IfErr}
 use Rattle.std.proofs.Common.{◌≡◌, ◌⊎◌, ◌≤◌, ◌<◌, ◌∙◌, Option, Some, None, length, inl, refl}
 use Rattle.std.proofs.Common.{sym, ap, ap₂, subst, arith}
-use Rattle.std.proofs.lemmas.Option.{none-some}
 use Rattle.syn_disk.specs.Stops.{LeavesOnly}
 use Rattle.syn_disk.specs.declared.disk.Disk.{Ghosts}
 use Rattle.syn_journal.specs.Layout.{LeftBehindPayload, IsBeforeOrAfter, record_size, with_payload}
@@ -30,17 +29,6 @@ use Rattle.syn_archive.specs.declared.error.ArchiveError.TheVariants.{OldVersion
 use Rattle.syn_archive.proofs.StandLemmas.{leaves_weaker, left_behind, payload_keeps, stop_keeps}
 
 -- ---- of a result
-
-module _ {T : Type 0} where
-  pub ok_part : (result : Result T ArchiveError) (P Q : Type 0) →
-      MatchResult result (λ _. P) (λ _. Q) → ended refusal_of result ≡ None → P
-  ok_part (Ok value) P Q h is = h
-  ok_part (Err e) P Q h is = absurd (none-some _ (sym is))
-
-  pub err_part : (result : Result T ArchiveError) (P Q : Type 0) →
-      MatchResult result (λ _. P) (λ _. Q) → IfErr result (λ _. Q)
-  err_part (Ok value) P Q h = tt
-  err_part (Err e) P Q h = h
 
 outside : (e : ArchiveError) → IsOfWrite (Some (refusal_of e)) → IsOutside e
 outside NoParent h = h

@@ -1,7 +1,7 @@
 -- An opening and then a checkpoint, as one migration.
 use Rattle.std.proofs.Common.{◌≡◌, ◌⊎◌, ◌≤◌, ◌+◌, ◌∙◌, ℕ, zero, suc, Bool, true, false, List, inl}
 use Rattle.std.proofs.Common.{inr}
-use Rattle.std.proofs.Common.{⊎_elim, refl, sym, ap, subst, Option, Some, None, Result, Ok, arith}
+use Rattle.std.proofs.Common.{⊎_elim, sym, ap, subst, Option, Some, None, Result, Ok, arith}
 use Rattle.std.proofs.Common.{true≢false}
 use Rattle.std.specs.Result.{result_ok}
 use Rattle.std.proofs.lemmas.Option.{same_Some}
@@ -9,7 +9,6 @@ use Rattle.syn_disk.specs.Arms.{Arms, after_call}
 use Rattle.syn_disk.specs.Calls.{Makes, MakesAtLeast}
 use Rattle.syn_disk.specs.Stops.{LeavesOnly, Untouched}
 use Rattle.syn_disk.specs.declared.disk.Disk.{Ghosts}
-use Rattle.syn_journal.specs.Journal.{Stands}
 use Rattle.syn_journal.specs.Journal as journal
 use Rattle.syn_journal.specs.Layout.{Fault, HasJournal, IsBeforeOrAfter, Value, generation_at}
 use Rattle.syn_journal.specs.Layout.{image_alone}

@@ -1,10 +1,9 @@
 -- What holds of a call by how it ended.
-use Rattle.std.specs.Prelude.{◌↔◌, Result, Ok, Err, IfErr, IsErrAnd, OnOk, MatchResult}
-use Rattle.std.proofs.Common.{◌≡◌, ◌⊎◌, ◌∙◌, inl, inr, refl, sym, ap, Some, None}
+use Rattle.std.specs.Prelude.{Result, Ok, Err, IfErr, IsErrAnd, OnOk, MatchResult}
+use Rattle.std.proofs.Common.{◌≡◌, ◌∙◌, refl, sym, ap, Some, None}
 use Rattle.std.proofs.lemmas.Option.{none-some, same_Some}
 use Rattle.syn_journal.specs.Refusals.{refusal_of}
 use Rattle.syn_journal.specs.declared.error.JournalError.{JournalError}
-use Rattle.syn_model.specs.Refusal as why
 use Rattle.syn_model.specs.Refusal.{Refusal}
 use Rattle.syn_journaled.specs.Endings.{ended}
 use Rattle.syn_journaled.specs.Openings.{IsOfJournal}
@@ -36,15 +35,6 @@ module _ {T E : Type 0} (which : E → Refusal) where
   is_err_of (Ok value) P w is h = absurd (none-some _ is)
   is_err_of (Err e) P w is h = h e (same_Some _ _ is)
 
-  pub unchanged_of : (result : Result T E) (Same : Type 0) →
-      (ended which result ≡ None)
-      ⊎ ((ended which result ≡ Some why.Device) ⊎ Same) →
-      IfErr result (λ e. (which e ≡ why.Device) ⊎ Same)
-  unchanged_of (Ok value) Same h = tt
-  unchanged_of (Err e) Same (inl none) = absurd (none-some _ (sym none))
-  unchanged_of (Err e) Same (inr (inl device)) = inl (same_Some _ _ device)
-  unchanged_of (Err e) Same (inr (inr same)) = inr same
-
   module _ (of_journal : JournalError → E) where
     -- it is answered as the journal refused it
     pub answered : (result : Result T E) (by : JournalError) →
@@ -54,14 +44,6 @@ module _ {T E : Type 0} (which : E → Refusal) where
     answered (Err e) by h is =
         ap (λ x. Err x)
         (h.1 ∙ ap of_journal (same_error h.0 by (ap (λ w. Some w) (sym h.2) ∙ is)))
-
-    pub exactly_of : (result : Result T E) (by : JournalError) (P : Type 0) →
-        which (of_journal by) ≡ refusal_of by → IfErr result (IsOfJournal of_journal which) →
-        (ended which result ≡ Some (refusal_of by)) ↔ P → (result ≡ Err (of_journal by)) ↔ P
-    exactly_of result by P told answer h = (
-      λ is. h.0 (ap (ended which) is ∙ ap (λ w. Some w) told),
-      λ p. answered result by answer (h.1 p),
-    )
 
 -- what two facts of a result give
 module _ {T E : Type 0} where

@@ -8,7 +8,7 @@ use Rattle.syn_journal.specs.declared.error.JournalError.TheVariants as refused
 use Rattle.syn_journaled.specs.Openings.{NotOpened}
 use Rattle.syn_model.specs.Image.{Gives, IsOldImage}
 use Rattle.syn_replica.specs.Disks.{IsOfOtherPair, IsOldDisk, IsOpenRefusal, IsReopenRefusal}
-use Rattle.syn_replica.specs.Refusals.{IsOneOf, hiding_refusals, old_refusals}
+use Rattle.syn_replica.specs.Refusals.{IsOneOf, hiding_refusals}
 use Rattle.syn_replica.specs.inner.Memories.{IsNoNext, IsUnread, IsUnreadAgain}
 use Rattle.syn_standing.specs.declared.error.ReplicaError.{ReplicaError}
 use Rattle.syn_standing.specs.declared.error.ReplicaError.TheVariants.{Tree, History, Journal}
@@ -105,8 +105,7 @@ reopen_refusal e memory bytes (inl h) =
     (journal_refusal h.0 (Some memory.pair) bytes h.2)
 reopen_refusal e memory bytes (inr h) = by_own e memory bytes h.0 h.1 h.2.1
 
--- ---- of a disk of another pair, and of one whose image is of version 1
-
+-- where the disk is of another pair, that is answered, or what comes first
 pub hidden : (e : ReplicaError) (wanted : Option ℕ) (bytes : List ℕ) →
     IsOpenRefusal e wanted bytes → IsOfOtherPair wanted bytes → IsOneOf hiding_refusals e
 hidden (Tree e) wanted bytes h other = absurd h
@@ -133,27 +132,3 @@ hidden OldVersion wanted bytes h other =
     let there = other.other in
     absurd (not_old there.pair other.value.image other.value.payloads there.standing there.gives
     (old_value bytes other.value other.means h))
-
-pub old_refusal : (e : ReplicaError) (wanted : Option ℕ) (bytes : List ℕ) → IsOldDisk bytes →
-    IsOpenRefusal e wanted bytes → IsOneOf old_refusals e
-old_refusal (Tree e) wanted bytes old h = absurd h
-old_refusal (History e) wanted bytes old h = absurd h
-old_refusal (Journal refused.Full) wanted bytes old h = absurd h
-old_refusal (Journal refused.JournalFull) wanted bytes old h = absurd h
-old_refusal (Journal refused.Device) wanted bytes old h = refl
-old_refusal (Journal refused.Halted) wanted bytes old h = absurd h
-old_refusal (Journal refused.Memory) wanted bytes old h = refl
-old_refusal (Journal refused.NoImage) wanted bytes old h =
-    absurd (no_value (meaning bytes) old.value _ old.means h)
-old_refusal (Journal refused.Damaged) wanted bytes old h =
-    absurd (no_value (meaning bytes) old.value _ old.means h)
-old_refusal Memory wanted bytes old h = refl
-old_refusal Touched wanted bytes old h = absurd h
-old_refusal OldSession wanted bytes old h = absurd h
-old_refusal Damaged wanted bytes old h =
-    absurd (h.not_old (old_value bytes h.value h.means old))
-old_refusal WrongPair wanted bytes old h =
-    let there = h.other in
-    absurd (not_old there.pair h.value.image h.value.payloads there.standing there.gives
-    (old_value bytes h.value h.means old))
-old_refusal OldVersion wanted bytes old h = refl

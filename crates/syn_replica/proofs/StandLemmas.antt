@@ -1,6 +1,6 @@
 -- What a replica and its disk stand for goes on.
 use Rattle.std.proofs.Common.{◌≡◌, ◌⊎◌, ◌≤◌, ◌<◌, ◌^◌, ℕ, ◌+◌, ◌-◌, List, [], ◌∷◌, ◌++◌, sym}
-use Rattle.std.proofs.Common.{ap, ap₂, ◌∙◌, subst, inl, inr, Option, Some, arith}
+use Rattle.std.proofs.Common.{ap, ap₂, ◌∙◌, subst, inl, inr, arith}
 use Rattle.syn_disk.specs.declared.disk.Disk.{Ghosts}
 use Rattle.syn_journal.specs.Layout.{Value, half_size, HasJournal}
 use Rattle.syn_journal.specs.Layout.{LeftBehindPayload, meaning, with_payload, image_alone}
@@ -15,15 +15,13 @@ use Rattle.syn_model.specs.Standing.{Standing, standing_after, refusal_at, IsAll
 use Rattle.syn_model.specs.History.{History, IsAllowed, IsHistory, standing_of}
 use Rattle.syn_model.specs.Spelling.{event_spelling}
 use Rattle.syn_model.specs.Image.{StandsFor, image_spelling}
-use Rattle.syn_replica.specs.Disks.{DiskStands, DiskKeeps, DiskCompacted, IsOfOtherPair, IsOldDisk}
-use Rattle.syn_replica.specs.Disks.{event_size}
+use Rattle.syn_replica.specs.Disks.{DiskStands, DiskKeeps, DiskCompacted, event_size}
 use Rattle.syn_replica.specs.declared.remembered.Remembered.{Remembered}
 use Rattle.syn_replica.specs.declared.replica.Replica.{Replica}
 use Rattle.syn_replica.specs.inner.Memories.{Gives as Given}
 use Rattle.syn_replica.specs.Replica.{Remembers, Stands, standing_shown, pair_of, journal_of}
 use Rattle.syn_replica.specs.Replica.{disk_of, left_shown, generation_shown}
-use Rattle.syn_replica.proofs.MeaningLemmas.{old_value, one_value}
-use Rattle.syn_replica.proofs.VersionLemmas.{not_old}
+use Rattle.syn_replica.proofs.MeaningLemmas.{one_value}
 
 -- the payload of an allowed event takes the value one event on
 pub payload_stands : PayloadGoesOn → (pair : ℕ) (value : Value) (payload : Bytes)
@@ -139,23 +137,6 @@ opened_each replica bytes number history opened fits d =
             (one_value (meaning bytes) d.value opened.value d.means opened.means) d.stands);
       },
     )
-
--- a disk whose image is of version 1 is opened to no replica,
-pub no_old_opened : {D : Type 0} {disk : Ghosts D} (replica : Replica D disk) (bytes : List ℕ) →
-    Opened (λ m. m.pair) Given bytes replica.machine → IsOldDisk bytes → ⊥
-no_old_opened replica bytes opened old =
-    not_old (pair_of replica) opened.value.image opened.value.payloads (standing_shown replica)
-    opened.given (old_value bytes opened.value opened.means old)
-
--- and one of another pair to none of the wanted one
-pub no_other_opened : {D : Type 0} {disk : Ghosts D} (replica : Replica D disk) (bytes : List ℕ)
-    (wanted : Option ℕ) → Opened (λ m. m.pair) Given bytes replica.machine →
-    ((asked : ℕ) → wanted ≡ Some asked → asked ≡ pair_of replica) → IsOfOtherPair wanted bytes → ⊥
-no_other_opened replica bytes wanted opened is other =
-    let there = other.other in
-    let same = opened.one (record { pair = there.pair; standing = there.standing }) there.fits
-    (record { value = other.value; means = other.means; given = there.gives }) in
-    there.differ (is there.asked there.wanted_is ∙ sym (ap (λ m. m.pair) same))
 
 -- its disk keeps the history with the bytes that it shows to be left
 pub keeps_now : {D : Type 0} {disk : Ghosts D} (replica : Replica D disk) (history : History) →

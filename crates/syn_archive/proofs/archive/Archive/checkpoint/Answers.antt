@@ -4,6 +4,7 @@ use Rattle.std.proofs.lemmas.Option.{none-some}
 use Rattle.syn_journal.specs.Layout.{image_alone, longest_image, IsBeforeOrAfter}
 use Rattle.syn_journaled.specs.Endings.{ended}
 use Rattle.syn_journaled.specs.Journaled.{generation_after}
+use Rattle.syn_journaled.proofs.Results.{if_err_of, on_ok_of}
 use Rattle.syn_model.specs.Limits.{greatest_image}
 use Rattle.syn_model.specs.Version.{current_version}
 use Rattle.syn_model.specs.MarkSpelling.{archive_spelling}
@@ -14,15 +15,15 @@ use Rattle.syn_archive.specs.declared.error.ArchiveError.TheVariants.{Full, Halt
 use Rattle.syn_archive.specs.inner.Agreements.{agreed_archive}
 use Rattle.syn_archive.proofs.StandLemmas.{image_keeps, left_behind, leaves_weaker, seen_is_left}
 use Rattle.syn_archive.proofs.StandLemmas.{stop_compacts}
-use Rattle.syn_archive.proofs.EndLemmas.{calls_of, err_of, exactly_of, failures_of, if_err_of}
-use Rattle.syn_archive.proofs.EndLemmas.{of_checkpoint, on_ok_of, unchanged_of}
+use Rattle.syn_archive.proofs.EndLemmas.{calls_of, err_of, exactly_of, failures_of}
+use Rattle.syn_archive.proofs.EndLemmas.{of_checkpoint, unchanged_of}
 use Rattle.syn_archive.proofs.archive.Archive.checkpoint.Goals as goal
 
 pub returns-clause-acknowledged : goal.returns-clause-acknowledged
 returns-clause-acknowledged g c kept stands =
     let old = c.args.self.now in
     let image = archive_spelling (pair_of old) (shown old) in
-    on_ok_of c.checkpoint.result _ (λ none. record {
+    on_ok_of refusal_of c.checkpoint.result _ (λ none. record {
       remembers = ap agreed_archive c.checkpoint.ensures.state ∙ stands.remembers;
       value = image_alone image;
       runs = c.checkpoint.ensures.journal.acknowledged none;
@@ -54,7 +55,7 @@ returns-clause-seen g c kept stands =
 
 pub returns-clause-image : goal.returns-clause-image
 returns-clause-image g c =
-    on_ok_of c.checkpoint.result _ c.checkpoint.ensures.journal.acknowledged
+    on_ok_of refusal_of c.checkpoint.result _ c.checkpoint.ensures.journal.acknowledged
 
 pub returns-clause-full : goal.returns-clause-full
 returns-clause-full g c is = c.checkpoint.ensures.journal.full (ap (ended refusal_of) is)
@@ -88,7 +89,7 @@ returns-clause-memory g c = record {
 
 pub returns-clause-readings : goal.returns-clause-readings
 returns-clause-readings g c =
-    if_err_of c.checkpoint.result _ (λ e some. record {
+    if_err_of refusal_of c.checkpoint.result _ (λ e some. record {
       memory = returns-clause-memory g c;
       left_is = c.checkpoint.ensures.journal.left_is (λ none. none-some _ (sym none ∙ some));
       generation = c.checkpoint.ensures.journal.generation
@@ -116,7 +117,7 @@ returns-clause-calls g c =
 
 pub returns-clause-generation : goal.returns-clause-generation
 returns-clause-generation g c =
-    on_ok_of c.checkpoint.result _ (λ none. c.checkpoint.ensures.journal.generation
+    on_ok_of refusal_of c.checkpoint.result _ (λ none. c.checkpoint.ensures.journal.generation
     ∙ ap (λ w. generation_after w (generation_shown c.args.self.now)) none)
 
 pub returns-clause-unchanged : goal.returns-clause-unchanged

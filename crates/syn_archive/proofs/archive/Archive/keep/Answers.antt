@@ -1,6 +1,7 @@
 use Rattle.std.proofs.Common.{◌∙◌, Err, inl, inr, refl, sym, ap, arith}
 use Rattle.std.proofs.lemmas.Option.{none-some}
 use Rattle.syn_journaled.specs.Endings.{ended}
+use Rattle.syn_journaled.proofs.Results.{err_part, ok_part, on_ok_of}
 use Rattle.syn_model.proofs.ExitLemmas.{exit_is, if_err_of_exit, is_err_of_exit, match_of_exit}
 use Rattle.syn_model.proofs.ExitLemmas.{on_ok_of_exit}
 use Rattle.syn_archive.specs.Archive.{KeepsBeforeOrAfter, session_shown}
@@ -8,11 +9,11 @@ use Rattle.syn_archive.specs.Refusals.{refusal_of}
 use Rattle.syn_archive.specs.declared.error.ArchiveError.TheVariants.{Halted}
 use Rattle.syn_archive.specs.inner.Keepings.{kept_in}
 use Rattle.syn_archive.proofs.StandLemmas.{keeps_now, not_written, seen_is_left}
-use Rattle.syn_archive.proofs.EndLemmas.{calls_of, exactly_of, failures_of, on_ok_of}
+use Rattle.syn_archive.proofs.EndLemmas.{calls_of, exactly_of, failures_of}
 use Rattle.syn_archive.proofs.EndLemmas.{same_err, unchanged_of}
 use Rattle.syn_archive.proofs.KeepLemmas.{has_cause, is_full, is_halted, is_running, is_why}
 use Rattle.syn_archive.proofs.KeepLemmas.{lacks_room, no_device, none_counted, none_made, of_record}
-use Rattle.syn_archive.proofs.WriteLemmas.{cause_of_write, err_part, ok_part, record_of_write}
+use Rattle.syn_archive.proofs.WriteLemmas.{cause_of_write, record_of_write}
 use Rattle.syn_archive.proofs.WriteLemmas.{lacks_room as write_lacks_room, written_moment}
 use Rattle.syn_archive.proofs.WriteLemmas.{written_readings, written_record, written_shown}
 use Rattle.syn_archive.proofs.WriteLemmas.{written_stands}
@@ -103,28 +104,28 @@ returns-in_err-payload-clause-unchanged g c =
 
 pub returns-clause-acknowledged : goal.returns-clause-acknowledged
 returns-clause-acknowledged g c kept stands =
-    on_ok_of c.write.result _ (λ none. written_stands c.args.self.now
+    on_ok_of refusal_of c.write.result _ (λ none. written_stands c.args.self.now
     (record { machine = c.write.new.self }) c.deref.result.now _ _
     c.write.ensures.journal (c.deref.ensures.value ∙ c.in_ok-payload.ensures.payload)
     c.in_ok-payload.field-0.update none
-    (ok_part c.write.result _ _ c.write.ensures.state none) c.in_ok-payload.ensures.keeps
+    (ok_part refusal_of c.write.result _ _ c.write.ensures.state none) c.in_ok-payload.ensures.keeps
     c.archive_laws.ensures.record kept stands)
 
 pub returns-clause-record : goal.returns-clause-record
 returns-clause-record g c =
-    on_ok_of c.write.result _ (λ none. written_record c.args.self.now
+    on_ok_of refusal_of c.write.result _ (λ none. written_record c.args.self.now
     (record { machine = c.write.new.self }) c.deref.result.now _ _
     c.write.ensures.journal (c.deref.ensures.value ∙ c.in_ok-payload.ensures.payload)
     c.in_ok-payload.field-0.update none
-    (ok_part c.write.result _ _ c.write.ensures.state none) c.in_ok-payload.ensures.keeps)
+    (ok_part refusal_of c.write.result _ _ c.write.ensures.state none) c.in_ok-payload.ensures.keeps)
 
 pub returns-clause-session : goal.returns-clause-session
 returns-clause-session g c =
-    on_ok_of c.write.result _ (λ none. written_shown c.args.self.now
+    on_ok_of refusal_of c.write.result _ (λ none. written_shown c.args.self.now
     (record { machine = c.write.new.self }) c.deref.result.now _ _
     c.write.ensures.journal (c.deref.ensures.value ∙ c.in_ok-payload.ensures.payload)
     c.in_ok-payload.field-0.update none
-    (ok_part c.write.result _ _ c.write.ensures.state none) c.in_ok-payload.ensures.keeps)
+    (ok_part refusal_of c.write.result _ _ c.write.ensures.state none) c.in_ok-payload.ensures.keeps)
 
 pub returns-clause-any_moment : goal.returns-clause-any_moment
 returns-clause-any_moment g c kept stands =
@@ -181,7 +182,7 @@ returns-clause-readings g c =
     (record { machine = c.write.new.self }) c.deref.result.now
     (kept_in (session_shown c.args.self.now) c.args.what) c.write.result
     c.write.ensures.journal (c.deref.ensures.value ∙ c.in_ok-payload.ensures.payload)
-    (err_part c.write.result _ _ c.write.ensures.state)
+    (err_part refusal_of c.write.result _ _ c.write.ensures.state)
 
 pub returns-clause-unchanged : goal.returns-clause-unchanged
 returns-clause-unchanged g c =

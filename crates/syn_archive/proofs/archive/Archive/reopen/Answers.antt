@@ -5,8 +5,8 @@ use Rattle.syn_model.specs.ArchiveImage.{ArchiveStandsFor}
 use Rattle.syn_archive.specs.Archive.{disk_of, pair_of}
 use Rattle.syn_archive.specs.declared.error.ArchiveError.TheVariants.{Device}
 use Rattle.syn_archive.specs.inner.Agreements.{agreed_archive}
-use Rattle.syn_archive.proofs.EndLemmas.{failures_of, from_both, if_err_both, on_ok_both, reads_of}
-use Rattle.syn_archive.proofs.EndLemmas.{same_error}
+use Rattle.syn_journaled.proofs.Results.{from_both, if_err_both, on_ok_both}
+use Rattle.syn_archive.proofs.EndLemmas.{failures_of, reads_of, same_error}
 use Rattle.syn_archive.proofs.MeaningLemmas.{keeps_stands, reopen_refusal, stands_for_each}
 use Rattle.syn_archive.proofs.archive.Archive.reopen.Goals as goal
 

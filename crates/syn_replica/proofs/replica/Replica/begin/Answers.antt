@@ -105,7 +105,8 @@ returns-in_err-check-clause-halts g c =
 
 pub returns-in_err-check-clause-cause : goal.returns-in_err-check-clause-cause
 returns-in_err-check-clause-cause g c history stands =
-    begin_cause (room_shown c.args.self.now) (pair_of c.args.self.now) history c.args.pair c.args.session
+    begin_cause (room_shown c.args.self.now) (pair_of c.args.self.now) history c.args.pair
+    c.args.session
     c.from_residual.result c.in_err-check.field-0.0
     (standing_shown c.args.self.now) c.last_session.result c.from_residual.ensures.1
     stands.remembers.standing (c.if-pair.false ∙ c.pair.ensures) c.last_session.ensures
@@ -128,7 +129,8 @@ returns-in_err-check-clause-refused g c history why stands =
 
 pub returns-in_err-check_room-clause-cause : goal.returns-in_err-check_room-clause-cause
 returns-in_err-check_room-clause-cause g c history stands =
-    begin_cause (room_shown c.args.self.now) (pair_of c.args.self.now) history c.args.pair c.args.session
+    begin_cause (room_shown c.args.self.now) (pair_of c.args.self.now) history c.args.pair
+    c.args.session
     c.from_residual-in_err-check_room.result c.in_err-check_room.field-0.0
     (standing_shown c.args.self.now) c.last_session.result
     c.from_residual-in_err-check_room.ensures.1

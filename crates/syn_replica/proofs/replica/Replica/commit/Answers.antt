@@ -1,4 +1,5 @@
-use Rattle.std.proofs.Common.{◌≤◌, ◌+◌, ◌∷◌, ◌∙◌, [], Some, ap, inl, inr, refl, subst, sym, true≢false}
+use Rattle.std.proofs.Common.{◌≤◌, ◌+◌, ◌∷◌, ◌∙◌, [], Some, ap, inl, inr, refl, subst, sym}
+use Rattle.std.proofs.Common.{true≢false}
 use Rattle.std.proofs.lemmas.Option.{none-some}
 use Rattle.syn_model.specs.Standing.{Standing}
 use Rattle.syn_replica.specs.Replica.{KeepsBeforeOrAfter, position_shown}

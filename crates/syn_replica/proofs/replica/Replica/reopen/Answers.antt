@@ -38,8 +38,8 @@ returns-in-Ok-clause-grown g c =
 
 -- ---- it was refused
 
-device_is_no_memory : why.Device ≡ why.Memory → ⊥
-device_is_no_memory is = cc is
+no_memory : why.Device ≡ why.Memory → ⊥
+no_memory is = cc is
 
 pub returns-in-Err-clause-refusals : goal.returns-in-Err-clause-refusals
 returns-in-Err-clause-refusals g c =
@@ -84,6 +84,6 @@ returns-in-Err-clause-grown g c =
     (ap (λ m. m.pair) same) (ap (λ m. m.standing) same) refl c.in-Err.ensures.device.untouched.same
     c.in-Err.ensures.halted
     (λ history stands. elim (returns-in-Err-clause-unchanged g c history stands) [
-      | inl device ↦ inl (c.in-Err.ensures.halts (λ memory. device_is_no_memory (sym device ∙ memory)))
+      | inl device ↦ inl (c.in-Err.ensures.halts (λ memory. no_memory (sym device ∙ memory)))
       | inr runs ↦ inr runs
     ])
