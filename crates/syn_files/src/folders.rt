@@ -69,7 +69,7 @@ pub fn import<H: Net<Stream = TcpStream>, N: NamedDisks, F: Files, E: Write>(
         ((at : ModelPath) → ¬ NamesPath path.now at) → IsErrAnd result IsOfPath) }
 {
     let path = path_of(alloc, line.path)?;
-    let folder = SystemFolder::open(alloc, files, line.folder)?;
+    let folder = SystemFolder::open(alloc, files, line.folder, &path)?;
     let (user, is_skipping) = (line.user, line.is_skipping);
     match line.place {
         Place::File(name) => {

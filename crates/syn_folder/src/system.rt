@@ -7,6 +7,7 @@ use crate::stranger::Stranger;
 use std::alloc::Global;
 use std::fs::Files;
 use std::io;
+use syn_path::Path;
 use syn_tree::{Edit, Tree};
 
 mod looks;
@@ -31,13 +32,19 @@ pub struct SystemFolder<'a, F> {
 }
 
 impl<'a, F: Files> SystemFolder<'a, F> {
-    /// Reads the folder at the path. Where it has more than a replica may, it is a stranger itself,
-    /// and its tree is empty.
+    /// Reads the folder of this name, for the path `at` of a replica: a stranger is what can not
+    /// stand there. Where it has more than a replica may, it is a stranger itself, and its tree is
+    /// empty.
     ///
     /// Refused 9 where it cannot be read or is none, 13 where something changed while it was read,
     /// and 11 where memory is refused.
-    pub fn open(alloc: Global, files: &'a F, root: &'a str) -> Result<Self, FolderError> {
-        let (tree, strangers) = read_folder(alloc, files, root)?;
+    pub fn open(
+        alloc: Global,
+        files: &'a F,
+        root: &'a str,
+        at: &Path,
+    ) -> Result<Self, FolderError> {
+        let (tree, strangers) = read_folder(alloc, files, root, at.key())?;
         Ok(SystemFolder {
             files,
             root,
@@ -47,7 +54,8 @@ impl<'a, F: Files> SystemFolder<'a, F> {
         })
     }
 
-    /// The same, where the folder may be missing. It is made as soon as something is written.
+    /// The same for the root, where the folder may be missing. It is made as soon as something is
+    /// written.
     pub fn open_or_missing(
         alloc: Global,
         files: &'a F,
@@ -61,7 +69,7 @@ impl<'a, F: Files> SystemFolder<'a, F> {
                 tree: Tree::new(alloc)?,
                 strangers: Vec::new(alloc),
             }),
-            _ => SystemFolder::open(alloc, files, root),
+            _ => SystemFolder::open(alloc, files, root, &Path::root(alloc)),
         }
     }
 }

@@ -8,7 +8,7 @@ use std::fs::{Files, Metadata, OpenFile, OpenOptions};
 use std::io::{self, Read};
 use std::mem;
 use std::os::unix::fs::PermissionsExt;
-use syn_path::{Name, Path, PathError};
+use syn_path::{Key, Name, Path, PathError};
 use syn_tree::measures::MOST_BELOW;
 use syn_tree::{Content, Entries, Entry, LONGEST_FILE, MOST_CHILDREN, Mode, Tree, TreeError};
 
@@ -25,6 +25,8 @@ const MOST_LOOKED: usize = 65_536;
 struct Reading<'f, 'r, F> {
     files: &'f F,
     root: &'r str,
+    /// The path of a replica that the folder is for.
+    at: Key,
     /// What is still to be looked at, the last in path order first.
     pending: Vec<Path>,
     /// The folder, and the files and directories in it, in path order.
@@ -34,8 +36,8 @@ struct Reading<'f, 'r, F> {
     changed: Vec<Path>,
 }
 
-/// What stands in the folder, and what can stand in no replica. Where there is more than a replica
-/// may have, the folder itself is among that, and the tree is empty.
+/// What stands in the folder, and what can not stand in a replica at the path `at`. Where there is
+/// more than a replica may have, the folder itself is among that, and the tree is empty.
 ///
 /// It is read twice. Refused 9 where the system refuses it, 13 where something changed meanwhile,
 /// and 11 where memory is refused.
@@ -43,12 +45,13 @@ pub(super) fn read_folder<F: Files>(
     alloc: Global,
     files: &F,
     root: &str,
+    at: Key,
 ) -> Result<(Tree, Vec<Stranger>), FolderError> {
-    let first = Reading::of(alloc, files, root)?;
+    let first = Reading::of(alloc, files, root, at)?;
     if first.is_over() {
         return first.end(alloc);
     }
-    let mut second = Reading::of(alloc, files, root)?;
+    let mut second = Reading::of(alloc, files, root, at)?;
     second.compare(alloc, &first)?;
     second.end(alloc)
 }
@@ -92,10 +95,11 @@ fn mode_of(file: Metadata) -> Mode {
 
 impl<'f, 'r, F: Files> Reading<'f, 'r, F> {
     /// All that stands in the folder.
-    fn of(alloc: Global, files: &'f F, root: &'r str) -> Result<Self, FolderError> {
+    fn of(alloc: Global, files: &'f F, root: &'r str, at: Key) -> Result<Self, FolderError> {
         let mut reading = Reading {
             files,
             root,
+            at,
             pending: Vec::new(alloc),
             seen: Vec::new(alloc),
             strangers: Vec::new(alloc),
@@ -255,8 +259,8 @@ impl<'f, 'r, F: Files> Reading<'f, 'r, F> {
     fn follow(&mut self, alloc: Global, path: &Path, names: &[Name]) -> Result<(), FolderError> {
         for name in names.iter().rev() {
             match path.child(alloc, name) {
-                Ok(child) => self.pending.push(child)?,
-                Err(PathError::BadPath) => {
+                Ok(child) if child.key().under(&self.at).is_some() => self.pending.push(child)?,
+                Ok(_) | Err(PathError::BadPath) => {
                     let text = text_of(alloc, path, name.as_str().as_bytes())?;
                     self.push_stranger(text, None, Strangeness::Path)?;
                 }
