@@ -15,7 +15,7 @@ use syn_play::{Moment, Player};
 use syn_refusal::Refusal;
 use syn_script::Script;
 use syn_simulate::{SimulateError, play, show_world, simulate};
-use syn_trace::draw;
+use syn_trace::{Heard, draw};
 use syn_world::World;
 
 /// Runs the script in the file, and prints the world after it, which it answers.
@@ -98,7 +98,13 @@ fn chart_of<D: SimulatedDisk>(
     let lines = Script::parse(alloc, script)?;
     let world = player.world();
     let last = Moment::of(world);
-    Ok(draw(alloc, &lines, player.turns(), &world.lists, &last)?)
+    let heard = Heard {
+        sent: world.sent(),
+        acknowledged: world.acknowledged(),
+        refusals: world.refusals(),
+        reports: world.reports(),
+    };
+    Ok(draw(alloc, &lines, player.turns(), heard, &last)?)
 }
 
 /// Runs the script, and prints the world after it, which it answers.
@@ -141,8 +147,7 @@ fn print_world<D: SimulatedDisk + Drop, O: Write>(
 /// A step of the world was refused for lack of memory.
 fn was_short_of_memory<D: SimulatedDisk>(world: &World<D>) -> bool {
     world
-        .lists
-        .refusals
+        .refusals()
         .iter()
         .any(|why| matches!(why, Refusal::Memory))
 }

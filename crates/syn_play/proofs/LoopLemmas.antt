@@ -22,6 +22,7 @@ use Rattle.syn_play.proofs.MoveLemmas.{idle_all, lowest_on, lowest_same, moves_o
 use Rattle.syn_play.proofs.MoveLemmas.{one_goes, range_parts}
 use Rattle.syn_play.proofs.PlayerLemmas.{has_begun, has_played, sent_count}
 use Rattle.syn_script.specs.declared.line.Line.{Line}
+use Rattle.syn_world.specs.Worlds.{sent_in}
 use Rattle.syn_world.specs.declared.world.Disks.{Disks}
 
 -- it went by these steps
@@ -66,13 +67,13 @@ module _ {D : Type 0} {disk : Ghosts D} (old : State) where
       )
       begun.left
 
-  -- the numbers behind those that were sent
+  -- the numbers after those that were sent
   pub moved_idle : (first low high : ℕ) (player : Player D disk)
       (had : HasMoved old (map Deliver (range_with_len first low)) player)
-      → length (world_of player).lists.sent.items ≤ first + low
+      → length (sent_in (world_of player)) ≤ first + low
       → HasPlayed (Says (map Deliver (range_with_len first (low + high)))) old player
   moved_idle first low high player had past =
-      let sent : length (world_of player).lists.sent.items ≡ length had.new.world.sent =
+      let sent : length (sent_in (world_of player)) ≡ length had.new.world.sent =
       sent_count (world_of player) had.new.world had.is.world in
       let beyond : length had.new.world.sent ≤ first + low = omega arith in
       let parts : map Deliver (range_with_len first low)
@@ -224,9 +225,9 @@ module _ {D : Type 0} {disk : Ghosts D} (player : Player D disk) (state : State)
   pub passed : IsPlayer (record player { lowest = number }) state
   passed = record { world = is.world; flags = is.flags; below = below }
 
-  pub lowest_left : number < length (world_of player).lists.sent.items → IsLowest state number
+  pub lowest_left : number < length (sent_in (world_of player)) → IsLowest state number
   lowest_left within =
-      let sent : length (world_of player).lists.sent.items ≡ length state.world.sent =
+      let sent : length (sent_in (world_of player)) ≡ length state.world.sent =
       sent_count (world_of player) state.world is.world in
       record {
         sent = omega arith;
@@ -237,7 +238,7 @@ module _ {D : Type 0} {disk : Ghosts D} (player : Player D disk) (state : State)
 -- the next that is left, by what was found
 module _ {D : Type 0} {disk : Ghosts D} (player : Player D disk) (state : State)
     (is : IsPlayer player state) (flags : List Bool) (same : flags ≡ player.delivered.items)
-    (limit : ℕ) (counted : limit ≡ length (world_of player).lists.sent.items) where
+    (limit : ℕ) (counted : limit ≡ length (sent_in (world_of player))) where
   flag_is : (number : ℕ) → slice_index_or player.delivered.items number false
       ≡ slice_index_or flags number false
   flag_is number = ap (λ l. slice_index_or l number false) (sym same)
@@ -250,7 +251,7 @@ module _ {D : Type 0} {disk : Ghosts D} (player : Player D disk) (state : State)
       → slice_index_or flags other false ≡ true)
       → IsNextLeft state found
   next_left_is None none limited unset set = λ number within.
-      let sent : length (world_of player).lists.sent.items ≡ length state.world.sent =
+      let sent : length (sent_in (world_of player)) ≡ length state.world.sent =
       sent_count (world_of player) state.world is.world in
       let less : number < limit = omega arith in
       elim (cases_lt number player.lowest) [
@@ -305,12 +306,12 @@ module _ {D : Type 0} {disk : Ghosts D} (old : State) (first number last : ℕ)
 
   -- nothing was sent with it
   pub number_unsent : first ≤ number → number ≤ last
-      → length (world_of player).lists.sent.items ≤ number
+      → length (sent_in (world_of player)) ≤ number
       → HasPlayed (Says (deliveries first last)) old player
   number_unsent from upto past =
       let low : ℕ = number - first in
       let long : low + (last + 1 - number) ≡ last + 1 - first = omega arith in
-      let beyond : length (world_of player).lists.sent.items ≤ first + low = omega arith in
+      let beyond : length (sent_in (world_of player)) ≤ first + low = omega arith in
       subst (λ n. HasPlayed (Says (map Deliver (range_with_len first n))) old player) long
       (moved_idle old first low (last + 1 - number) player had beyond)
 

@@ -13,7 +13,7 @@ use Rattle.syn_headline.specs.World.{Reopen}
 use Rattle.syn_play.specs.Drains.{DeliversLowest, IsLowest}
 use Rattle.syn_play.specs.States.{Goes, Moves, State, noted}
 
--- a list of steps behind another
+-- a list of steps after another
 pub moves_on : (old middle new : State) (made more : List Step)
     → Moves old made middle → Moves middle more new → Moves old (made ++ more) new
 moves_on old middle new [] more same moves = subst (λ s. Moves s more new) same moves

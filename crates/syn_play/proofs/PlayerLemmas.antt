@@ -1,6 +1,6 @@
 -- Where a step leads a player.
 use Rattle.std.proofs.Common.{◌≡◌, Bool, List, [], ◌∷◌, length}
-use Rattle.std.proofs.Common.{Result, Ok, Err, refl, sym, ap, ◌∙◌, subst}
+use Rattle.std.proofs.Common.{refl, sym, ap, ◌∙◌, subst, inl, inr}
 use Rattle.std.proofs.lemmas.List.{length-map}
 use Rattle.std.specs.Global.{Vec}
 use Rattle.syn_disk.specs.declared.disk.Disk.{Ghosts}
@@ -12,12 +12,12 @@ use Rattle.syn_play.specs.declared.player.Player.{Player}
 use Rattle.syn_play.specs.declared.turn.Turn.{Turn}
 use Rattle.syn_play.proofs.LineLemmas.{begins_moves, plays_moves}
 use Rattle.syn_play.proofs.MoveLemmas.{moves_run, stays_noted}
-use Rattle.syn_world.specs.Runs.{StepsSo, no_memory, steps}
-use Rattle.syn_world.specs.Worlds.{AreLeft, IsWorld, message_of}
+use Rattle.syn_world.specs.Runs.{HasMade, HasTried}
+use Rattle.syn_world.specs.Worlds.{AreLeft, HasMachines, IsWorld, message_of, sent_by, sent_in}
 use Rattle.syn_world.specs.declared.world.Disks.{Disks}
 use Rattle.syn_world.specs.declared.world.World.{World}
 
--- the state behind a step
+-- the state after a step
 abbrev behind : State → Step → ModelWorld → State
 behind old step world = record { world = world; delivered = noted old step }
 
@@ -28,9 +28,20 @@ one old step new goes = (behind old step new, record { steps = goes; delivered =
 module _ {D : Type 0} {disk : Ghosts D} where
   -- as many were sent as the list has
   pub sent_count : (world : World D disk) (model : ModelWorld) → IsWorld world model
-      → length world.lists.sent.items ≡ length model.sent
+      → length (sent_in world) ≡ length model.sent
   sent_count world model is =
-      sym (length-map world.lists.sent.items message_of) ∙ ap (λ l. length l) is.lists.sent
+      ap (λ r. length (sent_by r)) is.there
+      ∙ (sym (length-map is.running.lists.sent.items message_of)
+      ∙ ap (λ l. length l) is.is.lists.sent)
+
+  -- the machines of a world that goes on
+  pub has_machines : (world : World D disk) (model : ModelWorld) → IsWorld world model
+      → HasMachines world model
+  has_machines world model is = record {
+    running = is.running;
+    there = is.there;
+    are = is.is.machines;
+  }
 
   module _ (old : State) where
     pub has_played : (what : Said) (made : List Step) (new : State) (player : Player D disk)
@@ -54,33 +65,24 @@ module _ {D : Type 0} {disk : Ghosts D} where
       left = left;
     }
 
-    -- the world behind a step, and what is then delivered
+    -- the world after a step, and what is then delivered
     pub step_made : (step : Step) (player : Player D disk) (world : World D disk)
         (flags : Vec Bool) (turns : Vec Turn) → IsPlayer player old
-        → StepsSo old.world step (Ok world) → AreFlags flags (noted old step)
+        → HasMade old.world step world → AreFlags flags (noted old step)
         → HasPlayed (Says (step ∷ [])) old (record {
           world = world;
           delivered = flags;
           lowest = player.lowest;
           turns = turns;
         })
-    step_made step player world flags turns was (steps so) are =
+    step_made step player world flags turns was so are =
         has_played (Says (step ∷ [])) (step ∷ []) (behind old step so.new) _
         (refl, one old step so.new so.steps)
         (record {
-          world = so.ends;
+          world = so.is;
           flags = are;
           below = λ number low. stays_noted old step number (was.below number low);
         })
-    step_made step player world flags turns was (no_memory disks is left) are =
-        absurd (ok_not_err world disks is)
-      where
-        ok_not_err : (w : World D disk) (d : Disks D) → Ok w ≡ Err d → ⊥
-        ok_not_err w d e = subst is_ok e tt
-          where
-            is_ok : Result (World D disk) (Disks D) → Type 0
-            is_ok (Ok w) = Unit {0}
-            is_ok (Err d) = ⊥
 
     -- no step, and the disks as they were
     pub step_none : (step : Step) (disks : Disks D) → AreLeft disk.may_leave disks old.world
@@ -89,20 +91,15 @@ module _ {D : Type 0} {disk : Ghosts D} where
         has_begun (Says (step ∷ [])) [] old disks (step ∷ [], refl, refl) left
 
     -- or the disks as it left them
-    pub step_cut : (step : Step) (disks : Disks D)
-        → StepsSo {D = D} {disk = disk} old.world step (Err disks)
+    pub step_cut : (step : Step) (world : World D disk) (disks : Disks D)
+        → HasTried old.world step world
+        → ((model : ModelWorld) → HasMachines world model → AreLeft disk.may_leave disks model)
         → HasBegun disk (Says (step ∷ [])) old disks
-    step_cut step disks (steps so) =
-        has_begun (Says (step ∷ [])) (step ∷ []) (behind old step so.new) disks
-        ([], refl, one old step so.new so.steps) so.ends
-    step_cut step disks (no_memory back is left) =
-        step_none step disks
-        (subst (λ d. AreLeft disk.may_leave d old.world) (back_is disks back is) left)
-      where
-        in_err : Disks D → Result (World D disk) (Disks D) → Disks D
-        in_err other (Ok w) = other
-        in_err other (Err d) = d
-
-        back_is : (d b : Disks D) → let one : Result (World D disk) (Disks D) = Err d in
-            let other : Result (World D disk) (Disks D) = Err b in one ≡ other → b ≡ d
-        back_is d b e = sym (ap (in_err d) e)
+    step_cut step world disks so left = elim so.steps [
+      | inl goes ↦
+          has_begun (Says (step ∷ [])) (step ∷ []) (behind old step so.new) disks
+          ([], refl, one old step so.new goes) (left so.new so.has)
+      | inr same ↦
+          step_none step disks
+          (left old.world (subst (λ w. HasMachines world w) same so.has))
+    ]

@@ -12,7 +12,7 @@ use Rattle.syn_world.specs.Worlds.{AreLeft, IsWorld}
 use Rattle.syn_world.specs.declared.world.Disks.{Disks}
 use Rattle.syn_world.specs.declared.world.World.{World}
 
--- each flag is set where the message with its number was delivered; behind the end none is
+-- each flag is set where the message with its number was delivered; after the end none is
 abbrev pub AreFlags : Vec Bool → (ℕ → Bool) → Type 0
 AreFlags flags delivered =
     (number : ℕ) → slice_index_or flags.items number false ≡ delivered number
@@ -59,7 +59,7 @@ pub record HasPlayedAll {D : Type 0} {disk : Ghosts D} (lines : List Line) (old 
   pub runs : Runs old.world steps new.world
   pub is : IsPlayer player new
 
--- memory was refused in a line behind these
+-- memory was refused in a line after these
 pub record EndsIn {D : Type 0} (disk : Ghosts D) (lines : List Line) (old : State)
     (disks : Disks D) : Type 0 where
   pub before : List Line

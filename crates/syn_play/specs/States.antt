@@ -12,7 +12,7 @@ pub record State : Type 0 where
 abbrev pub fresh : World → State
 fresh world = record { world = world; delivered = λ number. false }
 
--- what is delivered behind a step; a number that was never sent is not
+-- what is delivered after a step; a number that was never sent is not
 abbrev pub noted : State → Step → ℕ → Bool
 noted old (Deliver number) = if nat_lt number (length old.world.sent)
     then (λ other. other == number || old.delivered other) else old.delivered

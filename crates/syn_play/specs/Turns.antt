@@ -1,38 +1,28 @@
 -- What a world had heard before a step of it.
-use Rattle.std.specs.Prelude.{ℕ, Bool, true, false, List, Option, Some, None, is_some, vec_len}
+use Rattle.std.specs.Prelude.{ℕ, Bool, List, Option, Some, None, is_some, length}
 use Rattle.syn_disk.specs.declared.disk.Disk.{Ghosts}
-use Rattle.syn_host.specs.Sides.{replica_of}
-use Rattle.syn_host.specs.declared.coordinator.CoordinatorHost.{CoordinatorHost}
-use Rattle.syn_host.specs.declared.coordinator.CoordinatorHost.TheVariants as machine
-use Rattle.syn_host.specs.declared.side.SideHost.{SideHost}
 use Rattle.syn_path.specs.declared.side.Side.TheVariants.{Left, Right}
 use Rattle.syn_play.specs.declared.player.Player.{Player}
 use Rattle.syn_play.specs.declared.turn.Moment.{Moment}
 use Rattle.syn_play.specs.declared.turn.Turn.{Turn}
+use Rattle.syn_world.specs.Worlds.{acknowledged_in, archive_in, refusals_in, replica_in}
+use Rattle.syn_world.specs.Worlds.{reports_in, sent_in}
 use Rattle.syn_world.specs.declared.step.Machine.{Machine}
 use Rattle.syn_world.specs.declared.step.Machine.TheVariants as place
 use Rattle.syn_world.specs.declared.step.Step.{Step}
 use Rattle.syn_world.specs.declared.step.Step.TheVariants.{Deliver}
 use Rattle.syn_world.specs.declared.world.World.{World}
 
--- a side's machine is up while it has a replica
-abbrev pub is_side_up : {D : Type 0} → {disk : Ghosts D} → SideHost D disk → Bool
-is_side_up side = is_some (replica_of side)
-
-abbrev pub is_coordinator_up : {D : Type 0} → {disk : Ghosts D} → CoordinatorHost D disk → Bool
-is_coordinator_up (machine.Up coordinator) = true
-is_coordinator_up (machine.Down rest) = false
-
 -- how long each list of the world is, and which machines are up
 abbrev pub moment_of : {D : Type 0} → {disk : Ghosts D} → World D disk → Moment
 moment_of world = record {
-  sent = vec_len world.lists.sent;
-  acknowledged = vec_len world.lists.acknowledged;
-  refusals = vec_len world.lists.refusals;
-  reports = vec_len world.lists.reports;
-  is_left_up = is_side_up world.left;
-  is_coordinator_up = is_coordinator_up world.coordinator;
-  is_right_up = is_side_up world.right;
+  sent = length (sent_in world);
+  acknowledged = length (acknowledged_in world);
+  refusals = length (refusals_in world);
+  reports = length (reports_in world);
+  is_left_up = is_some (replica_in world Left);
+  is_coordinator_up = is_some (archive_in world);
+  is_right_up = is_some (replica_in world Right);
 }
 
 -- whether a machine was up

@@ -1,24 +1,24 @@
 //! Which messages were delivered already.
-ghost use Rattle.std.specs.Prelude.{◌≡◌, ◌==◌, ◌||◌, ◌<◌, ◌≤◌, ℕ, false, true, vec_len, None};
+ghost use Rattle.std.specs.Prelude.{◌≡◌, ◌==◌, ◌||◌, ◌<◌, ◌≤◌, ℕ, false, true, length, None};
 ghost use Rattle.std.specs.Prelude.{IfSome, slice_index_or};
 ghost use Rattle.syn_headline.specs.World.{World as ModelWorld};
 ghost use Rattle.syn_play.specs.Players.{AreFlags};
 ghost use Rattle.syn_play.specs.States.{State, noted};
 ghost use Rattle.syn_world.specs.Steps.{step_of};
-ghost use Rattle.syn_world.specs.Worlds.{IsListed};
 
-use syn_world::{Lists, Step};
+use syn_world::Step;
 
-/// The flags of what is delivered behind the step, of a world with these lists. A number that was
-/// never sent is not noted: that message may still come. None where memory for it is refused.
-pub(crate) fn note_step(lists: &Lists, delivered: Vec<bool>, step: &Step) -> Option<Vec<bool>>
-    ensures { (state : State) → IsListed lists.now state.world → AreFlags delivered state.delivered
+/// The flags of what is delivered after the step, of a world that sent so many messages. A number
+/// that was never sent is not noted: that message may still come. None where memory for it is
+/// refused.
+pub(crate) fn note_step(sent: usize, delivered: Vec<bool>, step: &Step) -> Option<Vec<bool>>
+    ensures { (state : State) → sent ≡ length state.world.sent → AreFlags delivered state.delivered
         → IfSome result (λ flags. AreFlags flags (noted state (step_of step.now))) }
 {
     let Step::Deliver(number) = step else {
         return Some(delivered);
     };
-    if *number >= lists.sent.len() {
+    if *number >= sent {
         return Some(delivered);
     }
     note(delivered, *number)
@@ -39,7 +39,7 @@ fn note(delivered: Vec<bool>, number: usize) -> Option<Vec<bool>>
     Some(flags)
 }
 
-/// Whether the flag of the number is set; behind the end none is.
+/// Whether the flag of the number is set; after the end none is.
 pub(crate) fn is_set(flags: &[bool], number: usize) -> bool
     ensures { result ≡ slice_index_or flags.now number false }
 {

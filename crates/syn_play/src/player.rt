@@ -1,5 +1,5 @@
 //! A world on which lines are played.
-ghost use Rattle.std.specs.Prelude.{◌≡◌, ◌≤◌, ◌↔◌, ◌∷◌, ◌++◌, [], IfOk, true, vec_len};
+ghost use Rattle.std.specs.Prelude.{◌≡◌, ◌≤◌, ◌↔◌, ◌∷◌, ◌++◌, [], IfOk, length, true};
 ghost use Rattle.syn_headline.specs.World.{World as ModelWorld, Deliver};
 ghost use Rattle.syn_play.specs.Drains.{IsNextLeft};
 ghost use Rattle.syn_play.specs.Lines.{Says, ToDrain, deliveries, said};
@@ -7,7 +7,7 @@ ghost use Rattle.syn_play.specs.Players.{PlaysAllTo, PlaysTo, IsPlayer, world_of
 ghost use Rattle.syn_play.specs.States.{State, fresh};
 ghost use Rattle.syn_play.specs.Turns.{turn_of, turns_of};
 ghost use Rattle.syn_world.specs.Steps.{step_of};
-ghost use Rattle.syn_world.specs.Worlds.{IsWorld};
+ghost use Rattle.syn_world.specs.Worlds.{IsWorld, sent_in};
 
 use crate::line::machine_of;
 use crate::notes::{is_set, lowest_unset, note_step};
@@ -29,7 +29,7 @@ pub const MOST_DRAINED: usize = 100_000;
 #[derive(Drop)]
 pub struct Player<D: Disk> {
     world: World<D>,
-    /// Whether the message with each number was delivered. Those behind the end were not.
+    /// Whether the message with each number was delivered. Those after the end were not.
     delivered: Vec<bool>,
     /// Each message with a lower number was delivered.
     lowest: usize,
@@ -90,17 +90,18 @@ impl<D: SimulatedDisk> Player<D> {
         let Some(turns) = add_turn(turns, Turn::of(&world, &step)) else {
             return Err(world.into_disks());
         };
-        let Some(delivered) = note_step(&world.lists, delivered, &step) else {
+        let Some(delivered) = note_step(world.sent().len(), delivered, &step) else {
             return Err(world.into_disks());
         };
-        match world.step(alloc, step) {
-            Ok(world) => Ok(Player {
+        let mut world = world;
+        match world.step(alloc, &step) {
+            Ok(()) => Ok(Player {
                 world,
                 delivered,
                 lowest,
                 turns,
             }),
-            Err(disks) => Err(disks),
+            Err(_) => Err(world.into_disks()),
         }
     }
 
@@ -165,7 +166,7 @@ impl<D: SimulatedDisk> Player<D> {
         lowest_unset(
             self.delivered.as_slice(),
             self.lowest,
-            self.world.lists.sent.len(),
+            self.world.sent().len(),
         )
     }
 
@@ -178,9 +179,9 @@ impl<D: SimulatedDisk> Player<D> {
 
     /// Whether no message was sent with the number yet.
     fn is_unsent(&self, number: usize) -> bool
-        ensures { (result ≡ true) ↔ (vec_len (world_of self.now).lists.sent ≤ number) }
+        ensures { (result ≡ true) ↔ (length (sent_in (world_of self.now)) ≤ number) }
     {
-        self.world.lists.sent.len() <= number
+        self.world.sent().len() <= number
     }
 
     /// Plays a line. What a stop leaves on a disk is the disk's own concern.

@@ -1,9 +1,8 @@
 //! What a world had heard before each of its steps.
 ghost use Rattle.std.specs.Prelude.{◌≡◌, ◌++◌, ◌∷◌, [], IfSome};
-ghost use Rattle.syn_play.specs.Turns.{delivery_of, is_side_up, is_up, moment_of, turn_of};
+ghost use Rattle.syn_play.specs.Turns.{delivery_of, is_up, moment_of, turn_of};
 
 use syn_disk::Disk;
-use syn_host::{CoordinatorHost, SideHost};
 use syn_message::Side;
 use syn_world::{Machine, Step, World};
 
@@ -30,13 +29,13 @@ impl Moment {
         ensures { result ≡ moment_of world.now }
     {
         Moment {
-            sent: world.lists.sent.len(),
-            acknowledged: world.lists.acknowledged.len(),
-            refusals: world.lists.refusals.len(),
-            reports: world.lists.reports.len(),
-            is_left_up: is_side_up(&world.left),
-            is_coordinator_up: matches!(&world.coordinator, CoordinatorHost::Up(_)),
-            is_right_up: is_side_up(&world.right),
+            sent: world.sent().len(),
+            acknowledged: world.acknowledged().len(),
+            refusals: world.refusals().len(),
+            reports: world.reports().len(),
+            is_left_up: world.replica(Side::Left).is_some(),
+            is_coordinator_up: world.archive().is_some(),
+            is_right_up: world.replica(Side::Right).is_some(),
         }
     }
 
@@ -92,11 +91,4 @@ pub(crate) fn add_turn(turns: Vec<Turn>, turn: Turn) -> Option<Vec<Turn>>
         Ok(()) => Some(more),
         Err(_) => None,
     }
-}
-
-/// Whether the side's machine is up.
-fn is_side_up<D: Disk>(side: &SideHost<D>) -> bool
-    ensures { result ≡ is_side_up side.now }
-{
-    side.replica().is_some()
 }

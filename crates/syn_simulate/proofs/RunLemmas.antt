@@ -1,4 +1,4 @@
--- The world behind a script.
+-- The world after a script.
 use Rattle.std.proofs.Common.{List}
 use Rattle.syn_disk.specs.declared.disk.Disk.{Ghosts}
 use Rattle.syn_play.specs.Players.{HasPlayedAll, world_of}

@@ -1,4 +1,4 @@
--- The world behind a script.
+-- The world after a script.
 use Rattle.std.specs.Prelude.{List}
 use Rattle.syn_disk.specs.declared.disk.Disk.{Ghosts}
 use Rattle.syn_headline.specs.World.{Runs, Step}

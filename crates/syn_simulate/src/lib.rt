@@ -7,7 +7,7 @@
 //!   armed, and the world is opened from what they show (`opened`, `StartsFormatted`). It is
 //!   refused 9 or 11 alone (`refused`). What a stop leaves of a disk is not told: that each list of
 //!   leaves reaches its disk is shown by tests.
-//! - `play` answers the player behind a script. Its lines say steps (`SaySteps`), and playing these
+//! - `play` answers the player after a script. Its lines say steps (`SaySteps`), and playing these
 //!   leads a world of pair 1 that was just formatted to the player's, by a run of the definitions
 //!   (`run`, `RunsScript`, `PlaysTo`). It is refused with the number of the first line that says no
 //!   step (`fault`, `IsFirstFault`), or for lack of memory.

@@ -14,7 +14,7 @@ use syn_play::Player;
 use syn_script::Script;
 use syn_world::World;
 
-/// The player behind the steps of the script. Its world starts with three machines that are up: two
+/// The player after the steps of the script. Its world starts with three machines that are up: two
 /// sides with an empty replica each, and a coordinator with an empty archive, all of pair 1. A
 /// machine's i-th stop leaves of its disk what its i-th stop line says.
 ///
@@ -37,7 +37,7 @@ pub fn play(alloc: Global, script: &[u8]) -> Result<Player<Cut<MemDisk>>, Simula
     }
 }
 
-/// The world behind the steps of the script, as `play` leaves it. It is refused as that is.
+/// The world after the steps of the script, as `play` leaves it. It is refused as that is.
 pub fn simulate(alloc: Global, script: &[u8]) -> Result<World<Cut<MemDisk>>, SimulateError>
     ensures run { IfOk result (RunsScript script.now) }
     ensures fault { IfErr result (λ e. (number : ℕ) → e ≡ Fault number

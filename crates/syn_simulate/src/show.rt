@@ -1,13 +1,15 @@
 //! What is printed of a world.
-ghost use Rattle.std.specs.Prelude.{OnOk};
+ghost use Rattle.std.specs.Prelude.{OnOk, option_map};
 ghost use Rattle.std.specs.Io.KnownBytes.{Appends};
-ghost use Rattle.syn_simulate.specs.Shown.{archive_or_down, down_shown, reports_shown};
-ghost use Rattle.syn_simulate.specs.Shown.{side_or_down, world_shown};
+ghost use Rattle.syn_simulate.specs.Shown.{archive_or_down, down_shown, replica_or_down};
+ghost use Rattle.syn_simulate.specs.Shown.{reports_shown, world_shown};
 
 use std::alloc::Global;
 use std::io::Write;
+use syn_archive::Archive;
 use syn_disk::Disk;
-use syn_host::{CoordinatorHost, SideHost};
+use syn_path::Side;
+use syn_replica::Replica;
 use syn_session::Report;
 use syn_show::{ShowError, show_archive, show_replica, show_report};
 use syn_world::World;
@@ -24,13 +26,13 @@ pub fn show_world<D: Disk, W: Write>(
     ensures { OnOk result (Appends (W.contents output.old) (W.contents output.new)
         (world_shown world.now)) }
 {
-    show_reports(alloc, &world.lists.reports, output)?;
+    show_reports(alloc, world.reports(), output)?;
     output.write_all(b"left\n")?;
-    show_side(alloc, &world.left, output)?;
+    show_side(alloc, world.replica(Side::Left), output)?;
     output.write_all(b"right\n")?;
-    show_side(alloc, &world.right, output)?;
+    show_side(alloc, world.replica(Side::Right), output)?;
     output.write_all(b"archive\n")?;
-    show_coordinator(alloc, &world.coordinator, output)
+    show_coordinator(alloc, world.archive(), output)
 }
 
 /// Prints each of the reports, in their order.
@@ -51,13 +53,13 @@ fn show_reports<W: Write>(
 /// Prints what the side's replica shows, or `down`.
 fn show_side<D: Disk, W: Write>(
     alloc: Global,
-    side: &SideHost<D>,
+    side: Option<&Replica<D>>,
     output: &mut W,
 ) -> Result<(), ShowError>
     ensures { OnOk result (Appends (W.contents output.old) (W.contents output.new)
-        (side_or_down side.now)) }
+        (replica_or_down (option_map (λ replica. replica.now) side.entry))) }
 {
-    match side.replica() {
+    match side {
         Some(replica) => show_replica(alloc, replica, output),
         None => show_down(output),
     }
@@ -66,15 +68,15 @@ fn show_side<D: Disk, W: Write>(
 /// Prints what the coordinator's archive shows, or `down`.
 fn show_coordinator<D: Disk, W: Write>(
     alloc: Global,
-    coordinator: &CoordinatorHost<D>,
+    archive: Option<&Archive<D>>,
     output: &mut W,
 ) -> Result<(), ShowError>
     ensures { OnOk result (Appends (W.contents output.old) (W.contents output.new)
-        (archive_or_down coordinator.now)) }
+        (archive_or_down (option_map (λ archive. archive.now) archive.entry))) }
 {
-    match coordinator {
-        CoordinatorHost::Up(coordinator) => show_archive(alloc, coordinator.archive(), output),
-        CoordinatorHost::Down(_) => show_down(output),
+    match archive {
+        Some(archive) => show_archive(alloc, archive, output),
+        None => show_down(output),
     }
 }
 

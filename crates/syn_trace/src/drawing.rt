@@ -1,42 +1,41 @@
 //! The chart of a run is drawn from what was heard in it.
 
 use crate::chart::Chart;
-use crate::happened::Happened;
+use crate::happened::{Happened, Heard};
 use crate::messages::{came_text, ends_of, is_late, sent_text};
 use crate::rows::{Row, rows_of};
 use std::alloc::{AllocError, Global};
 use std::mem;
 use syn_play::{Moment, Turn};
 use syn_script::Line;
-use syn_world::Lists;
 
 /// The chart of what happened as the lines were played: a column for each machine, and a row for
 /// each step, message, record, report, stop and opening, in order of time.
 ///
-/// The turns are those of the lines, and the lists and the last moment those of the world behind
-/// them. It is refused where memory is.
+/// The turns are those of the lines, and what was heard and the last moment those of the world
+/// after them. It is refused where memory is.
 ///
-/// An arrow leads away from a message that is sent, and to one that comes. Behind a message that
+/// An arrow leads away from a message that is sent, and to one that comes. After a message that
 /// comes stands `again` where it came before, `late` where nobody waits for it any more, and `lost`
 /// where the machine is down. At the end the messages that never came are named.
 pub fn draw(
     alloc: Global,
     lines: &[Line],
     turns: &[Turn],
-    lists: &Lists,
+    heard: Heard,
     last: &Moment,
 ) -> Result<String, AllocError> {
     let rows = rows_of(alloc, lines)?;
     let mut rows = rows.iter();
     let mut drawing = Drawing {
         alloc,
-        lists,
-        has_come: vec![in alloc; false; lists.sent.len()]?,
+        heard,
+        has_come: vec![in alloc; false; heard.sent.len()]?,
         chart: Chart::new(alloc)?,
     };
     for (index, turn) in turns.iter().enumerate() {
         let happened = Happened {
-            lists,
+            heard,
             before: turn.before,
             behind: match turns.get(index + 1) {
                 Some(next) => next.before,
@@ -53,11 +52,11 @@ pub fn draw(
     Ok(drawing.chart.into_text())
 }
 
-/// A chart that is drawn of a world with these lists.
+/// A chart that is drawn of what a world heard.
 #[derive(Drop)]
 struct Drawing<'a> {
     alloc: Global,
-    lists: &'a Lists,
+    heard: Heard<'a>,
     /// Whether the message with each number came already.
     has_come: Vec<bool>,
     chart: Chart,
@@ -76,7 +75,7 @@ impl Drawing<'_> {
 
     /// Adds the row of a message that comes, if it was sent by then.
     fn add_coming(&mut self, before: &Moment, number: usize) -> Result<(), AllocError> {
-        let Some(messages) = self.lists.sent.get(..before.sent) else {
+        let Some(messages) = self.heard.sent.get(..before.sent) else {
             return Ok(());
         };
         let Some(message) = messages.get(number) else {
@@ -107,7 +106,7 @@ impl Drawing<'_> {
 
     /// Adds a row for each message that never came.
     fn add_lost(&mut self) -> Result<(), AllocError> {
-        for (number, message) in self.lists.sent.iter().enumerate() {
+        for (number, message) in self.heard.sent.iter().enumerate() {
             if self.has_come.get(number) == Some(&false) {
                 let (from, _) = ends_of(message);
                 let text = sent_text(self.alloc, number, message)?;

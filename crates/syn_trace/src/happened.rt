@@ -6,13 +6,23 @@ use std::alloc::{AllocError, Global};
 use syn_image::Kept;
 use syn_message::Side;
 use syn_play::Moment;
-use syn_session::End;
-use syn_world::{Ack, Lists, Machine};
+use syn_refusal::Refusal;
+use syn_session::{End, Report};
+use syn_world::{Ack, Machine, Message};
 
-/// What happened in one turn: what the lists have from the moment before it to the one behind it.
+/// What a world heard, each list in order of time, as its readings give it.
+#[derive(Clone, Copy)]
+pub struct Heard<'a> {
+    pub sent: &'a [Message],
+    pub acknowledged: &'a [Ack],
+    pub refusals: &'a [Refusal],
+    pub reports: &'a [(Report, usize)],
+}
+
+/// What happened in one turn: what was heard from the moment before it to the one after it.
 #[derive(Clone, Copy)]
 pub(crate) struct Happened<'a> {
-    pub(crate) lists: &'a Lists,
+    pub(crate) heard: Heard<'a>,
     pub(crate) before: Moment,
     pub(crate) behind: Moment,
 }
@@ -26,7 +36,7 @@ impl Happened<'_> {
         at: Machine,
         is_opening: bool,
     ) -> Result<String, AllocError> {
-        let refusals = &self.lists.refusals;
+        let refusals = self.heard.refusals;
         if let Some(why) = part(refusals, self.before.refusals, self.behind.refusals).first() {
             return format!(in alloc; ": refused {}", why.number());
         }
@@ -49,7 +59,7 @@ impl Happened<'_> {
 
     /// Adds what the archive kept.
     fn add_kept(&self, alloc: Global, chart: &mut Chart) -> Result<(), AllocError> {
-        let acknowledged = &self.lists.acknowledged;
+        let acknowledged = self.heard.acknowledged;
         for ack in part(
             acknowledged,
             self.before.acknowledged,
@@ -65,7 +75,7 @@ impl Happened<'_> {
     /// Adds each message that was sent.
     fn add_sent(&self, alloc: Global, chart: &mut Chart) -> Result<(), AllocError> {
         for number in self.before.sent..self.behind.sent {
-            if let Some(message) = self.lists.sent.get(number) {
+            if let Some(message) = self.heard.sent.get(number) {
                 let (from, _) = ends_of(message);
                 chart.add(from, &sent_text(alloc, number, message)?)?;
             }
@@ -75,7 +85,7 @@ impl Happened<'_> {
 
     /// Adds the report of each session that ended.
     fn add_reports(&self, alloc: Global, chart: &mut Chart) -> Result<(), AllocError> {
-        let reports = &self.lists.reports;
+        let reports = self.heard.reports;
         for (report, _) in part(reports, self.before.reports, self.behind.reports) {
             let end = match report.end {
                 End::Complete => "complete",

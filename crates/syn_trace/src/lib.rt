@@ -5,7 +5,7 @@
 //!
 //! # What it promises
 //!
-//! - `draw` has no clause. What it draws of lines, of their turns, and of what the world behind
+//! - `draw` has no clause. What it draws of lines, of their turns, and of what the world after
 //!   them heard, is told by tests, to the byte.
 #![tactic(auto)]
 
@@ -16,3 +16,4 @@ mod messages;
 mod rows;
 
 pub use drawing::draw;
+pub use happened::Heard;

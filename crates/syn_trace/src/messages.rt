@@ -33,7 +33,7 @@ pub(crate) fn sent_text(
     format!(in alloc; "<-- {number} {said}")
 }
 
-/// The message as it comes: an arrow leads to it. What is behind it says what became of it.
+/// The message as it comes: an arrow leads to it. What is after it says what became of it.
 pub(crate) fn came_text(
     alloc: Global,
     number: usize,

@@ -5,8 +5,8 @@ use Rattle.syn_headline.specs.Coordinator.{CoordinatorMachine, no_call}
 use Rattle.syn_headline.specs.World.{World as ModelWorld, CoordinatorDoes}
 use Rattle.syn_host.specs.Coordinators.{CoordinatorStep, IsCoordinator}
 use Rattle.syn_host.specs.declared.coordinator.CoordinatorHost.{CoordinatorHost}
-use Rattle.syn_world.specs.Worlds.{IsWorld}
-use Rattle.syn_world.specs.declared.world.World.{World}
+use Rattle.syn_world.specs.Worlds.{IsRunning}
+use Rattle.syn_world.specs.declared.running.Running.{Running}
 use Rattle.syn_world.proofs.SessionLemmas.{eq_same, lift_coordinator}
 
 -- the world goes so
@@ -19,10 +19,10 @@ lift_device old So next step =
     subst (CoordinatorDoes old So) (eq_same (coordinator_is old next))
     (lift_coordinator old So next no_call [] step)
 
-pub stays_coordinator : {D : Type 0} {disk : Ghosts D} (world : World D disk)
-    (model : ModelWorld) → IsWorld world model → (coordinator : CoordinatorHost D disk)
+pub stays_coordinator : {D : Type 0} {disk : Ghosts D} (world : Running D disk)
+    (model : ModelWorld) → IsRunning world model → (coordinator : CoordinatorHost D disk)
     (next : CoordinatorMachine) → IsCoordinator model.pair coordinator next
-    → IsWorld (record world { coordinator = coordinator }) (coordinator_is model next)
+    → IsRunning (record world { coordinator = coordinator }) (coordinator_is model next)
 stays_coordinator world model is coordinator next host = record {
   machines = record {
     pair = is.machines.pair;

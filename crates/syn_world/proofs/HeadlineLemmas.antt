@@ -1,5 +1,6 @@
--- A run of a world from three disks, and the opening behind it.
-use Rattle.std.proofs.Common.{◌≡◌, ◌∙◌, ◌<◌, ℕ, List, Result, Ok, Err, refl, subst, sym}
+-- A run of a world from three disks, and the opening after it.
+use Rattle.std.proofs.Common.{◌≡◌, ◌∙◌, ◌<◌, ℕ, List, Result, Ok, Err, Some, ap, option_map}
+use Rattle.std.proofs.Common.{refl, subst, sym}
 use Rattle.std.specs.Prelude.{◌^◌}
 use Rattle.std.specs.Prelude.{IfErr, IfOk}
 use Rattle.syn_disk.specs.Arms.{Arms, no_arms}
@@ -18,13 +19,16 @@ use Rattle.syn_host.specs.declared.coordinator.CoordinatorHost.TheVariants as ma
 use Rattle.syn_host.specs.declared.side.SideHost.{SideHost}
 use Rattle.syn_host.specs.declared.side.SideHost.TheVariants as host
 use Rattle.syn_model.specs.Path.{Bytes}
-use Rattle.syn_recovery.specs.Headline.{Disks as Shown, Headline, IsCrashSafe, IsOpenedFrom}
+use Rattle.syn_recovery.specs.Headline.{Disks as Shown, DisksStand, Headline, IsCrashSafe}
+use Rattle.syn_recovery.specs.Headline.{IsOpenedFrom}
 use Rattle.syn_recovery.specs.Headline.{MayBeLeft, disk_of}
 use Rattle.syn_recovery.specs.Machines.{of_archive, of_side}
 use Rattle.syn_recovery.specs.Meaning.{MayBeOf}
-use Rattle.syn_world.specs.Headlines.{AreSafe, IsSafeRun, MayHold, Recovers, disks_of}
-use Rattle.syn_world.specs.Openings.{ComeBack, OpensFrom, StandFor, shown_on}
-use Rattle.syn_world.specs.Worlds.{AreLeft, RunsMachines}
+use Rattle.syn_world.specs.Headlines.{AreSafe, IsSafeRun, MayHold, MayRun, Recovers}
+use Rattle.syn_world.specs.Openings.{AreFree, ComeBack, HoldsDisks, OpensFrom, StandFor}
+use Rattle.syn_world.specs.Openings.{disks_in, shown_on}
+use Rattle.syn_world.specs.Worlds.{AreLeft, RunsMachines, running_in}
+use Rattle.syn_world.specs.declared.running.Running.{Running}
 use Rattle.syn_world.specs.declared.world.Disks.{Disks}
 use Rattle.syn_world.specs.declared.world.World.{World}
 use Rattle.syn_world.proofs.PairLemmas.{run_keeps_pair}
@@ -44,13 +48,23 @@ module _ {D : Type 0} {disk : Ghosts D} (pair : ℕ) where
   archive_left (machine.Up coordinator) model stands bytes left = stands.journal.leaves bytes left
   archive_left (machine.Down rest) model rests bytes left = rests.leaves bytes left
 
--- and so of a world
-pub world_left : {D : Type 0} {disk : Ghosts D} (world : World D disk) (model : ModelWorld)
-    → RunsMachines world model → AreLeft disk.may_leave (disks_of world) model
+-- and so of all machines
+pub world_left : {D : Type 0} {disk : Ghosts D} (world : Running D disk) (model : ModelWorld)
+    → RunsMachines world model → AreLeft disk.may_leave (disks_in world) model
 world_left world model is = record {
   left = side_left model.pair world.left model.left is.left;
   right = side_left model.pair world.right model.right is.right;
   archive = archive_left model.pair world.coordinator model.coordinator is.coordinator;
+}
+
+-- and of disks that come back with nothing new
+pub left_behind : {D : Type 0} (may_leave : D → Bytes → Type 0) (old new : Disks D)
+    (model : ModelWorld) → ComeBack may_leave old new → AreLeft may_leave old model
+    → AreLeft may_leave new model
+left_behind may_leave old new model back are = record {
+  left = λ bytes left. are.left bytes (back.left bytes left);
+  right = λ bytes left. are.right bytes (back.right bytes left);
+  archive = λ bytes left. are.archive bytes (back.archive bytes left);
 }
 
 module _ {D : Type 0} (may_leave : D → Bytes → Type 0) (disks : Disks D) (model : ModelWorld)
@@ -148,3 +162,55 @@ pub if_err : {T E : Type 0} {P Q : E → Type 0} (one : Result T E) → IfErr on
     → ((error : E) → P error → Q error) → IfErr one Q
 if_err (Ok value) holds goes = tt
 if_err (Err error) holds goes = goes error holds
+
+-- what a stop may leave on disks whose machines were stopped it might have left before
+pub holds_before : {D : Type 0} (may_leave : D → Bytes → Type 0) (old new : Disks D)
+    → ComeBack may_leave old new → (shown : Shown) → MayHold may_leave new shown
+    → MayHold may_leave old shown
+holds_before may_leave old new back shown holds = record {
+  left = back.left shown.left holds.left;
+  right = back.right shown.right holds.right;
+  archive = back.archive shown.archive holds.archive;
+}
+
+module _ {D : Type 0} (disk : Ghosts D) (pair : ℕ) (disks later stopped : Disks D)
+    (stores : Stores) (steps : List Step) (new : ModelWorld)
+    (run : IsSafeRun disk pair disks later stores steps new)
+    (back : ComeBack disk.may_leave later stopped) where
+  -- so a run is safe with them, too
+  pub safe_stopped : IsSafeRun disk pair disks stopped stores steps new
+  safe_stopped = record {
+    old = run.old;
+    opened = run.opened;
+    stores_are = run.stores_are;
+    runs = run.runs;
+    pair_is = run.pair_is;
+    safe = λ shown holds. run.safe shown
+        (holds_before disk.may_leave later stopped back shown holds);
+  }
+
+  -- and a world may run from them again
+  pub may_run : pair < 2 ^ 64 → AreFree disk.arms stopped
+      → ((one : D) → disk.may_leave one (disk.seen one)) → MayRun disk.seen disk.arms pair stopped
+  may_run fits free stays =
+      let shown = shown_on disk.seen stopped in
+      let safe = safe_stopped.safe shown (record {
+        left = stays stopped.left;
+        right = stays stopped.right;
+        archive = stays stopped.archive;
+      }) in
+      record {
+        stores = safe.now;
+        stand = record {
+          fits = fits;
+          left = free.left;
+          right = free.right;
+          archive = free.archive;
+          stand = subst (λ p. DisksStand p shown safe.now) run.pair_is safe.recovered.stand;
+        };
+      }
+
+-- the disks of a world are those of what runs
+pub holds_in : {D : Type 0} {disk : Ghosts D} (world : World D disk) (running : Running D disk)
+    → running_in world ≡ Some running → HoldsDisks world (disks_in running)
+holds_in world running there = ap (option_map disks_in) there

@@ -1,4 +1,4 @@
--- The lists of a world behind a step are the model's.
+-- The lists of a world after a step are the model's.
 use Rattle.std.proofs.Common.{◌≡◌, ◌∙◌, ◌++◌, ◌∷◌, [], ℕ, List, Option, Some, None, ap, ap₂, refl}
 use Rattle.std.proofs.Common.{subst, sym, length, map}
 use Rattle.std.proofs.lemmas.List.{append-nil, length-map, map-append}
@@ -52,7 +52,7 @@ kept_told (one ∷ more) = ap (λ told. told_kept one ∷ told) (kept_told more)
 abbrev with_count : ℕ → List Report → List (Report × ℕ)
 with_count count reports = map (λ report. (report, count)) reports
 
--- behind a step of the coordinator
+-- after a step of the coordinator
 pub is_listed : (old new : Lists) (was now : ModelWorld) (outcome : CoordinatorOutcome)
     (made : Call) (refusals : List Refusal) → Takes old new outcome → IsListed old was
     → Tells outcome made refusals → Goes was now made refusals → IsListed new now
@@ -91,7 +91,7 @@ events_told side [] = refl
 events_told side (event ∷ more) =
     ap (λ told. told_by (Happened side event) ∷ told) (events_told side more)
 
--- behind a side's answer
+-- after a side's answer
 module _ (side : Side) (session number : ℕ) (reply : Option Reply) (events : List Event) where
   abbrev said : List Message
   said = says (which_of side) session number (option_map reply_of reply)

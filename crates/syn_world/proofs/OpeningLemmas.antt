@@ -16,10 +16,9 @@ use Rattle.syn_coordinator.specs.Coordinators.{in_report}
 use Rattle.syn_session.specs.Reports.{report_model}
 use Rattle.syn_session.specs.Sendings.{messages_of}
 use Rattle.syn_image.specs.declared.kept.Kept.{Kept as Record}
-use Rattle.syn_world.specs.Worlds.{EndsSo, Goes, GoesSo, IsListed, IsWorld, RunsMachines}
+use Rattle.syn_world.specs.Worlds.{EndsSo, Goes, GoesSo, IsListed, IsRunning, RunsMachines}
 use Rattle.syn_world.specs.Worlds.{TellsFound}
-use Rattle.syn_world.specs.declared.world.Disks.{Disks}
-use Rattle.syn_world.specs.declared.world.World.{World}
+use Rattle.syn_world.specs.declared.running.Running.{Running}
 use Rattle.syn_world.proofs.SessionLemmas.{coordinator_next, goes_so}
 
 -- what is told of an opening is what it kept and was refused
@@ -34,12 +33,12 @@ found_tells (Some o) found refused tells = record {
   refusals_are = ap causes_in tells.refused_is;
 }
 
--- the world behind an opening is one of the model's
-module _ {D : Type 0} {disk : Ghosts D} (world : World D disk) (old : ModelWorld)
-    (is : IsWorld world old) (opening : CoordinatorOpening D disk)
+-- the world after an opening is one of the model's
+module _ {D : Type 0} {disk : Ghosts D} (world : Running D disk) (old : ModelWorld)
+    (is : IsRunning world old) (opening : CoordinatorOpening D disk)
     (outcome : Option CoordinatorOutcome)
     (tells : IfSome outcome (λ o. TellsFound o opening.found opening.refused))
-    (result : Result (World D disk) (Disks D)) where
+    (result : Result (Running D disk) (Running D disk)) where
   pub goes_found : (step : Step) (next : CoordinatorMachine)
       → IsCoordinator old.pair opening.coordinator next
       → Steps old step (coordinator_next old next (gives_found opening.found)

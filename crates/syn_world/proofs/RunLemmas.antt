@@ -1,16 +1,18 @@
 -- A world that goes by steps, one after another.
 use Rattle.std.proofs.Common.{◌≡◌, ℕ, List, [], ◌∷◌, ◌++◌, Option, Result, Ok, Err}
-use Rattle.std.proofs.Common.{refl, sym, ap, ◌∙◌, subst}
+use Rattle.std.proofs.Common.{refl, sym, ap, ◌∙◌, subst, inl, inr, Some, None, false}
 use Rattle.std.specs.Prelude.{map, option_map, slice_get}
 use Rattle.std.proofs.lemmas.Option.{slice_get-map}
 use Rattle.std.proofs.lemmas.List.{append_assoc}
 use Rattle.syn_disk.specs.declared.disk.Disk.{Ghosts}
 use Rattle.syn_headline.specs.Network.{Message as Sent}
 use Rattle.syn_headline.specs.World.{World as ModelWorld, Step, Steps, Runs}
-use Rattle.syn_world.specs.Runs.{EndsWithin, HasRun, StepsSo, no_memory, steps}
-use Rattle.syn_world.specs.Worlds.{AreLeft, StaysSo, message_of}
+use Rattle.syn_world.specs.Runs.{Attempts, EndsWithin, HasMade, HasRun, HasTried}
+use Rattle.syn_world.specs.Runs.{no_memory, steps}
+use Rattle.syn_world.specs.Worlds.{HasMachines, IsRunning, IsWorld, RunsMachines, StaysSo}
+use Rattle.syn_world.specs.Worlds.{is_spent, message_of, running_in}
 use Rattle.syn_world.specs.declared.lists.Message.{Message}
-use Rattle.syn_world.specs.declared.world.Disks.{Disks}
+use Rattle.syn_world.specs.declared.running.Running.{Running}
 use Rattle.syn_world.specs.declared.world.World.{World}
 
 -- one step more
@@ -21,59 +23,114 @@ runs_more old middle new [] step same goes =
 runs_more old middle new (first ∷ made) step (between, begins, runs) goes =
     (between, begins, runs_more between middle new made step runs goes)
 
-module _ {D : Type 0} {disk : Ghosts D} (old : ModelWorld) where
+-- the value of an option that has one
+pub value_is : {T : Type 0} (one other : T) → Some one ≡ Some other → one ≡ other
+value_is {T} one other same = ap (value_or one) same
+  where
+    value_or : T → Option T → T
+    value_or none (Some value) = value
+    value_or none None = none
+
+module _ {D : Type 0} {disk : Ghosts D} (model : ModelWorld) (world : World D disk)
+    (running : Running D disk) where
+  -- what is taken out of a world is what it runs
+  pub taken_out : IsWorld world model → Some running ≡ running_in world → IsRunning running model
+  taken_out is same =
+      subst (λ r. IsRunning r model) (sym (value_is running is.running (same ∙ is.there))) is.is
+
+  pub machines_out : HasMachines world model → Some running ≡ running_in world
+      → RunsMachines running model
+  machines_out has same =
+      subst (λ r. RunsMachines r model) (sym (value_is running has.running (same ∙ has.there)))
+      has.are
+
+module _ {D : Type 0} {disk : Ghosts D} (old : ModelWorld) (step : Step) where
   -- a step that takes no memory
-  pub stays_so : (step : Step) (world : World D disk) → StaysSo old step world
-      → StepsSo old step (Ok world)
-  stays_so step world so = steps (record { new = so.new; steps = so.steps; ends = so.is })
+  pub stays_so : (running : Running D disk) → StaysSo old step running
+      → Attempts old step (Ok running)
+  stays_so running so = steps (record { new = so.new; steps = so.steps; ends = so.is })
 
-  -- the world behind the next step
-  pub runs_on : (made : List Step) (step : Step) (world next : World D disk)
-      (had : HasRun old made world) → StepsSo had.new step (Ok next)
-      → HasRun old (made ++ step ∷ []) next
-  runs_on made step world next had (steps so) = record {
+  -- the world with the machines after a step that was made
+  pub has_made : (next : Running D disk) (world : World D disk) → running_in world ≡ Some next
+      → is_spent world ≡ false → Attempts {D = D} {disk = disk} old step (Ok next)
+      → HasMade old step world
+  has_made next world there goes (steps so) = record {
     new = so.new;
-    runs = runs_more old had.new so.new made step had.runs so.steps;
-    is = so.ends;
+    steps = so.steps;
+    is = record { running = next; there = there; is = so.ends; goes = goes };
   }
-  runs_on made step world next had (no_memory disks is left) = absurd (ok_not_err next disks is)
+  has_made next world there goes (no_memory running is are) =
+      absurd (ok_not_err next running is)
     where
-      ok_not_err : (w : World D disk) (d : Disks D) → Ok w ≡ Err d → ⊥
-      ok_not_err w d e = subst is_ok e tt
+      ok_not_err : (a b : Running D disk)
+          → let one : Result (Running D disk) (Running D disk) = Ok a in
+          let other : Result (Running D disk) (Running D disk) = Err b in one ≡ other → ⊥
+      ok_not_err a b e = subst is_ok e tt
         where
-          is_ok : Result (World D disk) (Disks D) → Type 0
-          is_ok (Ok w) = Unit {0}
-          is_ok (Err d) = ⊥
+          is_ok : Result (Running D disk) (Running D disk) → Type 0
+          is_ok (Ok a) = Unit {0}
+          is_ok (Err b) = ⊥
 
-  -- or the disks as it left them
-  pub ends_with : (made : List Step) (step : Step) (rest : List Step) (world : World D disk)
-      (disks : Disks D) (had : HasRun old made world)
-      → StepsSo {D = D} {disk = disk} had.new step (Err disks)
-      → EndsWithin disk old (made ++ step ∷ rest) disks
-  ends_with made step rest world disks had (steps so) = record {
-    made = made ++ step ∷ [];
-    rest = rest;
-    all = append_assoc made (step ∷ []) rest;
+  -- or after one that was refused
+  pub has_tried : (last : Running D disk) (world : World D disk) → running_in world ≡ Some last
+      → Attempts {D = D} {disk = disk} old step (Err last) → HasTried old step world
+  has_tried last world there (steps so) = record {
     new = so.new;
-    runs = runs_more old had.new so.new made step had.runs so.steps;
-    left = so.ends;
+    steps = inl so.steps;
+    has = record { running = last; there = there; are = so.ends };
   }
-  ends_with made step rest world disks had (no_memory back is left) = record {
-    made = made;
-    rest = step ∷ rest;
-    all = refl;
-    new = had.new;
-    runs = had.runs;
-    left = subst (λ d. AreLeft disk.may_leave d had.new) (back_is disks back is) left;
+  has_tried last world there (no_memory running is are) = record {
+    new = old;
+    steps = inr refl;
+    has = record {
+      running = last;
+      there = there;
+      are = subst (λ r. RunsMachines r old) (back_is last running is) are;
+    };
   }
     where
-      in_err : Disks D → Result (World D disk) (Disks D) → Disks D
-      in_err other (Ok w) = other
-      in_err other (Err d) = d
+      in_err : Running D disk → Result (Running D disk) (Running D disk) → Running D disk
+      in_err other (Ok a) = other
+      in_err other (Err b) = b
 
-      back_is : (d b : Disks D) → let one : Result (World D disk) (Disks D) = Err d in
-          let other : Result (World D disk) (Disks D) = Err b in one ≡ other → b ≡ d
-      back_is d b e = sym (ap (in_err d) e)
+      back_is : (a b : Running D disk) →
+          let one : Result (Running D disk) (Running D disk) = Err a in
+          let other : Result (Running D disk) (Running D disk) = Err b in one ≡ other → b ≡ a
+      back_is a b e = sym (ap (in_err a) e)
+
+module _ {D : Type 0} {disk : Ghosts D} (old : ModelWorld) where
+  -- the world after the next step
+  pub runs_on : (made : List Step) (step : Step) (world next : World D disk)
+      (had : HasRun old made world) → HasMade had.new step next
+      → HasRun old (made ++ step ∷ []) next
+  runs_on made step world next had so = record {
+    new = so.new;
+    runs = runs_more old had.new so.new made step had.runs so.steps;
+    is = so.is;
+  }
+
+  -- or where it was refused
+  pub ends_with : (made : List Step) (step : Step) (rest : List Step) (world last : World D disk)
+      (had : HasRun old made world) → HasTried had.new step last
+      → EndsWithin old (made ++ step ∷ rest) last
+  ends_with made step rest world last had so = elim so.steps [
+    | inl goes ↦ record {
+      made = made ++ step ∷ [];
+      rest = rest;
+      all = append_assoc made (step ∷ []) rest;
+      new = so.new;
+      runs = runs_more old had.new so.new made step had.runs goes;
+      has = so.has;
+    }
+    | inr same ↦ record {
+      made = made;
+      rest = step ∷ rest;
+      all = refl;
+      new = had.new;
+      runs = had.runs;
+      has = subst (λ w. HasMachines last w) same so.has;
+    }
+  ]
 
 -- the message with a number, as the model has it
 pub sent_is : (messages : List Message) (sent : List Sent) (number : ℕ) (one : Option Message)

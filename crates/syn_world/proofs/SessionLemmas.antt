@@ -16,11 +16,10 @@ use Rattle.syn_host.specs.Coordinators.{CoordinatorStep, IsCoordinator}
 use Rattle.syn_host.specs.Outcomes.{Tells}
 use Rattle.syn_host.specs.declared.coordinator.CoordinatorCall.{CoordinatorCall}
 use Rattle.syn_model.specs.Refusal.{Refusal}
-use Rattle.syn_world.specs.Worlds.{EndsSo, Goes, GoesSo, IsListed, IsWorld, RunsMachines}
-use Rattle.syn_world.specs.declared.world.Disks.{Disks}
-use Rattle.syn_world.specs.declared.world.World.{World}
+use Rattle.syn_world.specs.Worlds.{EndsSo, Goes, GoesSo, IsListed, IsRunning, RunsMachines}
+use Rattle.syn_world.specs.declared.running.Running.{Running}
 
--- the world behind a call of its coordinator
+-- the world after a call of its coordinator
 abbrev pub coordinator_next : ModelWorld → CoordinatorMachine → Call → List Refusal → ModelWorld
 coordinator_next old machine made refusals =
     record (coordinator_goes old machine made) { refusals = old.refusals ++ refusals }
@@ -83,10 +82,10 @@ pub lift_coordinator : (old : ModelWorld) (So : CoordinatorStep) (next : Coordin
     → CoordinatorDoes old So (coordinator_next old next made refusals)
 lift_coordinator old So next made refusals step = coordinator_does next made refusals step
 
--- the world behind a call is one of the model's
-module _ {D : Type 0} {disk : Ghosts D} (world : World D disk) (old : ModelWorld)
-    (is : IsWorld world old) (call : CoordinatorCall D disk)
-    (result : Result (World D disk) (Disks D)) where
+-- the world after a call is one of the model's
+module _ {D : Type 0} {disk : Ghosts D} (world : Running D disk) (old : ModelWorld)
+    (is : IsRunning world old) (call : CoordinatorCall D disk)
+    (result : Result (Running D disk) (Running D disk)) where
   -- what came of it is told so
   abbrev ToldBy : Type 0
   ToldBy = (was new : ModelWorld) (made : Call) (refusals : List Refusal)
@@ -114,11 +113,11 @@ module _ {D : Type 0} {disk : Ghosts D} (world : World D disk) (old : ModelWorld
     });
   }
 
-pub goes_coordinator : {D : Type 0} {disk : Ghosts D} {before : ℕ} (world : World D disk)
-    (old : ModelWorld) (is : IsWorld world old) (Whole : CoordinatorStep)
+pub goes_coordinator : {D : Type 0} {disk : Ghosts D} {before : ℕ} (world : Running D disk)
+    (old : ModelWorld) (is : IsRunning world old) (Whole : CoordinatorStep)
     (call : CoordinatorCall D disk)
     (so : CallIsStep old.pair old.coordinator before Whole call)
-    (result : Result (World D disk) (Disks D)) (step : model.Step)
+    (result : Result (Running D disk) (Running D disk)) (step : model.Step)
     → (Whole so.goes.next so.made so.refusals
     → Steps old step (coordinator_next old so.goes.next so.made so.refusals))
     → ToldBy world old is call result → GoesSo old step result

@@ -11,7 +11,7 @@ use Rattle.syn_host.specs.SideSteps.{Answers, SideStep, no_side, takes}
 use Rattle.syn_model.specs.Event.{Event}
 use Rattle.syn_model.specs.Refusal.{Refusal}
 
--- the world behind a side's step
+-- the world after a side's step
 abbrev pub side_next : World → Which → SideMachine → List Message → List Event → List Refusal →
     World
 side_next old side machine messages events refusals =

@@ -10,15 +10,14 @@ use Rattle.syn_host.specs.Sides.{IsHost}
 use Rattle.syn_host.specs.declared.side.SideCall.{SideCall}
 use Rattle.syn_host.specs.declared.side.SideHost.{SideHost}
 use Rattle.syn_model.specs.Event.{Event}
-use Rattle.syn_world.specs.Worlds.{EndsSo, Grows, GrowsBy, IsListed, IsWorld, RunsMachines}
-use Rattle.syn_world.specs.declared.world.Disks.{Disks}
-use Rattle.syn_world.specs.declared.world.World.{World}
+use Rattle.syn_world.specs.Worlds.{EndsSo, Grows, GrowsBy, IsListed, IsRunning, RunsMachines}
+use Rattle.syn_world.specs.declared.running.Running.{Running}
 use Rattle.syn_world.proofs.StepLemmas.{side_next}
 
-module _ {D : Type 0} {disk : Ghosts D} (world : World D disk) (model : ModelWorld)
-    (is : IsWorld world model) (call : SideCall D disk) (next : SideMachine) (events : List Event)
+module _ {D : Type 0} {disk : Ghosts D} (world : Running D disk) (model : ModelWorld)
+    (is : IsRunning world model) (call : SideCall D disk) (next : SideMachine) (events : List Event)
     (told : Acknowledges call.outcome events) (host : IsHost model.pair call.side next)
-    (result : Result (World D disk) (Disks D)) where
+    (result : Result (Running D disk) (Running D disk)) where
   pub goes_left : ((old new : ModelWorld) (events : List Event)
       → RunsMachines (record world { left = call.side }) new → IsListed world.lists old
       → Acknowledges call.outcome events → Grows old new Left events call.outcome
@@ -55,10 +54,10 @@ module _ {D : Type 0} {disk : Ghosts D} (world : World D disk) (model : ModelWor
         refusals = refl;
       })
 
-module _ {D : Type 0} {disk : Ghosts D} (world : World D disk) (model : ModelWorld)
-    (is : IsWorld world model) (side : SideHost D disk) (next : SideMachine)
+module _ {D : Type 0} {disk : Ghosts D} (world : Running D disk) (model : ModelWorld)
+    (is : IsRunning world model) (side : SideHost D disk) (next : SideMachine)
     (host : IsHost model.pair side next) where
-  pub stays_left : IsWorld (record world { left = side }) (set_side model Left next)
+  pub stays_left : IsRunning (record world { left = side }) (set_side model Left next)
   stays_left = record {
     machines = record {
       pair = is.machines.pair;
@@ -75,7 +74,7 @@ module _ {D : Type 0} {disk : Ghosts D} (world : World D disk) (model : ModelWor
     };
   }
 
-  pub stays_right : IsWorld (record world { right = side }) (set_side model Right next)
+  pub stays_right : IsRunning (record world { right = side }) (set_side model Right next)
   stays_right = record {
     machines = record {
       pair = is.machines.pair;
@@ -92,12 +91,12 @@ module _ {D : Type 0} {disk : Ghosts D} (world : World D disk) (model : ModelWor
     };
   }
 
--- behind an answer
-module _ {D : Type 0} {disk : Ghosts D} (world : World D disk) (model : ModelWorld)
-    (is : IsWorld world model) (call : SideCall D disk) (next : SideMachine)
+-- after an answer
+module _ {D : Type 0} {disk : Ghosts D} (world : Running D disk) (model : ModelWorld)
+    (is : IsRunning world model) (call : SideCall D disk) (next : SideMachine)
     (messages : List Message) (events : List Event) (told : Acknowledges call.outcome events)
     (none : refused_in call.outcome ≡ []) (host : IsHost model.pair call.side next)
-    (Said : Type 0) (said : Said) (result : Result (World D disk) (Disks D)) where
+    (Said : Type 0) (said : Said) (result : Result (Running D disk) (Running D disk)) where
   pub hears_left : ((old new : ModelWorld) (events : List Event)
       → RunsMachines (record world { left = call.side }) new → IsListed world.lists old
       → Acknowledges call.outcome events → refused_in call.outcome ≡ [] → Said

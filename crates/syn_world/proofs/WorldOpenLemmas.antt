@@ -1,5 +1,5 @@
 -- The world that is opened from three disks is one of the model that was just opened.
-use Rattle.std.proofs.Common.{◌≡◌, ◌∙◌, ◌<◌, ℕ, [], None, ap, arith, refl, subst, sym}
+use Rattle.std.proofs.Common.{◌≡◌, ◌∙◌, ◌<◌, ℕ, [], None, Some, false, ap, arith, refl, subst, sym}
 use Rattle.std.specs.Prelude.{map}
 use Rattle.syn_disk.specs.declared.disk.Disk.{Ghosts}
 use Rattle.syn_headline.specs.Acknowledged.{Stores}
@@ -19,9 +19,10 @@ use Rattle.syn_recovery.specs.Machines.{of_archive, of_side}
 use Rattle.syn_recovery.specs.Meaning.{IsOf}
 use Rattle.syn_coordinator.specs.declared.coordinator.Coordinator.{Coordinator}
 use Rattle.syn_world.specs.Openings.{OpensFrom, StandFor, shown_on}
-use Rattle.syn_world.specs.Worlds.{message_of, report_in, told_in}
+use Rattle.syn_world.specs.Worlds.{is_spent, message_of, report_in, running_in, told_in}
 use Rattle.syn_world.specs.declared.lists.Lists.{Lists}
 use Rattle.syn_world.specs.declared.world.Disks.{Disks}
+use Rattle.syn_world.specs.declared.world.World.{World}
 
 abbrev made : History → History → Archive → Stores
 made left right archive = record { left = left; right = right; archive = archive }
@@ -74,30 +75,36 @@ module _ {D : Type 0} (disk : Ghosts D) (pair : ℕ) (disks : Disks D) (stores :
       side_is Left = on_left.is
       side_is Right = on_right.is
 
-      pub world_opens : (number : ℕ) (lists : Lists) → number ≡ pair → lists.sent.items ≡ []
-          → lists.acknowledged.items ≡ [] → lists.refusals.items ≡ [] → lists.reports.items ≡ []
-          → OpensFrom {D = D} {disk = disk} pair (shown_on disk.seen disks) stores (record {
+      pub world_opens : (number : ℕ) (lists : Lists) (world : World D disk)
+          → running_in world ≡ Some (record {
             pair = number;
             left = host.Up left;
             right = host.Up right;
             coordinator = machine.Up coordinator;
             lists = lists;
-          })
-      world_opens number lists same sent acknowledged refusals reports = record {
+          }) → is_spent world ≡ false → number ≡ pair → lists.sent.items ≡ []
+          → lists.acknowledged.items ≡ [] → lists.refusals.items ≡ [] → lists.reports.items ≡ []
+          → OpensFrom pair (shown_on disk.seen disks) stores world
+      world_opens number lists world there goes same sent acknowledged refusals reports = record {
         model = model;
         is = record {
-          machines = record {
-            pair = same;
-            left = on_left.runs;
-            right = on_right.runs;
-            coordinator = on_archive.stands;
-          };
-          lists = record {
-            sent = ap (map message_of) sent;
-            acknowledged = ap (map told_in) acknowledged;
-            refusals = ap (map cause_of) refusals;
-            reports = ap (map report_in) reports;
-            lawful = λ k one less. absurd (let none : k < 0 = less in omega (arith, none));
+          running = _;
+          there = there;
+          goes = goes;
+          is = record {
+            machines = record {
+              pair = same;
+              left = on_left.runs;
+              right = on_right.runs;
+              coordinator = on_archive.stands;
+            };
+            lists = record {
+              sent = ap (map message_of) sent;
+              acknowledged = ap (map told_in) acknowledged;
+              refusals = ap (map cause_of) refusals;
+              reports = ap (map report_in) reports;
+              lawful = λ k one less. absurd (let none : k < 0 = less in omega (arith, none));
+            };
           };
         };
         opened = record {

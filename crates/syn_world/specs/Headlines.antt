@@ -1,30 +1,21 @@
 -- The headline of the code: from three disks to whatever a stop may leave on them after a run.
 use Rattle.std.specs.Prelude.{◌≡◌, ◌⊎◌, ◌++◌, ℕ, List, Result, Ok, Err}
+use Rattle.syn_disk.specs.Arms.{Arms}
 use Rattle.syn_disk.specs.declared.disk.Disk.{Ghosts}
 use Rattle.syn_headline.specs.Acknowledged.{Stores}
 use Rattle.syn_headline.specs.Runs.{picture_of, stores_of}
 use Rattle.syn_headline.specs.World.{World as ModelWorld, Step, Runs}
-use Rattle.syn_host.specs.Coordinators.{archive_disk}
-use Rattle.syn_host.specs.Sides.{side_disk}
 use Rattle.syn_host.specs.Starts.{CountsFailure, IsFromOutside}
 use Rattle.syn_model.specs.Path.{Bytes}
 use Rattle.syn_model.specs.Refusal as why
 use Rattle.syn_recovery.specs.Headline.{Disks as Shown, IsCrashSafe, IsOpenedFrom}
 use Rattle.syn_refusal.specs.Refusals.{cause_of}
 use Rattle.syn_refusal.specs.declared.refusal.Refusal.{Refusal}
-use Rattle.syn_world.specs.Openings.{AreOfPair, ComeBack, OpensFrom, RefusesDisks, failed_calls}
-use Rattle.syn_world.specs.Openings.{shown_on}
+use Rattle.syn_world.specs.Openings.{AreOfPair, ComeBack, HoldsDisks, OpensFrom, RefusesDisks}
+use Rattle.syn_world.specs.Openings.{StandFor, failed_calls, shown_on}
 use Rattle.syn_world.specs.Worlds.{IsWorld}
 use Rattle.syn_world.specs.declared.world.Disks.{Disks}
 use Rattle.syn_world.specs.declared.world.World.{World}
-
--- the three disks of a world
-abbrev pub disks_of : {D : Type 0} → {disk : Ghosts D} → World D disk → Disks D
-disks_of world = record {
-  left = side_disk world.left;
-  right = side_disk world.right;
-  archive = archive_disk world.coordinator;
-}
 
 -- a stop may now leave these bytes on the disks
 pub record MayHold {D : Type 0} (may_leave : D → Bytes → Type 0) (disks : Disks D)
@@ -50,12 +41,20 @@ pub record IsSafeRun {D : Type 0} (disk : Ghosts D) (pair : ℕ) (disks later : 
   pub pair_is : new.pair ≡ pair
   pub safe : AreSafe disk.may_leave stores later new
 
--- the world went by all of the steps
+-- the world went by all of the steps, and these are its disks then
 pub record HasRunSafely {D : Type 0} {disk : Ghosts D} (pair : ℕ) (disks : Disks D)
     (stores : Stores) (steps : List Step) (world : World D disk) : Type 0 where
   pub new : ModelWorld
   pub is : IsWorld world new
-  pub run : IsSafeRun disk pair disks (disks_of world) stores steps new
+  pub later : Disks D
+  pub holds : HoldsDisks world later
+  pub run : IsSafeRun disk pair disks later stores steps new
+
+-- the disks stand for the pair, with none stopped and nothing armed: a world may run from them
+pub record MayRun {D : Type 0} (seen : D → Bytes) (arms : D → Arms) (pair : ℕ)
+    (disks : Disks D) : Type 0 where
+  pub stores : Stores
+  pub stand : StandFor seen arms pair disks stores
 
 -- no world was opened, for no cause that lies in the disks' bytes, and the disks come back: memory
 -- was refused, or a call of one of them failed

@@ -1,17 +1,20 @@
 -- What three disks stand for, and the world that is opened from them.
-use Rattle.std.specs.Prelude.{◌≡◌, ◌+◌, ◌<◌, ◌^◌, ℕ, None, Some}
+use Rattle.std.specs.Prelude.{◌≡◌, ◌+◌, ◌<◌, ◌^◌, ℕ, None, Option, Some, option_map}
 use Rattle.syn_disk.specs.Arms.{Arms}
 use Rattle.syn_disk.specs.Disk.{NothingNew}
 use Rattle.syn_disk.specs.declared.disk.Disk.{Ghosts}
 use Rattle.syn_headline.specs.Acknowledged.{Stores}
 use Rattle.syn_headline.specs.Runs.{stores_of}
 use Rattle.syn_headline.specs.World.{World as ModelWorld}
+use Rattle.syn_host.specs.Coordinators.{archive_disk}
+use Rattle.syn_host.specs.Sides.{side_disk}
 use Rattle.syn_host.specs.Starts.{HoldsArchive, HoldsReplica, IsFree, RefusesArchive}
 use Rattle.syn_host.specs.Starts.{RefusesSide}
 use Rattle.syn_model.specs.Path.{Bytes}
 use Rattle.syn_recovery.specs.Headline.{Disks as Shown, DisksStand, IsOpenedFrom}
 use Rattle.syn_refusal.specs.declared.refusal.Refusal.{Refusal}
-use Rattle.syn_world.specs.Worlds.{IsWorld}
+use Rattle.syn_world.specs.Worlds.{IsWorld, running_in}
+use Rattle.syn_world.specs.declared.running.Running.{Running}
 use Rattle.syn_world.specs.declared.world.Disks.{Disks}
 use Rattle.syn_world.specs.declared.world.World.{World}
 
@@ -62,9 +65,41 @@ abbrev pub failed_calls : {D : Type 0} → (D → ℕ) → Disks D → ℕ
 failed_calls failures disks =
     failures disks.left + failures disks.right + failures disks.archive
 
+-- the three disks of what runs
+abbrev pub disks_in : {D : Type 0} → {disk : Ghosts D} → Running D disk → Disks D
+disks_in running = record {
+  left = side_disk running.left;
+  right = side_disk running.right;
+  archive = archive_disk running.coordinator;
+}
+
+-- these are the three disks of the world
+abbrev pub HoldsDisks : {D : Type 0} → {disk : Ghosts D} → World D disk → Disks D → Type 0
+HoldsDisks world disks = option_map disks_in (running_in world) ≡ Some disks
+
+-- and so many calls of them failed
+abbrev pub failed_by : {D : Type 0} → {disk : Ghosts D} → (D → ℕ) → Option (Running D disk) → ℕ
+failed_by failures (Some running) = failed_calls failures (disks_in running)
+failed_by failures None = 0
+
+abbrev pub failed_in : {D : Type 0} → {disk : Ghosts D} → (D → ℕ) → World D disk → ℕ
+failed_in failures world = failed_by failures (running_in world)
+
 -- a stop leaves on each of the disks only what it might have left before
 pub record ComeBack {D : Type 0} (may_leave : D → Bytes → Type 0) (old new : Disks D)
     : Type 0 where
   pub left : NothingNew (may_leave old.left) (may_leave new.left)
   pub right : NothingNew (may_leave old.right) (may_leave new.right)
   pub archive : NothingNew (may_leave old.archive) (may_leave new.archive)
+
+-- the disks as a stop of each machine that was up leaves them, which makes no call
+pub record StopsDisks {D : Type 0} (may_leave : D → Bytes → Type 0) (failures : D → ℕ)
+    (old new : Disks D) : Type 0 where
+  pub back : ComeBack may_leave old new
+  pub count : failed_calls failures new ≡ failed_calls failures old
+
+-- none of the disks was stopped, and nothing is armed at them
+pub record AreFree {D : Type 0} (arms : D → Arms) (disks : Disks D) : Type 0 where
+  pub left : IsFree (arms disks.left)
+  pub right : IsFree (arms disks.right)
+  pub archive : IsFree (arms disks.archive)

@@ -1,6 +1,7 @@
 -- Which of the model's worlds a world is.
 use Rattle.std.specs.Prelude.{◌≡◌, ◌++◌, ℕ, List, length, map, All, MatchResult, Result}
-use Rattle.std.specs.Prelude.{[], Option, None, option_map}
+use Rattle.std.specs.Prelude.{[], Bool, Option, None, Some, false, option_map}
+use Rattle.syn_archive.specs.declared.archive.Archive.{Archive}
 use Rattle.syn_disk.specs.declared.disk.Disk.{Ghosts}
 use Rattle.syn_headline.specs.Acknowledged as model
 use Rattle.syn_headline.specs.Acknowledged.{Happened, Kept_by}
@@ -10,13 +11,16 @@ use Rattle.syn_headline.specs.Report.{Report as Reported}
 use Rattle.syn_headline.specs.World.{World as ModelWorld, Step, Steps, says}
 use Rattle.syn_host.specs.Coordinators.{IsCoordinator}
 use Rattle.syn_host.specs.Outcomes.{Acknowledges, causes_in, refused_in}
-use Rattle.syn_host.specs.Sides.{IsHost}
+use Rattle.syn_host.specs.Sides.{IsHost, replica_of}
+use Rattle.syn_host.specs.declared.coordinator.CoordinatorHost.{CoordinatorHost}
+use Rattle.syn_host.specs.declared.coordinator.CoordinatorHost.TheVariants as host
 use Rattle.syn_host.specs.declared.outcome.CoordinatorOutcome.{CoordinatorOutcome}
 use Rattle.syn_host.specs.declared.outcome.Outcome.{Outcome}
 use Rattle.syn_message.specs.Replies.{IsLawfulReply, reply_of}
 use Rattle.syn_path.specs.Sides.{which_of}
 use Rattle.syn_message.specs.declared.reply.Reply.{Reply}
 use Rattle.syn_path.specs.declared.side.Side.{Side}
+use Rattle.syn_path.specs.declared.side.Side.TheVariants as side
 use Rattle.syn_model.specs.Archive.{Kept}
 use Rattle.syn_model.specs.Event.{Event}
 use Rattle.syn_model.specs.Path.{Bytes}
@@ -26,7 +30,8 @@ use Rattle.syn_recovery.specs.Machines.{of_archive, of_side}
 use Rattle.syn_recovery.specs.Meaning.{MayBeOf}
 use Rattle.syn_refusal.specs.Refusals.{cause_of}
 use Rattle.syn_refusal.specs.declared.refusal.Refusal.{Refusal as Code}
-use Rattle.syn_coordinator.specs.Coordinators.{in_report}
+use Rattle.syn_replica.specs.declared.replica.Replica.{Replica}
+use Rattle.syn_coordinator.specs.Coordinators.{archive_of, in_report}
 use Rattle.syn_session.specs.Reports.{report_model}
 use Rattle.syn_session.specs.Sendings as sendings
 use Rattle.syn_keep.specs.Tries.{listed}
@@ -38,6 +43,7 @@ use Rattle.syn_world.specs.declared.lists.Ack.TheVariants as acks
 use Rattle.syn_world.specs.declared.lists.Lists.{Lists}
 use Rattle.syn_world.specs.declared.lists.Message.{Message}
 use Rattle.syn_world.specs.declared.lists.Message.TheVariants as messages
+use Rattle.syn_world.specs.declared.running.Running.{Running}
 use Rattle.syn_world.specs.declared.world.Disks.{Disks}
 use Rattle.syn_world.specs.declared.world.World.{World}
 
@@ -80,19 +86,111 @@ pub record IsListed (lists : Lists) (world : ModelWorld) : Type 0 where
   pub reports : map report_in lists.reports.items ≡ world.reports
   pub lawful : All CanBeSent world.sent
 
--- and so are the machines
-pub record RunsMachines {D : Type 0} {disk : Ghosts D} (world : World D disk)
+-- and so are the machines that run
+pub record RunsMachines {D : Type 0} {disk : Ghosts D} (world : Running D disk)
     (model : ModelWorld) : Type 0 where
   pub pair : world.pair ≡ model.pair
   pub left : IsHost model.pair world.left model.left
   pub right : IsHost model.pair world.right model.right
   pub coordinator : IsCoordinator model.pair world.coordinator model.coordinator
 
--- the world is this one of the model
-pub record IsWorld {D : Type 0} {disk : Ghosts D} (world : World D disk)
+-- what runs is this one of the model
+pub record IsRunning {D : Type 0} {disk : Ghosts D} (world : Running D disk)
     (model : ModelWorld) : Type 0 where
   pub machines : RunsMachines world model
   pub lists : IsListed world.lists model
+
+-- What a world shows
+
+-- the machines and lists, which are there but within a step
+abbrev pub running_in : {D : Type 0} → {disk : Ghosts D} → World D disk → Option (Running D disk)
+running_in world = world.running
+
+-- a step was refused 11
+abbrev pub is_spent : {D : Type 0} → {disk : Ghosts D} → World D disk → Bool
+is_spent world = world.is_spent
+
+-- the messages that were sent
+abbrev pub sent_by : {D : Type 0} → {disk : Ghosts D} → Option (Running D disk) → List Message
+sent_by (Some running) = running.lists.sent.items
+sent_by None = []
+
+abbrev pub sent_in : {D : Type 0} → {disk : Ghosts D} → World D disk → List Message
+sent_in world = sent_by (running_in world)
+
+-- what was acknowledged
+abbrev pub acknowledged_by : {D : Type 0} → {disk : Ghosts D} → Option (Running D disk) → List Ack
+acknowledged_by (Some running) = running.lists.acknowledged.items
+acknowledged_by None = []
+
+abbrev pub acknowledged_in : {D : Type 0} → {disk : Ghosts D} → World D disk → List Ack
+acknowledged_in world = acknowledged_by (running_in world)
+
+-- what a step was refused with
+abbrev pub refusals_by : {D : Type 0} → {disk : Ghosts D} → Option (Running D disk) → List Code
+refusals_by (Some running) = running.lists.refusals.items
+refusals_by None = []
+
+abbrev pub refusals_in : {D : Type 0} → {disk : Ghosts D} → World D disk → List Code
+refusals_in world = refusals_by (running_in world)
+
+-- the reports, each with the number of acknowledgements up to it
+abbrev pub reports_by : {D : Type 0} → {disk : Ghosts D} → Option (Running D disk) →
+    List (Report × ℕ)
+reports_by (Some running) = running.lists.reports.items
+reports_by None = []
+
+abbrev pub reports_in : {D : Type 0} → {disk : Ghosts D} → World D disk → List (Report × ℕ)
+reports_in world = reports_by (running_in world)
+
+-- the replica of a side that is up
+abbrev pub replica_by : {D : Type 0} → {disk : Ghosts D} → Option (Running D disk) → Side →
+    Option (Replica D disk)
+replica_by (Some running) side.Left = replica_of running.left
+replica_by (Some running) side.Right = replica_of running.right
+replica_by None side = None
+
+abbrev pub replica_in : {D : Type 0} → {disk : Ghosts D} → World D disk → Side →
+    Option (Replica D disk)
+replica_in world side = replica_by (running_in world) side
+
+-- the archive of a coordinator that is up
+abbrev pub archive_at : {D : Type 0} → {disk : Ghosts D} → CoordinatorHost D disk →
+    Option (Archive D disk)
+archive_at (host.Up coordinator) = Some (archive_of coordinator)
+archive_at (host.Down rest) = None
+
+abbrev pub archive_by : {D : Type 0} → {disk : Ghosts D} → Option (Running D disk) →
+    Option (Archive D disk)
+archive_by (Some running) = archive_at running.coordinator
+archive_by None = None
+
+abbrev pub archive_in : {D : Type 0} → {disk : Ghosts D} → World D disk →
+    Option (Archive D disk)
+archive_in world = archive_by (running_in world)
+
+-- the pair
+abbrev pub pair_by : {D : Type 0} → {disk : Ghosts D} → Option (Running D disk) → ℕ
+pair_by (Some running) = running.pair
+pair_by None = 0
+
+abbrev pub pair_in : {D : Type 0} → {disk : Ghosts D} → World D disk → ℕ
+pair_in world = pair_by (running_in world)
+
+-- the machines of the world are the model's, whatever its lists have
+pub record HasMachines {D : Type 0} {disk : Ghosts D} (world : World D disk)
+    (model : ModelWorld) : Type 0 where
+  pub running : Running D disk
+  pub there : running_in world ≡ Some running
+  pub are : RunsMachines running model
+
+-- the world is this one of the model, and no step of it was refused 11
+pub record IsWorld {D : Type 0} {disk : Ghosts D} (world : World D disk)
+    (model : ModelWorld) : Type 0 where
+  pub running : Running D disk
+  pub there : running_in world ≡ Some running
+  pub is : IsRunning running model
+  pub goes : is_spent world ≡ false
 
 -- whatever a stop may now leave on each of the disks may be its machine's
 pub record AreLeft {D : Type 0} (may_leave : D → Bytes → Type 0) (disks : Disks D)
@@ -106,14 +204,14 @@ pub record AreLeft {D : Type 0} (may_leave : D → Bytes → Type 0) (disks : Di
 
 -- A step ends so: the world is the model's; or a list of the world could not grow, and its disks
 -- come back as the step left them
-abbrev pub EndsSo : {D : Type 0} → {disk : Ghosts D} → Result (World D disk) (Disks D) →
+abbrev pub EndsSo : {D : Type 0} → {disk : Ghosts D} → Result (Running D disk) (Running D disk) →
     ModelWorld → Type 0
 EndsSo {D} {disk} result model =
-    MatchResult result (λ world. IsWorld world model) (λ disks. AreLeft disk.may_leave disks model)
+    MatchResult result (λ world. IsRunning world model) (λ world. RunsMachines world model)
 
 -- a step of the world is one of the model
 pub record GoesSo {D : Type 0} {disk : Ghosts D} (old : ModelWorld) (step : Step)
-    (result : Result (World D disk) (Disks D)) : Type 0 where
+    (result : Result (Running D disk) (Running D disk)) : Type 0 where
   pub new : ModelWorld
   pub steps : Steps old step new
   pub ends : EndsSo result new
@@ -185,7 +283,7 @@ pub record GrowsBy (old new : ModelWorld) (side : Which) (messages : List Sent)
 
 -- one that takes no memory
 pub record StaysSo {D : Type 0} {disk : Ghosts D} (old : ModelWorld) (step : Step)
-    (world : World D disk) : Type 0 where
+    (world : Running D disk) : Type 0 where
   pub new : ModelWorld
   pub steps : Steps old step new
-  pub is : IsWorld world new
+  pub is : IsRunning world new

@@ -6,10 +6,11 @@ ghost use Rattle.syn_host.specs.Starts.{CountsFailure, IsFromOutside};
 ghost use Rattle.syn_model.specs.Refusal as why;
 ghost use Rattle.syn_refusal.specs.Refusals.{cause_of};
 ghost use Rattle.syn_world.specs.Headlines.{AreSafe, FindsCause, FindsPair, Recovers, RunsSafely};
-ghost use Rattle.syn_world.specs.Headlines.{RunsAndRecovers, disks_of};
+ghost use Rattle.syn_world.specs.Headlines.{RunsAndRecovers};
 ghost use Rattle.syn_world.specs.Openings.{AreOfPair, ComeBack, RefusesDisks, StandFor};
-ghost use Rattle.syn_world.specs.Openings.{failed_calls, shown_on};
+ghost use Rattle.syn_world.specs.Openings.{failed_calls, failed_in, shown_on};
 ghost use Rattle.syn_world.specs.Steps.{step_of};
+ghost use Rattle.syn_world.specs.Worlds.{pair_in};
 
 use crate::step::Step;
 use crate::world::{Disks, World};
@@ -29,11 +30,11 @@ use syn_refusal::Refusal;
 pub fn run<D: SimulatedDisk>(
     alloc: Global,
     disks: Disks<D>,
-    steps: Vec<Step>,
+    steps: &[Step],
 ) -> Result<World<D>, (Refusal, Disks<D>)>
     ensures safe { (pair : ℕ) (stores : Stores)
         → StandFor D.Limit.seen D.Limit.arms pair disks stores
-        → RunsSafely pair disks stores (map step_of steps.items) result }
+        → RunsSafely pair disks stores (map step_of steps.now) result }
 
     // Of any disks, whatever they hold: it begins only from those of one pair.
     ensures pair { IfOk result (λ _. (pair : ℕ) × AreOfPair (shown_on D.Limit.seen disks) pair) }
@@ -44,9 +45,9 @@ pub fn run<D: SimulatedDisk>(
 {
     headline();
     match World::open(alloc, disks) {
-        Ok(world) => match world.run(alloc, steps) {
-            Ok(world) => Ok(world),
-            Err(disks) => Err((Refusal::Memory, disks)),
+        Ok(mut world) => match world.go_by(alloc, steps) {
+            Ok(()) => Ok(world),
+            Err(_) => Err((Refusal::Memory, world.into_disks())),
         },
         Err(refused) => Err(refused),
     }
@@ -69,11 +70,10 @@ pub fn recover<D: SimulatedDisk>(
     ensures back { IfErr result (λ refused. ComeBack D.Limit.may_leave disks refused.1) }
 
     // Of any disks, whatever they hold: only those of one pair are opened.
-    ensures pair { IfOk result (λ world. FindsPair D.Limit.may_leave disks world.pair) }
+    ensures pair { IfOk result (λ world. FindsPair D.Limit.may_leave disks (pair_in world)) }
     ensures cause { IfErr result (λ refused. FindsCause D.Limit.may_leave disks refused.0) }
     ensures failures { MatchResult result
-        (λ world. failed_calls D.Limit.failures (disks_of world)
-        ≡ failed_calls D.Limit.failures disks)
+        (λ world. failed_in D.Limit.failures world ≡ failed_calls D.Limit.failures disks)
         (λ refused. CountsFailure refused.0 (failed_calls D.Limit.failures disks)
         (failed_calls D.Limit.failures refused.1)) }
 {
@@ -94,11 +94,11 @@ pub fn recover<D: SimulatedDisk>(
 pub fn run_and_recover<D: SimulatedDisk>(
     alloc: Global,
     disks: Disks<D>,
-    steps: Vec<Step>,
+    steps: &[Step],
 ) -> Result<World<D>, (Refusal, Disks<D>)>
     ensures recovered { (pair : ℕ) (stores : Stores)
         → StandFor D.Limit.seen D.Limit.arms pair disks stores
-        → IfOk result (RunsAndRecovers pair disks stores (map step_of steps.items)) }
+        → IfOk result (RunsAndRecovers pair disks stores (map step_of steps.now)) }
     ensures refused { (pair : ℕ) (stores : Stores)
         → StandFor D.Limit.seen D.Limit.arms pair disks stores
         → IfErr result (λ refused. IsFromOutside refused.0) }

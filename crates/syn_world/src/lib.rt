@@ -8,27 +8,20 @@
 //! on what that crate's public calls promise, and on nothing else of it.
 //!
 //! - `IsWorld world model`: the machines are the model's (`RunsMachines`), and so are the lists
-//!   (`IsListed`). An acknowledged event is compared by its spelling.
-//! - A step takes the world and gives it back. For every model world that it was there is a step of
-//!   the definitions to one that it is then (`GoesSo`, `StaysSo`).
-//! - A step may give the disks back in place of the world (`Disks`); the program does so where a
-//!   list cannot grow, though no clause says when. That step was made too, and whatever a stop may
-//!   leave on each disk may be its machine's (`AreLeft`).
-//! - `deliver_request` takes a request that was sent, as the list has it, and puts the reply behind
-//!   the list.
-//! - `start` and `tick` are steps of the coordinator (`Starts`, `CoordinatorTicks`), and what came
-//!   of them is in the lists (`Goes`).
+//!   (`IsListed`), and no step was refused 11. An acknowledged event is compared by its spelling.
+//! - `sent`, `acknowledged`, `refusals`, `reports`, `replica` and `archive` are what a world shows
+//!   (`sent_in` and so on). Nothing of it is set but by steps.
+//! - `step` takes any `Step`: for every model world that it was there is a step of the definitions
+//!   to one that it is then (`StepsSo`). It is refused 11 where a list cannot grow, or for a copy
+//!   of what it hands over, though no clause says when. The machines are then as that step of the
+//!   definitions leaves them, or as they were (`HasTried`). Each later step is refused 11, and
+//!   changes nothing (`again`).
 //! - Each reply in the lists can be sent (`lawful` of `IsListed`): its bytes or entries are not too
 //!   many, and the names of a listing rise.
-//! - `deliver_reply` takes a reply that a side gave, as the list has it, to the coordinator
-//!   (`CoordinatorTakes`).
-//! - `open_coordinator` and `reopen_coordinator` open the coordinator's archive. The record that
-//!   was being written is acknowledged, where the disk has it (`TellsFound`).
-//! - `deliver` takes the message with a number to its machine (`StepsSo`). Where there is no memory
-//!   to copy the message, nothing was done and the disks come back.
-//! - `step` takes any `Step` (`StepsSo`), and `run` a list of them: the world is then the model's
-//!   after a run of the same steps (`RunsSo`). Where memory is refused the disks come back after a
-//!   run of a first part of them, perhaps none or all (`EndsWithin`).
+//! - An opening acknowledges the event or the record that was being written, where the disk has it.
+//! - `into_disks` stops each machine that is up, and gives the disks. Whatever a stop may leave on
+//!   each may be its machine's (`left`). Nothing is armed at them (`free`), and a world may run
+//!   from them again (`again`: `MayRun`).
 //! - `World::open` opens a world from three disks of a pair with nothing armed (`StandFor`). It is
 //!   then a start of a run from what the disks show (`opened`), and is refused 9 or 11 alone
 //!   (`refused`). On a refusal nothing new may be left on a disk (`back`).
@@ -39,9 +32,8 @@
 //!   the disks after them is crash safe (`AreSafe`), by the sentences of `syn_recovery`. The disks
 //!   come back where nothing was opened (`IsNotOpened`), or after a first part of the steps where
 //!   memory was refused (`IsCutShort`).
-//! - `recover` opens the disks of a safe run, as a stop might have left them (`Recovers`).
-//!   `into_disks` and `disks_of` are the same three disks. Of any disks it says `pair`, `cause` and
-//!   `failures`, as `World::open` does.
+//! - `recover` opens the disks of a safe run, as a stop might have left them (`Recovers`). Of any
+//!   disks it says `pair`, `cause` and `failures`, as `World::open` does.
 //! - `run_and_recover` runs, stops all machines and opens what their disks hold
 //!   (`RunsAndRecovers`). It is refused 9 or 11 alone.
 #![tactic(auto)]
@@ -50,10 +42,11 @@ mod headline;
 mod lists;
 mod opening;
 mod replies;
+mod running;
 mod step;
 mod world;
 
 pub use headline::{recover, run, run_and_recover};
-pub use lists::{Ack, Lists, Message};
+pub use lists::{Ack, Message};
 pub use step::{Machine, Step};
 pub use world::{Disks, World};

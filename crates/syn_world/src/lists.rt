@@ -34,12 +34,12 @@ pub enum Ack {
 /// What a world has heard so far, each list in order of time.
 #[derive(Debug, Drop)]
 pub struct Lists {
-    pub sent: Vec<Message>,
-    pub acknowledged: Vec<Ack>,
+    pub(crate) sent: Vec<Message>,
+    pub(crate) acknowledged: Vec<Ack>,
     /// What a user's edit, a start, a checkpoint or an opening was refused with.
-    pub refusals: Vec<Refusal>,
+    pub(crate) refusals: Vec<Refusal>,
     /// Each report stands with the number of acknowledgements up to it.
-    pub reports: Vec<(Report, usize)>,
+    pub(crate) reports: Vec<(Report, usize)>,
 }
 
 impl Lists {
@@ -83,7 +83,7 @@ impl Lists {
     }
 
     /// Keeps what came of a step of the coordinator. A report stands with the number of
-    /// acknowledgements behind that step. Whether memory was there for it.
+    /// acknowledgements after that step. Whether memory was there for it.
     pub(crate) fn take(&mut self, outcome: CoordinatorOutcome) -> bool
         ensures { result ≡ true → Takes self.old self.new outcome }
     {

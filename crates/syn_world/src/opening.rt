@@ -2,11 +2,12 @@
 ghost use Rattle.std.specs.Prelude.{◌≡◌, ℕ, [], IfErr, IfOk, MatchResult};
 ghost use Rattle.syn_headline.specs.Acknowledged.{Stores};
 ghost use Rattle.syn_host.specs.Starts.{CountsFailure, IsFromOutside};
-ghost use Rattle.syn_world.specs.Headlines.{disks_of};
 ghost use Rattle.syn_world.specs.Openings.{AreOfPair, ComeBack, OpensFrom, RefusesDisks};
-ghost use Rattle.syn_world.specs.Openings.{StandFor, failed_calls, shown_on};
+ghost use Rattle.syn_world.specs.Openings.{StandFor, failed_calls, failed_in, shown_on};
+ghost use Rattle.syn_world.specs.Worlds.{pair_in};
 
 use crate::lists::Lists;
+use crate::running::Running;
 use crate::world::{Disks, World};
 use std::alloc::Global;
 use syn_host::{CoordinatorHost, SideHost, SimulatedDisk, start_coordinator, start_side};
@@ -30,12 +31,12 @@ impl<D: SimulatedDisk> World<D> {
         ensures back { IfErr result (λ refused. ComeBack D.Limit.may_leave disks refused.1) }
 
         // Of any disks, whatever they hold: only those of one pair are opened.
-        ensures pair { IfOk result (λ world. AreOfPair (shown_on D.Limit.seen disks) world.pair) }
+        ensures pair { IfOk result
+            (λ world. AreOfPair (shown_on D.Limit.seen disks) (pair_in world)) }
         ensures cause { IfErr result
             (λ refused. RefusesDisks (shown_on D.Limit.seen disks) refused.0) }
         ensures failures { MatchResult result
-            (λ world. failed_calls D.Limit.failures (disks_of world)
-            ≡ failed_calls D.Limit.failures disks)
+            (λ world. failed_in D.Limit.failures world ≡ failed_calls D.Limit.failures disks)
             (λ refused. CountsFailure refused.0 (failed_calls D.Limit.failures disks)
             (failed_calls D.Limit.failures refused.1)) }
     {
@@ -67,13 +68,13 @@ impl<D: SimulatedDisk> World<D> {
             }
         };
         match start_coordinator(alloc, disks.archive, pair) {
-            Ok(coordinator) => Ok(World {
+            Ok(coordinator) => Ok(World::of(Running {
                 pair,
                 left: SideHost::Up(left),
                 right: SideHost::Up(right),
                 coordinator: CoordinatorHost::Up(coordinator),
                 lists: no_lists(alloc),
-            }),
+            })),
             Err((why, archive)) => Err((
                 why,
                 Disks {

@@ -1,24 +1,17 @@
-//! A world of two sides and a coordinator, and its steps.
-ghost use Rattle.std.specs.Prelude.{◌≡◌, [], IfSome, List, option_map};
-ghost use Rattle.syn_headline.specs.Coordinator.{Call};
-ghost use Rattle.syn_headline.specs.World.{World as ModelWorld, says};
-ghost use Rattle.syn_message.specs.Replies.{IsLawfulReply, reply_of};
-ghost use Rattle.syn_path.specs.Sides.{which_of};
-ghost use Rattle.syn_model.specs.Event.{Event};
-ghost use Rattle.syn_model.specs.Refusal.{Refusal as Cause};
+//! A world of two sides and a coordinator: what it shows, and its steps.
+ghost use Rattle.std.specs.Prelude.{◌≡◌, Some, false, is_some, option_map, true};
 
-use crate::lists::Lists;
+use crate::lists::{Ack, Message};
+use crate::running::Running;
+use syn_archive::Archive;
 use syn_disk::Disk;
-use syn_host::{CoordinatorHost, CoordinatorOutcome, Outcome, SideHost, SimulatedDisk};
-use syn_message::{Reply, Side};
+use syn_host::CoordinatorHost;
+use syn_message::Side;
+use syn_refusal::Refusal;
+use syn_replica::Replica;
+use syn_session::Report;
 
-mod coordinators;
-mod deliver;
-mod machines;
-mod openings;
-mod run;
-mod sessions;
-mod sides;
+mod steps;
 
 /// What three disks hold.
 #[derive(Drop)]
@@ -28,94 +21,95 @@ pub struct Disks<D> {
     pub archive: D,
 }
 
-/// A world of two sides and a coordinator. Each step takes it and gives it back, or its disks where
-/// a list of the world could not grow for lack of memory.
+/// A world of two sides and a coordinator, with what was heard since it was opened.
+///
+/// Where memory is refused for what it keeps of a step, it makes no further one: each is refused 11
+/// from then on. What it showed then stays, with what it has of that step.
 #[derive(Drop)]
 pub struct World<D: Disk> {
-    pub pair: u64,
-    pub left: SideHost<D>,
-    pub right: SideHost<D>,
-    pub coordinator: CoordinatorHost<D>,
-    pub lists: Lists,
+    /// A step takes it out, and puts it back.
+    running: Option<Running<D>>,
+    /// A step was refused 11.
+    is_spent: bool,
+    ghost there: { is_some running ≡ true },
 }
 
-impl<D: SimulatedDisk> World<D> {
-    ghost use Rattle.syn_world.specs.Headlines.{disks_of};
-    ghost use Rattle.syn_host.specs.Outcomes.{Acknowledges, Tells, refused_in};
-    ghost use Rattle.syn_world.specs.Worlds.{AreLeft, EndsSo, Goes, Grows, GrowsBy, IsListed};
-    ghost use Rattle.syn_world.specs.Worlds.{RunsMachines};
+impl<D: Disk> World<D> {
+    ghost use Rattle.syn_world.specs.Worlds.{acknowledged_in, archive_in, is_spent};
+    ghost use Rattle.syn_world.specs.Worlds.{refusals_in, replica_in, reports_in, running_in};
+    ghost use Rattle.syn_world.specs.Worlds.{sent_in};
 
-    /// The disks, as the last step left them.
-    pub fn into_disks(self) -> Disks<D>
-        ensures disks { result ≡ disks_of self }
-        ensures left { (model : ModelWorld) → RunsMachines self model
-            → AreLeft D.Limit.may_leave result model }
+    /// A world of these machines and lists.
+    pub(crate) fn of(running: Running<D>) -> World<D>
+        ensures running { running_in result ≡ Some running }
+        ensures goes { is_spent result ≡ false }
     {
-        Disks {
-            left: self.left.into_disk(),
-            right: self.right.into_disk(),
-            archive: self.coordinator.into_disk(),
+        World {
+            running: Some(running),
+            is_spent: false,
         }
     }
 
-    /// The world behind a side's step, with what came of it.
-    fn noted(self, side: Side, outcome: Outcome) -> Result<World<D>, Disks<D>>
-        ensures { (old new : ModelWorld) (events : List Event) → RunsMachines self new
-            → IsListed self.lists old → Acknowledges outcome events
-            → Grows old new (which_of side) events outcome → EndsSo result new }
+    /// The messages that were ever sent, in order.
+    pub fn sent(&self) -> &[Message]
+        ensures { result.now ≡ sent_in self.now }
     {
-        let mut world = self;
-        if world.lists.note(side, outcome) {
-            Ok(world)
-        } else {
-            Err(world.into_disks())
+        match &self.running {
+            Some(running) => &running.lists.sent,
+            None => &[],
         }
     }
 
-    /// The world behind a side's answer to the request with that number.
-    fn heard(
-        self,
-        side: Side,
-        session: u64,
-        number: u32,
-        reply: Option<Reply>,
-        outcome: Outcome,
-    ) -> Result<World<D>, Disks<D>>
-        ensures { (old new : ModelWorld) (events : List Event) → RunsMachines self new
-            → IsListed self.lists old → Acknowledges outcome events → refused_in outcome ≡ []
-            → IfSome reply (λ said. IsLawfulReply (reply_of said))
-            → GrowsBy old new (which_of side)
-            (says (which_of side) session number (option_map reply_of reply)) events
-            → EndsSo result new }
+    /// What was acknowledged, and what an opening recovered, in order of time over the three
+    /// machines.
+    pub fn acknowledged(&self) -> &[Ack]
+        ensures { result.now ≡ acknowledged_in self.now }
     {
-        let mut world = self;
-        let heard = world.lists.hear(side, session, number, reply);
-        let noted = world.lists.note(side, outcome);
-        if heard && noted {
-            Ok(world)
-        } else {
-            Err(world.into_disks())
+        match &self.running {
+            Some(running) => &running.lists.acknowledged,
+            None => &[],
         }
     }
 
-    /// The world behind a step of its coordinator, with what came of it. Where memory for that was
-    /// refused already, the disks come back.
-    fn told(self, outcome: Option<CoordinatorOutcome>) -> Result<World<D>, Disks<D>>
-        ensures { (old new : ModelWorld) (made : Call) (refusals : List Cause)
-            → RunsMachines self new → IsListed self.lists old
-            → IfSome outcome (λ told. Tells told made refusals) → Goes old new made refusals
-            → EndsSo result new }
+    /// What a user's edit, a start, a checkpoint or an opening was refused with, in order.
+    pub fn refusals(&self) -> &[Refusal]
+        ensures { result.now ≡ refusals_in self.now }
     {
-        let mut world = self;
-        match outcome {
-            Some(outcome) => {
-                if world.lists.take(outcome) {
-                    Ok(world)
-                } else {
-                    Err(world.into_disks())
-                }
-            }
-            None => Err(world.into_disks()),
+        match &self.running {
+            Some(running) => &running.lists.refusals,
+            None => &[],
+        }
+    }
+
+    /// The reports of the sessions that ended, in order, each with how long `acknowledged` was as
+    /// it ended.
+    pub fn reports(&self) -> &[(Report, usize)]
+        ensures { result.now ≡ reports_in self.now }
+    {
+        match &self.running {
+            Some(running) => &running.lists.reports,
+            None => &[],
+        }
+    }
+
+    /// The replica of a side; none while its machine is down.
+    pub fn replica(&self, side: Side) -> Option<&Replica<D>>
+        ensures { option_map (λ replica. replica.now) result ≡ replica_in self.now side }
+    {
+        let running = self.running.as_ref()?;
+        match side {
+            Side::Left => running.left.replica(),
+            Side::Right => running.right.replica(),
+        }
+    }
+
+    /// The coordinator's archive; none while its machine is down.
+    pub fn archive(&self) -> Option<&Archive<D>>
+        ensures { option_map (λ archive. archive.now) result ≡ archive_in self.now }
+    {
+        match &self.running.as_ref()?.coordinator {
+            CoordinatorHost::Up(coordinator) => Some(coordinator.archive()),
+            CoordinatorHost::Down(_) => None,
         }
     }
 }

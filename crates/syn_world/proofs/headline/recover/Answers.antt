@@ -1,14 +1,14 @@
 use Rattle.std.proofs.Common.{◌≡◌, arith, subst}
 use Rattle.std.specs.Prelude.{MatchResult}
 use Rattle.syn_host.specs.Starts.{CountsFailure}
-use Rattle.syn_world.specs.Headlines.{MayHold, disks_of}
-use Rattle.syn_world.specs.Openings.{failed_calls, shown_on}
+use Rattle.syn_world.specs.Headlines.{MayHold}
+use Rattle.syn_world.specs.Openings.{failed_calls, failed_in, shown_on}
 use Rattle.syn_world.specs.declared.world.Disks.{Disks}
 use Rattle.syn_world.proofs.HeadlineLemmas.{AreStopped, found, if_err, if_ok, might_hold, recovers}
 use Rattle.syn_world.proofs.HeadlineLemmas.{stand}
 use Rattle.syn_world.proofs.headline.recover.Goals as goal
 
--- the disks as they are found behind the stop
+-- the disks as they are found after the stop
 abbrev stopped_disks : (g : _) (c : goal.After-open g) → Disks g.row.D.Denot
 stopped_disks g c = record {
   left = c.after_stop.result;
@@ -85,6 +85,6 @@ returns-clause-failures g c =
       c.after_stop-3.ensures.count,
     ) in
     subst (λ n. MatchResult c.open.result
-    (λ world. failed_calls g.D.Disk.failures (disks_of world) ≡ n)
+    (λ world. failed_in g.D.Disk.failures world ≡ n)
     (λ refused. CountsFailure refused.0 n (failed_calls g.D.Disk.failures refused.1))) same
     c.open.ensures.failures

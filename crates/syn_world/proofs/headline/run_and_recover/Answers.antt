@@ -9,19 +9,20 @@ use Rattle.syn_world.specs.Headlines.{HasRunSafely, IsCutShort, IsNotOpened, IsS
 use Rattle.syn_world.specs.Openings.{StandFor}
 use Rattle.syn_world.specs.Steps.{step_of}
 use Rattle.syn_world.specs.declared.world.Disks.{Disks}
-use Rattle.syn_world.proofs.HeadlineLemmas.{if_ok}
+use Rattle.syn_world.proofs.HeadlineLemmas.{if_ok, safe_stopped}
 use Rattle.syn_world.proofs.headline.run_and_recover.Goals as goal
 
 -- the disks that the run left, with what holds of them
 module _ (g : _) (c : goal.After-recover g) (pair : ℕ) (stores : Stores)
     (all : StandFor g.D.Disk.seen g.D.Disk.arms pair c.args.disks stores) where
-  had : HasRunSafely pair c.args.disks stores (map step_of c.args.steps.items) c.in-Ok.world
+  had : HasRunSafely pair c.args.disks stores (map step_of c.args.steps.now) c.in-Ok.world
   had = c.in-Ok.ensures.safe pair stores all
 
   run : IsSafeRun g.D.Disk pair c.args.disks c.into_disks.result stores
-      (map step_of c.args.steps.items) had.new
-  run = subst (λ later. IsSafeRun g.D.Disk pair c.args.disks later stores
-      (map step_of c.args.steps.items) had.new) (sym c.into_disks.ensures.disks) had.run
+      (map step_of c.args.steps.now) had.new
+  run = safe_stopped g.D.Disk pair c.args.disks had.later c.into_disks.result stores
+      (map step_of c.args.steps.now) had.new had.run
+      (c.into_disks.ensures.stopped had.later had.holds).back
 
   fits : had.new.pair < 2 ^ 64
   fits = subst (λ p. p < 2 ^ 64) (sym run.pair_is) all.fits
@@ -51,5 +52,5 @@ from_outside disk pair disks stores steps refused (inr short) = inr short.memory
 
 pub returns-in-Err-clause-refused : goal.returns-in-Err-clause-refused
 returns-in-Err-clause-refused g c pair stores all =
-    from_outside g.D.Disk pair c.args.disks stores (map step_of c.args.steps.items)
+    from_outside g.D.Disk pair c.args.disks stores (map step_of c.args.steps.now)
     c.in-Err.refused (c.in-Err.ensures.safe pair stores all)

@@ -117,7 +117,8 @@ returns-clause-record g c =
     (record { machine = c.write.new.self }) c.deref.result.now _ _
     c.write.ensures.journal (c.deref.ensures.value ∙ c.in_ok-payload.ensures.payload)
     c.in_ok-payload.field-0.update none
-    (ok_part refusal_of c.write.result _ _ c.write.ensures.state none) c.in_ok-payload.ensures.keeps)
+    (ok_part refusal_of c.write.result _ _ c.write.ensures.state none)
+    c.in_ok-payload.ensures.keeps)
 
 pub returns-clause-session : goal.returns-clause-session
 returns-clause-session g c =
@@ -125,7 +126,8 @@ returns-clause-session g c =
     (record { machine = c.write.new.self }) c.deref.result.now _ _
     c.write.ensures.journal (c.deref.ensures.value ∙ c.in_ok-payload.ensures.payload)
     c.in_ok-payload.field-0.update none
-    (ok_part refusal_of c.write.result _ _ c.write.ensures.state none) c.in_ok-payload.ensures.keeps)
+    (ok_part refusal_of c.write.result _ _ c.write.ensures.state none)
+    c.in_ok-payload.ensures.keeps)
 
 pub returns-clause-any_moment : goal.returns-clause-any_moment
 returns-clause-any_moment g c kept stands =

@@ -39,7 +39,7 @@ returns-then-is_unsent g c state is =
     let past = c.is_unsent.ensures.0 c.if-is_unsent.true in
     number_unsent state c.args.first c.loop-number.number c.args.last c.loop-number.player had
     c.loop-number.invariant.from (omega (arith, c.loop-number-test.true))
-    (omega (arith, past, c.loop-number.player.world.lists.sent.ok))
+    past
 
 pub returns-in-Err : goal.returns-in-Err
 returns-in-Err g c state is =

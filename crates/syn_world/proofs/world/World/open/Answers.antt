@@ -1,6 +1,8 @@
 use Rattle.std.proofs.Common.{◌∙◌, Some, ap, arith, inl, inr, refl, subst, sym}
 use Rattle.syn_host.specs.Starts.{CanStart, HoldsReplica, StartsCoordinator}
 use Rattle.syn_recovery.specs.Machines.{of_archive}
+use Rattle.syn_world.specs.Openings.{AreOfPair, failed_by, shown_on}
+use Rattle.syn_world.specs.Worlds.{pair_by}
 use Rattle.syn_world.specs.Openings.{refuses_archive, refuses_left, refuses_right}
 use Rattle.syn_world.proofs.WorldOpenLemmas.{archive_can, left_can, right_can, world_opens}
 use Rattle.syn_world.proofs.world.World.open.Goals as goal
@@ -33,8 +35,9 @@ returns-in-Ok-start_coordinator-clause-opened g c pair stores all =
     (subst (λ p. CanStart (of_archive p) (g.D.Disk.arms c.args.disks.archive) bytes stores.archive)
     (sym same) (archive_can g.D.Disk pair c.args.disks stores all))) in
     world_opens g.D.Disk pair c.args.disks stores all c.in-Ok.left c.in-Ok-start_side.right made
-    left right archive c.pair-pair.result c.no_lists.result same c.no_lists.ensures.sent
-    c.no_lists.ensures.acknowledged c.no_lists.ensures.refusals c.no_lists.ensures.reports
+    left right archive c.pair-pair.result c.no_lists.result c.of.result c.of.ensures.running
+    c.of.ensures.goes same c.no_lists.ensures.sent c.no_lists.ensures.acknowledged
+    c.no_lists.ensures.refusals c.no_lists.ensures.reports
 
 pub returns-in-Err-start_coordinator-clause-refused :
     goal.returns-in-Err-start_coordinator-clause-refused
@@ -48,20 +51,24 @@ returns-in-Err-start_coordinator-clause-refused g c pair stores all =
     (sym same) (archive_can g.D.Disk pair c.args.disks stores all))
 
 pub returns-in-Ok-start_coordinator-clause-pair : goal.returns-in-Ok-start_coordinator-clause-pair
-returns-in-Ok-start_coordinator-clause-pair g c = record {
-  left = subst (λ p. HoldsReplica p (g.D.Disk.seen c.args.disks.left)) (sym c.pair-pair.ensures)
-      c.in-Ok.ensures.holds;
-  right = subst (λ p. HoldsReplica p (g.D.Disk.seen c.args.disks.right))
-      (sym (c.in-Ok-start_side.ensures.wanted c.pair-pair.result refl))
-      c.in-Ok-start_side.ensures.holds;
-  archive = c.in-Ok-start_coordinator.ensures.holds;
-}
+returns-in-Ok-start_coordinator-clause-pair g c =
+    let same = ap pair_by c.of.ensures.running in
+    subst (AreOfPair (shown_on g.D.Disk.seen c.args.disks)) (sym same) (record {
+      left = subst (λ p. HoldsReplica p (g.D.Disk.seen c.args.disks.left)) (sym c.pair-pair.ensures)
+          c.in-Ok.ensures.holds;
+      right = subst (λ p. HoldsReplica p (g.D.Disk.seen c.args.disks.right))
+          (sym (c.in-Ok-start_side.ensures.wanted c.pair-pair.result refl))
+          c.in-Ok-start_side.ensures.holds;
+      archive = c.in-Ok-start_coordinator.ensures.holds;
+    })
 
 pub returns-in-Ok-start_coordinator-clause-failures :
     goal.returns-in-Ok-start_coordinator-clause-failures
 returns-in-Ok-start_coordinator-clause-failures g c =
+    let same = ap (failed_by g.D.Disk.failures) c.of.ensures.running in
     omega (
       arith,
+      same,
       c.in-Ok.ensures.failures,
       c.in-Ok-start_side.ensures.failures,
       c.in-Ok-start_coordinator.ensures.failures,

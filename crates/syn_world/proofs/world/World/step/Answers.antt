@@ -1,25 +1,13 @@
-use Rattle.std.proofs.Common.{Ok, subst, sym}
-use Rattle.syn_world.specs.Runs.{StepsSo, steps}
 use Rattle.syn_world.specs.Steps.{step_of}
-use Rattle.syn_world.proofs.RunLemmas.{stays_so}
+use Rattle.syn_world.proofs.RunLemmas.{has_made, has_tried, taken_out}
 use Rattle.syn_world.proofs.world.World.step.Goals as goal
 
-pub returns-in-Deliver : goal.returns-in-Deliver
-returns-in-Deliver g c model is =
-    subst (λ s. StepsSo model (step_of s) c.deliver.result) (sym c.in-Deliver.is)
-    (c.deliver.ensures model is)
+pub returns-in-Ok-clause-steps : goal.returns-in-Ok-clause-steps
+returns-in-Ok-clause-steps g c model is =
+    has_made model (step_of c.args.step.now) c.in-Ok.next _ c.put_back.ensures is.goes
+    (c.in-Ok.ensures model (taken_out model _ c.in-Some.running is c.in-Some.ensures.value))
 
-pub returns-in-Fail : goal.returns-in-Fail
-returns-in-Fail g c model is =
-    subst (λ s. StepsSo model (step_of s) (Ok c.fail.result)) (sym c.in-Fail.is)
-    (stays_so model _ _ (c.fail.ensures model is))
-
-pub returns-in-Stop : goal.returns-in-Stop
-returns-in-Stop g c model is =
-    subst (λ s. StepsSo model (step_of s) (Ok c.stop.result)) (sym c.in-Stop.is)
-    (stays_so model _ _ (c.stop.ensures model is))
-
-pub returns-in-Start : goal.returns-in-Start
-returns-in-Start g c model is =
-    subst (λ s. StepsSo model (step_of s) c.start.result) (sym c.in-Start.is)
-    (steps (c.start.ensures model is))
+pub returns-in-Err-clause-steps : goal.returns-in-Err-clause-steps
+returns-in-Err-clause-steps g c model is =
+    has_tried model (step_of c.args.step.now) c.in-Err.last _ c.put_back-in-Err.ensures
+    (c.in-Err.ensures model (taken_out model _ c.in-Some.running is c.in-Some.ensures.value))

@@ -1,0 +1,42 @@
+use Rattle.std.proofs.Common.{[], subst, sym}
+use Rattle.syn_headline.specs.Network.{Left, Right}
+use Rattle.syn_headline.specs.SideMachine.{UserEdits}
+use Rattle.syn_headline.specs.World.{Edits}
+use Rattle.syn_host.specs.Outcomes.{refused_in}
+use Rattle.syn_model.specs.Event.{Edited}
+use Rattle.syn_path.specs.Sides.{which_of}
+use Rattle.syn_tree.specs.Edits.{edit_of}
+use Rattle.syn_world.specs.Worlds.{GoesSo}
+use Rattle.syn_world.proofs.StepLemmas.{lift_side, side_next}
+use Rattle.syn_world.proofs.WorldLemmas.{goes_left, goes_right}
+use Rattle.syn_world.proofs.running.Running.edit.Goals as goal
+
+pub returns-in-Left : goal.returns-in-Left
+returns-in-Left g c model is =
+    let call = c.edit-call.result in
+    let so = c.edit-call.ensures model.pair model.left is.machines.left in
+    subst (λ s. GoesSo model (Edits (which_of s) c.args.user (edit_of c.args.edit)) c.noted.result)
+    (sym c.in-Left.is) (record {
+      new = side_next model Left so.next [] so.events (refused_in call.outcome);
+      steps =
+          lift_side model Left (UserEdits model.pair model.left (Edited c.args.user
+          (edit_of c.args.edit)))
+          so.next so.events (refused_in call.outcome) so.step;
+      ends = goes_left c.args.self model is call so.next so.events so.acknowledges so.is
+          c.noted.result c.noted.ensures;
+    })
+
+pub returns-in-Right : goal.returns-in-Right
+returns-in-Right g c model is =
+    let call = c.edit-call-in-Right.result in
+    let so = c.edit-call-in-Right.ensures model.pair model.right is.machines.right in
+    subst (λ s. GoesSo model (Edits (which_of s) c.args.user (edit_of c.args.edit))
+    c.noted-in-Right.result) (sym c.in-Right.is) (record {
+      new = side_next model Right so.next [] so.events (refused_in call.outcome);
+      steps =
+          lift_side model Right (UserEdits model.pair model.right (Edited c.args.user
+          (edit_of c.args.edit)))
+          so.next so.events (refused_in call.outcome) so.step;
+      ends = goes_right c.args.self model is call so.next so.events so.acknowledges so.is
+          c.noted-in-Right.result c.noted-in-Right.ensures;
+    })

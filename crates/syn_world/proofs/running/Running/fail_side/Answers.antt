@@ -1,0 +1,36 @@
+use Rattle.std.proofs.Common.{subst, sym}
+use Rattle.syn_headline.specs.MachineSteps.{Does}
+use Rattle.syn_headline.specs.MachineSteps as one
+use Rattle.syn_headline.specs.Network.{Left, Right}
+use Rattle.syn_headline.specs.SideMachine.{side_kind}
+use Rattle.syn_headline.specs.World.{At, Fail, Steps, set_side}
+use Rattle.syn_path.specs.Sides.{which_of}
+use Rattle.syn_world.proofs.StepLemmas.{lift_device}
+use Rattle.syn_world.proofs.WorldLemmas.{stays_left, stays_right}
+use Rattle.syn_world.proofs.running.Running.fail_side.Goals as goal
+
+pub returns-in-Left : goal.returns-in-Left
+returns-in-Left g c model is =
+    let so = c.fail.ensures model.pair model.left is.machines.left in
+    record {
+      new = set_side model Left so.next;
+      steps = subst (λ w. Steps model (Fail (At (which_of w)) c.args.call)
+          (set_side model Left so.next)) (sym c.in-Left.is)
+          (lift_device model Left
+          (Does (side_kind model.pair) model.left (one.Fail c.args.call)) so.next so.events
+          so.acknowledges so.step);
+      is = stays_left c.args.self model is c.fail.result so.next so.is;
+    }
+
+pub returns-in-Right : goal.returns-in-Right
+returns-in-Right g c model is =
+    let so = c.fail-in-Right.ensures model.pair model.right is.machines.right in
+    record {
+      new = set_side model Right so.next;
+      steps = subst (λ w. Steps model (Fail (At (which_of w)) c.args.call)
+          (set_side model Right so.next)) (sym c.in-Right.is)
+          (lift_device model Right
+          (Does (side_kind model.pair) model.right (one.Fail c.args.call)) so.next so.events
+          so.acknowledges so.step);
+      is = stays_right c.args.self model is c.fail-in-Right.result so.next so.is;
+    }

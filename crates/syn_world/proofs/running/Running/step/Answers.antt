@@ -1,0 +1,28 @@
+use Rattle.std.proofs.Common.{Ok, refl, subst, sym}
+use Rattle.syn_world.specs.Runs.{Attempts, no_memory, steps}
+use Rattle.syn_world.specs.Steps.{step_of}
+use Rattle.syn_world.proofs.RunLemmas.{stays_so}
+use Rattle.syn_world.proofs.running.Running.step.Goals as goal
+
+pub returns-in-Deliver : goal.returns-in-Deliver
+returns-in-Deliver g c model is =
+    subst (λ s. Attempts model (step_of s) c.deliver.result) (sym c.in-Deliver.is)
+    (c.deliver.ensures model is)
+
+pub returns-in-Fail : goal.returns-in-Fail
+returns-in-Fail g c model is =
+    subst (λ s. Attempts model (step_of s) (Ok c.fail.result)) (sym c.in-Fail.is)
+    (stays_so model _ _ (c.fail.ensures model is))
+
+pub returns-in-Stop : goal.returns-in-Stop
+returns-in-Stop g c model is =
+    subst (λ s. Attempts model (step_of s) (Ok c.stop.result)) (sym c.in-Stop.is)
+    (stays_so model _ _ (c.stop.ensures model is))
+
+pub returns-in-Start : goal.returns-in-Start
+returns-in-Start g c model is =
+    subst (λ s. Attempts model (step_of s) c.start.result) (sym c.in-Start.is)
+    (steps (c.start.ensures model is))
+
+pub returns-in-Err : goal.returns-in-Err
+returns-in-Err g c model is = no_memory c.args.self refl is.machines

@@ -1,0 +1,44 @@
+//! The steps of the world at its coordinator.
+ghost use Rattle.syn_headline.specs.World.{World as ModelWorld, Checkpoint, Coordinator};
+ghost use Rattle.syn_headline.specs.World.{Fail, Stop};
+
+use super::Running;
+use std::alloc::Global;
+use syn_host::SimulatedDisk;
+
+impl<D: SimulatedDisk> Running<D> {
+    ghost use Rattle.syn_world.specs.Worlds.{GoesSo, IsRunning, StaysSo};
+
+    /// The device call of the coordinator with this number from now on fails, and is not made; at 0
+    /// none does.
+    pub(crate) fn fail_coordinator(self, call: u64) -> Running<D>
+        ensures { (model : ModelWorld) → IsRunning self model
+            → StaysSo model (Fail Coordinator call) result }
+    {
+        let mut world = self;
+        world.coordinator = world.coordinator.fail(call);
+        world
+    }
+
+    /// So many device calls of the coordinator are still made, and its machine stops after the
+    /// last of them; at 0 it stops at once.
+    pub(crate) fn stop_coordinator(self, calls: u64) -> Running<D>
+        ensures { (model : ModelWorld) → IsRunning self model
+            → StaysSo model (Stop Coordinator calls) result }
+    {
+        let mut world = self;
+        world.coordinator = world.coordinator.stop(calls);
+        world
+    }
+
+    /// The coordinator makes a checkpoint.
+    pub(crate) fn checkpoint_coordinator(self, alloc: Global) -> Result<Running<D>, Running<D>>
+        ensures { (model : ModelWorld) → IsRunning self model
+            → GoesSo model (Checkpoint Coordinator) result }
+    {
+        let mut world = self;
+        let call = world.coordinator.checkpoint(alloc);
+        world.coordinator = call.coordinator;
+        world.told(call.outcome)
+    }
+}
