@@ -58,12 +58,15 @@ module _ (bad : Refusal) (old : OldSession ≢ bad) (first : NotStaged ≢ bad)
 
   first_other : (side : Side) (token : Token) (offset : ℕ) (bytes : Bytes)
       → IsOther (stage_first side token offset bytes)
-  first_other side token offset bytes = by (offset == 0)
+  first_other side token offset bytes =
+      by (offset == 0) (nat_le (length bytes) greatest_spelling)
     where
-      by : (b : Bool) → IsOther (unless_refused side (first_cause ((not b, NotStaged) ∷ []))
+      by : (b fits : Bool) → IsOther (unless_refused side
+          (first_cause ((not b, NotStaged) ∷ (not fits, BadStage) ∷ []))
           (answer (set_staging side (record { token = token; bytes = bytes })) Staged))
-      by true = λ e. cc
-      by false = other_refusal side NotStaged first
+      by true true = λ e. cc
+      by true false = other_refusal side BadStage wrong
+      by false fits = other_refusal side NotStaged first
 
   pub stage_other : (side : Side) (staging : Option Staging) (token : Token) (offset : ℕ)
       (bytes : Bytes) → IsOther (stage side staging token offset bytes)
@@ -113,12 +116,15 @@ one_of false x y h k = k
 
 first_sent : (side : Side) (token : Token) (offset : ℕ) (bytes : Bytes)
     → IsSent (stage_first side token offset bytes)
-first_sent side token offset bytes = by (offset == 0)
+first_sent side token offset bytes =
+    by (offset == 0) (nat_le (length bytes) greatest_spelling)
   where
-    by : (b : Bool) → IsSent (unless_refused side (first_cause ((not b, NotStaged) ∷ []))
+    by : (b fits : Bool) → IsSent (unless_refused side
+        (first_cause ((not b, NotStaged) ∷ (not fits, BadStage) ∷ []))
         (answer (set_staging side (record { token = token; bytes = bytes })) Staged))
-    by true = tt
-    by false = tt
+    by true true = tt
+    by true false = tt
+    by false fits = tt
 
 stage_sent : (side : Side) (staging : Option Staging) (token : Token) (offset : ℕ) (bytes : Bytes)
     → IsSent (stage side staging token offset bytes)

@@ -2,7 +2,7 @@
 ghost use Rattle.std.specs.Prelude.{◌≡◌, None, option_map};
 ghost use Rattle.syn_history.specs.Events.{token_of};
 
-use crate::staging::Staging;
+use crate::staging::{MAX_STAGED, Staging};
 use syn_history::Token;
 use syn_message::Reply;
 use syn_refusal::Refusal;
@@ -36,8 +36,9 @@ impl Agent {
     /// each further one goes after the last; one that came before is answered again.
     ///
     /// Refused 14 where the token is below that of what is staged, 16 where a first piece is not
-    /// from the beginning, 17 where a piece neither came before nor goes after the last, or
-    /// would pass 526,336 bytes, and 11 where memory is refused. Then what is staged stays.
+    /// from the beginning, 17 where a further piece neither came before nor goes after the last,
+    /// and where any piece would pass 526,336 bytes, and 11 where memory is refused. Then what is
+    /// staged stays.
     pub fn stage(&mut self, token: Token, offset: u32, bytes: Vec<u8>) -> Reply
         ensures { StagesAs self.old self.new result (token_of token) offset bytes.items }
     {
@@ -57,6 +58,9 @@ impl Agent {
     {
         if offset != 0 {
             return Reply::Refused(Refusal::NotStaged);
+        }
+        if bytes.len() > MAX_STAGED {
+            return Reply::Refused(Refusal::BadStage);
         }
         self.staging = Some(Staging::new(token, bytes));
         Reply::Staged

@@ -8,7 +8,7 @@ use Rattle.std.proofs.lemmas.Bool.Decides.{nat_tests}
 use Rattle.std.proofs.lemmas.Bool.{and_parts, eqb-true, not-false}
 use Rattle.syn_model.specs.Path.{Path, Bytes, IsPath}
 use Rattle.syn_model.specs.Tree.{Tree, replace, subtree, is_directory}
-use Rattle.syn_model.specs.Limits.{children}
+use Rattle.syn_model.specs.Limits.{children, greatest_spelling}
 use Rattle.syn_model.specs.Mark.{mark}
 use Rattle.syn_model.specs.Spelling.{spelling}
 use Rattle.syn_model.specs.Refusal.{Refusal, Cause, first_cause, Memory, OldSession, WrongPair}
@@ -21,9 +21,9 @@ use Rattle.syn_model.specs.Standing.{place_causes, full_causes}
 use Rattle.syn_headline.specs.Side.{Side, Served, Staging, Request, Begin, ListAt, Fetch, Stage}
 use Rattle.syn_headline.specs.Side.{Replace, Begun, Listed, NotDir, Piece, Staged, Done, Refused}
 use Rattle.syn_headline.specs.Side.{IsLawfulRequest, answer, add_event, set_staging, unless_refused}
-use Rattle.syn_headline.specs.Side.{stage, stage_first, replace_with, replace_causes, since_causes}
-use Rattle.syn_headline.specs.Side.{room_causes, is_dead_token, serve, Serves, token_of, Reads}
-use Rattle.syn_headline.specs.Side.{is_staged, staged_bytes}
+use Rattle.syn_headline.specs.Side.{first_causes, stage, stage_first, replace_with, replace_causes}
+use Rattle.syn_headline.specs.Side.{room_causes, since_causes, is_dead_token, serve, Serves}
+use Rattle.syn_headline.specs.Side.{token_of, Reads, is_staged, staged_bytes}
 use Rattle.syn_headline.specs.Laws.{PiecesAreUntouched}
 use Rattle.syn_headline.specs.Machine.{Status, Up, Halted, Down}
 use Rattle.syn_headline.specs.SideMachine.{serve_halted, CannotStage, ServesAs}
@@ -99,9 +99,10 @@ first_outcome : (side : Side) (session item offset : ℕ) (bytes : Bytes) → Ou
     (Stage item offset bytes) (stage_first side (token_of session item) offset bytes)
 first_outcome side session item offset bytes =
     unless (Outcome side session (Stage item offset bytes)) side
-    (first_cause ((not (offset == 0), NotStaged) ∷ [])) _ (refuses _) (λ e.
+    (first_cause (first_causes offset bytes)) _ (refuses _) (λ e.
     stages_first item offset bytes
-    (eqb-true offset 0 (not-false _ (first_cause-none (not (offset == 0), NotStaged) [] e).0)))
+    (eqb-true offset 0 (not-false _ (first_cause-none (not (offset == 0), NotStaged)
+    ((not (nat_le (length bytes) greatest_spelling), BadStage) ∷ []) e).0)))
 
 stage_outcome : (side : Side) (o : Option Staging) (session item offset : ℕ) (bytes : Bytes) →
     side.staging ≡ o → Outcome side session (Stage item offset bytes)
