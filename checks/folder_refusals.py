@@ -124,7 +124,7 @@ def on_full_disk(tree):
 
 
 def full_disk(source):
-    """What a full disk refuses 9 is a beginning, of whole edits or files, and can be ended later."""
+    """What a full disk refuses 9 is a beginning, of whole edits or files, and is ended later."""
     tree = {f"f{number:02}": plain(source.randbytes(16000)) for number in range(30)}
     write("folder", tree)
     os.mkdir("disk")
