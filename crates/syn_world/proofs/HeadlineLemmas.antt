@@ -155,13 +155,13 @@ module _ {D : Type 0} (disk : Ghosts D) (disks stopped : Disks D)
 -- what holds of a value or an error, whatever else does
 pub if_ok : {T E : Type 0} {P Q : T → Type 0} (one : Result T E) → IfOk one P
     → ((value : T) → P value → Q value) → IfOk one Q
-if_ok (Ok value) holds goes = goes value holds
-if_ok (Err error) holds goes = tt
+if_ok (Ok value) was goes = goes value was
+if_ok (Err error) was goes = tt
 
 pub if_err : {T E : Type 0} {P Q : E → Type 0} (one : Result T E) → IfErr one P
     → ((error : E) → P error → Q error) → IfErr one Q
-if_err (Ok value) holds goes = tt
-if_err (Err error) holds goes = goes error holds
+if_err (Ok value) was goes = tt
+if_err (Err error) was goes = goes error was
 
 -- what a stop may leave on disks whose machines were stopped it might have left before
 pub holds_before : {D : Type 0} (may_leave : D → Bytes → Type 0) (old new : Disks D)

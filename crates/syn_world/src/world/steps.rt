@@ -28,7 +28,7 @@ impl<D: SimulatedDisk> World<D> {
             return Err(AllocError);
         }
         let Some(running) = self.running.take() else {
-            return Err(AllocError);
+            unreachable!()
         };
         match running.step(alloc, step) {
             Ok(next) => {
