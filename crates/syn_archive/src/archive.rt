@@ -1,12 +1,13 @@
 //! An archive over a journal.
-ghost use Rattle.std.specs.Prelude.{◌≡◌, ◌≢◌, ◌⊎◌, ◌↔◌, ◌+◌, ◌<◌, ◌≤◌, ◌^◌, [], ℕ, length, OnOk};
+ghost use Rattle.std.specs.Prelude.{◌≡◌, ◌⊎◌, ◌↔◌, ◌+◌, ◌<◌, ◌≤◌, ◌^◌, [], ℕ, length, OnOk};
 ghost use Rattle.std.specs.Prelude.{IfOk, IfErr, IsErrAnd, MatchResult, Err, None, Some, true};
 ghost use Rattle.std.specs.Prelude.{false, option_map};
 ghost use Rattle.syn_model.specs.Archive.{Archive as KeptArchive, Session, Recorded, RecordedDir};
 ghost use Rattle.syn_model.specs.Archive.{new_archive, after_kept, kept_refusal};
 ghost use Rattle.syn_model.specs.Refusal.{Refusal};
-ghost use Rattle.std.specs.FinMap.{get};
-ghost use Rattle.syn_model.specs.Tree.{empty_directory, is_directory, subtree};
+ghost use Rattle.std.specs.FinMap.{entries};
+ghost use Rattle.syn_model.specs.Tree.{empty_directory, is_directory};
+ghost use Rattle.syn_placed.specs.Pairs.{within};
 ghost use Rattle.syn_archive.specs.Disks.{DiskKeeps};
 ghost use Rattle.syn_model.specs.Path.{Bytes, is_root};
 ghost use Rattle.syn_journal.specs.Journal.{SameReadings};
@@ -33,7 +34,7 @@ use std::alloc::Global;
 use syn_disk::{Arm, Disk, Limit};
 use syn_journal::layout_laws;
 use syn_journaled::Journaled;
-use syn_mark::{Mark, MarkTree};
+use syn_mark::{Mark, MarkEntry, MarkTree};
 use syn_model::archive_laws;
 use syn_path::Path;
 
@@ -157,15 +158,11 @@ impl<D: Disk> Archive<D> {
             kept (left_shown self.now) (generation_shown self.now) bytes }
     {}
 
-    /// The marks at and below the path; none where nothing is. Refused 11 where memory is refused,
-    /// which is not asked for where nothing is.
-    pub fn subtree(&self, alloc: Global, path: &Path) -> Result<Option<MarkTree>, ArchiveError>
-        ensures ok { IfOk result
-            (λ marks. or_absent marks ≡ subtree (marks_shown self.now) path.now) }
-        ensures memory { IfErr result (λ e. (e ≡ ArchiveError.Memory)
-            × (get (marks_shown self.now) path.now ≢ None)) }
+    /// The marks at and below the path, in path order; nothing where nothing is. It takes no memory.
+    pub fn subtree(&self, path: &Path) -> &[MarkEntry]
+        ensures { result.now ≡ within path.now (entries (marks_shown self.now)) }
     {
-        Ok(self.tree().subtree(alloc, path)?)
+        self.tree().subtree(path)
     }
 
     /// Takes the next number of a session, and answers it; the first is 1.

@@ -21,9 +21,10 @@ use Rattle.syn_model.proofs.PlanOrder.{plan_is_decided, reached_below}
 use Rattle.syn_model.proofs.PlanCover.{plan_has_decided, not_clean}
 use Rattle.syn_model.proofs.QuietLemmas.{directory_of_mark}
 use Rattle.syn_model.proofs.DecisionLemmas.{by_decision, nothing_relevant}
-use Rattle.syn_headline.specs.Network.{Which, Left, Right}
+use Rattle.syn_headline.specs.Network.{Which, Left, Right, other}
 use Rattle.syn_headline.proofs.AnyOrder.{not_below, two_above}
 use Rattle.syn_headline.proofs.CarriedOut.{recorded_file, HasCarriedOut, items_of, alone_of}
+use Rattle.syn_headline.proofs.CarriedOut.{tree_on}
 
 module _ (preference : Option Which) (found : Which → Tree) (o : Tree)
     (plannable : (side : Which) → CanBePlanned (found side))
@@ -51,6 +52,27 @@ module _ (preference : Option Which) (found : Which → Tree) (o : Tree)
     decided x c =
         All-contains (IsDecided decided_at) items x (plan_is_decided preference (scan_of a)
         (scan_of b) o) c
+
+    -- what both sides had stays on both
+    pub alike_stays : (side : Which) (p : Path) → subtree a p ≡ subtree b p →
+        subtree (tree_on s side) p ≡ subtree a p
+    alike_stays side p same =
+        same_tree (subtree (tree_on s side) p) (subtree a p) (λ rest.
+        get-subtree (tree_on s side) p rest ∙ (stays rest ∙ sym (get-subtree a p rest)))
+      where
+        had : (which : Which) (rest : Path) → get (found which) (p ++ rest) ≡ get a (p ++ rest)
+        had Left rest = refl
+        had Right rest =
+            sym (get-subtree b p rest)
+            ∙ (ap (λ t. get t rest) (sym same) ∙ get-subtree a p rest)
+
+        stays : (rest : Path) → get (tree_on s side) (p ++ rest) ≡ get a (p ++ rest)
+        stays rest =
+            elim (h.sides side (p ++ rest))
+            as (λ _. get (tree_on s side) (p ++ rest) ≡ get a (p ++ rest)) [
+              | inl put ↦ put.5 ∙ had (other side) rest
+              | inr old ↦ old ∙ had side rest
+            ]
 
     -- no part is put above a path that is reached
     none_above : (p : Path) (x : Item) (n : Name) (r : Path) → Reached p → Contains items x →

@@ -11,7 +11,6 @@ use Rattle.syn_model.specs.Path.{Name, Path, strip_prefix, parent, is_root, comp
 use Rattle.syn_model.specs.Tree.{Tree, Directory, StandsIn, subtree, replace, is_directory}
 use Rattle.syn_model.specs.Tree.{is_directory_content}
 use Rattle.syn_model.specs.Refusal.{OldSession}
-use Rattle.syn_model.specs.Mark.{mark}
 use Rattle.syn_model.specs.Event.{Token, Event, Edited, Put, MakeDir, Remove, Chmod, Began}
 use Rattle.syn_model.specs.Event.{Replaced, after_event, touches}
 use Rattle.syn_model.specs.History.{History, IsHistory, tree_of, tree_at, is_old_token}
@@ -19,7 +18,7 @@ use Rattle.syn_model.specs.History.{position_causes}
 use Rattle.syn_model.specs.Standing.{place_causes, full_causes}
 use Rattle.syn_headline.specs.Network.{Left, Right, other}
 use Rattle.syn_headline.specs.Acknowledged.{history_of}
-use Rattle.syn_headline.specs.Headline.{UntouchedSince, HeldIsMarked}
+use Rattle.syn_headline.specs.Headline.{UntouchedSince, HeldIsMarked, AreMarked}
 use Rattle.syn_headline.proofs.PictureRuns.{OfEachRun}
 use Rattle.syn_model.proofs.PathLemmas.{strip_prefix-is}
 use Rattle.syn_model.proofs.TreeLemmas.{subtree-replace, beside}
@@ -138,7 +137,7 @@ source_is source fetched path untouched root directory =
           ∙ (ap is_directory_content (stay.above (parent path) (split.0 ∷ []) split.1) ∙ directory),
     )
 
--- so the next complete session without edits marks it
+-- so the next complete session without edits marks it, and both sides keep it
 pub runs_mark_held : OfEachRun HeldIsMarked
 runs_mark_held old new s g side first rest token path since fetched u report found left is untouched
     directory held source_untouched q =
@@ -157,5 +156,5 @@ runs_mark_held old new s g side first rest token path since fetched u report fou
     let relevant = or_right (is_root path) (is_directory (tree_of found.left) (parent path)
     && is_directory (tree_of found.right) (parent path))
     (ap₂ (λ x y. x && y) (both Left).1 (both Right).1) in
-    marks_alike old new s g report found left q path relevant ((both Left).0 ∙ sym (both Right).0)
-    ∙ ap mark (both Left).0
+    subst (AreMarked left path) (both Left).0
+    (marks_alike old new s g report found left q path relevant ((both Left).0 ∙ sym (both Right).0))

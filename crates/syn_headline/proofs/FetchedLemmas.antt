@@ -8,7 +8,6 @@ use Rattle.std.proofs.lemmas.List.{take-append-le}
 use Rattle.std.proofs.lemmas.List.Elements.{All-contains, filter_map-append}
 use Rattle.syn_model.specs.Path.{Path, parent}
 use Rattle.syn_model.specs.Tree.{Tree, subtree, is_directory}
-use Rattle.syn_model.specs.Mark.{mark}
 use Rattle.syn_model.specs.Event.{Token, Event, Began, Replaced, touches}
 use Rattle.syn_model.specs.History.{History, IsHistory, tree_of, tree_at, last_session}
 use Rattle.syn_headline.specs.Side.{Fetch}
@@ -18,7 +17,7 @@ use Rattle.syn_headline.specs.Acknowledged.{Ack, Happened, Kept_by, event_at, St
 use Rattle.syn_headline.specs.Acknowledged.{stores_after, IsLegal}
 use Rattle.syn_headline.specs.Report.{Report}
 use Rattle.syn_headline.specs.Headline.{IsQuietSession, IsFetched, UntouchedSince, CarriedIsMarked}
-use Rattle.syn_headline.specs.Headline.{IsStart}
+use Rattle.syn_headline.specs.Headline.{IsStart, AreMarked}
 use Rattle.syn_headline.specs.Picture.{Picture, FollowsAll, stores_of}
 use Rattle.syn_headline.proofs.PictureRuns.{OfEachRun}
 use Rattle.syn_headline.proofs.Invariant.{Plans, plan_in, histories_of, IsKept, IsSound_request}
@@ -259,7 +258,7 @@ module _ (old new : Picture) (s : IsStart old) (g : FollowsAll old new) (side : 
       source_now Right = (stands old new s g).right
 
   pub marked : All (λ event. touches event path ≡ false) rest →
-      subtree left.archive.marks path ≡ mark u
+      AreMarked left path u
   marked untouched =
       runs_mark_held old new s g side first rest token path since position u report found left is
       untouched

@@ -57,6 +57,7 @@ pub mod Simulation
 pub mod StandLemmas
 pub mod FineRuns
 pub mod TakenAnswers
+pub mod RepeatRuns
 pub mod AlikeLemmas
 pub mod CarriedLemmas
 pub mod FetchedLemmas

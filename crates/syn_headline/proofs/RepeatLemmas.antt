@@ -31,20 +31,23 @@ at_token has_room side token path since size read done dead =
     ∷ (not (length (staged_bytes side.staging) == size), BadStage) ∷ []))
     (replace_with has_room side token path since read)
 
+-- the last token is done
+pub last_is_done : (pair : ℕ) (has_room : Event → Bool) (side : Side) (session item : ℕ)
+    (path : Path) (since size : ℕ) (served : Served) →
+    is_last_token side (token_of session item) ≡ true →
+    Serves pair has_room side session (Replace item path since size) served →
+    served ≡ answer side Done
+last_is_done pair has_room side session item path since size served is_last (inr (takes, _)) =
+    absurd (false≢true (sym takes.0 ∙ is_last))
+last_is_done pair has_room side session item path since size served is_last (inl (read, _, is)) =
+    is ∙ ap (λ done. at_token has_room side (token_of session item) path since size read done
+    (is_dead_token side (token_of session item))) is_last
+
 pub repeats_are_done : RepeatsAreDone
 repeats_are_done pair has_room side session item path since size served last serves =
-    by serves
-  where
-    is_last : is_last_token side (token_of session item) ≡ true
-    is_last = ap (λ o. option_map_or (λ last. is_same_token last (token_of session item)) o false)
-        last ∙ itself (token_of session item)
-
-    by : Serves pair has_room side session (Replace item path since size) served →
-        served ≡ answer side Done
-    by (inr (takes, _)) = absurd (false≢true (sym takes.0 ∙ is_last))
-    by (inl (read, _, is)) =
-        is ∙ ap (λ done. at_token has_room side (token_of session item) path since size read done
-        (is_dead_token side (token_of session item))) is_last
+    last_is_done pair has_room side session item path since size served
+    (ap (λ o. option_map_or (λ last. is_same_token last (token_of session item)) o false) last
+    ∙ itself (token_of session item)) serves
 
 pub dead_are_old : DeadAreOld
 dead_are_old pair has_room side session item path since size served differs dead serves =
@@ -130,3 +133,43 @@ later_are_old pair has_room side session item path since size served earlier lat
     (option_map_or (λ staging. is_below token staging.token) side.staging false)) in
     dead_are_old pair has_room side session item path since size served (ap
     (λ o. option_map_or (λ last. is_same_token last token) o false) last_is ∙ differs) dead serves
+
+-- a history with a replacement has a last token
+has_last : (done events : History) (token : Token) → last_token done ≡ Some token →
+    (last : Token) × (last_token (done ++ events) ≡ Some last)
+has_last done [] token is = (token, ap last_token (append-nil done) ∙ is)
+has_last done (Edited user edit ∷ events) token is =
+    let more = has_last (done ++ Edited user edit ∷ []) events token
+    (token_one None done (Edited user edit) ∙ is) in
+    (more.0, ap last_token (sym (append_assoc done (Edited user edit ∷ []) events)) ∙ more.1)
+has_last done (Began session ∷ events) token is =
+    let more = has_last (done ++ Began session ∷ []) events token
+    (token_one None done (Began session) ∙ is) in
+    (more.0, ap last_token (sym (append_assoc done (Began session ∷ []) events)) ∙ more.1)
+has_last done (Replaced used path since new ∷ events) token is =
+    let more = has_last (done ++ Replaced used path since new ∷ []) events used
+    (token_one None done (Replaced used path since new)) in (
+      more.0,
+      ap last_token (sym (append_assoc done (Replaced used path since new ∷ []) events))
+          ∙ more.1,
+    )
+
+-- so where a history has the token's replacement and its last token is another, it is old
+pub replaced_is_old : (pair : ℕ) (has_room : Event → Bool) (side : Side) (session item : ℕ)
+    (path : Path) (since size : ℕ) (served : Served) (earlier later : History) (at : Path)
+    (from : ℕ) (new : Tree) → IsHistory side.history →
+    side.history ≡ earlier ++ Replaced (token_of session item) at from new ∷ later →
+    is_last_token side (token_of session item) ≡ false →
+    Serves pair has_room side session (Replace item path since size) served →
+    served ≡ answer side (Refused OldSession)
+replaced_is_old pair has_room side session item path since size served earlier later at from new
+    lawful is differs serves =
+    let event = Replaced (token_of session item) at from new in
+    let last = has_last (earlier ++ event ∷ []) later (token_of session item)
+    (token_one None earlier event) in
+    let last_is : last_token side.history ≡ Some last.0 =
+    ap last_token (is ∙ sym (append_assoc earlier (event ∷ []) later)) ∙ last.1 in
+    later_are_old pair has_room side session item path since size served earlier later at from new
+    last.0 lawful is last_is
+    (sym (ap (λ o. option_map_or (λ last. is_same_token last (token_of session item)) o false)
+    last_is) ∙ differs) serves

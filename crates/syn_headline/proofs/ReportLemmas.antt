@@ -28,9 +28,9 @@ use Rattle.syn_model.proofs.ResultLemmas.{plan_synchronizes, plan_reconciles}
 use Rattle.syn_model.proofs.PlanCover.{conflicts_are_planned}
 use Rattle.syn_headline.proofs.StagedLemmas.{all_front}
 use Rattle.syn_headline.proofs.WorldLemmas.{archive-append}
-use Rattle.syn_headline.proofs.CarriedOut.{is_recorded, plan_is_carried}
+use Rattle.syn_headline.proofs.CarriedOut.{is_recorded, plan_is_carried, tree_on}
 use Rattle.syn_headline.proofs.CountLemmas.{kept_any, kept_directory, count_all}
-use Rattle.syn_headline.proofs.AlikeLemmas.{alike_recorded}
+use Rattle.syn_headline.proofs.AlikeLemmas.{alike_recorded, alike_stays as alike_on_both}
 use Rattle.syn_headline.proofs.CompleteLemmas.{items, items_are, complete_carries_out}
 use Rattle.syn_headline.proofs.QuietScans.{ShowsTree}
 use Rattle.syn_headline.proofs.UnderwayLemmas.{IsQuietPlan, IsUnderway}
@@ -308,3 +308,19 @@ module _ (log : Log) (before : Archive) (whole : IsTree before.marks)
       ∙ alike_recorded made.scans.preference sides found.marks plannable archive_plannable now
       (plan_is_carried made.scans.preference sides found.marks archive_plannable.parents) path
       relevant same)
+
+  -- and stays so on both sides
+  pub alike_stays : (side : Which) (path : Path) →
+      subtree (tree_of (first Left)) path ≡ subtree (tree_of (first Right)) path →
+      subtree (tree_of (histories side)) path ≡ subtree (tree_of (first Left)) path
+  alike_stays side path same =
+      now_is side
+      ∙ alike_on_both made.scans.preference (λ (side : Which). tree_of (first side)) found.marks
+      plannable archive_plannable (carried_out found_trees items_of_plan)
+      (plan_is_carried made.scans.preference (λ (side : Which). tree_of (first side)) found.marks
+      archive_plannable.parents) side path same
+    where
+      now_is : (side : Which) → subtree (tree_of (histories side)) path
+          ≡ subtree (tree_on (carried_out found_trees items_of_plan) side) path
+      now_is Left = ap (λ t. subtree t.left path) trees_are
+      now_is Right = ap (λ t. subtree t.right path) trees_are

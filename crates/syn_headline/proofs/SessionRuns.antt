@@ -8,7 +8,7 @@ use Rattle.std.proofs.lemmas.List.Elements.{All-nil, filter_map-append}
 use Rattle.std.proofs.lemmas.Option.{none-some}
 use Rattle.syn_model.specs.Path.{Path}
 use Rattle.syn_model.specs.Tree.{IsTree, subtree}
-use Rattle.syn_model.specs.Mark.{mark, mark_of, AreApart}
+use Rattle.syn_model.specs.Mark.{mark_of, AreApart}
 use Rattle.syn_model.specs.Reconcile.{is_relevant}
 use Rattle.syn_model.specs.Event.{Began}
 use Rattle.syn_model.specs.History.{History, IsHistory, tree_of, tree_at}
@@ -23,7 +23,7 @@ use Rattle.syn_headline.specs.Picture.{stores_of}
 use Rattle.syn_headline.specs.Headline.{IsPair, BeganAfter, IsQuietSession, trees_of, HasCounts}
 use Rattle.syn_headline.specs.Headline.{IsStart, StandsFor, CompleteSessionsSynchronize}
 use Rattle.syn_headline.specs.Headline.{CompleteSessionsReconcile, ReportsItsConflicts}
-use Rattle.syn_headline.specs.Headline.{CountsItsItems}
+use Rattle.syn_headline.specs.Headline.{CountsItsItems, AreMarked}
 use Rattle.syn_headline.proofs.PictureRuns.{OfEachRun}
 use Rattle.syn_headline.proofs.Invariant.{Plans, histories_of, IsKept}
 use Rattle.syn_model.proofs.MarkLemmas.{get-mark}
@@ -202,10 +202,10 @@ module _ (old new : Picture) (s : IsStart old) (g : FollowsAll old new) where
     pub marks_alike : (path : Path) →
         is_relevant (tree_of found.left) (tree_of found.right) path ≡ true →
         subtree (tree_of found.left) path ≡ subtree (tree_of found.right) path →
-        subtree left.archive.marks path ≡ mark (subtree (tree_of found.left) path)
+        AreMarked left path (subtree (tree_of found.left) path)
     marks_alike path relevant same =
-        ap (λ w. subtree w.archive.marks path) q.at_end
-        ∙ (told.worth found archive_is left_began right_began).3 path relevant same
+        subst (λ w. AreMarked w path (subtree (tree_of found.left) path)) (sym q.at_end)
+        ((told.worth found archive_is left_began right_began).3 path relevant same)
 
 -- a complete session without edits leaves the synchronization of what it found
 pub runs_synchronize : OfEachRun CompleteSessionsSynchronize

@@ -13,7 +13,7 @@ use Rattle.syn_headline.specs.Coordinator.{asked_count, asking, hearing, numbere
 use Rattle.syn_headline.specs.Coordinator.{CoordinatorMachine, Call, CoordinatorTakes, Takes, takes}
 use Rattle.syn_headline.specs.Coordinator.{ignores, ends_at_once, stops, ends, goes_on}
 use Rattle.syn_headline.specs.World.{World, Delivers, to_coordinator}
-use Rattle.syn_headline.specs.Reported.{TakesExpected}
+use Rattle.syn_headline.specs.Delivered.{TakesExpected}
 use Rattle.syn_headline.proofs.Heard.{sent_at}
 use Rattle.syn_headline.proofs.FineRuns.{follows, start_view}
 use Rattle.syn_headline.specs.Runs.{picture_of}

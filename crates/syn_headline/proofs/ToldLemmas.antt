@@ -7,7 +7,7 @@ use Rattle.std.proofs.lemmas.List.Elements.{All-weaker, Contains-append_cases, C
 use Rattle.std.proofs.Math.Seq.{take-length}
 use Rattle.syn_model.specs.Path.{Path}
 use Rattle.syn_model.specs.Tree.{IsTree, subtree}
-use Rattle.syn_model.specs.Mark.{mark, AreApart}
+use Rattle.syn_model.specs.Mark.{AreApart}
 use Rattle.syn_model.specs.Reconcile.{is_relevant}
 use Rattle.syn_model.specs.Event.{Began}
 use Rattle.syn_model.specs.History.{History, tree_of}
@@ -24,7 +24,7 @@ use Rattle.syn_headline.specs.Picture.{Counts, IsSettled, Picture, SessionPictur
 use Rattle.syn_headline.specs.Picture.{IsDueAfter, HasPlan, GoesOnFrom, plan_of, AllCanKeep}
 use Rattle.syn_headline.specs.Picture.{CoordinatorGoes, Reports, Ends, EndsUnanswered}
 use Rattle.syn_headline.specs.Headline.{IsNoEdit, BeganAfter, trees_of, HasCounts, PlansWith}
-use Rattle.syn_headline.specs.Headline.{StandsFor}
+use Rattle.syn_headline.specs.Headline.{StandsFor, AreMarked}
 use Rattle.syn_headline.proofs.Invariant.{Plans, histories_of, IsKept}
 use Rattle.syn_headline.proofs.SideRuns.{Advances}
 use Rattle.syn_headline.proofs.CourseLemmas.{Course, beside, starts, ticks, takes}
@@ -32,7 +32,7 @@ use Rattle.syn_headline.proofs.CompleteLemmas.{IsRecordDue, carried, alike, mark
 use Rattle.syn_headline.proofs.UnderwayLemmas.{IsQuietPlan, IsUnderway, underway_records}
 use Rattle.syn_headline.proofs.KeptLemmas.{IsNoSession, since_last}
 use Rattle.syn_headline.proofs.ReportLemmas.{synchronized, reconciled, conflicts_reported}
-use Rattle.syn_headline.proofs.ReportLemmas.{counts_reported, alike_marked}
+use Rattle.syn_headline.proofs.ReportLemmas.{counts_reported, alike_marked, alike_stays}
 use Rattle.syn_headline.proofs.SoundLemmas.{only_one}
 use Rattle.syn_headline.proofs.WatchLemmas.{all_kept, RunsWell, plan_then, due_then, goes_kept}
 
@@ -48,8 +48,8 @@ IsWorth preference before acks report earlier =
     × ((path : Path) → Contains report.conflicts path
     ↔ IsConflict preference (tree_of found.left) (tree_of found.right) found.archive.marks path)
     × ((path : Path) → is_relevant (tree_of found.left) (tree_of found.right) path ≡ true →
-    subtree (tree_of found.left) path ≡ subtree (tree_of found.right) path → subtree
-    (stores_after before acks).archive.marks path ≡ mark (subtree (tree_of found.left) path))
+    subtree (tree_of found.left) path ≡ subtree (tree_of found.right) path →
+    AreMarked (stores_after before acks) path (subtree (tree_of found.left) path))
     × HasCounts preference found report
 
 pub record IsTold (before : Stores) (log : Log) (acks : List Ack) (report : Report) : Type 0 where
@@ -228,14 +228,23 @@ module _ (before : Stores) (whole : IsTree before.archive.marks)
         has_marked : (path : Path) →
             is_relevant (tree_of found.left) (tree_of found.right) path ≡ true →
             subtree (tree_of found.left) path ≡ subtree (tree_of found.right) path →
-            subtree (archive_of before.archive (all_kept new)).marks path
-            ≡ mark (subtree (tree_of found.left) path)
-        has_marked =
-            alike_marked (old.log ++ logged) before.archive whole shallow plans
-            (histories_of old) old.coordinator.archive old.sent k.sound
-            (all_kept new) can r.session plan after quiet_made report settled_then
-            (ends.complete complete).1 (ends.conflicts (ends.complete complete).0)
-            (history_of found) later split quiet
+            AreMarked (stores_after before new.acknowledged) path
+            (subtree (tree_of found.left) path)
+        has_marked path relevant same = record {
+          sides =
+              λ which. ap (λ h. subtree (tree_of h) path) (sym (history_then which))
+              ∙ alike_stays (old.log ++ logged) before.archive whole shallow plans
+              (histories_of old) old.coordinator.archive old.sent k.sound
+              (all_kept new) can r.session plan after quiet_made report settled_then
+              (ends.complete complete).1 (ends.conflicts (ends.complete complete).0)
+              (history_of found) later split quiet which path same;
+          archive =
+              alike_marked (old.log ++ logged) before.archive whole shallow plans
+              (histories_of old) old.coordinator.archive old.sent k.sound
+              (all_kept new) can r.session plan after quiet_made report settled_then
+              (ends.complete complete).1 (ends.conflicts (ends.complete complete).0)
+              (history_of found) later split quiet path relevant same;
+        }
 
     is_worth : IsWorth quiet_made.scans.preference before new.acknowledged report planned.earlier
     is_worth found archive_is left right =

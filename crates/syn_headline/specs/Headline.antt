@@ -186,9 +186,14 @@ pub record IsFetched (sent : Sent) (source : Which) (history : History) (session
   pub answered : WasAnswered sent source session (Fetch path position offset) (Piece total bytes)
   pub untouched : UntouchedSince position history path
 
--- What was carried is in the archive after each later complete session without edits, even if its
--- own record was lost, where nothing touched it since: on the source since it was fetched, and on
--- the target since it was replaced
+-- both sides have the part at the path, and the archive its marks
+pub record AreMarked (stores : Stores) (path : Path) (part : Tree) : Type 0 where
+  pub sides : (which : Which) → subtree (tree_of (history_of stores which)) path ≡ part
+  pub archive : subtree stores.archive.marks path ≡ mark part
+
+-- What was carried is on both sides and in the archive after each later complete session without
+-- edits, even if its own record was lost, where nothing touched it since: on the source since it
+-- was fetched, and on the target since it was replaced
 abbrev pub CarriedIsMarked : Stores → Picture → Type 0
 CarriedIsMarked before world =
     (side : Which) (first rest : History) (token : Token) (path : Path) (since : ℕ) (new : Tree)
@@ -197,7 +202,7 @@ CarriedIsMarked before world =
     All (λ event. touches event path ≡ false) rest →
     IsFetched world.sent (other side) (history_of found (other side)) token.session path →
     IsQuietSession before world.acknowledged world.reports report found after →
-    subtree after.archive.marks path ≡ mark new
+    AreMarked after path new
 
 -- It is marked too where the source had it at a position, in a directory, and nothing touched it
 -- there since: so also what an earlier run carried, of whose messages nothing is left
@@ -211,7 +216,7 @@ HeldIsMarked before world =
     is_directory (tree_at source fetched) (parent path) ≡ true →
     new ≡ subtree (tree_at source fetched) path → UntouchedSince fetched source path →
     IsQuietSession before world.acknowledged world.reports report found after →
-    subtree after.archive.marks path ≡ mark new
+    AreMarked after path new
 
 -- The machines stand for what was there before and then what was acknowledged, in order
 pub record StandsFor (before : Stores) (world : Picture) : Type 0 where

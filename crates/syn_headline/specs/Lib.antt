@@ -13,4 +13,5 @@ pub mod World
 pub mod Headline
 pub mod Runs
 pub mod Reported
+pub mod Delivered
 pub mod Laws

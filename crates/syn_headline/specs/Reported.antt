@@ -6,17 +6,15 @@ use Rattle.syn_model.specs.Path.{Path}
 use Rattle.syn_model.specs.Refusal.{Refusal, Memory, Full, NoAnswer}
 use Rattle.syn_model.specs.Archive.{Archive, Kept, kept_refusal}
 use Rattle.syn_model.specs.Decision.{Conflict, path_of}
-use Rattle.syn_headline.specs.Side.{Request, Reply, Refused}
-use Rattle.syn_headline.specs.Network.{Which, Sent, Asks, Answers}
+use Rattle.syn_headline.specs.Side.{Refused}
+use Rattle.syn_headline.specs.Network.{Sent, Asks, Answers}
 use Rattle.syn_headline.specs.Acknowledged.{Stores, kept_in_session}
 use Rattle.syn_headline.specs.Planning.{Planned, Log}
 use Rattle.syn_headline.specs.Report.{is_kept}
 use Rattle.syn_headline.specs.Coordinator.{Exchange, Running, Walk, IsFor, Advances, EndsFor}
-use Rattle.syn_headline.specs.Coordinator.{fault_of, asked_of, plan_of, record_for, report_of}
+use Rattle.syn_headline.specs.Coordinator.{fault_of, plan_of, record_for, report_of}
 use Rattle.syn_headline.specs.Coordinator.{is_resent}
-use Rattle.syn_headline.specs.World.{World, Step, Deliver, Steps, Runs}
 use Rattle.syn_headline.specs.Picture.{Picture}
-use Rattle.syn_headline.specs.Runs.{IsStart}
 
 -- an item of a plan is settled: it is a conflict, or it was recorded, or refused
 pub data IsSettledBy (kept : List Kept) (refused : List (Refusal × Path)) (planned : Planned) :
@@ -86,15 +84,3 @@ EachReportTells before world =
     × (told.0 ≡ report_of running ended)
     × IsReportOf world.sent world.log (kept_in_session (take told.1 world.acknowledged)) running
     ended) world.reports
-
--- An answer that a session of a run waits for is taken: then its request waits no more, or the
--- session is over
-abbrev pub TakesExpected : Type 0
-TakesExpected = (start old new : World) (steps : List Step) (message : ℕ) (from : Which)
-    (number : ℕ) (reply : Reply) (running : Running) (request : Request) → IsStart start →
-    Runs start steps old → old.coordinator.running ≡ Some running →
-    asked_of running from number ≡ Some request →
-    slice_get old.sent message ≡ Some (Answers from running.session number reply) →
-    Steps old (Deliver message) new →
-    IfSome new.coordinator.running (λ later. (later.session ≡ running.session)
-    × (asked_of later from number ≡ None))

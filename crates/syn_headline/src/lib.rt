@@ -71,8 +71,9 @@
 //! From these steps follows what is proved of runs (`run_laws`, `session_laws`). Each replacement
 //! is legal, each archive entry was held, nothing was asked twice, and each plan is logged. Each
 //! report is that of a session of the run, with the causes of its end and of its refusals
-//! (`EachReportTells`). An answer that a session waits for is taken (`TakesExpected`). So does what
-//! a complete session leaves, reports, counts and marks. A layer owes nothing more for it. What it
+//! (`EachReportTells`). An answer that a session waits for is taken (`TakesExpected`). A replacement
+//! that a side has is answered done as long as it is the last, and old after that
+//! (`RepeatsAreAnswered`). So does what a complete session leaves, reports, counts and marks. A layer owes nothing more for it. What it
 //! leaves on the two sides (`synchronized`) has one premise. No two files that the session found at
 //! one path, one on each side, may have one digest and different bytes. What it leaves in the
 //! archive (`reconciled`), and all the others, have none.
@@ -88,7 +89,8 @@ ghost use Rattle.syn_headline.specs.Headline.{LogsPlans, Owes, CompleteSessionsS
 ghost use Rattle.syn_headline.specs.Headline.{CompleteSessionsReconcile, ReportsItsConflicts};
 ghost use Rattle.syn_headline.specs.Headline.{PreferenceLeavesOne, CountsItsItems, CarriedIsMarked};
 ghost use Rattle.syn_headline.specs.Headline.{HeldIsMarked};
-ghost use Rattle.syn_headline.specs.Reported.{EachReportTells, TakesExpected};
+ghost use Rattle.syn_headline.specs.Reported.{EachReportTells};
+ghost use Rattle.syn_headline.specs.Delivered.{RepeatsAreAnswered, TakesExpected};
 
 /// A step of a side leaves its history or adds one allowed event, and is the one that its staged
 /// bytes spell. It answers a fetch only where nothing touched the path since its position, and a
@@ -118,6 +120,7 @@ pub fn run_laws()
     ensures owe { OfEachRun Owes }
     ensures reports { OfEachRun EachReportTells }
     ensures taken { TakesExpected }
+    ensures repeats { RepeatsAreAnswered }
 {}
 
 /// In every run a complete session without edits leaves the synchronization of what it found and

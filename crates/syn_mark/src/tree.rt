@@ -8,7 +8,7 @@ ghost use Rattle.syn_model.specs.Tree.{Tree as Pairs, at_root, is_directory, is_
 ghost use Rattle.syn_model.specs.Tree.{empty_directory, subtree};
 ghost use Rattle.syn_model.specs.Mark.{IsMarks};
 ghost use Rattle.syn_model.specs.Limits.{children, fits_archive};
-ghost use Rattle.syn_placed.specs.Pairs.{is_below};
+ghost use Rattle.syn_placed.specs.Pairs.{is_below, within};
 ghost use Rattle.syn_tree.specs.Refusals.{refusal_of, refusal_in};
 ghost use Rattle.syn_model.specs.Refusal.{first_cause};
 ghost use Rattle.syn_model.specs.Standing.{place_causes};
@@ -138,6 +138,13 @@ impl MarkTree {
         }
     }
 
+    /// The marks at and below the path, in path order; nothing where nothing is. It takes no memory.
+    pub fn subtree(&self, path: &Path) -> &[MarkEntry]
+        ensures { result.now ≡ within path.now (entries self.now) }
+    {
+        part_at(&self.list, path.names())
+    }
+
     /// What stands below the path, without what is at it, in path order; nothing where no directory
     /// is there.
     pub fn below(&self, path: &Path) -> &[MarkEntry]
@@ -180,8 +187,9 @@ impl MarkTree {
         Ok(MarkTree { list })
     }
 
-    /// The marks at and below the path; none where nothing is. Refused 11 where memory is refused.
-    pub fn subtree(&self, alloc: Global, path: &Path) -> Result<Option<MarkTree>, TreeError>
+    /// The marks at and below the path, on their own; none where nothing is. Refused 11 where
+    /// memory is refused.
+    pub fn copy_at(&self, alloc: Global, path: &Path) -> Result<Option<MarkTree>, TreeError>
         ensures ok { IfOk result (λ marks. or_absent marks ≡ subtree self.now path.now) }
         ensures memory { IfErr result (λ e. (e ≡ TreeError.Memory)
             × (get self.now path.now ≢ None)) }

@@ -21,7 +21,7 @@ use std::marker::Model;
 use syn_mark::{Mark, MarkEntry, MarkTree};
 use syn_path::Path;
 use syn_placed::Standing;
-use syn_placed::list::{count_before, parent_names, part_at};
+use syn_placed::list::{count_before, parent_names};
 
 /// What a side showed in a session: the marks of its tree, each listed directory with the position
 /// of its listing, and each path that was answered as no directory. Contracts see it as that.
@@ -81,7 +81,7 @@ impl Scan {
     pub fn marks(&self, path: &Path) -> &[MarkEntry]
         ensures { result.now ≡ within path.now (entries self.now.marks) }
     {
-        part_at(self.marks.as_slice(), path.names())
+        self.marks.subtree(path)
     }
 
     /// The position at which the path's parent was listed, the root's at the root; none where it

@@ -65,7 +65,7 @@ pub(crate) fn copy_marks(
     ensures ok { IfOk result (λ marks. or_absent marks ≡ subtree from.now.marks path.now) }
     ensures memory { IfErr result (λ e. e ≡ SessionError.Memory) }
 {
-    match from.tree().subtree(alloc, path) {
+    match from.tree().copy_at(alloc, path) {
         Ok(marks) => Ok(marks),
         Err(_) => Err(SessionError::Memory),
     }

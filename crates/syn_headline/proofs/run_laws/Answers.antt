@@ -3,6 +3,7 @@ use Rattle.syn_headline.proofs.FormattedLemmas.{formatted_is_pair}
 use Rattle.syn_headline.proofs.FineRuns.{replace_legally, use_tokens_once, hold_archive, leave_pair}
 use Rattle.syn_headline.proofs.FineRuns.{is_pictured, log_plans, owe, recover_legally, tell_reports}
 use Rattle.syn_headline.proofs.TakenAnswers.{take_expected}
+use Rattle.syn_headline.proofs.RepeatRuns.{answer_repeats}
 use Rattle.syn_headline.proofs.run_laws.Goals as goal
 
 pub returns-clause-pictured : goal.returns-clause-pictured
@@ -40,3 +41,6 @@ returns-clause-reports c = tell_reports
 
 pub returns-clause-taken : goal.returns-clause-taken
 returns-clause-taken c = take_expected
+
+pub returns-clause-repeats : goal.returns-clause-repeats
+returns-clause-repeats c = answer_repeats
