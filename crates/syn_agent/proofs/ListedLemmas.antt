@@ -20,6 +20,7 @@ use Rattle.std.specs.declared.cmp.Ordering.{Ordering}
 use Rattle.syn_agent.specs.inner.Lawful.{ListsLawfully}
 use Rattle.syn_mark.specs.Marks.{IsDigestOrDirectory}
 use Rattle.syn_message.specs.Listings.{AreRising, IsEntry, IsListing}
+use Rattle.syn_model.proofs.SyncLemmas.{directory_is}
 use Rattle.syn_model.specs.Laws.{MarkHas}
 use Rattle.syn_model.specs.Limits.{children, fits_content, fits_part, fits_paths, greatest_spelling}
 use Rattle.syn_model.specs.Limits.{fits_replica, only_name, tree_spelling_length}
@@ -254,11 +255,6 @@ found_passes test at content (pair ∷ pairs) is all = by (eq_by_cmp path_cmp at
 
 within : (n : ℕ) → nat_le n 256 ≡ true → n ≤ 256
 within n is = grind (arith, nat_tests)
-
-directory_is : (o : Option Content) → is_directory_content o ≡ true → o ≡ Some Directory
-directory_is None is = absurd (let k : false ≡ true = is in cc)
-directory_is (Some Directory) is = refl
-directory_is (Some (File contents)) is = absurd (let k : false ≡ true = is in cc)
 
 few : (tree : Tree) (path : Path) → fits_part tree ≡ true → is_directory tree path ≡ true
     → length (children tree path) ≤ 256

@@ -8,6 +8,7 @@ use Rattle.syn_model.specs.ArchiveImage.{ArchiveStandsFor, ArchiveStandsForIn}
 use Rattle.syn_model.specs.Version.{Version, One, current_version}
 use Rattle.syn_journal.specs.Journal as journal
 use Rattle.syn_journal.specs.Layout.{Value, Fault, meaning}
+use Rattle.syn_journal.proofs.Meanings.{no_value, one_value}
 use Rattle.syn_journal.specs.Refusals as journal_refusals
 use Rattle.syn_journal.specs.declared.error.JournalError.{JournalError}
 use Rattle.syn_journal.specs.declared.error.JournalError.TheVariants as refused_by
@@ -174,14 +175,6 @@ one_given one version image payloads a b h k s t =
     t in
     same_agreed a b both.0 both.1
 
--- a disk means one value
-pub one_value : (d : Result Value Fault) (a b : Value) → d ≡ Ok a → d ≡ Ok b → a ≡ b
-one_value d a b x y = ap (λ r. value_or r a) (sym x ∙ y)
-  where
-    value_or : Result Value Fault → Value → Value
-    value_or (Ok value) other = value
-    value_or (Err fault) other = other
-
 -- what an archive shows is that of its journal's value, and so the archive stands for it
 pub stands_shown : {D : Type 0} {disk : Ghosts D} (archive : Archive D disk) (value : Value) →
     journal.Stands (journal_of archive) value →
@@ -214,16 +207,6 @@ pub keeps_stands : {pair : ℕ} {archive : model.Archive} {left generation : ℕ
     DiskKeeps pair archive left generation bytes → DiskStands pair bytes archive
 keeps_stands keeps =
     record { value = keeps.value; means = keeps.journal.means; stands = keeps.stands }
-
--- a value is no fault
-is_ok : Result Value Fault → Bool
-is_ok (Ok value) = true
-is_ok (Err fault) = false
-
-pub no_value : (d : Result Value Fault) (value : Value) (fault : Fault) → d ≡ Ok value →
-    d ≡ Err fault → ⊥
-unfolding is_ok
-no_value d value fault a b = true≢false (ap is_ok (sym a ∙ b))
 
 -- the wanted pair is no other
 not_other : OneStands → (wanted : Option ℕ) (value : Value) (number : ℕ) (kept : model.Archive) →

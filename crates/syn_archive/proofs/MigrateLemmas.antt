@@ -35,9 +35,9 @@ use Rattle.syn_archive.specs.declared.error.ArchiveError.TheVariants.{NoParent, 
 use Rattle.syn_archive.specs.declared.error.ArchiveError.TheVariants.{JournalFull, Device, Halted}
 use Rattle.syn_archive.specs.declared.error.ArchiveError.TheVariants.{Memory, NoImage, Damaged}
 use Rattle.syn_archive.specs.declared.error.ArchiveError.TheVariants.{OldVersion, WrongPair}
-use Rattle.syn_archive.proofs.MeaningLemmas.{no_value, one_value}
+use Rattle.syn_journal.proofs.Meanings.{no_value, one_value}
 use Rattle.syn_archive.proofs.OpeningLemmas.{not_old}
-use Rattle.syn_archive.proofs.StandLemmas.{leaves_weaker}
+use Rattle.syn_disk.proofs.LeftLemmas.{leaves_weaker}
 
 -- ---- versions
 

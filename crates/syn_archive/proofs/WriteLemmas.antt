@@ -26,7 +26,8 @@ use Rattle.syn_archive.specs.declared.error.ArchiveError.TheVariants.{NoParent, 
 use Rattle.syn_archive.specs.declared.error.ArchiveError.TheVariants.{JournalFull, Device, Halted}
 use Rattle.syn_archive.specs.declared.error.ArchiveError.TheVariants.{Memory, NoImage, Damaged}
 use Rattle.syn_archive.specs.declared.error.ArchiveError.TheVariants.{OldVersion, WrongPair}
-use Rattle.syn_archive.proofs.StandLemmas.{leaves_weaker, left_behind, payload_keeps, stop_keeps}
+use Rattle.syn_archive.proofs.StandLemmas.{left_behind, payload_keeps, stop_keeps}
+use Rattle.syn_disk.proofs.LeftLemmas.{leaves_weaker}
 
 -- ---- of a result
 

@@ -13,7 +13,7 @@ use Rattle.syn_model.specs.Image.{replica_front}
 use Rattle.syn_model.specs.MarkSpelling.{archive_front}
 use Rattle.syn_model.specs.Path.{Bytes}
 use Rattle.syn_model.specs.Version.{Version, One}
-use Rattle.syn_replica.proofs.MeaningLemmas.{one_value}
+use Rattle.syn_journal.proofs.Meanings.{one_value}
 use Rattle.syn_replica.specs.Disks as replica
 use Rattle.syn_replica.specs.Migrating.{OrBefore}
 

@@ -7,7 +7,8 @@ use Rattle.syn_disk.specs.Stops.{LeavesOnly}
 use Rattle.syn_disk.specs.declared.disk.Disk.{Ghosts}
 use Rattle.syn_model.specs.Event.{Event}
 use Rattle.syn_model.specs.History.{History}
-use Rattle.syn_replica.proofs.StandLemmas.{keeps_now, keeps_stands, leaves_weaker, not_written}
+use Rattle.syn_replica.proofs.StandLemmas.{keeps_now, keeps_stands, not_written}
+use Rattle.syn_disk.proofs.LeftLemmas.{leaves_weaker}
 use Rattle.syn_replica.specs.Disks.{DiskStands}
 use Rattle.syn_replica.specs.Growth.{IsGrown}
 use Rattle.syn_replica.specs.Replica.{KeepsBeforeOrAfter, KeepsOrCompacts, Stands, disk_of, pair_of}

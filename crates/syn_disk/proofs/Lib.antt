@@ -1,5 +1,6 @@
 mod Flags
 pub mod Joined
+pub mod LeftLemmas
 pub mod Moments
 pub mod Overwritten
 pub mod Padding

@@ -11,7 +11,8 @@ use Rattle.syn_model.specs.Version.{Version}
 use Rattle.syn_wire.specs.Events.{Both, both_spelling, number64_spelling}
 use Rattle.syn_wire.specs.Marks.{IsMarkTreeIn, IsOptionalMarkTreeIn, NoMarksBeginOthers}
 use Rattle.syn_wire.specs.Reads.{BeginsWith, IsReading}
-use Rattle.syn_wire.proofs.NameLemmas.{first_or, rest_of, paths_tell}
+use Rattle.syn_wire.proofs.EventLemmas.{other_kind}
+use Rattle.syn_wire.proofs.NameLemmas.{rest_of, paths_tell}
 use Rattle.syn_wire.proofs.NumberLemmas.{u64_tells}
 use Rattle.syn_wire.proofs.Sequences.{both_tell}
 use Rattle.syn_image.specs.Archives.{IsKeptInEach, IsSpelledArchive, IsSpelledKept, spelled_archive}
@@ -26,9 +27,6 @@ IsRecorded version = Both IsPath (IsOptionalMarkTreeIn version)
 
 abbrev pub recorded_spelling : Version → Path × Tree → Bytes
 recorded_spelling version = both_spelling path_spelling (mark_spelling_in version)
-
-other_kind : {X : Type 0} (a b : ℕ) (x y : Bytes) → a ≢ b → a ∷ x ≡ b ∷ y → X
-other_kind a b x y differ e = absurd (differ (ap (λ z. first_or z 0) e))
 
 pub kept_tells : NoMarksBeginOthers → NoKeptBeginsAnother
 kept_tells marks version (Session v) (Session w) r s hv hw e =

@@ -3,7 +3,7 @@ pub mod Calls
 mod Checkpoints
 mod Commits
 mod Formats
-mod Meanings
+pub mod Meanings
 pub mod Moments
 mod Parts
 mod Openings

@@ -1,6 +1,7 @@
 -- What a disk whose current half is whole stands for.
 use Rattle.std.proofs.Common.{◌≡◌, ℕ, ◌+◌, ◌-◌, ◌≤◌, Bool, true, leb, List, ◌∷◌, ◌++◌, length}
 use Rattle.std.proofs.Common.{get_or, take, drop, Some, Ok, refl, sym, ◌∙◌, ap, subst, arith}
+use Rattle.std.proofs.Common.{Result, false, true≢false}
 use Rattle.std.proofs.Common.{length-append, length-take, length-drop, take-append-drop}
 use Rattle.std.proofs.lemmas.List.{append_assoc, drop-drop, drop_more}
 use Rattle.std.proofs.lemmas.Bool.Decides.{nat_tests}
@@ -12,13 +13,30 @@ use Rattle.syn_disk.specs.declared.disk.TheConstants.{DISK_SIZE}
 use Rattle.syn_journal.specs.declared.half.Half.{Half}
 use Rattle.syn_journal.specs.declared.half.Half.TheVariants.{First, Second}
 use Rattle.syn_journal.specs.Layout.{half_size, longest_image, start_of, other_half, is_open}
-use Rattle.syn_journal.specs.Layout.{HasJournal, Value, damaged, records, image_length_at}
+use Rattle.syn_journal.specs.Layout.{HasJournal, Value, Fault, damaged, records, image_length_at}
 use Rattle.syn_journal.specs.Layout.{with_image, bytes_from, value_at, value_in, meaning}
 use Rattle.syn_journal.specs.Layout.{records_of, spelled}
 use Rattle.syn_journal.specs.inner.Whole.{IsWhole, IsInStep}
 use Rattle.syn_journal.specs.Layout.{value_or_empty}
 use Rattle.syn_journal.proofs.Parts.{next_part, take_over}
 use Rattle.syn_journal.proofs.Records.{records_read}
+
+-- a disk means one value
+pub one_value : (d : Result Value Fault) (a b : Value) → d ≡ Ok a → d ≡ Ok b → a ≡ b
+one_value d a b x y = ap (λ r. value_or r a) (sym x ∙ y)
+  where
+    value_or : Result Value Fault → Value → Value
+    value_or (Ok value) other = value
+    value_or (Err fault) other = other
+
+-- and a value is no fault
+pub no_value : (d : Result Value Fault) (value : Value) (fault : Fault) → d ≡ Ok value →
+    d ≡ Err fault → ⊥
+no_value d value fault a b = true≢false (ap is_ok (sym a ∙ b))
+  where
+    is_ok : Result Value Fault → Bool
+    is_ok (Ok value) = true
+    is_ok (Err fault) = false
 
 pub within_disk : (half : Half) (size : ℕ) → size ≡ DISK_SIZE → start_of half + half_size ≤ size
 within_disk First size is = omega arith

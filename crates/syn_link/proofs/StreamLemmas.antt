@@ -5,16 +5,10 @@ use Rattle.std.proofs.Common.{append_assoc, arith}
 use Rattle.std.proofs.lemmas.List.Elements.{All-tail}
 use Rattle.std.proofs.Math.Seq.{take-append_seam, drop-append_seam}
 use Rattle.std.specs.Int.{w32, to_be_bytes}
+use Rattle.syn_model.proofs.SpellingLemmas.{split}
 use Rattle.syn_wire.specs.Reads.{NoneBeginsAnother}
 use Rattle.syn_link.specs.Frames.{Bytes, IsBody, frame_of, HasNoFrame, CutsDoNotMatter}
 use Rattle.syn_link.proofs.FrameLemmas.{IsShort}
-
--- parts of one length that go on to the same bytes are one, and so is what follows
-split : (a b r s : Bytes) → length a ≡ length b → a ++ r ≡ b ++ s → (a ≡ b) × (r ≡ s)
-split a b r s size e = (
-  sym (take-append_seam a r) ∙ (ap₂ take size e ∙ take-append_seam b s),
-  sym (drop-append_seam a r) ∙ (ap₂ drop size e ∙ drop-append_seam b s),
-)
 
 module _ (tells : NoneBeginsAnother IsShort (to_be_bytes w32)) where
   frames_tell : (a b r s : Bytes) → IsBody a → IsBody b → frame_of a ++ r ≡ frame_of b ++ s →

@@ -25,7 +25,8 @@ find_later q e es h =
     ap (λ o. cond (is_eq o) (Some e.1) (find path_cmp q es))
     (path_total.antisymm q e.0 ∙ ap ordering_reverse (less_of (path_cmp e.0 q) h))
 
-after_more : (q p : Path) (es : Pairs) → path_cmp q p ≡ Less → After p es → After q es
+-- what comes after a path comes after those before it
+pub after_more : (q p : Path) (es : Pairs) → path_cmp q p ≡ Less → After p es → After q es
 after_more q p es less h =
     each-map (λ e. path_cmp p e.0 ≡ Less) (λ e. path_cmp q e.0 ≡ Less)
     (λ e k. path_total.trans q p e.0 less k) es h

@@ -2,6 +2,7 @@
 use Rattle.std.proofs.Common.{◌≡◌, ℕ, List, refl, sym, ap, ◌∙◌, subst, Option, Result, Ok, Err}
 use Rattle.std.proofs.Common.{true≢false, Bool, true, false, Some, inl, inr}
 use Rattle.syn_journal.specs.Layout.{Value, Fault, meaning}
+use Rattle.syn_journal.proofs.Meanings.{no_value, one_value}
 use Rattle.syn_journal.specs.Refusals as journal
 use Rattle.syn_journal.specs.declared.error.JournalError.{JournalError}
 use Rattle.syn_journal.specs.declared.error.JournalError.TheVariants as refused
@@ -17,22 +18,6 @@ use Rattle.syn_standing.specs.declared.error.ReplicaError.TheVariants.{Damaged, 
 use Rattle.syn_standing.specs.declared.error.ReplicaError.TheVariants.{OldVersion}
 use Rattle.syn_replica.specs.declared.remembered.Remembered.{Remembered}
 use Rattle.syn_replica.proofs.VersionLemmas.{not_old}
-
-is_ok : Result Value Fault → Bool
-is_ok (Ok value) = true
-is_ok (Err fault) = false
-
-pub no_value : (d : Result Value Fault) (value : Value) (fault : Fault) → d ≡ Ok value →
-    d ≡ Err fault → ⊥
-unfolding is_ok
-no_value d value fault a b = true≢false (ap is_ok (sym a ∙ b))
-
-pub one_value : (d : Result Value Fault) (a b : Value) → d ≡ Ok a → d ≡ Ok b → a ≡ b
-one_value d a b x y = ap (λ r. value_or r a) (sym x ∙ y)
-  where
-    value_or : Result Value Fault → Value → Value
-    value_or (Ok value) other = value
-    value_or (Err fault) other = other
 
 -- what a journal refuses, a replica does
 pub journal_refusal : (e : JournalError) (wanted : Option ℕ) (bytes : List ℕ) →

@@ -14,7 +14,7 @@ use Rattle.syn_standing.specs.declared.error.ReplicaError.TheVariants.{WrongPair
 use Rattle.syn_replica.specs.Disks.{DiskStandsIn, IsOldDisk, IsUnlawful, MeansNothingIn}
 use Rattle.syn_replica.specs.Migrating.{IsMigrateRefusal, IsOldAndFull}
 use Rattle.syn_replica.specs.Refusals.{IsOneOf, greatest_refusals, lawful_refusals}
-use Rattle.syn_replica.proofs.MeaningLemmas.{no_value, one_value}
+use Rattle.syn_journal.proofs.Meanings.{no_value, one_value}
 use Rattle.syn_replica.proofs.VersionLemmas.{not_old, old_of}
 
 -- ---- why a disk that stands for a history is not migrated

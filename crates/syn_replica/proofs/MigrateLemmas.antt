@@ -32,7 +32,7 @@ use Rattle.syn_replica.specs.declared.remembered.Remembered.{Remembered}
 use Rattle.syn_replica.specs.declared.replica.Replica.{Replica}
 use Rattle.syn_replica.specs.inner.Memories.{GivesOld, IsUnreadOld, image_of}
 use Rattle.syn_replica.proofs.MeaningLemmas.{old_value}
-use Rattle.syn_replica.proofs.StandLemmas.{leaves_weaker}
+use Rattle.syn_disk.proofs.LeftLemmas.{leaves_weaker}
 use Rattle.syn_replica.proofs.VersionLemmas.{not_old, old_of}
 
 -- ---- versions

@@ -28,7 +28,8 @@ use Rattle.syn_standing.specs.declared.error.ReplicaError.TheVariants.{Journal, 
 use Rattle.syn_standing.specs.declared.error.ReplicaError.TheVariants.{OldSession, Damaged}
 use Rattle.syn_standing.specs.declared.error.ReplicaError.TheVariants.{WrongPair, OldVersion}
 use Rattle.syn_replica.proofs.GrowthLemmas.{disk_keeps}
-use Rattle.syn_replica.proofs.MeaningLemmas.{no_value, one_value, reopen_refusal}
+use Rattle.syn_journal.proofs.Meanings.{no_value, one_value}
+use Rattle.syn_replica.proofs.MeaningLemmas.{reopen_refusal}
 
 asked_is : (a b : ℕ) → Some a ≡ Some b → a ≡ b
 asked_is a b e = cc e

@@ -21,7 +21,7 @@ use Rattle.syn_replica.specs.declared.replica.Replica.{Replica}
 use Rattle.syn_replica.specs.inner.Memories.{Gives as Given}
 use Rattle.syn_replica.specs.Replica.{Remembers, Stands, standing_shown, pair_of, journal_of}
 use Rattle.syn_replica.specs.Replica.{disk_of, left_shown, generation_shown}
-use Rattle.syn_replica.proofs.MeaningLemmas.{one_value}
+use Rattle.syn_journal.proofs.Meanings.{one_value}
 
 -- the payload of an allowed event takes the value one event on
 pub payload_stands : PayloadGoesOn → (pair : ℕ) (value : Value) (payload : Bytes)
@@ -50,18 +50,6 @@ stop_keeps goes_on less pair value payload history event left generation stands 
       stands = payload_stands goes_on pair value payload history event stands allowed e;
       left_is = less value payload ∙ ap₂ (λ n p. n - record_size p) same e;
     })
-
--- what a stop leaves has more than was said of it
-pub leaves_weaker : {D : Type 0} (moment : D → ℕ) (left_since : D → ℕ → List ℕ → Type 0)
-    (old new : D) (P Q : List ℕ → Type 0) → ((c : List ℕ) → P c → Q c) →
-    LeavesOnly moment left_since old new P → LeavesOnly moment left_since old new Q
-leaves_weaker moment left_since old new P Q f l = record {
-  later = l.later;
-  each = λ c left. f c (l.each c left);
-  before =
-      λ t c le left. elim (l.before t c le left) as (λ _. left_since old t c ⊎ Q c)
-      [ inl was ↦ inl was | inr p ↦ inr (f c p) ];
-}
 
 -- an image of what is kept, and no payload
 pub image_stands : ImageStands → (pair : ℕ) (history : History) (standing : Standing)
@@ -167,12 +155,3 @@ pub keeps_stands : {pair : ℕ} {history : History} {left generation : ℕ} {byt
     DiskKeeps pair history left generation bytes → DiskStands pair bytes history
 keeps_stands keeps =
     record { value = keeps.value; means = keeps.journal.means; stands = keeps.stands }
-
--- what a read gives after a call is among what a stop leaves of it
-pub seen_is_left : {D : Type 0} (seen : D → List ℕ) (may_leave : D → List ℕ → Type 0)
-    (moment : D → ℕ) (left_since : D → ℕ → List ℕ → Type 0) →
-    ((disk : D) → may_leave disk (seen disk)) → ((disk : D) (t : ℕ) (bytes : List ℕ) →
-    t ≤ moment disk → may_leave disk bytes → left_since disk t bytes) → (old new : D)
-    (P : List ℕ → Type 0) → LeavesOnly moment left_since old new P → P (seen new)
-seen_is_left seen may_leave moment left_since stays counts old new P leaves =
-    leaves.each (seen new) (counts new (moment old) (seen new) leaves.later (stays new))

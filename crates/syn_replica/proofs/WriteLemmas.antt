@@ -17,7 +17,8 @@ use Rattle.syn_replica.specs.Replica.{KeepsBeforeOrAfter, Stands, disk_of, gener
 use Rattle.syn_replica.specs.Replica.{journal_of, left_shown, pair_of, standing_shown}
 use Rattle.syn_replica.specs.declared.replica.Replica.{Replica}
 use Rattle.syn_replica.specs.inner.Memories.{StepsBy}
-use Rattle.syn_replica.proofs.StandLemmas.{leaves_weaker, left_behind, payload_stands}
+use Rattle.syn_replica.proofs.StandLemmas.{left_behind, payload_stands}
+use Rattle.syn_disk.proofs.LeftLemmas.{leaves_weaker}
 use Rattle.syn_replica.proofs.StandLemmas.{remembers_more, stop_keeps}
 
 module _ {D : Type 0} {disk : Ghosts D} (old new : Replica D disk) (payload : Bytes)

@@ -15,14 +15,9 @@ use Rattle.syn_model.proofs.TreeLemmas.{get-subtree}
 use Rattle.syn_placed.specs.Pairs.{Pairs, is_below, under, within, spelling_length}
 use Rattle.syn_placed.specs.Pairs.{pair_spelling_length}
 use Rattle.syn_placed.proofs.BelowLemmas.{without_first}
-use Rattle.syn_placed.proofs.FindLemmas.{find_after}
+use Rattle.syn_placed.proofs.FindLemmas.{after_more, find_after}
 use Rattle.syn_placed.proofs.RisingLemmas.{Rising, After, each-map}
 use Rattle.syn_placed.proofs.TreeLemmas.{rising-entries, within-taken, entries-subtree}
-
-pub after_more : (q p : Path) (es : Pairs) → path_cmp q p ≡ Less → After p es → After q es
-after_more q p es less h =
-    each-map (λ e. path_cmp p e.0 ≡ Less) (λ e. path_cmp q e.0 ≡ Less)
-    (λ e k. path_total.trans q p e.0 less k) es h
 
 -- a tree is what stands at its root, and the parts at its names
 pub record IsRooted (t : Tree) (c : Content) : Type 0 where

@@ -110,7 +110,7 @@ replacement_parts version token path since new rest =
 
 -- ---- kinds
 
-other_kind : {X : Type 0} (a b : ℕ) (x y : Bytes) → a ≢ b → a ∷ x ≡ b ∷ y → X
+pub other_kind : {X : Type 0} (a b : ℕ) (x y : Bytes) → a ≢ b → a ∷ x ≡ b ∷ y → X
 other_kind a b x y differ e = absurd (differ (ap (λ z. first_or z 0) e))
 
 -- the parts of a put in a row

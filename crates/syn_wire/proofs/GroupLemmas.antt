@@ -16,7 +16,8 @@ use Rattle.syn_placed.proofs.OrderLemmas.{not_before, between}
 use Rattle.syn_placed.proofs.RisingLemmas.{Rising, After, NoneOf, each-map, filter-drops}
 use Rattle.syn_placed.proofs.FindLemmas.{find_after}
 use Rattle.syn_placed.proofs.TreeLemmas.{rising-entries, within-taken, entries-subtree, taken}
-use Rattle.syn_tree.proofs.RootedLemmas.{is_rooted, after_more}
+use Rattle.syn_placed.proofs.FindLemmas.{after_more}
+use Rattle.syn_tree.proofs.RootedLemmas.{is_rooted}
 
 -- the names in a directory, of the pairs below it
 abbrev pub tops : Pairs → List (Name × Content)

@@ -1,6 +1,6 @@
 use Rattle.std.proofs.Common.{◌≡◌, ◌++◌, ◌∷◌, ◌∙◌, [], inl, take, ap, subst}
 use Rattle.std.proofs.lemmas.Result.{err_from_is_err_and}
-use Rattle.syn_replica.proofs.StandLemmas.{leaves_weaker}
+use Rattle.syn_disk.proofs.LeftLemmas.{leaves_weaker}
 use Rattle.syn_replica.proofs.RoomLemmas.{refused_at}
 use Rattle.syn_model.specs.Event.{Edit, Edited}
 use Rattle.syn_model.specs.History.{IsHistory, event_refusal, standing_of}

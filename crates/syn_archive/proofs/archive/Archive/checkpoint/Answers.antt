@@ -13,7 +13,8 @@ use Rattle.syn_archive.specs.Archive.{KeepsOrCompacts, generation_shown, left_sh
 use Rattle.syn_archive.specs.Refusals.{refusal_of}
 use Rattle.syn_archive.specs.declared.error.ArchiveError.TheVariants.{Full, Halted}
 use Rattle.syn_archive.specs.inner.Agreements.{agreed_archive}
-use Rattle.syn_archive.proofs.StandLemmas.{image_keeps, left_behind, leaves_weaker, seen_is_left}
+use Rattle.syn_archive.proofs.StandLemmas.{image_keeps, left_behind}
+use Rattle.syn_disk.proofs.LeftLemmas.{leaves_weaker, seen_is_left}
 use Rattle.syn_archive.proofs.StandLemmas.{stop_compacts}
 use Rattle.syn_archive.proofs.EndLemmas.{calls_of, err_of, exactly_of, failures_of}
 use Rattle.syn_archive.proofs.EndLemmas.{of_checkpoint, unchanged_of}

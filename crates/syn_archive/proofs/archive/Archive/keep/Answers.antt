@@ -8,7 +8,8 @@ use Rattle.syn_archive.specs.Archive.{KeepsBeforeOrAfter, session_shown}
 use Rattle.syn_archive.specs.Refusals.{refusal_of}
 use Rattle.syn_archive.specs.declared.error.ArchiveError.TheVariants.{Halted}
 use Rattle.syn_archive.specs.inner.Keepings.{kept_in}
-use Rattle.syn_archive.proofs.StandLemmas.{keeps_now, not_written, seen_is_left}
+use Rattle.syn_archive.proofs.StandLemmas.{keeps_now, not_written}
+use Rattle.syn_disk.proofs.LeftLemmas.{seen_is_left}
 use Rattle.syn_archive.proofs.EndLemmas.{calls_of, exactly_of, failures_of}
 use Rattle.syn_archive.proofs.EndLemmas.{same_err, unchanged_of}
 use Rattle.syn_archive.proofs.KeepLemmas.{has_cause, is_full, is_halted, is_running, is_why}

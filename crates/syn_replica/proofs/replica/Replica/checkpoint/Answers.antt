@@ -16,7 +16,8 @@ use Rattle.syn_replica.specs.declared.replica.Replica.{Replica}
 use Rattle.syn_replica.specs.Refusals.{IsOneOf}
 use Rattle.syn_replica.proofs.GrowthLemmas.{broken, kept, of_checkpoint, stands_still, unmoved}
 use Rattle.syn_replica.proofs.RefusalLemmas.{is_among}
-use Rattle.syn_replica.proofs.StandLemmas.{image_stands, leaves_weaker, left_behind, seen_is_left}
+use Rattle.syn_replica.proofs.StandLemmas.{image_stands, left_behind}
+use Rattle.syn_disk.proofs.LeftLemmas.{leaves_weaker, seen_is_left}
 use Rattle.syn_replica.proofs.StandLemmas.{stop_compacts}
 use Rattle.syn_replica.proofs.replica.Replica.checkpoint.Goals as goal
 

@@ -5,7 +5,7 @@ use Rattle.syn_model.specs.Standing.{Standing}
 use Rattle.syn_replica.specs.Replica.{KeepsBeforeOrAfter, position_shown}
 use Rattle.syn_replica.specs.declared.replica.Replica.{Replica}
 use Rattle.syn_replica.proofs.GrowthLemmas.{added, broken, kept, of_write, one_more, stands_still}
-use Rattle.syn_replica.proofs.StandLemmas.{seen_is_left}
+use Rattle.syn_disk.proofs.LeftLemmas.{seen_is_left}
 use Rattle.syn_replica.proofs.WriteLemmas.{written_moment, written_stands}
 use Rattle.syn_replica.proofs.replica.Replica.commit.Goals as goal
 
