@@ -9,6 +9,7 @@ ghost use Rattle.syn_model.specs.Decision.{Conflict, path_of};
 ghost use Rattle.syn_refusal.specs.Refusals.{cause_of};
 ghost use Rattle.syn_scan.specs.Found.{Found};
 
+use crate::carried::copy_path;
 use crate::course::Course;
 use crate::error::SessionError;
 use std::alloc::Global;
@@ -56,7 +57,8 @@ impl Course {
         Ok(())
     }
 
-    /// Past the item that it has come to, which is refused so. Refused 11 where memory is refused.
+    /// Past the item that it has come to, if any is left, which is refused so. Refused 11 where
+    /// memory is refused.
     pub fn refuse(&mut self, alloc: Global, why: Refusal) -> Result<(), SessionError>
         ensures passes { (left right : Found) (reached : Reached) (planned : Planned)
             → IsCourse self.old left right reached
@@ -69,9 +71,9 @@ impl Course {
         ensures memory { IfErr result (λ e. e ≡ SessionError.Memory) }
     {
         let Some(item) = self.items.get(self.cursor) else {
-            return Err(SessionError::Memory);
+            return Ok(());
         };
-        let path = copied(alloc, item.path())?;
+        let path = copy_path(alloc, item.path())?;
         self.pass_refused(why, path)
     }
 
@@ -118,31 +120,16 @@ impl Course {
     }
 }
 
-/// The path once more. Refused 11 where memory is refused.
-fn copied(alloc: Global, path: &Path) -> Result<Path, SessionError>
-    ensures ok { IfOk result (λ copy. copy ≡ path.now) }
-    ensures memory { IfErr result (λ e. e ≡ SessionError.Memory) }
-{
-    match path.copy(alloc) {
-        Ok(copy) => Ok(copy),
-        Err(_) => Err(SessionError::Memory),
-    }
-}
-
 /// One more, as far as that fits.
 fn next_count(count: u32) -> u32
     ensures { count + 1 < 2 ^ 32 → result ≡ count + 1 }
 {
-    if count == u32::MAX { count } else { count + 1 }
+    count.saturating_add(1)
 }
 
 /// The next place, as far as that fits.
 fn next_place(place: usize) -> usize
     ensures { place < 2 ^ 32 → result ≡ place + 1 }
 {
-    if place == usize::MAX {
-        place
-    } else {
-        place + 1
-    }
+    place.saturating_add(1)
 }

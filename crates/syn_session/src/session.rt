@@ -183,7 +183,7 @@ impl Session {
         ensures preference { self.new.preference ≡ self.old.preference }
         ensures course { self.new.course ≡ self.old.course }
     {
-        self.is_unstable = either(self.is_unstable, is_no_directory);
+        self.is_unstable = self.is_unstable || is_no_directory;
     }
 
     /// Whether a request waits on the side.
@@ -323,13 +323,6 @@ fn planned_report(number: u64, is_unstable: bool, course: Course, ended: Option<
         conflicts: course.conflicts,
         refused: course.refused,
     }
-}
-
-/// One of the two holds.
-fn either(one: bool, other: bool) -> bool
-    ensures { result ≡ (one || other) }
-{
-    one || other
 }
 
 /// No directory is at the path that was to be listed.
