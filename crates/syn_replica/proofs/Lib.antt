@@ -13,3 +13,4 @@ pub mod SessionLemmas
 pub mod GrowthLemmas
 pub mod ReopenLemmas
 mod LawfulLemmas
+mod DigestLemmas

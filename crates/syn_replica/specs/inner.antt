@@ -1,3 +1,4 @@
 -- Definitions that no public clause reaches.
 pub mod Additions
 pub mod Memories
+pub mod Digests

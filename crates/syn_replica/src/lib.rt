@@ -33,7 +33,8 @@
 //!   refused 15 or 13 (`refused`, `cause`). A piece has at most 32,768 bytes, whatever the replica
 //!   stands for (`short`).
 //! - `listing` gives the names in a directory in byte order, each with its mark, and the position
-//!   (`marks`, `position`); 5 exactly where no directory is.
+//!   (`marks`, `position`); 5 exactly where no directory is. It keeps each digest that it
+//!   makes with the bytes that it is of, in a cell that no clause sees (`Digests`).
 //! - `checkpoint` leaves the same history standing, and its image alone in the journal
 //!   (`acknowledged`, `image`). At any moment of the call the disk stands for that history, as it
 //!   was kept or by the image alone with the next generation (`any_moment`, `seen`:
@@ -90,6 +91,7 @@
 //!   history.
 #![tactic(auto)]
 
+mod digests;
 mod lawful;
 mod remembered;
 mod replica;

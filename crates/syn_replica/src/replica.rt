@@ -28,8 +28,10 @@ ghost use Rattle.syn_standing.specs.Updates.{IsReady, IsOf, early_causes};
 ghost use Rattle.syn_replica.specs.inner.Additions.{add_refusal_at};
 ghost use Rattle.syn_wire.specs.Events.{IsShort};
 
+use crate::digests::Digests;
 use crate::remembered::Remembered;
 use std::alloc::Global;
+use std::cell::Cell;
 use syn_disk::Disk;
 use syn_history::Event;
 use syn_journal::{JournalError, layout_laws};
@@ -60,6 +62,8 @@ pub struct Replica<D: Disk> {
     machine: Journaled<D, Remembered>,
     /// How the event is spelled that was last sent to the disk.
     tried: Option<Vec<u8>>,
+    /// The digests of files that were listed, once any were. A listing alone looks into the cell.
+    digests: Cell<Option<Digests>>,
 }
 
 impl<D: Disk> Replica<D> {
@@ -102,6 +106,7 @@ impl<D: Disk> Replica<D> {
             Ok(machine) => Ok(Replica {
                 machine,
                 tried: None,
+                digests: Cell::new(None),
             }),
             Err(refused) => Err(refused),
         }
@@ -147,6 +152,7 @@ impl<D: Disk> Replica<D> {
             Ok(machine) => Ok(Replica {
                 machine,
                 tried: None,
+                digests: Cell::new(None),
             }),
             Err(refused) => Err(refused),
         }

@@ -7,10 +7,11 @@ ghost use Rattle.syn_mark.specs.Marks.{contents_in};
 ghost use Rattle.syn_replica.specs.Refusals.{IsOneOf, reading_refusals};
 
 use super::Replica;
+use crate::digests::Digests;
 use std::alloc::Global;
 use syn_disk::Disk;
 use syn_journal::JournalError;
-use syn_mark::{Mark, list_marks};
+use syn_mark::Mark;
 use syn_path::{Name, Path};
 use syn_standing::ReplicaError;
 use syn_tree::TreeError;
@@ -27,8 +28,11 @@ pub struct Listing {
 impl<D: Disk> Replica<D> {
     ghost use Rattle.syn_replica.specs.Replica.{tree_shown, position_shown, IsHalted};
 
-    /// The marks of what stands in the directory, with the position. Each file in it is hashed
-    /// once; the work grows with what is at and below the path, and not with the whole tree.
+    /// The marks of what stands in the directory, with the position. The work grows with what is at
+    /// and below the path, and not with the whole tree.
+    ///
+    /// A file is hashed when it is first listed. Its digest is then kept with a copy of its bytes,
+    /// where there is memory for them: of at most 1,024 files with 526,336 bytes in all.
     ///
     /// Refused 10 while the replica is halted, 5 where no directory is there, and 11 where memory
     /// is refused.
@@ -45,9 +49,15 @@ impl<D: Disk> Replica<D> {
         if self.is_halted() {
             return Err(ReplicaError::Journal(JournalError::Halted));
         }
+        let mut digests = match self.digests.take() {
+            Some(digests) => digests,
+            None => Digests::new(alloc),
+        };
+        let listed = digests.list_marks(alloc, self.tree(), path);
+        self.digests.set(Some(digests));
         Ok(Listing {
             position: self.position(),
-            entries: list_marks(alloc, self.tree(), path)?,
+            entries: listed?,
         })
     }
 }

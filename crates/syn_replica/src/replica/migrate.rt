@@ -19,6 +19,7 @@ ghost use Rattle.syn_replica.specs.Refusals.{greatest_refusals, lawful_refusals}
 
 use super::Replica;
 use std::alloc::Global;
+use std::cell::Cell;
 use syn_disk::Disk;
 use syn_journaled::Journaled;
 use syn_model::history_laws;
@@ -107,6 +108,7 @@ impl<D: Disk> Replica<D> {
                 Ok(machine) => Ok(Replica {
                     machine,
                     tried: None,
+                    digests: Cell::new(None),
                 }),
                 Err(refused) => Err(refused),
             },

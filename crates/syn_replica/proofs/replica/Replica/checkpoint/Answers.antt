@@ -109,7 +109,7 @@ device_is_no_halt is = cc is
 pub returns-clause-grown : goal.returns-clause-grown
 returns-clause-grown g c =
     let old = c.args.self.now in
-    let new : Replica _ _ = record { machine = c.checkpoint.new.self; tried = old.tried } in
+    let new : Replica _ _ = record old { machine = c.checkpoint.new.self } in
     let told = c.checkpoint.ensures.journal in
     let pair = ap (λ m. m.pair) c.checkpoint.ensures.state in
     let standing = ap (λ m. m.standing) c.checkpoint.ensures.state in

@@ -14,8 +14,8 @@ use Rattle.syn_replica.proofs.replica.Replica.commit.Goals as goal
 pub returns-then-is_halted-clause-any_moment : goal.returns-then-is_halted-clause-any_moment
 returns-then-is_halted-clause-any_moment g c history event stands allowed e =
     written_moment c.args.self.now
-    (record { machine = c.write.new.self; tried = Some c.args.payload }) c.deref.result.now _
-    c.write.ensures.journal event (c.deref.ensures.value ∙ e) c.history_laws.ensures.payload
+    (record c.args.self.now { machine = c.write.new.self; tried = Some c.args.payload })
+    c.deref.result.now _ c.write.ensures.journal event (c.deref.ensures.value ∙ e) c.history_laws.ensures.payload
     c.layout_laws.ensures.left history stands allowed
 
 pub returns-then-is_halted-clause-seen : goal.returns-then-is_halted-clause-seen
@@ -29,7 +29,7 @@ pub returns-then-is_halted-clause-grown : goal.returns-then-is_halted-clause-gro
 returns-then-is_halted-clause-grown g c event allowed e of =
     let old = c.args.self.now in
     let same = c.in-Err.ensures.state in
-    broken old (record { machine = c.write.new.self; tried = Some c.args.payload })
+    broken old (record old { machine = c.write.new.self; tried = Some c.args.payload })
     (ap (λ m. m.pair) same) (ap (λ m. m.standing) same) c.requires.running
     (inl (c.is_halted.ensures.0 c.if-is_halted.true))
     (λ _ history stands. of_write old history event _ _ (ap (λ x. Some x) e)
@@ -40,7 +40,7 @@ returns-then-is_halted-clause-grown g c event allowed e of =
 pub returns-else-is_halted-clause-any_moment : goal.returns-else-is_halted-clause-any_moment
 returns-else-is_halted-clause-any_moment g c history event stands allowed e =
     written_moment c.args.self.now
-    (record { machine = c.write.new.self; tried = c.args.self.now.tried }) c.deref.result.now _
+    (record c.args.self.now { machine = c.write.new.self }) c.deref.result.now _
     c.write.ensures.journal event (c.deref.ensures.value ∙ e) c.history_laws.ensures.payload
     c.layout_laws.ensures.left history stands allowed
 
@@ -54,7 +54,7 @@ returns-else-is_halted-clause-seen g c history event stands allowed e =
 pub returns-else-is_halted-clause-grown : goal.returns-else-is_halted-clause-grown
 returns-else-is_halted-clause-grown g c event allowed e of =
     let old = c.args.self.now in
-    let new : Replica _ _ = record { machine = c.write.new.self; tried = old.tried } in
+    let new : Replica _ _ = record old { machine = c.write.new.self } in
     let pair = ap (λ m. m.pair) c.in-Err.ensures.state in
     let standing = ap (λ m. m.standing) c.in-Err.ensures.state in
     elim c.in-Err.ensures.journal.unchanged [
@@ -82,8 +82,8 @@ returns-clause-acknowledged g c history event stands allowed e of =
 pub returns-clause-any_moment : goal.returns-clause-any_moment
 returns-clause-any_moment g c history event stands allowed e =
     written_moment c.args.self.now
-    (record { machine = c.write.new.self; tried = Some c.args.payload }) c.deref.result.now _
-    c.write.ensures.journal event (c.deref.ensures.value ∙ e) c.history_laws.ensures.payload
+    (record c.args.self.now { machine = c.write.new.self; tried = Some c.args.payload })
+    c.deref.result.now _ c.write.ensures.journal event (c.deref.ensures.value ∙ e) c.history_laws.ensures.payload
     c.layout_laws.ensures.left history stands allowed
 
 pub returns-clause-seen : goal.returns-clause-seen

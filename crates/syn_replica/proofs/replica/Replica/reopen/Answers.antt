@@ -80,7 +80,7 @@ pub returns-in-Err-clause-grown : goal.returns-in-Err-clause-grown
 returns-in-Err-clause-grown g c =
     let old = c.args.self.now in
     let same = c.in-Err.ensures.state in
-    unmoved old (record { machine = c.reopen.new.self; tried = old.tried })
+    unmoved old (record old { machine = c.reopen.new.self })
     (ap (λ m. m.pair) same) (ap (λ m. m.standing) same) refl c.in-Err.ensures.device.untouched.same
     c.in-Err.ensures.halted
     (λ history stands. elim (returns-in-Err-clause-unchanged g c history stands) [
