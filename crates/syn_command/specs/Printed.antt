@@ -3,7 +3,7 @@ use Rattle.std.specs.Prelude.{ℕ, List, ◌++◌, codes}
 use Rattle.std.specs.Fmt.{decimal}
 use Rattle.syn_model.specs.Path.{Path}
 use Rattle.syn_model.specs.Tree.{Tree, Content, Directory, File}
-use Rattle.syn_show.specs.Printed.{lines_below}
+use Rattle.syn_print.specs.Images.{lines_below}
 
 -- what is printed of a path: the bytes of a file, or the lines of what is below a directory
 abbrev pub content_shown : Tree → Path → Content → List ℕ

@@ -3,7 +3,7 @@ use Rattle.std.specs.Prelude.{List, ℕ}
 use Rattle.syn_disk.specs.declared.disk.Disk.{Ghosts}
 use Rattle.syn_replica.specs.Replica as replica
 use Rattle.syn_archive.specs.Archive as archive
-use Rattle.syn_show.specs.Shown.{replica_shown, archive_shown}
+use Rattle.syn_print.specs.Images.{replica_shown, archive_shown}
 use Rattle.syn_command.specs.declared.image.Image.{Image}
 use Rattle.syn_command.specs.declared.image.Image.TheVariants as image
 use Rattle.syn_command.specs.Printed.{replica_numbers, archive_numbers}

@@ -10,8 +10,8 @@ use syn_archive::ArchiveError;
 use syn_file::OpenError;
 use syn_folder::FolderError;
 use syn_path::PathError;
+use syn_print::PrintError;
 use syn_refusal::Refusal;
-use syn_show::ShowError;
 use syn_standing::ReplicaError;
 use syn_user::UserError;
 use thiserror::Error;
@@ -152,15 +152,15 @@ impl From<io::Error> for CommandError {
     }
 }
 
-impl From<ShowError> for CommandError {
+impl From<PrintError> for CommandError {
     ghost use Rattle.syn_command.specs.Errors.{IsOfStream};
 
     ghost from_gives = { λ _ e. IsOfStream e };
 
-    fn from(error: ShowError) -> CommandError {
+    fn from(error: PrintError) -> CommandError {
         match error {
-            ShowError::Device(error) => CommandError::Device(error),
-            ShowError::Memory => CommandError::Memory,
+            PrintError::Device(error) => CommandError::Device(error),
+            PrintError::Memory => CommandError::Memory,
         }
     }
 }

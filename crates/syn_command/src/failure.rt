@@ -4,7 +4,7 @@ ghost use Rattle.syn_command.specs.declared.failure.Failure.TheVariants.{Refused
 
 use crate::error::CommandError;
 use std::io;
-use syn_show::ShowError;
+use syn_print::PrintError;
 
 /// Why a command was not done.
 #[derive(Debug, Drop)]
@@ -29,8 +29,8 @@ impl From<io::Error> for Failure {
     }
 }
 
-impl From<ShowError> for Failure {
-    fn from(error: ShowError) -> Failure {
+impl From<PrintError> for Failure {
+    fn from(error: PrintError) -> Failure {
         Failure::Refused(CommandError::from(error))
     }
 }

@@ -14,8 +14,8 @@ use std::alloc::Global;
 use std::io::Write;
 use syn_disk::Disk;
 use syn_path::Path;
+use syn_print::{show_archive, show_below, show_replica};
 use syn_refusal::Refusal;
-use syn_show::{show_archive, show_below, show_replica};
 use syn_tree::{Found, Tree};
 
 /// Prints the whole image: a line with its numbers, and a line for each path but the root, in path

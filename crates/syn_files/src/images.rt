@@ -11,8 +11,8 @@ use std::io::{Read, Write};
 use std::net::{Net, TcpStream};
 use syn_command::{CommandError, check_image, make_edit, migrate_image, show_image, show_path};
 use syn_file::{Access, LockedDisk};
-use syn_log::{read_log, show_log};
 use syn_path::Path;
+use syn_print::{read_log, show_log};
 use syn_tree::Edit;
 use syn_words::{ChmodLine, EditLine, Place};
 

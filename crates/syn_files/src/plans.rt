@@ -14,7 +14,7 @@ use syn_disk::Disk;
 use syn_file::{Access, OpenError};
 use syn_mark::MarkTree;
 use syn_path::Side;
-use syn_plan::{Planned, counts_of, plan_between, plan_of_replicas, show_plan};
+use syn_print::{Planned, counts_of, plan_between, plan_of_replicas, show_plan};
 use syn_refusal::Refusal;
 use syn_replica::Replica;
 use syn_standing::ReplicaError;

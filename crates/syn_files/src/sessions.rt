@@ -18,11 +18,11 @@ use syn_daemon::{OpenGates, run, sync};
 use syn_disk::Disk;
 use syn_file::Access;
 use syn_path::Side;
+use syn_print::show_report;
 use syn_refusal::Refusal;
 use syn_replica::Replica;
 use syn_session::Report;
 use syn_shared::SharedReplica;
-use syn_show::show_report;
 use syn_sync::{Progress, Unwatched, Watch};
 
 /// What a session is between.

@@ -3,7 +3,7 @@ use Rattle.std.proofs.Common.{◌≡◌, ◌++◌, ◌∷◌, ◌∙◌, ℕ, []
 use Rattle.std.proofs.lemmas.Grind.{flat_map-append}
 use Rattle.syn_session.specs.Reports.{report_model}
 use Rattle.syn_session.specs.declared.report.Report.{Report}
-use Rattle.syn_show.specs.Reports.{report_lines}
+use Rattle.syn_print.specs.Reports.{report_lines}
 use Rattle.syn_simulate.specs.Shown.{reports_shown}
 
 -- one report more has its own lines

@@ -6,8 +6,8 @@ use Rattle.syn_path.specs.declared.side.Side.TheVariants.{Left, Right}
 use Rattle.syn_replica.specs.declared.replica.Replica.{Replica}
 use Rattle.syn_session.specs.Reports.{report_model}
 use Rattle.syn_session.specs.declared.report.Report.{Report}
-use Rattle.syn_show.specs.Reports.{report_lines}
-use Rattle.syn_show.specs.Shown.{archive_shown, replica_shown}
+use Rattle.syn_print.specs.Reports.{report_lines}
+use Rattle.syn_print.specs.Images.{archive_shown, replica_shown}
 use Rattle.syn_world.specs.Worlds.{archive_in, replica_in, reports_in}
 use Rattle.syn_world.specs.declared.world.World.{World}
 

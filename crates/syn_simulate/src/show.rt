@@ -9,9 +9,9 @@ use std::io::Write;
 use syn_archive::Archive;
 use syn_disk::Disk;
 use syn_path::Side;
+use syn_print::{PrintError, show_archive, show_replica, show_report};
 use syn_replica::Replica;
 use syn_session::Report;
-use syn_show::{ShowError, show_archive, show_replica, show_report};
 use syn_world::World;
 
 /// Prints the world: the report of each session that ended, in order, and then for `left`, `right`
@@ -22,7 +22,7 @@ pub fn show_world<D: Disk, W: Write>(
     alloc: Global,
     world: &World<D>,
     output: &mut W,
-) -> Result<(), ShowError>
+) -> Result<(), PrintError>
     ensures { OnOk result (Appends (W.contents output.old) (W.contents output.new)
         (world_shown world.now)) }
 {
@@ -40,7 +40,7 @@ fn show_reports<W: Write>(
     alloc: Global,
     reports: &[(Report, usize)],
     output: &mut W,
-) -> Result<(), ShowError>
+) -> Result<(), PrintError>
     ensures { OnOk result (Appends (W.contents output.old) (W.contents output.new)
         (reports_shown reports.now)) }
 {
@@ -55,7 +55,7 @@ fn show_side<D: Disk, W: Write>(
     alloc: Global,
     side: Option<&Replica<D>>,
     output: &mut W,
-) -> Result<(), ShowError>
+) -> Result<(), PrintError>
     ensures { OnOk result (Appends (W.contents output.old) (W.contents output.new)
         (replica_or_down (option_map (λ replica. replica.now) side.entry))) }
 {
@@ -70,7 +70,7 @@ fn show_coordinator<D: Disk, W: Write>(
     alloc: Global,
     archive: Option<&Archive<D>>,
     output: &mut W,
-) -> Result<(), ShowError>
+) -> Result<(), PrintError>
     ensures { OnOk result (Appends (W.contents output.old) (W.contents output.new)
         (archive_or_down (option_map (λ archive. archive.now) archive.entry))) }
 {
@@ -81,7 +81,7 @@ fn show_coordinator<D: Disk, W: Write>(
 }
 
 /// Prints that a machine is down.
-fn show_down<W: Write>(output: &mut W) -> Result<(), ShowError>
+fn show_down<W: Write>(output: &mut W) -> Result<(), PrintError>
     ensures { OnOk result (Appends (W.contents output.old) (W.contents output.new) down_shown) }
 {
     output.write_all(b"down\n")?;

@@ -3,7 +3,7 @@ use Rattle.std.proofs.Common.{take}
 use Rattle.std.proofs.lemmas.Grind.{take_at_read}
 use Rattle.std.specs.Io.KnownBytes.{Appends}
 use Rattle.syn_session.specs.Reports.{report_model}
-use Rattle.syn_show.specs.Reports.{report_lines}
+use Rattle.syn_print.specs.Reports.{report_lines}
 use Rattle.syn_simulate.specs.Shown.{reports_shown}
 use Rattle.std.proofs.KnownBytes.{Appends-trans}
 use Rattle.syn_simulate.proofs.ShownLemmas.{more_reports}

@@ -1,9 +1,0 @@
-use Rattle.std.proofs.Common.{take}
-use Rattle.syn_log.proofs.KnownLemmas.{AddsUpTo}
-use Rattle.syn_log.proofs.reading.push_events.Given as goal
-use Rattle.syn_standing.specs.Readings.{bytes_of_each}
-
-abbrev pub invariant-loop-payload : goal.invariant-loop-payload
-invariant-loop-payload l =
-    AddsUpTo l.first l.position (bytes_of_each (take l.payload-index l.payloads))
-    l.initial.logged.items l.logged.items

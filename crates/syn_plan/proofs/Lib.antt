@@ -1,3 +1,0 @@
-mod PlanLemmas
-mod AskedLemmas
-mod ShownLemmas

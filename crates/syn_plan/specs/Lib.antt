@@ -1,4 +1,0 @@
-pub mod Counting
-pub mod Printed
-pub mod Listings
-pub mod inner

@@ -1,2 +1,0 @@
--- Definitions that no public clause reaches.
-pub mod Asking

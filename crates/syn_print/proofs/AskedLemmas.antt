@@ -1,0 +1,132 @@
+-- The replies of a side, one after another.
+use Rattle.std.proofs.Common.{◌≡◌, ◌++◌, ◌∷◌, [], ℕ, zero, suc, Bool, true, false}
+use Rattle.std.proofs.Common.{cond, not, Some, None, refl, sym, ap, ap₂, ◌∙◌, subst}
+use Rattle.std.proofs.Common.{arith}
+use Rattle.std.proofs.lemmas.List.{map-append}
+use Rattle.std.specs.Prelude.{◌&&◌, Contains}
+use Rattle.syn_headline.specs.Network.{Which, Left}
+use Rattle.syn_headline.specs.Session.{Exchange}
+use Rattle.syn_headline.specs.Side.{ListAt, Reply}
+use Rattle.syn_model.specs.Dirty.{IsScanBy}
+use Rattle.syn_model.specs.Path.{Path}
+use Rattle.syn_model.proofs.PathLemmas.{path_itself}
+use Rattle.syn_print.specs.Listings.{GaveReplies, IsScanned, Replies, SaysListed, SaysNone}
+use Rattle.syn_print.specs.inner.Asking.{IsAsked, exchanges_of}
+use Rattle.syn_scan.specs.Asked.{AreAllOut, handed_out, is_out, without}
+use Rattle.syn_scan.specs.Found.{Found, IsWhole, is_open, position_of, scan_of}
+use Rattle.syn_session.specs.Scanning.{Exchanges, IsFoundIn, WaitsFor, WasListedAt}
+use Rattle.syn_session.specs.Scanning.{WasNoDirectoryAt, asked_of, found_of, out_of}
+use Rattle.syn_session.specs.Scanning.{with_listing_answered}
+use Rattle.syn_session.specs.declared.side_scan.SideScan.{SideScan}
+use Rattle.syn_session.proofs.WaitingLemmas.{contains_out}
+
+-- a reply that was taken was given
+given : (side : Which) (replies : Replies) (number : ℕ) (path : Path) (reply : Reply)
+    → Contains (exchanges_of side replies)
+    (record { side = side; number = number; request = ListAt path; reply = reply })
+    → Contains replies (path, reply)
+given side [] number path reply (i, within, is) = absurd (omega arith)
+given side (one ∷ more) number path reply (zero, within, is) =
+    let asked : ListAt one.0 ≡ ListAt path = ap (λ (e : Exchange). e.request) is in
+    let at : one.0 ≡ path = cc in
+    (0, omega arith, ap₂ (λ (p : Path) (r : Reply). (p, r)) at (ap (λ (e : Exchange). e.reply) is))
+given side (one ∷ more) number path reply (suc i, within, is) =
+    let rest = given side more number path reply (i, omega arith, is) in
+    (suc rest.0, omega (arith, rest.1), rest.2)
+
+module _ {S : Type 0} (lists : S → Path → Reply → S → Type 0) where
+  -- one reply more
+  gave_more : (old now new : S) (replies : Replies) (path : Path) (reply : Reply)
+      → GaveReplies lists old replies now → lists now path reply new
+      → GaveReplies lists old (replies ++ (path, reply) ∷ []) new
+  gave_more old now new [] path reply gave one =
+      (new, subst (λ s. lists s path reply new) gave one, refl)
+  gave_more old now new (first ∷ more) path reply (between, is, rest) one =
+      (between, is, gave_more between now new more path reply rest one)
+
+  pub none_asked : (side : S) (scan : SideScan)
+      → ((which : Which) → IsFoundIn (found_of scan) which []) → out_of scan ≡ []
+      → IsAsked lists side scan side
+  none_asked side scan found out =
+      record { replies = []; gave = refl; found = found; none_out = out }
+
+  -- a path was handed out, and the reply to it was taken
+  pub one_asked : (old now new : S) (scan asked taken : SideScan) (path : Path) (reply : Reply)
+      → IsAsked lists old scan now → found_of asked ≡ found_of scan
+      → out_of asked ≡ handed_out (out_of scan) (Some path) → lists now path reply new
+      → ((side : Which) (before : Exchanges) → WaitsFor asked path
+      → IsFoundIn (found_of asked) side before
+      → IsFoundIn (found_of taken) side (with_listing_answered before side 0 path reply))
+      → out_of taken ≡ without (out_of asked) path → IsAsked lists old taken new
+  one_asked old now new scan asked taken path reply so_far same out gave takes left =
+      let alone : out_of asked ≡ path ∷ [] =
+      out ∙ ap (λ ps. ps ++ path ∷ []) so_far.none_out in
+      let waits : WaitsFor asked path = contains_out (out_of asked) path
+      (subst (λ ps. Contains ps path) (sym alone) (0, omega arith, refl)) in
+      record {
+        replies = so_far.replies ++ (path, reply) ∷ [];
+        gave = gave_more old now new so_far.replies path reply so_far.gave gave;
+        found = λ side.
+            subst (IsFoundIn (found_of taken) side)
+            (sym (map-append (λ (one : Path × Reply). record {
+              side = side;
+              number = 0;
+              request = ListAt one.0;
+              reply = one.1;
+            }) so_far.replies ((path, reply) ∷ [])))
+            (takes side (exchanges_of side so_far.replies) waits
+            (subst (λ (f : Found). IsFoundIn f side (exchanges_of side so_far.replies)) (sym same)
+            (so_far.found side)));
+        none_out = left ∙ (ap (λ ps. without ps path) alone ∙ none_left);
+      }
+    where
+      none_left : without (path ∷ []) path ≡ []
+      none_left = ap (λ b. cond (not b) (path ∷ []) []) (path_itself path)
+
+  -- where nothing is left to ask for, all was answered
+  pub all_asked : (old now : S) (scan next : SideScan) → IsAsked lists old scan now
+      → found_of next ≡ found_of scan → out_of next ≡ handed_out (out_of scan) None
+      → IsAsked lists old next now
+  all_asked old now scan next so_far same out = record {
+    replies = so_far.replies;
+    gave = so_far.gave;
+    found = λ side. subst (λ (f : Found). IsFoundIn f side (exchanges_of side so_far.replies))
+        (sym same) (so_far.found side);
+    none_out = out ∙ so_far.none_out;
+  }
+
+  -- the scan that it is then
+  pub scanned : (old new : S) (scan : SideScan) (shown : Found) → shown ≡ found_of scan
+      → IsAsked lists old scan new → ((side : Which) (taken : Exchanges)
+      → IsFoundIn (found_of scan) side taken
+      → IsScanBy (WasListedAt taken side) (WasNoDirectoryAt taken side) (scan_of shown)
+      (position_of shown)) → IsScanned lists old scan new
+  scanned old new scan shown same asked by =
+      let one = by Left (exchanges_of Left asked.replies) (asked.found Left) in
+      record {
+        replies = asked.replies;
+        gave = asked.gave;
+        shows =
+            subst (λ (f : Found). IsScanBy (SaysListed asked.replies) (SaysNone asked.replies)
+            (scan_of f) (position_of f)) same (record {
+              tree = one.tree;
+              fits = one.fits;
+              listed = λ path d u.
+                  let w = one.listed path d u in given Left asked.replies w.0 path _ w.1;
+              not_dir = λ path c.
+                  let w = one.not_dir path c in
+                  (w.0, given Left asked.replies w.1.0 path _ w.1.1);
+              nothing_below = one.nothing_below;
+            });
+      }
+
+not_both : (b : Bool) → (b && true) ≡ false → b ≡ false
+not_both true e = e
+not_both false e = refl
+
+-- where each directory that is open was handed out, and none waits, none is open
+pub none_open : (scan : SideScan) → AreAllOut (asked_of scan) → out_of scan ≡ []
+    → IsWhole (found_of scan)
+none_open scan all none path =
+    not_both (is_open (found_of scan) path)
+    (subst (λ ps. (is_open (found_of scan) path && not (is_out ps path)) ≡ false) none (all path))

@@ -1,0 +1,198 @@
+-- A side that replies by one history shows its tree.
+use Rattle.std.proofs.Common.{◌≡◌, ◌≢◌, ◌++◌, ◌∷◌, [], ℕ, List, zero, suc, true}
+use Rattle.std.proofs.Common.{false}
+use Rattle.std.proofs.Common.{None, option_map, length, refl, sym, ap, ap₂, ◌∙◌, subst, arith}
+use Rattle.std.proofs.Common.{append_assoc, append-nil, true≢false, inl, inr}
+use Rattle.std.specs.FinMap.{get}
+use Rattle.std.specs.Prelude.{Contains, Err, IfOk, Ok, Result, if◌then◌else◌}
+use Rattle.syn_agent.specs.Agents.{side_of}
+use Rattle.syn_agent.specs.Answers.{Answers, adds, breaks, keeps, room_for}
+use Rattle.syn_agent.specs.declared.agent.Agent.{Agent}
+use Rattle.syn_disk.specs.declared.disk.Disk.{Ghosts}
+use Rattle.syn_headline.specs.Side.{ListAt, Listed, NotDir, Refused, Reply, Served, Serves}
+use Rattle.syn_headline.proofs.PlanLemmas.{found_unstable}
+use Rattle.syn_model.specs.Dirty.{IsScanBy, Scan, is_unstable}
+use Rattle.syn_model.specs.History.{History, tree_of}
+use Rattle.syn_model.specs.Limits.{children}
+use Rattle.syn_model.specs.Mark.{mark, mark_of}
+use Rattle.syn_model.specs.Path.{Name, Path, child}
+use Rattle.syn_model.specs.Plan.{scan_of as scan_of_tree}
+use Rattle.syn_model.specs.Refusal.{Device}
+use Rattle.syn_model.specs.Tree.{Content, IsTree, Tree, is_directory, is_directory_content}
+use Rattle.syn_model.proofs.HistoryLemmas.{history-is_tree}
+use Rattle.syn_model.proofs.MarkLemmas.{get-mark}
+use Rattle.syn_model.proofs.QuietLemmas.{directory_of_mark, nothing_below, same_child}
+use Rattle.syn_model.proofs.TreeLemmas.{same_tree}
+use Rattle.syn_print.specs.Listings.{GaveReplies, IsScanned, Replies, RepliesBy}
+use Rattle.syn_print.specs.declared.plan.side.ReplicaSide.{ReplicaSide}
+use Rattle.syn_replica.specs.Replica.{Stands, pair_of}
+use Rattle.syn_replica.specs.declared.replica.Replica.{Replica}
+use Rattle.syn_scan.specs.Found.{scan_of}
+use Rattle.syn_session.specs.Scanning.{found_of}
+use Rattle.syn_session.specs.declared.side_scan.SideScan.{SideScan}
+
+-- What an agent answers to a listing, a history replies
+
+module _ {D : Type 0} {disk : Ghosts D} (old new : Replica D disk) (agent after : Agent)
+    (history : History) (session : ℕ) (path : Path) where
+  served_by : (served : Served) → Serves (pair_of old) (room_for old) (side_of history agent)
+      session (ListAt path) served → RepliesBy history path served.reply
+  served_by served (inl (read, reads, is)) = inr (ap (λ (s : Served). s.reply) is)
+  served_by served (inr (takes, out)) = inl (ap (λ (s : Served). s.reply) out)
+
+  pub replies_by : (reply : Reply)
+      → Answers old new agent after history session (ListAt path) reply → reply ≢ Refused Device
+      → RepliesBy history path reply
+  replies_by reply (keeps served serves same unchanged stands) not_device = served_by served serves
+  replies_by reply (adds served event serves side staging has) not_device = served_by served serves
+  replies_by reply (breaks served event serves side staging off) not_device =
+      absurd (not_device refl)
+
+-- the replies of a side that stays good, each by the history
+module _ {S : Type 0} (lists : S → Path → Reply → S → Type 0) (IsGood : S → Type 0)
+    (history : History) (one : (old new : S) (path : Path) (reply : Reply) → IsGood old
+    → lists old path reply new → IsGood new × RepliesBy history path reply) where
+  pub each_by : (old new : S) (replies : Replies) → IsGood old → GaveReplies lists old replies new
+      → (path : Path) (reply : Reply) → Contains replies (path, reply)
+      → RepliesBy history path reply
+  each_by old new [] good gave path reply (i, within, is) = absurd (omega arith)
+  each_by old new (first ∷ more) good (between, gave, rest) path reply (zero, within, is) =
+      let by = (one old between first.0 first.1 good gave).1 in
+      let at : first.0 ≡ path = ap (λ (p : Path × Reply). p.0) is in
+      let told : first.1 ≡ reply = ap (λ (p : Path × Reply). p.1) is in
+      subst (λ p. RepliesBy history p reply) at
+      (subst (λ r. RepliesBy history first.0 r) told by)
+  each_by old new (first ∷ more) good (between, gave, rest) path reply (suc i, within, is) =
+      each_by between new more (one old between first.0 first.1 good gave).0 rest path reply
+      (i, omega arith, is)
+
+-- what a listing by a history says of its tree
+listed_by : (history : History) (path : Path) (position : ℕ) (entries : List (Name × Content))
+    → RepliesBy history path (Listed position entries)
+    → (is_directory (tree_of history) path ≡ true)
+    × (entries ≡ children (mark (tree_of history)) path)
+listed_by history path position entries (inl is) = absurd cc
+listed_by history path position entries (inr is) =
+    let names = children (mark (tree_of history)) path in
+    elim (is_directory (tree_of history) path)
+    as (λ b. Listed position entries
+    ≡ (if b then Listed (length history) names else NotDir (length history))
+    → (b ≡ true) × (entries ≡ names)) [
+      | true ↦ λ e. (refl, cc)
+      | false ↦ λ e. absurd cc
+    ] is
+
+none_by : (history : History) (path : Path) (position : ℕ)
+    → RepliesBy history path (NotDir position) → is_directory (tree_of history) path ≡ false
+none_by history path position (inl is) = absurd cc
+none_by history path position (inr is) =
+    let names = children (mark (tree_of history)) path in
+    elim (is_directory (tree_of history) path)
+    as (λ b. NotDir position
+    ≡ (if b then Listed (length history) names else NotDir (length history)) → b ≡ false) [
+      | true ↦ λ e. absurd cc
+      | false ↦ λ e. refl
+    ] is
+
+nothing_in : {X : Type 0} (xs : List X) → ((x : X) → Contains xs x → ⊥) → xs ≡ []
+nothing_in [] none = refl
+nothing_in (x ∷ xs) none = absurd (none x (0, omega arith, refl))
+
+-- A scan whose listings are all of one tree is that of the tree
+module _ (WasListed : Path → ℕ → List (Name × Content) → Type 0)
+    (WasNone : Path → ℕ → Type 0) (scan : Scan) (since : Path → ℕ)
+    (by : IsScanBy WasListed WasNone scan since) (tree : Tree) (whole : IsTree tree)
+    (listed : (path : Path) (position : ℕ) (entries : List (Name × Content))
+    → WasListed path position entries → entries ≡ children (mark tree) path)
+    (none : (path : Path) (position : ℕ) → WasNone path position
+    → is_directory tree path ≡ false) where
+  -- a directory that the tree has too was listed
+  steady : (p : Path) → get scan.marks p ≡ get (mark tree) p → is_directory scan.marks p ≡ true
+      → is_unstable scan p ≡ false
+  steady p same d = elim (is_unstable scan p) as (λ b. is_unstable scan p ≡ b → b ≡ false) [
+    | false ↦ λ _. refl
+    | true ↦ λ u.
+        let answer = by.not_dir p (found_unstable p scan.unstable u) in
+        let there : is_directory tree p ≡ true =
+        sym (directory_of_mark tree p) ∙ (ap is_directory_content (sym same) ∙ d) in
+        absurd (true≢false (sym there ∙ none p (since p) answer.1))
+  ] refl
+
+  -- what is the same at a path is the same below it
+  below : (p rest : Path) → get scan.marks p ≡ get (mark tree) p
+      → get scan.marks (p ++ rest) ≡ get (mark tree) (p ++ rest)
+  below p [] same =
+      ap (get scan.marks) (append-nil p) ∙ (same ∙ ap (get (mark tree)) (sym (append-nil p)))
+  below p (n ∷ rest) same =
+      elim (is_directory scan.marks p)
+      as (λ b. is_directory scan.marks p ≡ b
+      → get scan.marks (p ++ n ∷ rest) ≡ get (mark tree) (p ++ n ∷ rest)) [
+        | true ↦ λ d.
+            let names = listed p (since p) (children scan.marks p)
+            (by.listed p d (steady p same d)) in
+            let here : get scan.marks (child p n) ≡ get (mark tree) (child p n) =
+            same_child scan.marks (mark tree) p n names in
+            let at : child p n ++ rest ≡ p ++ n ∷ rest = append_assoc p (n ∷ []) rest in
+            subst (λ q. get scan.marks q ≡ get (mark tree) q) at (below (child p n) rest here)
+        | false ↦ λ d.
+            let there : is_directory tree p ≡ false =
+            sym (directory_of_mark tree p) ∙ (ap is_directory_content (sym same) ∙ d) in
+            let empty : get (mark tree) (p ++ n ∷ rest) ≡ None =
+            get-mark tree (p ++ n ∷ rest)
+            ∙ ap (option_map mark_of) (nothing_below tree p n rest whole.part.parents there) in
+            nothing_below scan.marks p n rest by.tree.part.parents d ∙ sym empty
+      ] refl
+
+  root_same : get scan.marks [] ≡ get (mark tree) []
+  root_same =
+      by.tree.rooted ∙ sym (get-mark tree [] ∙ ap (option_map mark_of) whole.rooted)
+
+  none_unstable : (p : Path) → Contains scan.unstable p → ⊥
+  none_unstable p c =
+      let answer = by.not_dir p c in
+      let there : is_directory tree p ≡ true =
+      sym (directory_of_mark tree p)
+      ∙ (ap is_directory_content (sym (below [] p root_same)) ∙ answer.0) in
+      true≢false (sym there ∙ none p (since p) answer.1)
+
+  pub scan_is_tree : scan ≡ scan_of_tree tree
+  scan_is_tree =
+      ap₂ (λ m u. record { marks = m; unstable = u })
+      (same_tree scan.marks (mark tree) (λ q. below [] q root_same))
+      (nothing_in scan.unstable none_unstable)
+
+-- a side that replied by a history was scanned as its tree
+pub shows_tree : {S : Type 0} (lists : S → Path → Reply → S → Type 0) (IsGood : S → Type 0)
+    (history : History) → ((old new : S) (path : Path) (reply : Reply) → IsGood old
+    → lists old path reply new → IsGood new × RepliesBy history path reply)
+    → IsTree (tree_of history) → (old new : S) (scan : SideScan) → IsGood old
+    → IsScanned lists old scan new → scan_of (found_of scan) ≡ scan_of_tree (tree_of history)
+shows_tree lists IsGood history one whole old new scan good is =
+    let each = each_by lists IsGood history one old new is.replies good is.gave in
+    scan_is_tree _ _ (scan_of (found_of scan)) _ is.shows (tree_of history) whole
+    (λ path position entries c.
+    (listed_by history path position entries (each path (Listed position entries) c)).1)
+    (λ path position c. none_by history path position (each path (NotDir position) c))
+
+module _ {D : Type 0} {disk : Ghosts D} where
+  -- a replica stays as it is, and replies by its history
+  abbrev pub ListsByHistory : ReplicaSide D disk → Path → Reply → ReplicaSide D disk → Type 0
+  ListsByHistory old path reply new = (new ≡ old)
+      × ((history : History) → Stands old.replica.now history → RepliesBy history path reply)
+
+  -- so it is scanned as the tree of its history
+  pub shows_replica : (history : History) (old new : ReplicaSide D disk) (scan : SideScan)
+      → Stands old.replica.now history → IsScanned ListsByHistory old scan new
+      → scan_of (found_of scan) ≡ scan_of_tree (tree_of history)
+  shows_replica history old new scan stands is =
+      shows_tree ListsByHistory (λ side. Stands side.replica.now history) history
+      (λ before after path reply good lists. (
+        subst (λ (side : ReplicaSide D disk). Stands side.replica.now history) (sym lists.0) good,
+        lists.1 history good,
+      )) (history-is_tree history stands.remembers.lawful) old new scan stands is
+
+-- what holds of a plan in three parts holds of it
+pub planned_so : {A E : Type 0} (P Q R W : A → Type 0) → ((a : A) → P a → Q a → R a → W a)
+    → (r : Result A E) → IfOk r P → IfOk r Q → IfOk r R → IfOk r W
+planned_so P Q R W to (Ok a) p q r = to a p q r
+planned_so P Q R W to (Err e) p q r = tt

@@ -1,0 +1,24 @@
+use Rattle.std.proofs.Common.{◌∙◌, ap₂, option_map}
+use Rattle.syn_path.specs.Sides.{which_of}
+use Rattle.syn_model.specs.Plan.{plan}
+use Rattle.syn_print.proofs.AskedLemmas.{scanned}
+use Rattle.syn_scan.specs.Found.{Found, scan_of}
+use Rattle.syn_print.proofs.plan.plan_between.Goals as goal
+
+pub returns-clause-items : goal.returns-clause-items
+returns-clause-items g c =
+    c.in_ok-items.ensures
+    ∙ ap₂ (λ (l r : Found). plan (option_map which_of c.args.preference) (scan_of l)
+    (scan_of r) c.args.archive.now) c.found.ensures.found c.found-2.ensures.found
+
+pub returns-clause-left : goal.returns-clause-left
+returns-clause-left g c =
+    scanned g.L.Side.lists c.args.left.now c.scan_side.new.side c.in_ok-left.left
+    c.found.result.now c.found.ensures.found c.in_ok-left.ensures.asked
+    (λ side taken found. c.found.ensures.scan side taken c.in_ok-left.ensures.whole found)
+
+pub returns-clause-right : goal.returns-clause-right
+returns-clause-right g c =
+    scanned g.R.Side.lists c.args.right.now c.scan_side-2.new.side c.in_ok-right.right
+    c.found-2.result.now c.found-2.ensures.found c.in_ok-right.ensures.asked
+    (λ side taken found. c.found-2.ensures.scan side taken c.in_ok-right.ensures.whole found)

@@ -1,0 +1,37 @@
+use Rattle.std.proofs.Common.{◌≡◌, ◌∙◌, ap₂, option_map, subst, sym}
+use Rattle.syn_path.specs.Sides.{which_of}
+use Rattle.syn_model.specs.Dirty.{Scan}
+use Rattle.syn_model.specs.History.{tree_of}
+use Rattle.syn_model.specs.Plan.{plan, scan_of as scan_of_tree}
+use Rattle.syn_print.proofs.ShownLemmas.{ListsByHistory, planned_so, shows_replica}
+use Rattle.syn_print.specs.Listings.{IsScanned}
+use Rattle.syn_print.specs.declared.plan.Planned.{Planned}
+use Rattle.syn_recon.specs.Items.{items_of}
+use Rattle.syn_replica.specs.Replica.{Stands}
+use Rattle.syn_scan.specs.Found.{scan_of}
+use Rattle.syn_session.specs.Scanning.{found_of}
+use Rattle.syn_print.proofs.plan.plan_of_replicas.Goals as goal
+
+pub returns : goal.returns
+returns g c on_left on_right left_stands right_stands =
+    let archive = c.args.archive.now in
+    let preference = option_map which_of c.args.preference in
+    let left = c.new-left.result in
+    let right = c.new-right.result in
+    let good_left : Stands left.replica.now on_left =
+    subst (λ r. Stands r on_left) (sym c.new-left.ensures) left_stands in
+    let good_right : Stands right.replica.now on_right =
+    subst (λ r. Stands r on_right) (sym c.new-right.ensures) right_stands in
+    planned_so
+    (λ (planned : Planned). items_of planned.items.items
+    ≡ plan preference (scan_of (found_of planned.left)) (scan_of (found_of planned.right)) archive)
+    (λ (planned : Planned). IsScanned ListsByHistory left planned.left c.plan_between.new.left)
+    (λ (planned : Planned). IsScanned ListsByHistory right planned.right c.plan_between.new.right)
+    (λ (planned : Planned). items_of planned.items.items
+    ≡ plan preference (scan_of_tree (tree_of on_left)) (scan_of_tree (tree_of on_right)) archive)
+    (λ planned items on_l on_r.
+    items ∙ ap₂ (λ (l r : Scan). plan preference l r archive)
+    (shows_replica on_left left c.plan_between.new.left planned.left good_left on_l)
+    (shows_replica on_right right c.plan_between.new.right planned.right good_right on_r))
+    c.plan_between.result c.plan_between.ensures.items c.plan_between.ensures.left
+    c.plan_between.ensures.right

@@ -1,0 +1,97 @@
+//! Reads what a replica's disk has of its events.
+ghost use Rattle.std.specs.Prelude.{◌≡◌, ◌+◌, ◌++◌, IfOk, OnOk};
+ghost use Rattle.syn_history.specs.Events.{event_of};
+ghost use Rattle.syn_print.specs.Known.{AddsEvents, TellsLast, entries_of, touched};
+ghost use Rattle.syn_model.specs.Spelling.{event_spelling};
+ghost use Rattle.syn_standing.specs.Readings.{bytes_of_each};
+
+use crate::log::{Logged, What};
+use std::alloc::Global;
+use syn_disk::Disk;
+use syn_history::{Event, Touch};
+use syn_image::{decode_image, is_old_image};
+use syn_journal::Journal;
+use syn_standing::ReplicaError;
+use syn_wire::{Version, decode_event};
+
+/// What the disk of a replica has of its last events, the oldest first.
+///
+/// Refused 9 where a device call fails, 18 where the disk holds no image, 26 where the image is of
+/// version 1, 19 where it holds no replica, and 11 where memory is refused. Nothing is written.
+pub fn read_log<D: Disk + Drop>(alloc: Global, disk: D) -> Result<Vec<Logged>, ReplicaError>
+    ensures { IfOk result (λ logged. TellsLast (D.seen disk) logged.items) }
+{
+    let opened = match Journal::open(alloc, disk) {
+        Ok(opened) => opened,
+        Err((error, _)) => return Err(ReplicaError::Journal(error)),
+    };
+    if is_old_image(&opened.image) {
+        return Err(ReplicaError::OldVersion);
+    }
+    let Some((image, [])) = decode_image(alloc, Version::Two, &opened.image)? else {
+        return Err(ReplicaError::Damaged);
+    };
+    let mut logged = Vec::new(alloc);
+    let (older, newer) = image.trail.touches();
+    push_touches(alloc, &mut logged, older)?;
+    push_touches(alloc, &mut logged, newer)?;
+    push_events(alloc, &mut logged, image.trail.position(), &opened.records)?;
+    Ok(logged)
+}
+
+/// Puts the touches after what is there.
+fn push_touches(
+    alloc: Global,
+    logged: &mut Vec<Logged>,
+    touches: &[Touch],
+) -> Result<(), ReplicaError>
+    ensures { OnOk result
+        (entries_of logged.new.items ≡ entries_of logged.old.items ++ touched touches.now) }
+{
+    for touch in touches {
+        let position = behind(touch.position())?;
+        let path = touch.path().copy(alloc)?;
+        let what = What::Touched(path);
+        logged.push(Logged { position, what })?;
+    }
+    Ok(())
+}
+
+/// Puts the events that the payloads are after what is there, the first at the position.
+fn push_events(
+    alloc: Global,
+    logged: &mut Vec<Logged>,
+    first: u64,
+    payloads: &[Vec<u8>],
+) -> Result<(), ReplicaError>
+    ensures { OnOk result
+        (AddsEvents first (bytes_of_each payloads.now) logged.old.items logged.new.items) }
+{
+    let mut position = first;
+    for payload in payloads {
+        position = behind(position)?;
+        let what = What::Whole(event_in(alloc, payload)?);
+        logged.push(Logged { position, what })?;
+    }
+    Ok(())
+}
+
+/// The position with the event that was at this one. Refused 19 where there is none.
+fn behind(position: u64) -> Result<u64, ReplicaError>
+    ensures { IfOk result (λ next. next ≡ position + 1) }
+{
+    match position.checked_add(1) {
+        Some(next) => Ok(next),
+        None => Err(ReplicaError::Damaged),
+    }
+}
+
+/// The event that the payload is. Refused 19 where it is none, and 11 where memory is refused.
+fn event_in(alloc: Global, payload: &[u8]) -> Result<Event, ReplicaError>
+    ensures { IfOk result (λ event. event_spelling (event_of event) ≡ payload.now) }
+{
+    match decode_event(alloc, Version::Two, payload)? {
+        Some((event, [])) => Ok(event),
+        _ => Err(ReplicaError::Damaged),
+    }
+}

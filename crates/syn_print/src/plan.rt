@@ -1,0 +1,123 @@
+//! The plan of a session that does not run.
+ghost use Rattle.std.specs.Prelude.{◌≡◌, IfOk, option_map};
+ghost use Rattle.syn_path.specs.Sides.{which_of};
+ghost use Rattle.syn_model.specs.History.{History, tree_of};
+ghost use Rattle.syn_model.specs.Plan.{plan, scan_of as scan_of_tree};
+ghost use Rattle.syn_print.specs.Listings.{IsScanned};
+ghost use Rattle.syn_print.specs.inner.Asking.{IsAsked};
+ghost use Rattle.syn_recon.specs.Items.{items_of};
+ghost use Rattle.syn_replica.specs.Replica.{Stands};
+ghost use Rattle.syn_scan.specs.Found.{IsWhole, scan_of};
+ghost use Rattle.syn_session.specs.Scanning.{found_of};
+
+use crate::plan::side::ReplicaSide;
+use std::alloc::Global;
+use syn_disk::Disk;
+use syn_mark::{MOST_NODES, MarkTree};
+use syn_path::Side as Preferred;
+use syn_recon::Item;
+use syn_refusal::Refusal;
+use syn_replica::Replica;
+use syn_scan::Scan;
+use syn_session::{Course, SideScan};
+
+mod counts;
+mod lines;
+mod side;
+
+pub use counts::{Counts, counts_of};
+pub use lines::show_plan;
+pub use side::Side;
+
+/// What a session would do, and what both sides showed.
+#[derive(Debug, Drop)]
+pub struct Planned {
+    pub left: SideScan,
+    pub right: SideScan,
+    /// What would be done, in path order.
+    pub items: Vec<Item>,
+}
+
+/// The plan of a session of both sides with an archive of these marks, which prefers a side or
+/// none.
+///
+/// Refused as a session that scans the sides ends early: with what a side refuses a listing, 22
+/// where one has more than 4,096 nodes, 23 where its answers are none, and 11 where memory is
+/// refused.
+pub fn plan_between<L: Side, R: Side>(
+    alloc: Global,
+    left: &mut L,
+    right: &mut R,
+    archive: &MarkTree,
+    preference: Option<Preferred>,
+) -> Result<Planned, Refusal>
+    ensures items { IfOk result (λ planned. items_of planned.items.items
+        ≡ plan (option_map which_of preference) (scan_of (found_of planned.left))
+        (scan_of (found_of planned.right)) archive.now) }
+    ensures left { IfOk result (λ planned. IsScanned L.lists left.old planned.left left.new) }
+    ensures right { IfOk result (λ planned. IsScanned R.lists right.old planned.right right.new) }
+{
+    let left = scan_side(alloc, left)?;
+    let right = scan_side(alloc, right)?;
+    let items = items_between(alloc, left.found(), right.found(), archive, preference)?;
+    Ok(Planned { left, right, items })
+}
+
+/// The plan of a session of both replicas with an archive of these marks, refused as `plan_between`
+/// is. Each replica shows its tree.
+pub fn plan_of_replicas<L: Disk, R: Disk>(
+    alloc: Global,
+    left: &Replica<L>,
+    right: &Replica<R>,
+    archive: &MarkTree,
+    preference: Option<Preferred>,
+) -> Result<Planned, Refusal>
+    ensures { (on_left on_right : History) → Stands left.now on_left
+        → Stands right.now on_right → IfOk result (λ planned. items_of planned.items.items
+        ≡ plan (option_map which_of preference) (scan_of_tree (tree_of on_left))
+        (scan_of_tree (tree_of on_right)) archive.now) }
+{
+    let (mut left, mut right) = (ReplicaSide::new(left), ReplicaSide::new(right));
+    plan_between(alloc, &mut left, &mut right, archive, preference)
+}
+
+/// The items of a session's course between two scans.
+fn items_between(
+    alloc: Global,
+    left: &Scan,
+    right: &Scan,
+    archive: &MarkTree,
+    preference: Option<Preferred>,
+) -> Result<Vec<Item>, Refusal>
+    ensures { IfOk result (λ items. items_of items.items
+        ≡ plan (option_map which_of preference) (scan_of left.now) (scan_of right.now)
+        archive.now) }
+{
+    match Course::new(alloc, left, right, archive, preference) {
+        Ok(course) => Ok(course.items),
+        Err(error) => Err(error.refusal()),
+    }
+}
+
+/// What the side shows, once each of its directories was listed.
+fn scan_side<S: Side>(alloc: Global, side: &mut S) -> Result<SideScan, Refusal>
+    ensures asked { IfOk result (λ scan. IsAsked S.lists side.old scan side.new) }
+    ensures whole { IfOk result (λ scan. IsWhole (found_of scan)) }
+{
+    let mut scan = match SideScan::new(alloc) {
+        Ok(scan) => scan,
+        Err(error) => return Err(error.refusal()),
+    };
+    // One call more than there can be directories says that none is left.
+    for _ in 0..=MOST_NODES {
+        match scan.next(alloc) {
+            Ok(Some(path)) => {
+                let reply = side.list(alloc, &path)?;
+                scan.take(alloc, &path, reply)?;
+            }
+            Ok(None) => return Ok(scan),
+            Err(error) => return Err(error.refusal()),
+        }
+    }
+    Err(Refusal::TooLarge)
+}

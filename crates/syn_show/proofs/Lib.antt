@@ -1,3 +1,0 @@
-mod CollectLemmas
-mod OrderLemmas
-mod ShowLemmas

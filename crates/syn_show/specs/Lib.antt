@@ -1,5 +1,0 @@
-pub mod Errors
-pub mod Printed
-pub mod Reports
-pub mod Shown
-pub mod inner
