@@ -11,11 +11,8 @@ use syn_command::{CommandError, Failure};
 use syn_disk::{Cut, MemDisk};
 use syn_file::HostFile;
 use syn_host::SimulatedDisk;
-use syn_play::{Moment, Player};
 use syn_refusal::Refusal;
-use syn_script::Script;
-use syn_simulate::{SimulateError, play, show_world, simulate};
-use syn_trace::{Heard, draw};
+use syn_simulate::{Player, SimulateError, draw_chart, play, show_world, simulate};
 use syn_world::World;
 
 /// Runs the script in the file, and prints the world after it, which it answers.
@@ -84,27 +81,9 @@ fn print_chart<D: SimulatedDisk, O: Write>(
     player: &Player<D>,
     output: &mut O,
 ) -> Result<(), Failure> {
-    let chart = chart_of(alloc, script, player).map_err(failure_of)?;
+    let chart = draw_chart(alloc, script, player).map_err(failure_of)?;
     output.write_all(chart.as_bytes())?;
     Ok(())
-}
-
-/// The chart of the script, which was played.
-fn chart_of<D: SimulatedDisk>(
-    alloc: Global,
-    script: &[u8],
-    player: &Player<D>,
-) -> Result<String, SimulateError> {
-    let lines = Script::parse(alloc, script)?;
-    let world = player.world();
-    let last = Moment::of(world);
-    let heard = Heard {
-        sent: world.sent(),
-        acknowledged: world.acknowledged(),
-        refusals: world.refusals(),
-        reports: world.reports(),
-    };
-    Ok(draw(alloc, &lines, player.turns(), heard, &last)?)
 }
 
 /// Runs the script, and prints the world after it, which it answers.

@@ -1,9 +1,9 @@
 -- The world after a script.
 use Rattle.std.proofs.Common.{List}
 use Rattle.syn_disk.specs.declared.disk.Disk.{Ghosts}
-use Rattle.syn_play.specs.Players.{HasPlayedAll, world_of}
-use Rattle.syn_play.specs.States.{fresh}
-use Rattle.syn_play.specs.declared.player.Player.{Player}
+use Rattle.syn_simulate.specs.Players.{HasPlayedAll, world_of}
+use Rattle.syn_simulate.specs.States.{fresh}
+use Rattle.syn_simulate.specs.declared.player.Player.{Player}
 use Rattle.syn_script.specs.Scripts.{SaySteps, lines_of}
 use Rattle.syn_script.specs.Words.{Text}
 use Rattle.syn_script.specs.declared.line.Line.{Line}

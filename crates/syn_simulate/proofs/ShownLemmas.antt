@@ -1,4 +1,4 @@
--- What is appended in parts, and the lines of reports, one after the other.
+-- The lines of reports, one after the other.
 use Rattle.std.proofs.Common.{◌≡◌, ◌++◌, ◌∷◌, ◌∙◌, ℕ, [], List, ap, append-nil}
 use Rattle.std.proofs.lemmas.Grind.{flat_map-append}
 use Rattle.syn_session.specs.Reports.{report_model}

@@ -1,3 +1,8 @@
+pub mod States
+pub mod Drains
+pub mod Lines
+pub mod Players
+pub mod Turns
 pub mod Disks
 pub mod Faults
 pub mod Shown

@@ -2,8 +2,8 @@
 use Rattle.std.specs.Prelude.{List}
 use Rattle.syn_disk.specs.declared.disk.Disk.{Ghosts}
 use Rattle.syn_headline.specs.World.{Runs, Step}
-use Rattle.syn_play.specs.Lines.{PlaysAll}
-use Rattle.syn_play.specs.States.{State, fresh}
+use Rattle.syn_simulate.specs.Lines.{PlaysAll}
+use Rattle.syn_simulate.specs.States.{State, fresh}
 use Rattle.syn_script.specs.Scripts.{SaySteps, lines_of}
 use Rattle.syn_script.specs.Words.{Text}
 use Rattle.syn_script.specs.declared.line.Line.{Line}
@@ -12,7 +12,7 @@ use Rattle.syn_world.specs.Worlds.{IsWorld}
 use Rattle.syn_world.specs.declared.world.World.{World}
 
 -- Playing the lines leads a new world of pair 1 to this one, by a run of the definitions
-pub record PlaysTo {D : Type 0} {disk : Ghosts D} (lines : List Line) (world : World D disk)
+pub record LeadsTo {D : Type 0} {disk : Ghosts D} (lines : List Line) (world : World D disk)
     : Type 0 where
   pub start : World D disk
   pub starts : StartsFormatted 1 start
@@ -27,4 +27,4 @@ pub record RunsScript {D : Type 0} {disk : Ghosts D} (script : Text) (world : Wo
     : Type 0 where
   pub lines : List Line
   pub say : SaySteps (lines_of script) lines
-  pub plays : PlaysTo lines world
+  pub plays : LeadsTo lines world

@@ -1,4 +1,4 @@
-//! Scripts that run on three machines in memory, and what is printed of them.
+//! Scripts that are played on a world of three machines in memory, and what is printed of them.
 //!
 //! # What it promises
 //!
@@ -9,21 +9,55 @@
 //!   leaves reaches its disk is shown by tests.
 //! - `play` answers the player after a script. Its lines say steps (`SaySteps`), and playing these
 //!   leads a world of pair 1 that was just formatted to the player's, by a run of the definitions
-//!   (`run`, `RunsScript`, `PlaysTo`). It is refused with the number of the first line that says no
+//!   (`run`, `RunsScript`, `LeadsTo`). It is refused with the number of the first line that says no
 //!   step (`fault`, `IsFirstFault`), or for lack of memory.
 //! - `simulate` answers that player's world, and is refused as `play` is (`run`, `fault`).
 //! - `show_world` works over any disks and any writer. Where it answers, just the lines of
 //!   `world_shown` were added: of each session that ended, and of each machine's image, or that it
 //!   is down.
+//! - `draw_chart` draws what happened as a script was played, from the turns that the player noted
+//!   and from what its world heard. A chart is for the eye alone, so no clause says what it shows.
+//!   Tests do, to the byte.
+//!
+//! # The player
+//!
+//! A `Player` is a world with a note of which messages were delivered. For every `State` that it is
+//! (`IsPlayer`), each call leads to a state of the definitions by a run of steps (`Runs`), and the
+//! player is then that state.
+//!
+//! - `step` makes one step of the world (`plays`). A message that it delivers is noted (`Goes`,
+//!   `noted`); a number that was never sent is not, since that message may still come.
+//! - It adds one turn (`turns`): how long each list of the world was before it, which machines were
+//!   up, and the message that it delivers (`turn_of`). `turns` are all that were played
+//!   (`turns_of`).
+//! - `deliver_all` plays the steps that deliver the first number to the last, in rising order
+//!   (`deliveries`). A number that was not sent when its turn comes does nothing.
+//! - `drain` delivers the lowest number that is left, again and again (`DeliversLowest`), at most
+//!   `MOST_DRAINED` times. Where it delivered fewer, none is left (`Drains`, `NoneIsLeft`).
+//! - `play` plays what a line says (`said`): one step, such deliveries, or a draining. What a stop
+//!   leaves on a disk is the disk's own concern.
+//! - `play_all` plays lines one after another (`PlaysAll`).
+//! - Where memory is refused, the disks come back as the first of the steps left them (`Begins`,
+//!   `EndsIn`). No clause says when.
+//! - `Player::new` notes nothing as delivered (`fresh`). `world` and `into_world` are the player's
+//!   world (`world_of`).
 #![tactic(auto)]
 
+mod chart;
 mod disks;
 mod error;
+mod line;
+mod notes;
+mod player;
 mod runs;
 mod show;
 mod start;
+mod turn;
 
+pub use chart::draw_chart;
 pub use error::SimulateError;
+pub use player::{MOST_DRAINED, Player};
 pub use runs::{play, simulate};
 pub use show::show_world;
 pub use start::formatted_world;
+pub use turn::{Moment, Turn};

@@ -1,16 +1,16 @@
 //! Scripts that are run.
 ghost use Rattle.std.specs.Prelude.{◌≡◌, ℕ, IfOk, IfErr};
-ghost use Rattle.syn_play.specs.Players.{world_of};
+ghost use Rattle.syn_simulate.specs.Players.{world_of};
 ghost use Rattle.syn_script.specs.Scripts.{IsFirstFault, lines_of};
 ghost use Rattle.syn_simulate.specs.Simulations.{RunsScript};
 ghost use Rattle.syn_simulate.specs.declared.error.SimulateError.TheVariants.{Script as Fault};
 
 use crate::disks::stops_of;
 use crate::error::SimulateError;
+use crate::player::Player;
 use crate::start::formatted_world;
 use std::alloc::Global;
 use syn_disk::{Cut, MemDisk};
-use syn_play::Player;
 use syn_script::Script;
 use syn_world::World;
 

@@ -1,4 +1,0 @@
-mod MoveLemmas
-mod LineLemmas
-mod PlayerLemmas
-mod LoopLemmas

@@ -1,8 +1,0 @@
-use Rattle.syn_play.specs.Players.{IsPlayer}
-use Rattle.syn_play.specs.States.{State}
-use Rattle.syn_play.proofs.LoopLemmas.{HasDrained}
-use Rattle.syn_play.proofs.player.Player.drain.Given as goal
-
-abbrev pub invariant-loop-drained : goal.invariant-loop-drained
-invariant-loop-drained g l =
-    (state : State) → IsPlayer l.fn.self state → HasDrained state l._drained l.player

@@ -1,5 +1,0 @@
-pub mod States
-pub mod Drains
-pub mod Lines
-pub mod Players
-pub mod Turns
