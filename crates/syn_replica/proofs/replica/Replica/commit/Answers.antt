@@ -15,8 +15,8 @@ pub returns-then-is_halted-clause-any_moment : goal.returns-then-is_halted-claus
 returns-then-is_halted-clause-any_moment g c history event stands allowed e =
     written_moment c.args.self.now
     (record c.args.self.now { machine = c.write.new.self; tried = Some c.args.payload })
-    c.deref.result.now _ c.write.ensures.journal event (c.deref.ensures.value ∙ e) c.history_laws.ensures.payload
-    c.layout_laws.ensures.left history stands allowed
+    c.deref.result.now _ c.write.ensures.journal event (c.deref.ensures.value ∙ e)
+    c.history_laws.ensures.payload c.layout_laws.ensures.left history stands allowed
 
 pub returns-then-is_halted-clause-seen : goal.returns-then-is_halted-clause-seen
 returns-then-is_halted-clause-seen g c history event stands allowed e =
@@ -83,8 +83,8 @@ pub returns-clause-any_moment : goal.returns-clause-any_moment
 returns-clause-any_moment g c history event stands allowed e =
     written_moment c.args.self.now
     (record c.args.self.now { machine = c.write.new.self; tried = Some c.args.payload })
-    c.deref.result.now _ c.write.ensures.journal event (c.deref.ensures.value ∙ e) c.history_laws.ensures.payload
-    c.layout_laws.ensures.left history stands allowed
+    c.deref.result.now _ c.write.ensures.journal event (c.deref.ensures.value ∙ e)
+    c.history_laws.ensures.payload c.layout_laws.ensures.left history stands allowed
 
 pub returns-clause-seen : goal.returns-clause-seen
 returns-clause-seen g c history event stands allowed e =
