@@ -33,7 +33,7 @@ pub returns-in-Ok-migrate-clause-gives : goal.returns-in-Ok-migrate-clause-gives
 returns-in-Ok-migrate-clause-gives g c =
     let laws = c.history_laws.ensures in
     migrated_gives laws.image laws.standing_fits
-    (record { machine = c.in-Ok-migrate.machine; tried = None; digests = tt }) _
+    (record { machine = c.in-Ok-migrate.machine; tried = None; digests = c.new.result }) _
     c.in-Ok-migrate.ensures.migrated
 
 pub returns-in-Ok-migrate-clause-migrated : goal.returns-in-Ok-migrate-clause-migrated
