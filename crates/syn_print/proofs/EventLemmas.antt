@@ -1,8 +1,7 @@
 -- The lines of events, the newest first.
 use Rattle.std.proofs.Common.{◌≡◌, ◌∙◌, ◌+◌, ◌<◌, ◌++◌, ◌∷◌, [], ℕ, List, drop}
-use Rattle.std.proofs.Common.{length, reverse, ap, append-nil, get_or}
-use Rattle.std.proofs.lemmas.Grind.{flat_map-append}
-use Rattle.std.proofs.lemmas.List.{drop_more, reverse-append}
+use Rattle.std.proofs.Common.{length, reverse, ap, get_or, sym}
+use Rattle.std.proofs.lemmas.List.{drop_more, flat_map_more, reverse-append}
 use Rattle.syn_print.specs.Events.{lines_of, logged_line}
 use Rattle.syn_print.specs.declared.log.Logged.{Logged}
 
@@ -15,5 +14,4 @@ one_older all at other more =
     let rest = drop (at + 1) all in
     ap (λ xs. lines_of (reverse xs)) (drop_more all at other more)
     ∙ (ap lines_of (reverse-append (one ∷ []) rest)
-    ∙ (flat_map-append logged_line (reverse rest) (one ∷ [])
-    ∙ ap (λ xs. lines_of (reverse rest) ++ xs) (append-nil (logged_line one))))
+    ∙ sym (flat_map_more logged_line [] (reverse rest) one))

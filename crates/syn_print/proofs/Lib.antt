@@ -3,6 +3,5 @@ mod OrderLemmas
 mod ImageLemmas
 mod EventLemmas
 mod KnownLemmas
-mod PlanLemmas
 mod AskedLemmas
 mod ShownLemmas

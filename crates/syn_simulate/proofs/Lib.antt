@@ -2,6 +2,5 @@ mod MoveLemmas
 mod LineLemmas
 mod PlayerLemmas
 mod LoopLemmas
-mod ShownLemmas
 mod StartLemmas
 mod RunLemmas

@@ -49,7 +49,7 @@ fn push_touches(
         (entries_of logged.new.items ≡ entries_of logged.old.items ++ touched touches.now) }
 {
     for touch in touches {
-        let position = behind(touch.position())?;
+        let position = position_after(touch.position())?;
         let path = touch.path().copy(alloc)?;
         let what = What::Touched(path);
         logged.push(Logged { position, what })?;
@@ -69,7 +69,7 @@ fn push_events(
 {
     let mut position = first;
     for payload in payloads {
-        position = behind(position)?;
+        position = position_after(position)?;
         let what = What::Whole(event_in(alloc, payload)?);
         logged.push(Logged { position, what })?;
     }
@@ -77,7 +77,7 @@ fn push_events(
 }
 
 /// The position with the event that was at this one. Refused 19 where there is none.
-fn behind(position: u64) -> Result<u64, ReplicaError>
+fn position_after(position: u64) -> Result<u64, ReplicaError>
     ensures { IfOk result (λ next. next ≡ position + 1) }
 {
     match position.checked_add(1) {

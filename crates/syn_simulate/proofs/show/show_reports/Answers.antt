@@ -1,12 +1,13 @@
 use Rattle.std.proofs.Common.{◌≡◌, ◌+◌, ◌++◌, ◌∷◌, ◌∙◌, ◌<◌, [], ap, arith, length, subst, sym}
-use Rattle.std.proofs.Common.{take}
+use Rattle.std.proofs.Common.{take, ℕ}
 use Rattle.std.proofs.lemmas.Grind.{take_at_read}
+use Rattle.std.proofs.lemmas.List.{flat_map_more}
 use Rattle.std.specs.Io.KnownBytes.{Appends}
 use Rattle.syn_session.specs.Reports.{report_model}
+use Rattle.syn_session.specs.declared.report.Report.{Report}
 use Rattle.syn_print.specs.Reports.{report_lines}
 use Rattle.syn_simulate.specs.Shown.{reports_shown}
 use Rattle.std.proofs.KnownBytes.{Appends-trans}
-use Rattle.syn_simulate.proofs.ShownLemmas.{more_reports}
 use Rattle.syn_simulate.proofs.show.show_reports.Goals as goal
 
 pub loop-report-preserved : goal.loop-report-preserved
@@ -21,7 +22,9 @@ loop-report-preserved g c =
     let taken : take (index + 1) reports ≡ take index reports ++ one ∷ [] =
     (take_at_read reports index one less).1
     ∙ ap (λ last. take index reports ++ last ∷ []) (sym c.loop-report-item.is) in
-    let lines = ap reports_shown taken ∙ more_reports (take index reports) one in
+    let report_shown = λ (each : Report × ℕ). report_lines (report_model each.0) in
+    let lines = ap reports_shown taken
+    ∙ sym (flat_map_more report_shown [] (take index reports) one) in
     subst (Appends old new) (sym lines)
     (Appends-trans old middle new (reports_shown (take index reports))
     (report_lines (report_model one.0)) c.loop-report.invariant c.in_ok-show_report.ensures)
