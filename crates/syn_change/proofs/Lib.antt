@@ -1,4 +1,7 @@
+pub mod GoingLemmas
+pub mod NeedLemmas
 pub mod OverlayLemmas
+pub mod PartLemmas
 pub mod RemovalLemmas
 pub mod ResultLemmas
-mod UntouchedLemmas
+mod StandingLemmas

@@ -1,5 +1,5 @@
 -- What is put into a tree stands there, and the rest stays.
-use Rattle.std.proofs.Common.{◌≡◌, ◌≢◌, ◌∙◌, ℕ, Bool, true, false, cond, not, List, [], ◌∷◌, ◌++◌}
+use Rattle.std.proofs.Common.{◌≡◌, ◌∙◌, ℕ, Bool, true, false, cond, not, List, [], ◌∷◌, ◌++◌}
 use Rattle.std.proofs.Common.{fold, refl, sym, ap, subst, Option, Some, None, is_some, append-nil}
 use Rattle.std.proofs.Common.{true≢false}
 use Rattle.std.specs.Ordering.{eq_by_cmp}
@@ -10,7 +10,7 @@ use Rattle.syn_model.specs.Path.{Bytes, Path, Name, path_cmp, root, strip_prefix
 use Rattle.syn_model.specs.Contents.{contents_with}
 use Rattle.syn_model.specs.Tree.{Tree, Content, Directory, File, Pair, HasParents, at_root, replace}
 use Rattle.syn_model.specs.Tree.{is_directory, is_directory_content, is_present}
-use Rattle.syn_model.specs.Event.{Put, MakeDir, Chmod, after_edit, put_contents, put_mode}
+use Rattle.syn_model.specs.Event.{Put, MakeDir, Chmod, after_edit, put_contents}
 use Rattle.syn_model.specs.Event.{with_mode}
 use Rattle.syn_model.specs.Refusal.{Refusal, Cause, first_cause, Root, NoParent, IsDirectory}
 use Rattle.syn_model.specs.Refusal.{Absent, Exists}
@@ -23,7 +23,7 @@ use Rattle.syn_placed.specs.Pairs.{Pairs, rooted}
 use Rattle.syn_placed.proofs.RisingLemmas.{Rising}
 use Rattle.syn_placed.proofs.FindLemmas.{find_after}
 use Rattle.syn_placed.proofs.TreeLemmas.{rising-entries}
-use Rattle.syn_change.specs.Changes.{HasBytes, IsOverlaid, IsPlaced, StaysElsewhere}
+use Rattle.syn_change.specs.Changes.{HasBytes, HasMode, IsOverlaid, IsPlaced, StaysElsewhere}
 
 -- ---- one edit
 
@@ -90,16 +90,16 @@ dir_placed t p new parents none is =
       elsewhere = stays_elsewhere t p Directory parents free;
     }
 
--- a file that is put has its bytes, and all else stays
+-- a file that is put has its bytes and the mode that a put leaves, and all else stays
 pub put_placed : (t : Tree) (p : Path) (b : Bytes) (new : Tree) → HasParents t →
     edit_refusal t (Put p b) ≡ None → new ≡ after_edit t (Put p b) →
-    HasBytes new p b × StaysElsewhere t p new
+    (get new p ≡ Some (File (put_contents (get t p) b))) × StaysElsewhere t p new
 put_placed t p b new parents none is =
     let free = third (is_root p) (not (is_directory t (parent p))) (is_directory t p) Root NoParent
     IsDirectory (full_causes (after_edit t (Put p b))) none in
     let put = File (put_contents (get t p) b) in
-    subst (λ u. HasBytes u p b × StaysElsewhere t p u) (sym is)
-    ((put_mode (get t p), stands_there t p put), stays_elsewhere t p put parents free)
+    subst (λ u. (get u p ≡ Some put) × StaysElsewhere t p u) (sym is)
+    (stands_there t p put, stays_elsewhere t p put parents free)
 
 -- a mode that is set is there, over the same bytes, and all else stays
 module _ (t : Tree) (p : Path) (mode : ℕ) (new : Tree) (parents : HasParents t)
@@ -133,6 +133,14 @@ module _ (t : Tree) (p : Path) (mode : ℕ) (new : Tree) (parents : HasParents t
       IsDirectory rest none)
       (not-false (is_present t p) (fourth (is_root p) (not (is_directory t (parent p)))
       (is_directory t p) (not (is_present t p)) Root NoParent IsDirectory Absent full none))
+
+-- a file of a mode that has these bytes is that of both
+pub same_mode : (t : Tree) (p : Path) (mode : ℕ) (b : Bytes) → HasMode t p mode → HasBytes t p b →
+    get t p ≡ Some (File (contents_with mode b))
+same_mode t p mode b there has =
+    there.1 ∙ ap (λ c. Some (File (contents_with mode c.bytes)))
+    (same_file (contents_with mode there.0) (contents_with has.0 b)
+    (same_Some _ _ (sym there.1 ∙ has.1)))
 
 -- a file whose bytes are put, and whose mode is set then, is placed
 pub file_placed : (t between new : Tree) (p : Path) (c : Content) (pair : Pair) → (p, c) ≡ pair →
@@ -168,7 +176,7 @@ settled : Option Content → Option Content → Option Content
 settled None there = there
 settled (Some c) there = Some c
 
-kept : (q : Path) (there : Option Content) (es : Pairs) → find path_cmp q es ≡ None →
+pub kept : (q : Path) (there : Option Content) (es : Pairs) → find path_cmp q es ≡ None →
     fold (placing q) there es ≡ there
 kept q there [] none = refl
 kept q there (x ∷ es) none = go (eq_by_cmp path_cmp q x.0) none (kept q there es)

@@ -1,15 +1,18 @@
 //! What is to be put and made, so that one tree has what another has.
-ghost use Rattle.std.specs.Prelude.{◌≡◌, None, OnOk, Some, map};
+ghost use Rattle.std.specs.Prelude.{◌≡◌, ◌≢◌, ◌↔◌, IfErr, IsTrue, None, OnOk, Some};
 ghost use Rattle.std.specs.FinMap.{get};
 ghost use Rattle.syn_model.specs.Contents.{contents_with};
-ghost use Rattle.syn_model.specs.Event.{after_edit};
+ghost use Rattle.syn_model.specs.Event.{after_edit, put_mode};
 ghost use Rattle.syn_model.specs.Path.{Bytes};
 ghost use Rattle.syn_model.specs.Standing.{edit_refusal};
 ghost use Rattle.syn_model.specs.Tree.{Directory, File};
 ghost use Rattle.syn_tree.specs.Edits.{edit_of};
 ghost use Rattle.syn_tree.specs.Modes.{mode_of};
-ghost use Rattle.syn_change.specs.Changes.{GoesOn, HasBytes, IsOverlaid, IsPlaced, IsUntouched};
-ghost use Rattle.syn_change.specs.Changes.{StaysElsewhere};
+ghost use Rattle.syn_tree.specs.Refusals.{refusal_of};
+ghost use Rattle.syn_change.specs.Changes.{ChangesMode, GoesOn, HasBytes, IsAddition};
+ghost use Rattle.syn_change.specs.Changes.{HasMode, IsNeededFor, IsOverlaid, IsPlaced};
+ghost use Rattle.syn_change.specs.Changes.{IsRefusedAmong};
+ghost use Rattle.syn_change.specs.Changes.{MakesDir, PutsBytes, StaysElsewhere};
 
 use std::alloc::Global;
 use syn_path::Path;
@@ -26,10 +29,10 @@ pub(crate) fn put_missing(
     wanted: &Tree,
 ) -> Result<(), TreeError>
     ensures overlaid { OnOk result (IsOverlaid work.old wanted.now work.new) }
-    ensures none { work.old ≡ wanted.now
-        → OnOk result (IsUntouched work.old work.new edits.old.items edits.new.items) }
-    ensures edits { OnOk result (GoesOn work.old (map edit_of edits.old.items) work.new
-        (map edit_of edits.new.items)) }
+    ensures edits { OnOk result (GoesOn (IsAddition work.old wanted.now) work.old edits.old.items
+        work.new edits.new.items) }
+    ensures refused { IfErr result (λ e. e ≢ TreeError.Memory
+        → IsRefusedAmong (IsAddition work.old wanted.now) work.old (refusal_of e)) }
 {
     let _ = work.entries();
     for pair in wanted.entries() {
@@ -46,10 +49,10 @@ fn put_pair(
     pair: &Pair<'_>,
 ) -> Result<(), TreeError>
     ensures placed { OnOk result (IsPlaced work.old pair.now work.new) }
-    ensures none { get work.old pair.now.0 ≡ Some pair.now.1
-        → OnOk result (IsUntouched work.old work.new edits.old.items edits.new.items) }
-    ensures edits { OnOk result (GoesOn work.old (map edit_of edits.old.items) work.new
-        (map edit_of edits.new.items)) }
+    ensures edits { OnOk result (GoesOn (IsNeededFor work.old pair.now) work.old edits.old.items
+        work.new edits.new.items) }
+    ensures refused { IfErr result (λ e. e ≢ TreeError.Memory
+        → IsRefusedAmong (IsNeededFor work.old pair.now) work.old (refusal_of e)) }
 {
     let path = pair.path(alloc)?;
     match pair.found() {
@@ -69,15 +72,26 @@ fn make_dir(
     path: Path,
 ) -> Result<(), TreeError>
     ensures placed { OnOk result (IsPlaced work.old (path, Directory) work.new) }
-    ensures none { get work.old path ≡ Some Directory
-        → OnOk result (IsUntouched work.old work.new edits.old.items edits.new.items) }
-    ensures edits { OnOk result (GoesOn work.old (map edit_of edits.old.items) work.new
-        (map edit_of edits.new.items)) }
+    ensures edits { OnOk result (GoesOn (MakesDir work.old path) work.old edits.old.items
+        work.new edits.new.items) }
+    ensures refused { IfErr result (λ e. e ≢ TreeError.Memory
+        → IsRefusedAmong (MakesDir work.old path) work.old (refusal_of e)) }
 {
     let _ = work.entries();
-    match work.get(&path) {
-        Some(Found::Dir) => Ok(()),
-        _ => make(alloc, work, edits, Edit::MakeDir(path)),
+    if is_directory(work, &path) {
+        return Ok(());
+    }
+    make(alloc, work, edits, Edit::MakeDir(path))
+}
+
+/// A directory is at the path.
+fn is_directory(tree: &Tree, path: &Path) -> bool
+    ensures { IsTrue result ↔ (get tree.now path.now ≡ Some Directory) }
+{
+    match tree.get(path) {
+        Some(Found::Dir) => true,
+        Some(Found::File(..)) => false,
+        None => false,
     }
 }
 
@@ -90,19 +104,30 @@ fn put_bytes(
     bytes: &[u8],
 ) -> Result<(), TreeError>
     ensures there { OnOk result (HasBytes work.new path.now bytes.now) }
+    ensures mode { OnOk result
+        (put_mode (get work.new path.now) ≡ put_mode (get work.old path.now)) }
     ensures elsewhere { OnOk result (StaysElsewhere work.old path.now work.new) }
-    ensures none { HasBytes work.old path.now bytes.now
-        → OnOk result (IsUntouched work.old work.new edits.old.items edits.new.items) }
-    ensures edits { OnOk result (GoesOn work.old (map edit_of edits.old.items) work.new
-        (map edit_of edits.new.items)) }
+    ensures edits { OnOk result (GoesOn (PutsBytes work.old path.now bytes.now) work.old
+        edits.old.items work.new edits.new.items) }
+    ensures refused { IfErr result (λ e. e ≢ TreeError.Memory
+        → IsRefusedAmong (PutsBytes work.old path.now bytes.now) work.old (refusal_of e)) }
 {
     let _ = work.entries();
-    match work.get(path) {
-        Some(Found::File(_, there)) if there == bytes => Ok(()),
-        _ => {
-            let put = Edit::Put(path.copy(alloc)?, Vec::from_slice(alloc, bytes)?);
-            make(alloc, work, edits, put)
-        }
+    if has_bytes(work, path, bytes) {
+        return Ok(());
+    }
+    let put = Edit::Put(path.copy(alloc)?, Vec::from_slice(alloc, bytes)?);
+    make(alloc, work, edits, put)
+}
+
+/// A file with these bytes is at the path.
+fn has_bytes(tree: &Tree, path: &Path, bytes: &[u8]) -> bool
+    ensures { IsTrue result ↔ HasBytes tree.now path.now bytes.now }
+{
+    match tree.get(path) {
+        Some(Found::File(_, there)) => there == bytes,
+        Some(Found::Dir) => false,
+        None => false,
     }
 }
 
@@ -117,16 +142,26 @@ fn set_mode(
     ensures there { (bytes : Bytes) → HasBytes work.old path bytes → OnOk result
         (get work.new path ≡ Some (File (contents_with (mode_of mode) bytes))) }
     ensures elsewhere { OnOk result (StaysElsewhere work.old path work.new) }
-    ensures none { (bytes : Bytes)
-        → get work.old path ≡ Some (File (contents_with (mode_of mode) bytes))
-        → OnOk result (IsUntouched work.old work.new edits.old.items edits.new.items) }
-    ensures edits { OnOk result (GoesOn work.old (map edit_of edits.old.items) work.new
-        (map edit_of edits.new.items)) }
+    ensures edits { OnOk result (GoesOn (ChangesMode work.old path (mode_of mode)) work.old
+        edits.old.items work.new edits.new.items) }
+    ensures refused { IfErr result (λ e. e ≢ TreeError.Memory
+        → IsRefusedAmong (ChangesMode work.old path (mode_of mode)) work.old (refusal_of e)) }
 {
     let _ = work.entries();
-    match work.get(&path) {
-        Some(Found::File(there, _)) if there.is_same(mode) => Ok(()),
-        _ => make(alloc, work, edits, Edit::Chmod(path, mode)),
+    if has_mode(work, &path, mode) {
+        return Ok(());
+    }
+    make(alloc, work, edits, Edit::Chmod(path, mode))
+}
+
+/// A file of this mode is at the path.
+fn has_mode(tree: &Tree, path: &Path, mode: Mode) -> bool
+    ensures { IsTrue result ↔ HasMode tree.now path.now (mode_of mode) }
+{
+    match tree.get(path) {
+        Some(Found::File(there, _)) => there.is_same(mode),
+        Some(Found::Dir) => false,
+        None => false,
     }
 }
 
@@ -135,8 +170,10 @@ fn set_mode(
 fn make(alloc: Global, work: &mut Tree, edits: &mut Vec<Edit>, edit: Edit) -> Result<(), TreeError>
     ensures done { OnOk result (work.new ≡ after_edit work.old (edit_of edit)) }
     ensures allowed { OnOk result (edit_refusal work.old (edit_of edit) ≡ None) }
-    ensures edits { OnOk result (GoesOn work.old (map edit_of edits.old.items) work.new
-        (map edit_of edits.new.items)) }
+    ensures edits { OnOk result (GoesOn (λ made. made ≡ edit_of edit) work.old edits.old.items
+        work.new edits.new.items) }
+    ensures refused { IfErr result (λ e. e ≢ TreeError.Memory
+        → IsRefusedAmong (λ made. made ≡ edit_of edit) work.old (refusal_of e)) }
 {
     edits.push(edit.copy(alloc)?)?;
     work.apply(alloc, edit)

@@ -1,8 +1,13 @@
 //! The edits between two trees.
-ghost use Rattle.std.specs.Prelude.{◌≡◌, [], IfOk, map};
-ghost use Rattle.syn_model.specs.Tree.{replace, subtree};
+ghost use Rattle.std.specs.Prelude.{◌≡◌, ◌≢◌, ◌⊎◌, [], IfErr, IfOk, Some, false, map};
+ghost use Rattle.std.specs.List.{AllByRecursion, IsDistinct};
+ghost use Rattle.syn_model.specs.Path.{is_root};
+ghost use Rattle.syn_model.specs.Tree.{is_directory, replace, subtree};
 ghost use Rattle.syn_tree.specs.Edits.{edit_of};
-ghost use Rattle.syn_change.specs.Changes.{IsOverlaid, after_edits};
+ghost use Rattle.syn_tree.specs.Lists.{replace_refusal};
+ghost use Rattle.syn_tree.specs.Refusals.{refusal_of};
+ghost use Rattle.syn_change.specs.Changes.{AreChanges, IsAddition, IsNeeded, IsOverlaid};
+ghost use Rattle.syn_change.specs.Changes.{IsRefusedAmong, after_edits, are_alike};
 
 use crate::additions::put_missing;
 use crate::removals::remove_extra;
@@ -11,49 +16,64 @@ use syn_path::Path;
 use syn_tree::{Edit, Node, Tree, TreeError};
 
 /// The edits that make the old tree the wanted one: first what is removed, a directory with all
-/// below it, and then what is put and made, in path order. Equal trees need none.
+/// below it, and then what is put and made, in path order. Each of them is needed, and equal trees
+/// need none.
 ///
-/// Refused 11 where memory is refused.
+/// Refused as the tree refuses one of them after some of the others: 7 where it would pass a limit
+/// on the way. Refused 11 where memory is refused.
 pub fn changes(alloc: Global, old: &Tree, wanted: &Tree) -> Result<Vec<Edit>, TreeError>
-    ensures made { IfOk result (λ edits.
-        after_edits old.now (map edit_of edits.items) ≡ wanted.now) }
+    ensures changes { IfOk result (λ edits.
+        AreChanges old.now wanted.now (map edit_of edits.items)) }
     ensures none { old.now ≡ wanted.now → IfOk result (λ edits. edits.items ≡ []) }
+    ensures refused { IfErr result (λ e. e ≢ TreeError.Memory
+        → IsRefusedAmong (IsNeeded old.now wanted.now) old.now (refusal_of e)) }
 {
-    let mut work = copy_part(alloc, old, &Path::root(alloc))?;
+    let mut work = copy_whole(alloc, old)?;
     let mut edits = Vec::new(alloc);
     remove_extra(alloc, old, &mut work, &mut edits, wanted)?;
     put_missing(alloc, &mut work, &mut edits, wanted)?;
     Ok(edits)
 }
 
-/// The edits that put the other tree in the place of what is at and below the path. Where it is
-/// there already, none are needed.
+/// The edits that put the other tree in the place of what is at and below the path. Each of them is
+/// needed, and where it is there already, none is.
 ///
 /// Refused 2 where the path's parent is no directory, 7 where the result would pass a limit, and 11
-/// where memory is refused.
+/// where memory is refused. Refused as `changes` refuses them, too.
 pub fn changes_at(
     alloc: Global,
     old: &Tree,
     path: &Path,
     part: &Tree,
 ) -> Result<Vec<Edit>, TreeError>
-    ensures made { IfOk result (λ edits. after_edits old.now (map edit_of edits.items)
-        ≡ replace old.now path.now part.now) }
+    ensures changes { IfOk result (λ edits.
+        AreChanges old.now (replace old.now path.now part.now) (map edit_of edits.items)) }
     ensures none { subtree old.now path.now ≡ part.now → IfOk result (λ edits. edits.items ≡ []) }
+    ensures refused { IfErr result (λ e. e ≢ TreeError.Memory
+        → ((is_root path.now ≡ false)
+        × (replace_refusal old.now path.now part.now ≡ Some (refusal_of e)))
+        ⊎ IsRefusedAmong (IsNeeded old.now (replace old.now path.now part.now)) old.now
+        (refusal_of e)) }
 {
     let wanted = with_part(alloc, old, path, part)?;
     changes(alloc, old, &wanted)
 }
 
-/// The edits that put into the old tree what the other has, in path order, and remove nothing.
+/// The edits that put into the old tree what the other has, in path order, and remove nothing. Each
+/// of them is needed.
 ///
 /// Refused 3 where a file would take the place of a directory, 4 where a directory would take the
 /// place of a file, 7 where the result would pass a limit, and 11 where memory is refused.
 pub fn puts(alloc: Global, old: &Tree, added: &Tree) -> Result<Vec<Edit>, TreeError>
-    ensures { IfOk result (λ edits.
+    ensures made { IfOk result (λ edits.
         IsOverlaid old.now added.now (after_edits old.now (map edit_of edits.items))) }
+    ensures needed { IfOk result (λ edits.
+        AllByRecursion (IsAddition old.now added.now) (map edit_of edits.items)) }
+    ensures once { IfOk result (λ edits. IsDistinct are_alike (map edit_of edits.items)) }
+    ensures refused { IfErr result (λ e. e ≢ TreeError.Memory
+        → IsRefusedAmong (IsAddition old.now added.now) old.now (refusal_of e)) }
 {
-    let mut work = copy_part(alloc, old, &Path::root(alloc))?;
+    let mut work = copy_whole(alloc, old)?;
     let mut edits = Vec::new(alloc);
     put_missing(alloc, &mut work, &mut edits, added)?;
     Ok(edits)
@@ -64,14 +84,16 @@ pub fn puts(alloc: Global, old: &Tree, added: &Tree) -> Result<Vec<Edit>, TreeEr
 /// Refused 2 where the path's parent is no directory, 7 where the result would pass a limit, and 11
 /// where memory is refused.
 pub fn with_part(alloc: Global, tree: &Tree, path: &Path, part: &Tree) -> Result<Tree, TreeError>
-    ensures { IfOk result (λ whole. whole ≡ replace tree.now path.now part.now) }
+    ensures whole { IfOk result (λ whole. whole ≡ replace tree.now path.now part.now) }
+    ensures refused { IfErr result (λ e. e ≢ TreeError.Memory
+        → (is_root path.now ≡ false)
+        × (replace_refusal tree.now path.now part.now ≡ Some (refusal_of e))) }
 {
-    let root = Path::root(alloc);
     if path.names().is_empty() {
-        return copy_part(alloc, part, &root);
+        return copy_whole(alloc, part);
     }
-    let mut whole = copy_part(alloc, tree, &root)?;
-    let part = part.subtree(alloc, &root)?;
+    let mut whole = copy_whole(alloc, tree)?;
+    let part = part.subtree(alloc, &Path::root(alloc))?;
     whole.replace(alloc, path, part)?;
     Ok(whole)
 }
@@ -80,10 +102,28 @@ pub fn with_part(alloc: Global, tree: &Tree, path: &Path, part: &Tree) -> Result
 ///
 /// Refused 5 where no directory is there, and 11 where memory is refused.
 pub fn copy_part(alloc: Global, tree: &Tree, path: &Path) -> Result<Tree, TreeError>
-    ensures { IfOk result (λ part. part ≡ subtree tree.now path.now) }
+    ensures part { IfOk result (λ part. part ≡ subtree tree.now path.now) }
+    ensures refused { IfErr result (λ e. (e ≡ TreeError.Memory)
+        ⊎ ((e ≡ TreeError.Absent) × (is_directory tree.now path.now ≡ false))) }
 {
+    // of a tree within its limits each part is, too
+    let _ = tree.entries();
     match tree.subtree(alloc, path)? {
-        Some(Node::Dir(entries)) => Tree::from_entries(alloc, entries),
-        _ => Err(TreeError::Absent),
+        Some(Node::Dir(entries)) => {
+            let _ = entries.iter();
+            Tree::from_entries(alloc, entries)
+        }
+        Some(Node::File(..)) => Err(TreeError::Absent),
+        None => Err(TreeError::Absent),
     }
+}
+
+/// An equal tree of its own. Refused 11 where memory is refused.
+fn copy_whole(alloc: Global, tree: &Tree) -> Result<Tree, TreeError>
+    ensures ok { IfOk result (λ copy. copy ≡ tree.now) }
+    ensures memory { IfErr result (λ e. e ≡ TreeError.Memory) }
+{
+    let _ = tree.entries();
+    let root = Path::root(alloc);
+    copy_part(alloc, tree, &root)
 }

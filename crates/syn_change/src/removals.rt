@@ -1,10 +1,9 @@
-//! What is to be removed, so that one tree has nothing that another lacks.
-ghost use Rattle.std.specs.Prelude.{◌≡◌, true, OnOk, Some, map};
+//! What is to be removed, so that one tree has nothing that cannot stay where another is wanted.
+ghost use Rattle.std.specs.Prelude.{◌≡◌, IfErr, OnOk, Some};
 ghost use Rattle.std.specs.FinMap.{get};
-ghost use Rattle.syn_model.specs.Tree.{is_present};
-ghost use Rattle.syn_tree.specs.Edits.{edit_of};
 ghost use Rattle.syn_tree.specs.Contents.{found_content};
-ghost use Rattle.syn_change.specs.Changes.{GoesOn, IsTrimmed, IsUntouched, IsWithout};
+ghost use Rattle.syn_change.specs.Changes.{GoesOn, IsLess, IsRemoval, IsTrimmed, IsWithout};
+ghost use Rattle.syn_change.specs.Changes.{Removes, can_stay};
 
 use std::alloc::Global;
 use syn_path::Path;
@@ -23,10 +22,10 @@ pub(crate) fn remove_extra(
 ) -> Result<(), TreeError>
     requires { work.old ≡ old.now }
     ensures trimmed { OnOk result (IsTrimmed wanted.now work.new) }
-    ensures none { work.old ≡ wanted.now
-        → OnOk result (IsUntouched work.old work.new edits.old.items edits.new.items) }
-    ensures edits { OnOk result (GoesOn work.old (map edit_of edits.old.items) work.new
-        (map edit_of edits.new.items)) }
+    ensures less { OnOk result (IsLess work.old wanted.now work.new) }
+    ensures edits { OnOk result (GoesOn (IsRemoval work.old wanted.now) work.old edits.old.items
+        work.new edits.new.items) }
+    ensures memory { IfErr result (λ e. e ≡ TreeError.Memory) }
 {
     let _ = wanted.entries();
     for pair in old.entries() {
@@ -36,7 +35,9 @@ pub(crate) fn remove_extra(
     Ok(())
 }
 
-/// Plans and makes the removal of what is at the path, unless it is wanted there.
+/// Plans and makes the removal of what is at the path, unless it can stay there.
+///
+/// Refused 11 where memory is refused.
 fn remove_entry(
     alloc: Global,
     work: &mut Tree,
@@ -45,11 +46,12 @@ fn remove_entry(
     path: &Path,
 ) -> Result<(), TreeError>
     ensures without { OnOk result (IsWithout work.old wanted.now path.now work.new) }
-    ensures none { work.old ≡ wanted.now
-        → OnOk result (IsUntouched work.old work.new edits.old.items edits.new.items) }
-    ensures edits { OnOk result (GoesOn work.old (map edit_of edits.old.items) work.new
-        (map edit_of edits.new.items)) }
+    ensures edits { OnOk result (GoesOn (Removes work.old wanted.now path.now) work.old
+        edits.old.items work.new edits.new.items) }
+    ensures memory { IfErr result (λ e. e ≡ TreeError.Memory) }
 {
+    let _ = work.entries();
+    let _ = wanted.entries();
     let Some(there) = work.get(path) else {
         return Ok(());
     };
@@ -62,8 +64,7 @@ fn remove_entry(
 
 /// The wanted tree has the same kind at the path.
 fn is_wanted(there: &Found<'_>, wanted: &Tree, path: &Path) -> bool
-    ensures present { result ≡ true → is_present wanted.now path.now ≡ true }
-    ensures same { get wanted.now path.now ≡ Some (found_content there.now) → result ≡ true }
+    ensures { result ≡ can_stay (Some (found_content there.now)) (get wanted.now path.now) }
 {
     match wanted.get(path) {
         Some(found) => found.is_directory() == there.is_directory(),

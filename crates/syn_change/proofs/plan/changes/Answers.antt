@@ -1,32 +1,61 @@
-use Rattle.std.proofs.Common.{◌≡◌, map, sym, ap, ◌∙◌}
-use Rattle.syn_model.specs.Tree.{subtree}
-use Rattle.syn_model.proofs.TreeLemmas.{subtree-root}
+use Rattle.std.proofs.Common.{map, ◌∙◌, subst}
+use Rattle.std.proofs.lemmas.Result.{err_from_is_err_and}
 use Rattle.syn_tree.specs.Edits.{edit_of}
-use Rattle.syn_change.specs.Changes.{after_edits}
+use Rattle.syn_tree.specs.Refusals.{refusal_of}
+use Rattle.syn_change.specs.Changes.{AreChanges, IsAddition, IsNeeded, IsRemoval}
+use Rattle.syn_change.specs.Changes.{IsRefusedAmong}
+use Rattle.syn_change.proofs.GoingLemmas.{goes_twice, refused_later}
+use Rattle.syn_change.proofs.NeedLemmas.{changes_of, kinds_apart, needed_before, none_needed}
 use Rattle.syn_change.proofs.RemovalLemmas.{is_wanted}
 use Rattle.syn_change.proofs.plan.changes.Goals as goal
 
-pub remove_extra-requires : goal.remove_extra-requires
-remove_extra-requires c =
-    c.in_ok-work.ensures
-    ∙ (ap (subtree c.args.old.now) c.root.ensures ∙ subtree-root c.args.old.now)
-
-pub returns-clause-made : goal.returns-clause-made
-returns-clause-made c =
+pub returns-clause-changes : goal.returns-clause-changes
+returns-clause-changes c =
     let old = c.args.old.now in
-    let work : c.in_ok-work.work ≡ old =
-    c.in_ok-work.ensures ∙ (ap (subtree old) c.root.ensures ∙ subtree-root old) in
-    let start : after_edits old (map edit_of c.new-edits.result.items) ≡ c.in_ok-work.work =
-    ap (λ edits. after_edits old (map edit_of edits)) c.new-edits.ensures.items ∙ sym work in
-    c.in_ok-put_missing.ensures.edits old (c.in_ok-remove_extra.ensures.edits old start)
-    ∙ is_wanted c.remove_extra.new.work c.args.wanted.now c.put_missing.new.work
-    c.in_ok-remove_extra.ensures.trimmed c.in_ok-put_missing.ensures.overlaid
+    let wanted = c.args.wanted.now in
+    let start = c.in_ok-work.work in
+    let work = c.remove_extra.new.work in
+    let new = c.put_missing.new.work in
+    let none = c.new-edits.result.items in
+    let removed = c.in_ok-remove_extra.ensures in
+    let put = c.in_ok-put_missing.ensures in
+    subst (λ t. AreChanges t wanted (map edit_of c.put_missing.new.edits.items))
+    c.in_ok-work.ensures.ok (changes_of start wanted new none c.put_missing.new.edits.items
+    c.new-edits.ensures.items (is_wanted work wanted new removed.trimmed put.overlaid)
+    (goes_twice (IsRemoval start wanted) (IsAddition work wanted) (IsNeeded start wanted) start work
+    new none c.remove_extra.new.edits.items c.put_missing.new.edits.items (λ e is. is.0)
+    (needed_before start wanted work removed.less) (λ x y is other. kinds_apart x y is.1 other.1)
+    removed.edits put.edits))
 
 pub returns-clause-none : goal.returns-clause-none
 returns-clause-none c same =
     let old = c.args.old.now in
-    let work : c.in_ok-work.work ≡ old =
-    c.in_ok-work.ensures ∙ (ap (subtree old) c.root.ensures ∙ subtree-root old) in
-    let removed = c.in_ok-remove_extra.ensures.none (work ∙ same) in
-    let put = c.in_ok-put_missing.ensures.none (removed.0 ∙ (work ∙ same)) in
-    put.1 ∙ (removed.1 ∙ c.new-edits.ensures.items)
+    let wanted = c.args.wanted.now in
+    let start = c.in_ok-work.work in
+    let work = c.remove_extra.new.work in
+    let new = c.put_missing.new.work in
+    let none = c.new-edits.result.items in
+    let removed = c.in_ok-remove_extra.ensures in
+    let put = c.in_ok-put_missing.ensures in
+    none_needed start wanted c.put_missing.new.edits.items (c.in_ok-work.ensures.ok ∙ same)
+    (changes_of start wanted new none c.put_missing.new.edits.items
+    c.new-edits.ensures.items (is_wanted work wanted new removed.trimmed put.overlaid)
+    (goes_twice (IsRemoval start wanted) (IsAddition work wanted) (IsNeeded start wanted) start work
+    new none c.remove_extra.new.edits.items c.put_missing.new.edits.items (λ e is. is.0)
+    (needed_before start wanted work removed.less) (λ x y is other. kinds_apart x y is.1 other.1)
+    removed.edits put.edits))
+
+pub returns-in_err-put_missing-clause-refused : goal.returns-in_err-put_missing-clause-refused
+returns-in_err-put_missing-clause-refused c =
+    let p = err_from_is_err_and c.from_residual-in_err-put_missing.result
+    c.from_residual-in_err-put_missing.ensures.1 in
+    let wanted = c.args.wanted.now in
+    let start = c.in_ok-work.work in
+    let work = c.remove_extra.new.work in
+    let removed = c.in_ok-remove_extra.ensures in
+    let refusal = refusal_of c.in_err-put_missing.field-0.0 in
+    rw (p.1, p.2) (λ other. subst (λ t. IsRefusedAmong (IsNeeded t wanted) t refusal)
+    c.in_ok-work.ensures.ok (refused_later (IsRemoval start wanted) (IsAddition work wanted)
+    (IsNeeded start wanted) start work c.new-edits.result.items c.remove_extra.new.edits.items
+    refusal (λ e is. is.0) (needed_before start wanted work removed.less) removed.edits
+    (c.in_err-put_missing.ensures.refused other)))

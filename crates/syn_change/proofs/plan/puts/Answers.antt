@@ -1,19 +1,51 @@
-use Rattle.std.proofs.Common.{◌≡◌, map, sym, ap, ◌∙◌, subst}
-use Rattle.syn_model.specs.Tree.{Tree, subtree}
-use Rattle.syn_model.proofs.TreeLemmas.{subtree-root}
+use Rattle.std.proofs.Common.{map, sym, ap, ◌∙◌, subst}
+use Rattle.std.proofs.lemmas.Result.{err_from_is_err_and}
+use Rattle.std.specs.List.{AllByRecursion, IsDistinct}
+use Rattle.syn_model.specs.Tree.{Tree}
 use Rattle.syn_tree.specs.Edits.{edit_of}
-use Rattle.syn_change.specs.Changes.{IsOverlaid, after_edits}
+use Rattle.syn_tree.specs.Refusals.{refusal_of}
+use Rattle.syn_change.specs.Changes.{IsAddition, IsOverlaid, IsRefusedAmong, after_edits, are_alike}
+use Rattle.syn_change.proofs.NeedLemmas.{added_all}
 use Rattle.syn_change.proofs.plan.puts.Goals as goal
 
-pub returns : goal.returns
-returns c =
+pub returns-clause-made : goal.returns-clause-made
+returns-clause-made c =
     let old = c.args.old.now in
     let added = c.args.added.now in
-    let work : c.in_ok-work.work ≡ old =
-    c.in_ok-work.ensures ∙ (ap (subtree old) c.root.ensures ∙ subtree-root old) in
-    let start : after_edits old (map edit_of c.new-edits.result.items) ≡ c.in_ok-work.work =
-    ap (λ edits. after_edits old (map edit_of edits)) c.new-edits.ensures.items ∙ sym work in
-    let P : Tree → Type 0 = λ t. IsOverlaid t added c.put_missing.new.work in
-    let Q : Tree → Type 0 = λ t. IsOverlaid old added t in
-    subst Q (sym (c.in_ok-put_missing.ensures.edits old start))
-    (subst P work c.in_ok-put_missing.ensures.overlaid)
+    let work = c.in_ok-work.work in
+    let on = c.in_ok-put_missing.ensures.edits in
+    let all = added_all (IsAddition work added) work c.new-edits.result.items c.put_missing.new.work
+    c.put_missing.new.edits.items c.new-edits.ensures.items on in
+    subst (λ (t : Tree). IsOverlaid t added
+    (after_edits t (map edit_of c.put_missing.new.edits.items))) c.in_ok-work.ensures.ok
+    (subst (λ (t : Tree). IsOverlaid work added t) (sym (ap (after_edits work) (sym all) ∙ on.make))
+    c.in_ok-put_missing.ensures.overlaid)
+
+pub returns-clause-needed : goal.returns-clause-needed
+returns-clause-needed c =
+    let added = c.args.added.now in
+    let work = c.in_ok-work.work in
+    let on = c.in_ok-put_missing.ensures.edits in
+    let all = added_all (IsAddition work added) work c.new-edits.result.items c.put_missing.new.work
+    c.put_missing.new.edits.items c.new-edits.ensures.items on in
+    subst (λ (t : Tree). AllByRecursion (IsAddition t added)
+    (map edit_of c.put_missing.new.edits.items)) c.in_ok-work.ensures.ok
+    (subst (AllByRecursion (IsAddition work added)) all on.each)
+
+pub returns-clause-once : goal.returns-clause-once
+returns-clause-once c =
+    let added = c.args.added.now in
+    let work = c.in_ok-work.work in
+    let on = c.in_ok-put_missing.ensures.edits in
+    let all = added_all (IsAddition work added) work c.new-edits.result.items c.put_missing.new.work
+    c.put_missing.new.edits.items c.new-edits.ensures.items on in
+    subst (IsDistinct are_alike) all on.once
+
+pub returns-in_err-put_missing-clause-refused : goal.returns-in_err-put_missing-clause-refused
+returns-in_err-put_missing-clause-refused c =
+    let p = err_from_is_err_and c.from_residual-in_err-put_missing.result
+    c.from_residual-in_err-put_missing.ensures.1 in
+    let added = c.args.added.now in
+    rw (p.1, p.2) (λ other. subst (λ (t : Tree). IsRefusedAmong (IsAddition t added) t
+    (refusal_of c.in_err-put_missing.field-0.0)) c.in_ok-work.ensures.ok
+    (c.in_err-put_missing.ensures.refused other))

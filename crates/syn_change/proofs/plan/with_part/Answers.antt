@@ -1,9 +1,11 @@
-use Rattle.std.proofs.Common.{◌≡◌, [], sym, ap, ◌∙◌, refl, eqb-true}
+use Rattle.std.proofs.Common.{◌≡◌, ◌==◌, ◌∷◌, false, length, true≢false, [], sym, ap, ◌∙◌, refl}
+use Rattle.std.proofs.Common.{eqb-true}
 use Rattle.std.proofs.lemmas.List.{nil_from_length}
-use Rattle.std.proofs.lemmas.Result.{IfOk-weaker}
-use Rattle.syn_model.specs.Path.{root}
+use Rattle.std.proofs.lemmas.Result.{IfOk-weaker, err_from_is_err_and}
+use Rattle.syn_model.specs.Path.{Path, is_root, root}
 use Rattle.syn_model.specs.Tree.{Tree, replace, subtree}
 use Rattle.syn_model.proofs.TreeLemmas.{same_tree, subtree-root, within}
+use Rattle.syn_tree.specs.Lists.{replace_refusal}
 use Rattle.syn_tree.specs.Nodes.{part_of}
 use Rattle.syn_change.proofs.plan.with_part.Goals as goal
 
@@ -12,26 +14,47 @@ whole : (tree part : Tree) → replace tree root part ≡ part
 whole tree part =
     same_tree (replace tree root part) part (λ q. within tree root part q q refl)
 
-pub returns-then-is_empty : goal.returns-then-is_empty
-returns-then-is_empty c =
+pub returns-then-is_empty-clause-whole : goal.returns-then-is_empty-clause-whole
+returns-then-is_empty-clause-whole c =
     let tree = c.args.tree.now in
     let part = c.args.part.now in
     let empty : c.args.path.now ≡ [] =
     sym c.names.ensures.names ∙ nil_from_length c.names.result.now
     (eqb-true _ _ (sym c.is_empty.ensures ∙ c.if-is_empty.true)) in
-    IfOk-weaker c.copy_part.result _ _
-    (λ copy is. is ∙ (ap (subtree part) c.root-root.ensures ∙ (subtree-root part
-    ∙ sym (ap (λ p. replace tree p part) empty ∙ whole tree part))))
-    c.copy_part.ensures
+    IfOk-weaker c.copy_whole.result _ _
+    (λ copy is. is ∙ sym (ap (λ p. replace tree p part) empty ∙ whole tree part))
+    c.copy_whole.ensures.ok
 
-pub returns : goal.returns
-returns c =
+pub returns-clause-whole : goal.returns-clause-whole
+returns-clause-whole c =
     let tree = c.args.tree.now in
     let part = c.args.part.now in
     let at = c.args.path.now in
-    let copied : c.in_ok-whole.whole ≡ tree =
-    c.in_ok-whole.ensures ∙ (ap (subtree tree) c.root-root.ensures ∙ subtree-root tree) in
     let same : part_of c.in_ok-part.part ≡ part =
-    c.in_ok-part.ensures.ok ∙ (ap (subtree part) c.root-root.ensures ∙ subtree-root part) in
+    c.in_ok-part.ensures.ok ∙ (ap (subtree part) c.root.ensures ∙ subtree-root part) in
     c.in_ok-replace.ensures.done
-    ∙ (ap (λ t. replace t at (part_of c.in_ok-part.part)) copied ∙ ap (replace tree at) same)
+    ∙ (ap (λ t. replace t at (part_of c.in_ok-part.part)) c.in_ok-whole.ensures.ok
+    ∙ ap (replace tree at) same)
+
+-- a path of some names is not the root
+named : (p : Path) → (length p == 0) ≡ false → is_root p ≡ false
+named [] h = absurd (true≢false h)
+named (n ∷ p) h = refl
+
+pub returns-in_err-replace-clause-refused : goal.returns-in_err-replace-clause-refused
+returns-in_err-replace-clause-refused c =
+    let p = err_from_is_err_and c.from_residual-in_err-replace.result
+    c.from_residual-in_err-replace.ensures.1 in
+    let tree = c.args.tree.now in
+    let part = c.args.part.now in
+    let at = c.args.path.now in
+    let same : part_of c.in_ok-part.part ≡ part =
+    c.in_ok-part.ensures.ok ∙ (ap (subtree part) c.root.ensures ∙ subtree-root part) in
+    let below : is_root at ≡ false =
+    ap is_root (sym c.names.ensures.names)
+    ∙ named c.names.result.now (sym c.is_empty.ensures ∙ c.if-is_empty.false) in
+    rw (p.1, p.2) (λ other. (
+      below,
+      sym (ap (λ (t : Tree). replace_refusal t at (part_of c.in_ok-part.part)) c.in_ok-whole.ensures.ok
+          ∙ ap (λ (u : Tree). replace_refusal tree at u) same) ∙ c.in_err-replace.ensures.refused other,
+    ))

@@ -1,43 +1,77 @@
-use Rattle.std.proofs.Common.{◌≡◌, ◌++◌, ◌∷◌, [], sym, ap, ◌∙◌, subst, append_assoc, append-nil}
-use Rattle.std.specs.FinMap.{entries}
-use Rattle.syn_model.specs.Path.{Path}
+use Rattle.std.proofs.Common.{rules, ◌≡◌, ◌++◌, ◌∷◌, [], sym, ap, ◌∙◌, subst, append_assoc}
+use Rattle.std.proofs.Common.{append-nil}
+use Rattle.std.specs.FinMap.{entries, get}
+use Rattle.syn_model.specs.Event.{Edit}
+use Rattle.syn_model.specs.Path.{Path, root}
 use Rattle.syn_model.specs.Tree.{Tree}
 use Rattle.syn_placed.specs.Pairs.{rooted}
-use Rattle.syn_change.specs.Changes.{IsWithout}
+use Rattle.syn_change.specs.Changes.{GoesOn, IsRemoval, IsWithout, Removes}
+use Rattle.syn_change.proofs.GoingLemmas.{goes_nowhere, goes_twice, goes_weaker}
+use Rattle.syn_change.proofs.NeedLemmas.{apart_from, last_among, still_among}
+use Rattle.syn_change.proofs.RemovalLemmas.{IsRemovalIn, none_removed, removal_needed}
 use Rattle.syn_change.proofs.RemovalLemmas.{removed_more, trimmed}
-use Rattle.syn_change.proofs.UntouchedLemmas.{untouched_twice}
+use Rattle.syn_change.proofs.StandingLemmas.{none_in_front, rising_below}
 use Rattle.syn_change.proofs.removals.remove_extra.Goals as goal
+
+pub loop-pair-init : goal.loop-pair-init
+loop-pair-init c = record {
+  whole = search rules;
+  removed = none_removed c.args.work.now c.args.wanted.now;
+  edits =
+      goes_nowhere (IsRemovalIn c.args.work.now c.args.wanted.now []) c.args.work.now
+      c.args.edits.now.items;
+}
 
 pub loop-pair-preserved : goal.loop-pair-preserved
 loop-pair-preserved c =
-    let read = c.loop-pair.yielded in
+    let front = c.loop-pair.yielded in
     let x = c.in-Some.pair in
+    let behind = c.next.new.self in
     let old = c.args.work.now in
     let wanted = c.args.wanted.now in
-    let P : Path → Type 0 = λ p. IsWithout c.loop-pair.work wanted p c.remove_entry.new.work in
+    let work = c.loop-pair.work in
+    let new = c.remove_entry.new.work in
+    let all : rooted (front ++ x ∷ behind) ≡ entries c.args.old.now =
+    ap rooted (ap (λ xs. front ++ xs) (sym c.in-Some.ensures.steps))
+    ∙ c.loop-pair.invariant.whole in
+    let here : rooted (front ++ x ∷ behind) ≡ entries old =
+    all ∙ ap (λ (t : Tree). entries t) (sym c.requires) in
+    let none = none_in_front front x behind (rising_below old _ here).1 in
+    let P : Path → Type 0 = λ p. IsWithout work wanted p new in
+    let Q : Path → Type 0 = λ p. GoesOn (Removes work wanted p) work c.loop-pair.edits.items new
+    c.remove_entry.new.edits.items in
     let step = subst P c.in_ok-path.ensures c.in_ok-remove_entry.ensures.without in
+    let on = subst Q c.in_ok-path.ensures c.in_ok-remove_entry.ensures.edits in
+    let over = c.entries.ensures.tree.rooted in
+    let needed = λ (e : Edit). removal_needed old wanted work front x behind e here over
+    c.loop-pair.invariant.removed in
     record {
-      whole =
-          ap rooted (append_assoc read (x ∷ []) c.next.new.self
-          ∙ ap (λ xs. read ++ xs) (sym c.in-Some.ensures.steps)) ∙ c.loop-pair.invariant.whole;
-      removed =
-          removed_more old wanted read c.loop-pair.work x c.remove_entry.new.work
-          c.loop-pair.invariant.removed step;
+      whole = ap rooted (append_assoc front (x ∷ []) behind) ∙ all;
+      removed = removed_more old wanted front work x new c.loop-pair.invariant.removed step;
       edits =
-          λ tree start. c.in_ok-remove_entry.ensures.edits tree
-          (c.loop-pair.invariant.edits tree start);
-      none =
-          λ same.
-          let before = c.loop-pair.invariant.none same in
-          untouched_twice _ _ _ _ _ _ before (c.in_ok-remove_entry.ensures.none (before.0 ∙ same));
+          goes_twice (IsRemovalIn old wanted front) (Removes work wanted x.0)
+          (IsRemovalIn old wanted (front ++ x ∷ [])) old work new c.args.edits.now.items
+          c.loop-pair.edits.items c.remove_entry.new.edits.items
+          (λ e is. (is.0, still_among front (x ∷ []) _ is.1))
+          (λ e is. let need = needed e is in (need.0, last_among front x _ need.1))
+          (λ a b in_front is. apart_from front x.0 a b none in_front.1 (needed b is).1)
+          c.loop-pair.invariant.edits on;
     }
 
 pub returns-clause-trimmed : goal.returns-clause-trimmed
 returns-clause-trimmed c =
-    let read = c.loop-pair.yielded in
+    let front = c.loop-pair.yielded in
     let old = c.args.work.now in
-    let whole : rooted read ≡ entries old =
-    ap rooted (sym (append-nil read) ∙ ap (λ xs. read ++ xs) (sym c.in-None.ensures.steps.0))
-    ∙ (c.loop-pair.invariant.whole ∙ ap (λ (t : Tree). entries t) (sym c.requires)) in
-    trimmed old c.args.wanted.now c.loop-pair.work read whole c.entries.ensures.tree.rooted
-    c.loop-pair.invariant.removed
+    let all : rooted front ≡ entries c.args.old.now =
+    ap rooted (sym (append-nil front) ∙ ap (λ xs. front ++ xs) (sym c.in-None.ensures.steps.0))
+    ∙ c.loop-pair.invariant.whole in
+    trimmed old c.args.wanted.now c.loop-pair.work front
+    (all ∙ ap (λ (t : Tree). entries t) (sym c.requires))
+    (ap (λ (t : Tree). get t root) c.requires ∙ c.entries-pair-items.ensures.tree.rooted)
+    c.entries.ensures.tree.rooted c.loop-pair.invariant.removed
+
+pub returns-clause-edits : goal.returns-clause-edits
+returns-clause-edits c =
+    goes_weaker (IsRemovalIn c.args.work.now c.args.wanted.now c.loop-pair.yielded)
+    (IsRemoval c.args.work.now c.args.wanted.now) c.args.work.now c.loop-pair.work
+    c.args.edits.now.items c.loop-pair.edits.items (λ e is. is.0) c.loop-pair.invariant.edits
