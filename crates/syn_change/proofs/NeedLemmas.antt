@@ -100,8 +100,8 @@ last_among (x ∷ front) pair path is =
 pub apart_from : (front : Pairs) (path : Path) (x y : Edit) → find path_cmp path front ≡ None →
     IsAmong front (edited_path x) → edited_path y ≡ path → are_alike x y ≡ false
 apart_from front path x y none among is =
-    apart x y (λ same. true≢false (sym among ∙ (ap (λ p. is_some (find path_cmp p front)) (same ∙ is)
-    ∙ ap is_some none)))
+    apart x y (λ same. true≢false (sym among
+    ∙ (ap (λ p. is_some (find path_cmp p front)) (same ∙ is) ∙ ap is_some none)))
 
 -- an edit is an addition at the path of one of the pairs
 abbrev pub IsAdditionIn : Tree → Tree → Pairs → Edit → Type 0

@@ -1,6 +1,6 @@
 -- What the edits of an import leave.
 use Rattle.std.proofs.Common.{◌≡◌, ◌∙◌, ◌++◌, ◌∷◌, [], List, ℕ, map, fold, refl, ap, subst}
-use Rattle.syn_change.specs.Changes.{after_edits}
+use Rattle.syn_change.specs.Changes.{AreChanges, after_edits}
 use Rattle.syn_model.specs.Event.{Edit, Edited, after_event}
 use Rattle.syn_model.specs.History.{History, tree_of}
 use Rattle.syn_model.specs.Path.{Path}
@@ -43,25 +43,26 @@ mapped f user (x ∷ xs) = ap (λ es. Edited user (f x) ∷ es) (mapped f user x
 
 -- edits that were planned over the tree that a replica lends are planned over what it shows
 pub planned_over : (lent shown : Tree) (path : Path) (part : Tree) (edits : List Planned)
-    → lent ≡ shown → after_edits lent (map edit_of edits) ≡ replace lent path part
-    → after_edits shown (map edit_of edits) ≡ replace shown path part
-planned_over lent shown path part edits same makes =
-    subst (λ (t : Tree). after_edits t (map edit_of edits) ≡ replace t path part) same makes
+    → lent ≡ shown → AreChanges lent (replace lent path part) (map edit_of edits)
+    → AreChanges shown (replace shown path part) (map edit_of edits)
+planned_over lent shown path part edits same changes =
+    subst (λ (t : Tree). AreChanges t (replace t path part) (map edit_of edits)) same changes
 
 module _ {D : Type 0} {disk : Ghosts D} (old new : Replica D disk) (user : ℕ) (path : Path)
     (part : Tree) (edits : List Planned) (history : History)
-    (makes : after_edits (tree_shown old) (map edit_of edits) ≡ replace (tree_shown old) path part)
+    (changes : AreChanges (tree_shown old) (replace (tree_shown old) path part)
+    (map edit_of edits))
     (stood : Stands old history) (stands : Stands new (history ++ map (event_by user) edits)) where
   was : tree_shown old ≡ tree_of history
   was = ap (λ (s : Standing). s.tree) stood.remembers.standing
 
-  made : after_edits (tree_of history) (map edit_of edits) ≡ replace (tree_of history) path part
-  made = planned_over (tree_shown old) (tree_of history) path part edits was makes
+  made : AreChanges (tree_of history) (replace (tree_of history) path part) (map edit_of edits)
+  made = planned_over (tree_shown old) (tree_of history) path part edits was changes
 
   pub is_imported : IsImported history user path part new
   is_imported = record {
     edits = map edit_of edits;
-    makes = made;
+    changes = made;
     stands = subst (Stands new) (ap (λ es. history ++ es) (mapped edit_of user edits)) stands;
   }
 
@@ -70,7 +71,7 @@ module _ {D : Type 0} {disk : Ghosts D} (old new : Replica D disk) (user : ℕ) 
       let now : tree_shown new ≡ replace (tree_of history) path part =
       ap (λ (s : Standing). s.tree) stands.remembers.standing
       ∙ (ap (λ es. tree_of (history ++ es)) (mapped edit_of user edits)
-      ∙ (tree_of-edits history user (map edit_of edits) ∙ made)) in
+      ∙ (tree_of-edits history user (map edit_of edits) ∙ made.make)) in
       ap (λ (t : Tree). subtree t path) now ∙ subtree-replace (tree_of history) path part
 
 module _ {D : Type 0} {disk : Ghosts D} (old new : Replica D disk) (user : ℕ) (path : Path)
@@ -85,13 +86,13 @@ module _ {D : Type 0} {disk : Ghosts D} (old new : Replica D disk) (user : ℕ) 
 
   -- a beginning of the edits that were planned is one of those that put the part in its place
   pub leaves_import : (edits : List Planned)
-      → after_edits (tree_shown old) (map edit_of edits) ≡ replace (tree_shown old) path part
+      → AreChanges (tree_shown old) (replace (tree_shown old) path part) (map edit_of edits)
       → Leaves old new (IsBegun (pair_of old) history (map (event_by user) edits))
       → Leaves old new (LeavesImport (pair_of old) history user path part)
-  leaves_import edits makes leaves =
+  leaves_import edits changes leaves =
       let was : tree_shown old ≡ tree_of history =
       ap (λ (s : Standing). s.tree) stood.remembers.standing in
-      let made = planned_over (tree_shown old) (tree_of history) path part edits was makes in
+      let made = planned_over (tree_shown old) (tree_of history) path part edits was changes in
       weaker old new (IsBegun (pair_of old) history (map (event_by user) edits))
       (LeavesImport (pair_of old) history user path part) (λ bytes is. begun (map edit_of edits)
       made (subst (λ es. IsBegun (pair_of old) history es bytes) (mapped edit_of user edits) is))

@@ -1,14 +1,20 @@
 -- What an import makes of a replica.
-use Rattle.std.specs.Prelude.{◌≡◌, ◌++◌, ℕ, List, map}
-use Rattle.syn_change.specs.Changes.{after_edits}
+use Rattle.std.specs.Prelude.{◌≡◌, ◌≢◌, ◌⊎◌, ◌++◌, ℕ, false, List, Some, map}
+use Rattle.syn_change.specs.Changes.{AreChanges, IsNeeded, IsRefusedAmong}
 use Rattle.syn_disk.specs.declared.disk.Disk.{Ghosts}
 use Rattle.syn_model.specs.Event.{Edit, Edited}
 use Rattle.syn_model.specs.History.{History, tree_of}
-use Rattle.syn_model.specs.Path.{Path}
+use Rattle.syn_model.specs.Path.{Path, is_root}
 use Rattle.syn_model.specs.Tree.{Tree, replace}
 use Rattle.syn_replica.specs.Disks.{DiskStands}
 use Rattle.syn_replica.specs.Replica.{Stands}
 use Rattle.syn_replica.specs.declared.replica.Replica.{Replica}
+use Rattle.syn_folder.specs.declared.error.FolderError.TheVariants as planned
+use Rattle.syn_tree.specs.Lists.{replace_refusal}
+use Rattle.syn_tree.specs.Refusals.{refusal_of}
+use Rattle.syn_tree.specs.declared.error.TreeError.TheVariants.{Memory}
+use Rattle.syn_command.specs.declared.error.CommandError.{CommandError}
+use Rattle.syn_command.specs.declared.error.CommandError.TheVariants.{Folder}
 
 -- a stop leaves the history with a beginning of the events after it
 pub record IsBegun (pair : ℕ) (history events : History) (bytes : List ℕ) : Type 0 where
@@ -17,19 +23,28 @@ pub record IsBegun (pair : ℕ) (history events : History) (bytes : List ℕ) : 
   pub are : events ≡ front ++ behind
   pub stands : DiskStands pair bytes (history ++ front)
 
--- a stop leaves the history, or that with a beginning of edits of the user after it, which would
--- put the part in its place
+-- a stop leaves the history, or that with a beginning of edits of the user after it, each of which
+-- is needed and which all together would put the part in its place
 pub data LeavesImport (pair : ℕ) (history : History) (user : ℕ) (path : Path) (part : Tree)
     (bytes : List ℕ) : Type 0 where
   before : DiskStands pair bytes history → LeavesImport pair history user path part bytes
-  begun : (edits : List Edit) → after_edits (tree_of history) edits
-      ≡ replace (tree_of history) path part
+  begun : (edits : List Edit)
+      → AreChanges (tree_of history) (replace (tree_of history) path part) edits
       → IsBegun pair history (map (Edited user) edits) bytes
       → LeavesImport pair history user path part bytes
 
--- it stands for the history with edits of the user, which put the part in its place
+-- it stands for the history with edits of the user, each of which is needed and which put the part
+-- in its place
 pub record IsImported {D : Type 0} {disk : Ghosts D} (history : History) (user : ℕ) (path : Path)
     (part : Tree) (new : Replica D disk) : Type 0 where
   pub edits : List Edit
-  pub makes : after_edits (tree_of history) edits ≡ replace (tree_of history) path part
+  pub changes : AreChanges (tree_of history) (replace (tree_of history) path part) edits
   pub stands : Stands new (history ++ map (Edited user) edits)
+
+-- Why a plan to put the part in its place is refused: the tree refuses the part there, or one of the
+-- needed edits after some of the others, or memory is refused.
+abbrev pub IsPlanRefusal : Tree → Path → Tree → CommandError → Type 0
+IsPlanRefusal old path part (Folder (planned.Tree error)) = error ≢ Memory
+    → ((is_root path ≡ false) × (replace_refusal old path part ≡ Some (refusal_of error)))
+    ⊎ IsRefusedAmong (IsNeeded old (replace old path part)) old (refusal_of error)
+IsPlanRefusal old path part _ = ⊥

@@ -8,16 +8,16 @@ ghost use Rattle.syn_disk.specs.Stops.{LeavesOnly};
 ghost use Rattle.syn_replica.specs.Disks.{DiskStands};
 ghost use Rattle.syn_replica.specs.Replica.{Stands, disk_of, pair_of, tree_shown};
 ghost use Rattle.syn_command.specs.Errors.{IsOfFolder};
-ghost use Rattle.syn_command.specs.Imports.{IsBegun, IsImported, LeavesImport};
+ghost use Rattle.syn_command.specs.Imports.{IsBegun, IsImported, IsPlanRefusal, LeavesImport};
 ghost use Rattle.syn_command.specs.Sent.{AreMadeInTurn};
 ghost use Rattle.syn_tree.specs.Edits.{edit_of};
 ghost use Rattle.syn_user.specs.Lines.{line_of};
 
 use crate::edits_told::EditsTold;
 use crate::error::CommandError;
+use crate::planning::plan_import;
 use std::alloc::{AllocError, Global};
 use std::io::{Read, Write};
-use syn_change::changes_at;
 use syn_disk::Disk;
 use syn_folder::{Folder, FolderError, all_known, skipping};
 use syn_path::Path;
@@ -107,7 +107,7 @@ pub fn part_of<F: Folder, E: Write>(
 /// says is told to `errors`.
 ///
 /// Before any edit is made it is refused 2 where the path's parent is no directory, and 7 where the
-/// result would pass a limit. Else it is refused as the replica refuses an edit: then the edits
+/// replica would pass a limit: that limit is told to `errors`. Else it is refused as the replica refuses an edit: then the edits
 /// before that one stand, and the same call makes the others. Room is made in the journal as it is
 /// needed.
 pub fn import_part<D: Disk, E: Write>(
@@ -134,13 +134,12 @@ pub fn import_part<D: Disk, E: Write>(
         → subtree (tree_shown replica.old) path.now ≡ part.now
         → OnOk result (Stands replica.new history) }
 
-    // What is refused by the plan is refused before any edit.
+    // What is refused by the plan is refused before any edit, and for a cause.
     ensures refused { IfErr result (λ e. IsOfFolder e → replica.new ≡ replica.old) }
+    ensures cause { IfErr result (λ e. IsOfFolder e
+        → IsPlanRefusal (tree_shown replica.old) path.now part.now e) }
 {
-    let edits = match changes_at(alloc, replica.tree(), path, part) {
-        Ok(edits) => edits,
-        Err(error) => return Err(CommandError::Folder(FolderError::Tree(error))),
-    };
+    let edits = plan_import(alloc, replica.tree(), path, part, errors)?;
     make_edits(alloc, replica, user, edits, told, errors)?;
     Ok(replica.position())
 }

@@ -37,7 +37,8 @@
 //!   (`known`), or is skipped: then the replica keeps what it has there. A stop at any time leaves
 //!   the history with a beginning of these edits (`any_moment`). What the plan refuses leaves the
 //!   replica as it was (`refused`). `import_part` is the same with a tree, and `part_of` the tree
-//!   that a folder gives.
+//!   that a folder gives. `plan_import` gives the edits: each of them is needed, and no two are
+//!   alike (`changes`). It tells which limit they would pass.
 //! - `send_edits` asks a server for such edits. Where it succeeds, they were asked for one after
 //!   another, and each was answered with the position after the one before (`made`).
 #![tactic(auto)]
@@ -51,6 +52,7 @@ mod failure;
 mod image;
 mod import;
 mod outcome;
+mod planning;
 mod show;
 mod status;
 mod telling;
@@ -64,6 +66,7 @@ pub use failure::Failure;
 pub use image::{Image, format_image, migrate_image, open_image};
 pub use import::{import_folder, import_part, part_of, send_edits};
 pub use outcome::{Outcome, outcome_of, outcome_planned};
+pub use planning::plan_import;
 pub use show::{show_image, show_path};
 pub use status::Status;
 pub use telling::{print_meanings, report};

@@ -10,8 +10,8 @@ use std::alloc::Global;
 use std::fs::Files;
 use std::io::Write;
 use std::net::{Net, TcpStream};
-use syn_change::changes_at;
-use syn_command::{CommandError, EditsTold, export_part, import_folder, part_of, send_edits};
+use syn_command::{CommandError, EditsTold, export_part, import_folder, part_of, plan_import};
+use syn_command::send_edits;
 use syn_folder::{Folder, FolderError, SystemFolder};
 use syn_path::Path;
 use syn_tree::Tree;
@@ -128,10 +128,7 @@ fn import_over<F: Folder, E: Write>(
 ) -> Result<u64, CommandError> {
     let (position, tree) = tree_over(alloc, stream)?;
     let part = part_of(alloc, folder, is_skipping, &tree, path, errors)?;
-    let edits = match changes_at(alloc, &tree, path, &part) {
-        Ok(edits) => edits,
-        Err(error) => return Err(CommandError::Folder(FolderError::Tree(error))),
-    };
+    let edits = plan_import(alloc, &tree, path, &part, errors)?;
     let mut connection = UserConnection::new(alloc, stream, stream);
     send_edits(alloc, &mut connection, user, position, edits, told, errors)
 }

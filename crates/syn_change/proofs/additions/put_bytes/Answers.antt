@@ -51,9 +51,10 @@ pub returns-clause-edits : goal.returns-clause-edits
 returns-clause-edits c =
     let t = c.args.work.now in
     let same = ap₂ Put c.in_ok-copy.ensures.ok c.in_ok-from_slice.ensures.items in
+    let put = Put c.in_ok-copy.field-0 c.in_ok-from_slice.field-0.items in
     on_ok_weaker c.make.result
     (λ on. goes_as (PutsBytes t c.args.path.now c.args.bytes.now) t c.args.edits.now.items
-    c.make.new.work c.make.new.edits.items (Put c.in_ok-copy.field-0 c.in_ok-from_slice.field-0.items)
+    c.make.new.work c.make.new.edits.items put
     (same, λ there. true≢false (sym (c.has_bytes.ensures.1 there) ∙ c.if-has_bytes.false)) on)
     c.make.ensures.edits
 

@@ -53,8 +53,8 @@ returns-in_err-replace-clause-refused c =
     let below : is_root at ≡ false =
     ap is_root (sym c.names.ensures.names)
     ∙ named c.names.result.now (sym c.is_empty.ensures ∙ c.if-is_empty.false) in
-    rw (p.1, p.2) (λ other. (
-      below,
-      sym (ap (λ (t : Tree). replace_refusal t at (part_of c.in_ok-part.part)) c.in_ok-whole.ensures.ok
-          ∙ ap (λ (u : Tree). replace_refusal tree at u) same) ∙ c.in_err-replace.ensures.refused other,
-    ))
+    let there = part_of c.in_ok-part.part in
+    let alike : replace_refusal c.in_ok-whole.whole at there ≡ replace_refusal tree at part =
+    ap (λ (t : Tree). replace_refusal t at there) c.in_ok-whole.ensures.ok
+    ∙ ap (λ (u : Tree). replace_refusal tree at u) same in
+    rw (p.1, p.2) (λ other. (below, sym alike ∙ c.in_err-replace.ensures.refused other))

@@ -14,33 +14,33 @@ returns-clause-part g c history stands =
     let old = c.args.replica.now in
     let path = c.args.path.now in
     let part = c.args.part.now in
-    let edits = c.in-Ok.edits.items in
+    let edits = c.in_ok-edits.edits.items in
     has_part old c.make_edits.new.replica c.args.user path part edits history
     (planned_over c.tree.result.now (tree_shown old) path part edits c.tree.ensures
-    c.in-Ok.ensures.made) stands (c.in_ok-make_edits.ensures.made history stands)
+    c.in_ok-edits.ensures.changes) stands (c.in_ok-make_edits.ensures.made history stands)
 
 pub returns-clause-imported : goal.returns-clause-imported
 returns-clause-imported g c history stands =
     let old = c.args.replica.now in
     let path = c.args.path.now in
     let part = c.args.part.now in
-    let edits = c.in-Ok.edits.items in
+    let edits = c.in_ok-edits.edits.items in
     is_imported old c.make_edits.new.replica c.args.user path part edits history
     (planned_over c.tree.result.now (tree_shown old) path part edits c.tree.ensures
-    c.in-Ok.ensures.made) stands (c.in_ok-make_edits.ensures.made history stands)
+    c.in_ok-edits.ensures.changes) stands (c.in_ok-make_edits.ensures.made history stands)
 
 pub returns-clause-none : goal.returns-clause-none
 returns-clause-none g c history stands same =
     let path = c.args.path.now in
     let event : Edit → Event = event_by c.args.user in
-    let nothing = c.in-Ok.ensures.none
+    let nothing = c.in_ok-edits.ensures.none
     (ap (λ (t : Tree). subtree t path) c.tree.ensures ∙ same) in
     subst (Stands c.make_edits.new.replica)
     (ap (λ es. history ++ map event es) nothing ∙ append-nil history)
     (c.in_ok-make_edits.ensures.made history stands)
 
-pub returns-in-Err-clause-any_moment : goal.returns-in-Err-clause-any_moment
-returns-in-Err-clause-any_moment g c history stands =
+pub returns-in_err-edits-clause-any_moment : goal.returns-in_err-edits-clause-any_moment
+returns-in_err-edits-clause-any_moment g c history stands =
     let old = c.args.replica.now in
     leaves_before old old c.args.user c.args.path.now c.args.part.now history stands
     (still g.met.D.Disk.only_now old history stands)
@@ -50,17 +50,17 @@ returns-in_err-make_edits-clause-any_moment g c history stands =
     let old = c.args.replica.now in
     let path = c.args.path.now in
     let part = c.args.part.now in
-    let edits = c.in-Ok.edits.items in
+    let edits = c.in_ok-edits.edits.items in
     leaves_import old c.make_edits.new.replica c.args.user path part history stands edits
     (planned_over c.tree.result.now (tree_shown old) path part edits c.tree.ensures
-    c.in-Ok.ensures.made) (c.make_edits.ensures.any_moment history stands)
+    c.in_ok-edits.ensures.changes) (c.make_edits.ensures.any_moment history stands)
 
 pub returns-clause-any_moment : goal.returns-clause-any_moment
 returns-clause-any_moment g c history stands =
     let old = c.args.replica.now in
     let path = c.args.path.now in
     let part = c.args.part.now in
-    let edits = c.in-Ok.edits.items in
+    let edits = c.in_ok-edits.edits.items in
     leaves_import old c.make_edits.new.replica c.args.user path part history stands edits
     (planned_over c.tree.result.now (tree_shown old) path part edits c.tree.ensures
-    c.in-Ok.ensures.made) (c.make_edits.ensures.any_moment history stands)
+    c.in_ok-edits.ensures.changes) (c.make_edits.ensures.any_moment history stands)
