@@ -21,7 +21,7 @@ use Rattle.syn_placed.proofs.OrderLemmas.{first_of_all}
 use Rattle.syn_placed.proofs.RisingLemmas.{After, Rising, each-append, each-map}
 use Rattle.syn_tree.proofs.CheckLemmas.{remove_answer, rest_fits}
 use Rattle.syn_tree.proofs.LawfulLemmas.{each-find}
-use Rattle.syn_tree.proofs.RootedLemmas.{after_more}
+use Rattle.syn_placed.proofs.FindLemmas.{after_more}
 use Rattle.syn_tree.specs.Refusals.{refusal_of}
 use Rattle.syn_tree.specs.declared.error.TreeError.{TreeError}
 use Rattle.syn_tree.specs.declared.error.TreeError.TheVariants as error
