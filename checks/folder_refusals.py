@@ -5,7 +5,7 @@ import shutil
 import subprocess
 import time
 
-from folder_trees import SYN, Failed, expect, plain, position_of, put_into, read, syn, write
+from folder_trees import SYN, Failed, Served, expect, plain, position_of, put_into, read, syn, write
 
 
 def import_refused(_source):
@@ -71,6 +71,42 @@ def past_limits(_source):
     expect(syn("import", "--skip", "image", "1", "deep", deep[7]).startswith("ok 16\n"), "as deep")
     told = syn("export", "--update", "image", "room", wanted=1)
     expect('syn: "." takes more than 526336 bytes in all\n' in told, told)
+
+
+def past_limits_together(_source):
+    """What passes a limit only beside the rest is told: where, which limit, and how far."""
+    tree = {f"d{d}": None for d in range(3)}
+    tree |= {f"d{d}/{n}": plain(b"") for d in range(3) for n in range(200)}
+    told = joined("nodes", tree, tree)
+    expect(told == "syn: with it at papers the replica would have 1207 files and directories, "
+           "and it may have 1023\nsyn: refused 7 Full\n", told)
+    tree = {f"{n}": plain(bytes(16384)) for n in range(20)}
+    told = joined("bytes", tree, tree)
+    expect(told == "syn: with it at papers the replica would take 655753 bytes in all, "
+           "and it may take 526336\nsyn: refused 7 Full\n", told)
+    told = joined("names", {f"{n}": plain(b"") for n in range(256)}, {})
+    expect(told == "syn: with papers its directory would have more than 256 names\n"
+           "syn: refused 7 Full\n", told)
+    whole = {f"z{n:02}": plain(bytes(16384)) for n in range(32)}
+    put_into("way.img", whole)
+    write("way", {"a": plain(bytes(16384))} | whole | {"z00": plain(b"")})
+    told = syn("import", "way.img", "1", "way", wanted=1)
+    expect(told.startswith("syn: the replica has room for it at ., but not after each of"), told)
+    write("less", {name: whole[name] for name in list(whole)[1:]} | {"z00": plain(b"")})
+    syn("import", "way.img", "1", "less")
+    syn("import", "way.img", "1", "way")
+
+
+def joined(name, tree, more):
+    """What is told of a folder that a replica refuses beside what it has, in a file and served."""
+    image = name + ".img"
+    put_into(image, tree)
+    write(name, more)
+    told = syn("import", image, "1", name, "papers", wanted=1)
+    with Served(image) as address:
+        served = syn("import", "--served", address, "1", name, "papers", wanted=1)
+    expect(served == told, f"{served} is told of what is served, and {told} of a file")
+    return told
 
 
 def of_others(_source):
