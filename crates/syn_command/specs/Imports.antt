@@ -41,8 +41,8 @@ pub record IsImported {D : Type 0} {disk : Ghosts D} (history : History) (user :
   pub changes : AreChanges (tree_of history) (replace (tree_of history) path part) edits
   pub stands : Stands new (history ++ map (Edited user) edits)
 
--- Why a plan to put the part in its place is refused: the tree refuses the part there, or one of the
--- needed edits after some of the others, or memory is refused.
+-- Why a plan to put the part in its place is refused: the tree refuses the part there, or one of
+-- the needed edits after some of the others, or memory is refused.
 abbrev pub IsPlanRefusal : Tree → Path → Tree → CommandError → Type 0
 IsPlanRefusal old path part (Folder (planned.Tree error)) = error ≢ Memory
     → ((is_root path ≡ false) × (replace_refusal old path part ≡ Some (refusal_of error)))

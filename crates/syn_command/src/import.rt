@@ -107,9 +107,9 @@ pub fn part_of<F: Folder, E: Write>(
 /// says is told to `errors`.
 ///
 /// Before any edit is made it is refused 2 where the path's parent is no directory, and 7 where the
-/// replica would pass a limit: that limit is told to `errors`. Else it is refused as the replica refuses an edit: then the edits
-/// before that one stand, and the same call makes the others. Room is made in the journal as it is
-/// needed.
+/// replica would pass a limit: that limit is told to `errors`. Else it is refused as the replica
+/// refuses an edit: then the edits before that one stand, and the same call makes the others. Room
+/// is made in the journal as it is needed.
 pub fn import_part<D: Disk, E: Write>(
     alloc: Global,
     replica: &mut Replica<D>,

@@ -10,8 +10,9 @@ use std::alloc::Global;
 use std::fs::Files;
 use std::io::Write;
 use std::net::{Net, TcpStream};
-use syn_command::{CommandError, EditsTold, export_part, import_folder, part_of, plan_import};
-use syn_command::send_edits;
+use syn_command::{
+    CommandError, EditsTold, export_part, import_folder, part_of, plan_import, send_edits,
+};
 use syn_folder::{Folder, FolderError, SystemFolder};
 use syn_path::Path;
 use syn_tree::Tree;

@@ -62,6 +62,7 @@ pub returns-clause-refused : goal.returns-clause-refused
 returns-clause-refused c =
     let t = c.args.work.now in
     let same = ap₂ Put c.in_ok-copy.ensures.ok c.in_ok-from_slice.ensures.items in
-    refused_as (PutsBytes t c.args.path.now c.args.bytes.now) t c.make.result (Put c.in_ok-copy.field-0 c.in_ok-from_slice.field-0.items)
+    let put = Put c.in_ok-copy.field-0 c.in_ok-from_slice.field-0.items in
+    refused_as (PutsBytes t c.args.path.now c.args.bytes.now) t c.make.result put
     (same, λ there. true≢false (sym (c.has_bytes.ensures.1 there) ∙ c.if-has_bytes.false))
     c.make.ensures.refused
