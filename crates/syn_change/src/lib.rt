@@ -2,11 +2,17 @@
 //!
 //! # What it promises
 //!
-//! `changes` plans the edits that make one tree another: made one after the other, they do. `puts`
-//! plans those that add to a tree what another has: then each path of that one has what it has
-//! there, and every other path what it had (`IsOverlaid`). `changes_at` plans those that put a tree
-//! in the place of what is at and below a path. All plan on a copy (`copy_part`), and make nothing.
-//! Where the old tree has what is wanted, no edit is planned (`none`).
+//! `changes` plans the edits that make one tree another: made one after the other, they do. Each of
+//! them is needed, and no two are alike (`AreChanges`): what it makes is wanted at its path and is
+//! not there, and what goes with a directory is not removed by itself. So where the old tree has
+//! what is wanted, no edit is planned (`none`). `puts` plans those that add to a tree what another
+//! has: then each path of that one has what it has there, and every other path what it had
+//! (`IsOverlaid`). `changes_at` plans those that put a tree in the place of what is at and below a
+//! path. All plan on a copy (`copy_part`), and make nothing.
+//!
+//! A plan is refused for lack of memory, or for what the tree refuses of one of these edits after
+//! some of the others (`refused`, `IsRefusedAmong`). `copy_part` is refused exactly where no
+//! directory is at the path, or for lack of memory.
 #![tactic(auto)]
 
 mod additions;

@@ -1,8 +1,10 @@
 use Rattle.std.proofs.Common.{◌++◌, ap, ◌∙◌, map, subst, append-nil}
+use Rattle.std.proofs.lemmas.Result.{err_from_is_err_and}
 use Rattle.syn_model.specs.Event.{Event}
 use Rattle.syn_model.specs.Tree.{Tree, subtree}
 use Rattle.syn_replica.specs.Edits.{event_by}
 use Rattle.syn_replica.specs.Replica.{Stands, tree_shown}
+use Rattle.syn_command.specs.Imports.{IsPlanRefusal}
 use Rattle.syn_command.proofs.ImportLemmas.{has_part, is_imported, leaves_before, leaves_import}
 use Rattle.syn_command.proofs.ImportLemmas.{planned_over}
 use Rattle.syn_command.proofs.MomentLemmas.{still}
@@ -64,3 +66,10 @@ returns-clause-any_moment g c history stands =
     leaves_import old c.make_edits.new.replica c.args.user path part history stands edits
     (planned_over c.tree.result.now (tree_shown old) path part edits c.tree.ensures
     c.in_ok-edits.ensures.changes) (c.make_edits.ensures.any_moment history stands)
+
+pub returns-in_err-edits-clause-cause : goal.returns-in_err-edits-clause-cause
+returns-in_err-edits-clause-cause g c =
+    let p = err_from_is_err_and c.from_residual.result c.from_residual.ensures.1 in
+    rw (p.1, p.2) (λ of_folder. subst
+    (λ (t : Tree). IsPlanRefusal t c.args.path.now c.args.part.now c.in_err-edits.field-0.0)
+    c.tree.ensures c.in_err-edits.ensures.refused)
