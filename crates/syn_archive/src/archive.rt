@@ -158,7 +158,8 @@ impl<D: Disk> Archive<D> {
             kept (left_shown self.now) (generation_shown self.now) bytes }
     {}
 
-    /// The marks at and below the path, in path order; nothing where nothing is. It takes no memory.
+    /// The marks at and below the path, in path order; nothing where nothing is. It takes no
+    /// memory.
     pub fn subtree(&self, path: &Path) -> &[MarkEntry]
         ensures { result.now ≡ within path.now (entries (marks_shown self.now)) }
     {

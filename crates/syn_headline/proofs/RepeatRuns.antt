@@ -65,7 +65,8 @@ module _ (pair : ℕ) (machine : SideMachine) (session item : ℕ) (path : Path)
           )
         ] refl
 
-    answered : (status : Status) (served : Served) → ServesAs status pair (has_room_for pair machine)
+    answered : (status : Status) (served : Served) →
+        ServesAs status pair (has_room_for pair machine)
         (side_now machine) session (Replace item path since size) served → (reply : Reply)
         × (served ≡ answer (side_now machine) reply) × (says_so status ≡ Some reply)
     answered Up served serves = up served serves

@@ -71,12 +71,12 @@
 //! From these steps follows what is proved of runs (`run_laws`, `session_laws`). Each replacement
 //! is legal, each archive entry was held, nothing was asked twice, and each plan is logged. Each
 //! report is that of a session of the run, with the causes of its end and of its refusals
-//! (`EachReportTells`). An answer that a session waits for is taken (`TakesExpected`). A replacement
-//! that a side has is answered done as long as it is the last, and old after that
-//! (`RepeatsAreAnswered`). So does what a complete session leaves, reports, counts and marks. A layer owes nothing more for it. What it
-//! leaves on the two sides (`synchronized`) has one premise. No two files that the session found at
-//! one path, one on each side, may have one digest and different bytes. What it leaves in the
-//! archive (`reconciled`), and all the others, have none.
+//! (`EachReportTells`). An answer that a session waits for is taken (`TakesExpected`). A
+//! replacement that a side has is answered done as long as it is the last, and old after that
+//! (`RepeatsAreAnswered`). So does what a complete session leaves, reports, counts and marks. A
+//! layer owes nothing more for it. What it leaves on the two sides (`synchronized`) has one premise.
+//! No two files that the session found at one path, one on each side, may have one digest and
+//! different bytes. What it leaves in the archive (`reconciled`), and all the others, have none.
 #![tactic(auto)]
 
 ghost use Rattle.syn_headline.specs.Laws.{ServesAllowed, PiecesAreUntouched, RepeatsAreDone};

@@ -11,7 +11,7 @@
 //!   `present`, `marks`, `fits`). Its root stands, each path has its parents, and the limits of an
 //!   archive are kept. `from_vec` takes entries in path order exactly where they are such (`some`,
 //!   `none`).
-//! - `get`, `root`, `subtree`, `below` and `child_count` give what stands there, without memory, and
+//! - `get`, `root`, `subtree`, `below` and `child_count` give what stands there, without memory.
 //!   `copy_at` gives a part on its own. `is_same` and `is_same_at` say exactly whether two trees, or
 //!   their parts at a path, are the same, without memory.
 //! - `check_replace` answers the definition's refusal of a replacement, or none

@@ -138,7 +138,8 @@ impl MarkTree {
         }
     }
 
-    /// The marks at and below the path, in path order; nothing where nothing is. It takes no memory.
+    /// The marks at and below the path, in path order; nothing where nothing is. It takes no
+    /// memory.
     pub fn subtree(&self, path: &Path) -> &[MarkEntry]
         ensures { result.now ≡ within path.now (entries self.now) }
     {
