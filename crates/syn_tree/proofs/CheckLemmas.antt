@@ -33,20 +33,20 @@ use Rattle.syn_tree.proofs.PartLemmas.{length_replaced, spelling_replaced}
 use Rattle.syn_placed.proofs.ParentLemmas.{place_free}
 use Rattle.syn_tree.proofs.ChangeLemmas.{under_one, size_one}
 
--- a file may stand where the tree keeps its limits with it, once no cause before that is one
-put_causes : (a b c : Bool) (full : List Cause) → a ≡ false → b ≡ true → c ≡ false →
-    first_cause ((a, Root) ∷ (not b, NoParent) ∷ (c, IsDirectory) ∷ full) ≡ first_cause full
-put_causes a b c full e f g =
-    ap (λ x. first_cause ((x, Root) ∷ (not b, NoParent) ∷ (c, IsDirectory) ∷ full)) e
-    ∙ (ap (λ x. first_cause ((not x, NoParent) ∷ (c, IsDirectory) ∷ full)) f
-    ∙ ap (λ x. first_cause ((x, IsDirectory) ∷ full)) g)
+-- only the limits are left of the causes, where the place is allowed and none comes before them
+causes : (why : Refusal) (a b c : Bool) (full : List Cause) → a ≡ false → b ≡ true → c ≡ false →
+    first_cause ((a, Root) ∷ (not b, NoParent) ∷ (c, why) ∷ full) ≡ first_cause full
+causes why a b c full e f g =
+    ap (λ x. first_cause ((x, Root) ∷ (not b, NoParent) ∷ (c, why) ∷ full)) e
+    ∙ (ap (λ x. first_cause ((not x, NoParent) ∷ (c, why) ∷ full)) f
+    ∙ ap (λ x. first_cause ((x, why) ∷ full)) g)
 
 pub put_answer : (t : Tree) (p : Path) (b : Bytes) → first_cause (place_causes t p) ≡ None →
     is_directory t p ≡ false →
     edit_refusal t (Put p b) ≡ first_cause (full_causes (after_edit t (Put p b)))
 put_answer t p b place other =
     let free = place_free t p place in
-    put_causes (is_root p) (is_directory t (parent p)) (is_directory t p)
+    causes IsDirectory (is_root p) (is_directory t (parent p)) (is_directory t p)
     (full_causes (after_edit t (Put p b))) free.0 free.1 other
 
 pub chmod_answer : (t : Tree) (p : Path) (mode : ℕ) → first_cause (place_causes t p) ≡ None →
@@ -55,38 +55,25 @@ pub chmod_answer : (t : Tree) (p : Path) (mode : ℕ) → first_cause (place_cau
 chmod_answer t p mode place other there =
     let free = place_free t p place in
     let full = full_causes (after_edit t (Chmod p mode)) in
-    put_causes (is_root p) (is_directory t (parent p)) (is_directory t p)
+    causes IsDirectory (is_root p) (is_directory t (parent p)) (is_directory t p)
     ((not (is_present t p), Absent) ∷ full) free.0 free.1 other
     ∙ ap (λ x. first_cause ((not x, Absent) ∷ full)) there
 
--- the causes in their order, where those of the place are none
-causes : (why : Refusal) (a b c d : Bool) → a ≡ false → b ≡ true → c ≡ false →
-    (if a then Some Root else (if not b then Some NoParent else (if c then Some why
-    else (if not d then Some Full else None)))) ≡ (if d then None else Some Full)
-causes why a b c d e f g =
-    ap (λ x. if x then Some Root else (if not b then Some NoParent
-    else (if c then Some why else (if not d then Some Full else None)))) e
-    ∙ (ap (λ x. if not x then Some NoParent
-    else (if c then Some why else (if not d then Some Full else None))) f
-    ∙ (ap (λ x. if x then Some why else (if not d then Some Full else None)) g
-    ∙ elim d as (λ x. (if not x then Some Full else None) ≡ (if x then None else Some Full))
-    [ true ↦ refl | false ↦ refl ]))
-
 pub make_answer : (t : Tree) (p : Path) → first_cause (place_causes t p) ≡ None →
-    is_present t p ≡ false → edit_refusal t (MakeDir p)
-    ≡ (if fits_replica (replace t p (at_root Directory)) then None else Some Full)
+    is_present t p ≡ false →
+    edit_refusal t (MakeDir p) ≡ first_cause (full_causes (replace t p (at_root Directory)))
 make_answer t p place other =
     let free = place_free t p place in
     causes Exists (is_root p) (is_directory t (parent p)) (is_present t p)
-    (fits_replica (replace t p (at_root Directory))) free.0 free.1 other
+    (full_causes (replace t p (at_root Directory))) free.0 free.1 other
 
 pub remove_answer : (t : Tree) (p : Path) →
     first_cause (place_causes t p) ≡ None → is_present t p ≡ true →
-    edit_refusal t (Remove p) ≡ (if fits_replica (replace t p absent) then None else Some Full)
+    edit_refusal t (Remove p) ≡ first_cause (full_causes (replace t p absent))
 remove_answer t p place there =
     let free = place_free t p place in
     causes Absent (is_root p) (is_directory t (parent p)) (not (is_present t p))
-    (fits_replica (replace t p absent)) free.0 free.1 (ap not there)
+    (full_causes (replace t p absent)) free.0 free.1 (ap not there)
 
 -- one content alone keeps the limits where it does itself
 pub one_parents : (content : Content) → HasParents (at_root content)

@@ -16,7 +16,7 @@ ghost use Rattle.syn_tree.specs.Refusals.{refusal_in};
 use crate::content::Found;
 use crate::edit::Edit;
 use crate::error::TreeError;
-use crate::measures::{FILE_FRONT, LONGEST_FILE, name_spelled};
+use crate::measures::{DIRECTORY_FRONT, FILE_FRONT, LONGEST_FILE, name_spelled};
 use crate::mode::Mode;
 use syn_path::Path;
 
@@ -106,11 +106,7 @@ fn check_size<T: Limited>(tree: &T, path: &Path, size: usize) -> Result<(), Tree
     if size > LONGEST_FILE {
         return Err(TreeError::Full);
     }
-    if tree.fits(path, 1, name_spelled(&path.key()) + FILE_FRONT + size) {
-        Ok(())
-    } else {
-        Err(TreeError::Full)
-    }
+    check_fits(tree, path, name_spelled(&path.key()) + FILE_FRONT + size)
 }
 
 /// Why a directory is not made.
@@ -121,7 +117,18 @@ fn check_make_dir<T: Limited>(tree: &T, path: &Path) -> Result<(), TreeError>
     if tree.get(path).is_some() {
         return Err(TreeError::Exists);
     }
-    if tree.fits(path, 1, name_spelled(&path.key()) + 3) {
+    check_fits(tree, path, name_spelled(&path.key()) + DIRECTORY_FRONT)
+}
+
+/// Why what is spelled with so many bytes may not take the place of what is at the path: the tree
+/// would pass a limit (7).
+fn check_fits<T: Limited>(tree: &T, path: &Path, size: usize) -> Result<(), TreeError>
+    requires place { first_cause (place_causes (T.tree tree.now) path.now) ≡ None }
+    requires size { size < 2 ^ 62 }
+    ensures { (new : Pairs) → IsMeasured path.now new 1 size → refusal_in result
+        ≡ first_cause (full_causes (replace (T.tree tree.now) path.now new)) }
+{
+    if tree.fits(path, 1, size) {
         Ok(())
     } else {
         Err(TreeError::Full)

@@ -28,6 +28,9 @@ pub const LONGEST_FILE: usize = 16_384;
 /// The bytes before those of a file: its kind, its mode and its length.
 pub(crate) const FILE_FRONT: usize = 7;
 
+/// The bytes of a directory before its entries: its kind, and how many they are.
+pub(crate) const DIRECTORY_FRONT: usize = 3;
+
 /// What stands at the path of the key, of entries below a root directory.
 pub(crate) fn find<'a>(list: &'a [Entry], at: &Key) -> Option<Found<'a>>
     requires { AreRising (rooted list.now) }
@@ -71,7 +74,7 @@ pub fn found_spelled(found: &Found<'_>) -> usize
 {
     match found {
         Found::File(_, bytes) => FILE_FRONT + bytes.len(),
-        Found::Dir => 3,
+        Found::Dir => DIRECTORY_FRONT,
     }
 }
 

@@ -25,7 +25,8 @@ use crate::entry::Entry;
 use crate::error::TreeError;
 use crate::lawful::are_contents;
 use crate::measures::{
-    LONGEST_SPELLING, MOST_BELOW, MOST_CHILDREN, is_within_limits, measured, spelled,
+    DIRECTORY_FRONT, LONGEST_SPELLING, MOST_BELOW, MOST_CHILDREN, is_within_limits, measured,
+    spelled,
 };
 use crate::mode::Mode;
 use crate::node::Node;
@@ -73,7 +74,10 @@ impl Tree {
         ensures memory { IfErr result (λ e. e ≡ TreeError.Memory) }
     {
         let list = Vec::with_capacity(alloc, MOST_BELOW)?;
-        Ok(Tree { list, spelled: 3 })
+        Ok(Tree {
+            list,
+            spelled: DIRECTORY_FRONT,
+        })
     }
 
     /// Why the edit is refused, with no change and no memory taken.
@@ -311,7 +315,7 @@ impl Tree {
         let Some(below) = measured(&list) else {
             return Err(TreeError::Full);
         };
-        let spelled = below + 3;
+        let spelled = below + DIRECTORY_FRONT;
         if spelled > LONGEST_SPELLING {
             return Err(TreeError::Full);
         }

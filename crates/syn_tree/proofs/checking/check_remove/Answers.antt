@@ -13,4 +13,4 @@ returns g c =
     let there = sym (found_present (λ found. found_content found) t p c.get.result c.get.ensures)
     ∙ (c.is_none.ensures ∙ ap not c.if-is_none.false) in
     sym (remove_answer t p place there
-    ∙ ap (λ b. if b then None else Some Full) (rest_fits t p c.limits.ensures place))
+    ∙ ap (λ b. if not b then Some Full else None) (rest_fits t p c.limits.ensures place))

@@ -18,30 +18,15 @@ returns-then-size-gt-LONGEST_FILE g c contents e =
     (lt-leb (length contents.bytes) 16384 (omega (arith, e, c.if-size-gt-LONGEST_FILE.true))) _
     refl))
 
-pub returns-then-fits : goal.returns-then-fits
-returns-then-fits g c contents e =
+pub returns : goal.returns
+returns g c contents e =
     let p = c.args.path.now in
     let small =
     le-leb (length contents.bytes) 16384 (omega (arith, e, c.if-size-gt-LONGEST_FILE.false)) in
-    let fits = c.fits.ensures (at_root (File contents))
+    c.check_fits.ensures (at_root (File contents))
     (measured_one p (File contents) (c.name_spelled.result + 7 + c.args.size)
     (subst IsPath c.key.ensures c.name_spelled.ensures.lawful) small (omega (
       arith,
       e,
       c.name_spelled.ensures.length ∙ ap last_name_spelling_length c.key.ensures,
-    ))) in
-    sym (ap answer (sym fits ∙ c.if-fits.true))
-
-pub returns-else-fits : goal.returns-else-fits
-returns-else-fits g c contents e =
-    let p = c.args.path.now in
-    let small =
-    le-leb (length contents.bytes) 16384 (omega (arith, e, c.if-size-gt-LONGEST_FILE.false)) in
-    let fits = c.fits.ensures (at_root (File contents))
-    (measured_one p (File contents) (c.name_spelled.result + 7 + c.args.size)
-    (subst IsPath c.key.ensures c.name_spelled.ensures.lawful) small (omega (
-      arith,
-      e,
-      c.name_spelled.ensures.length ∙ ap last_name_spelling_length c.key.ensures,
-    ))) in
-    sym (ap answer (sym fits ∙ c.if-fits.false))
+    )))

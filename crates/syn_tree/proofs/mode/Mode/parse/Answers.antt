@@ -1,6 +1,6 @@
 use Rattle.std.proofs.Common.{◌≢◌, ◌∷◌, [], IfNone, length, slice_index_or, sym, ap, ap₂, ◌∙◌}
 use Rattle.std.proofs.Common.{arith, subst}
-use Rattle.syn_tree.specs.Modes.{access_of, mode_digits, mode_of}
+use Rattle.syn_tree.specs.Modes.{mode_digits, mode_of}
 use Rattle.syn_tree.specs.declared.mode.Mode.{Mode}
 use Rattle.syn_tree.proofs.ModeLemmas.{digits_are, of_three}
 use Rattle.syn_tree.proofs.mode.Mode.parse.Goals as goal
