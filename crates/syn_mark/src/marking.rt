@@ -3,16 +3,16 @@ ghost use Rattle.std.specs.Prelude.{◌≡◌, ◌≢◌, ◌<◌, ◌++◌, OnO
 ghost use Rattle.std.specs.FinMap.{len};
 ghost use Rattle.syn_model.specs.Limits.{most_nodes};
 ghost use Rattle.syn_model.specs.Mark.{mark, mark_of};
+ghost use Rattle.syn_tree.specs.Contents.{found_content};
 ghost use Rattle.syn_tree.specs.Nodes.{node_tree};
 ghost use Rattle.syn_mark.specs.Marks.{content_of};
 ghost use Rattle.syn_mark.specs.inner.Placings.{marked};
 
-use crate::listing::mark_found;
 use crate::mark::Mark;
 use crate::tree::{MOST_NODES, MarkEntry, MarkTree};
 use std::alloc::Global;
 use syn_path::Path;
-use syn_tree::{Cursor, Entries, Node, Pair, TreeError};
+use syn_tree::{Cursor, Entries, Found, Node, Pair, TreeError};
 
 /// The marks of a file, or of a directory with all below it.
 ///
@@ -63,4 +63,14 @@ fn marked(alloc: Global, pair: &Pair<'_>) -> Result<MarkEntry, TreeError>
 {
     let mark = mark_found(&pair.found());
     Ok(MarkEntry::new(pair.path(alloc)?, mark))
+}
+
+/// The mark of what was found. It takes no memory.
+fn mark_found(found: &Found<'_>) -> Mark
+    ensures { content_of result ≡ mark_of (found_content found.now) }
+{
+    match found {
+        Found::File(mode, bytes) => Mark::of_file(*mode, bytes),
+        Found::Dir => Mark::Dir,
+    }
 }
