@@ -74,9 +74,10 @@
 //! (`EachReportTells`). An answer that a session waits for is taken (`TakesExpected`). A
 //! replacement that a side has is answered done as long as it is the last, and old after that
 //! (`RepeatsAreAnswered`). So does what a complete session leaves, reports, counts and marks. A
-//! layer owes nothing more for it. What it leaves on the two sides (`synchronized`) has one premise.
-//! No two files that the session found at one path, one on each side, may have one digest and
-//! different bytes. What it leaves in the archive (`reconciled`), and all the others, have none.
+//! layer owes nothing more for it. What it leaves on the two sides (`synchronized`) has one
+//! premise. No two files that the session found at one path, one on each side, may have one digest
+//! and different bytes. What it leaves in the archive (`reconciled`), and all the others, have
+//! none.
 #![tactic(auto)]
 
 ghost use Rattle.syn_headline.specs.Laws.{ServesAllowed, PiecesAreUntouched, RepeatsAreDone};

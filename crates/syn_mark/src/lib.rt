@@ -12,8 +12,8 @@
 //!   archive are kept. `from_vec` takes entries in path order exactly where they are such (`some`,
 //!   `none`).
 //! - `get`, `root`, `subtree`, `below` and `child_count` give what stands there, without memory.
-//!   `copy_at` gives a part on its own. `is_same` and `is_same_at` say exactly whether two trees, or
-//!   their parts at a path, are the same, without memory.
+//!   `copy_at` gives a part on its own. `is_same` and `is_same_at` say exactly whether two trees,
+//!   or their parts at a path, are the same, without memory.
 //! - `check_replace` answers the definition's refusal of a replacement, or none
 //!   (`replace_refusal`), and takes no memory. `prepare_replace` makes it ready (`ready`, `at`,
 //!   `new`), refused as `check_replace` or for lack of memory; `make` makes it, without memory, and
