@@ -1,7 +1,7 @@
 -- What is removed is gone, and what can stay is there.
 use Rattle.std.proofs.Common.{◌≡◌, ◌≢◌, ◌⊎◌, ◌∙◌, Bool, true, false, cond, if◌then◌else◌, [], ◌∷◌}
 use Rattle.std.proofs.Common.{◌++◌, refl, sym, ap, subst, Option, Some, None, IsSome, is_some}
-use Rattle.std.proofs.Common.{append-nil, inl, inr, true≢false, Less}
+use Rattle.std.proofs.Common.{append-nil, not, inl, inr, true≢false, Less}
 use Rattle.std.proofs.lemmas.Option.{none-some}
 use Rattle.std.specs.List.{AllByRecursion}
 use Rattle.std.specs.Ordering.{eq_by_cmp}
@@ -117,7 +117,7 @@ pub removable : (t : Tree) (p : Path) → fits_replica t ≡ true → is_root p 
 removable t p fits below dir some =
     let place = place_allowed t p below (ap is_directory_content dir) in
     remove_answer t p place some
-    ∙ ap (λ b. if b then None else Some Full) (rest_fits t p fits place)
+    ∙ ap (λ b. if not b then Some Full else None) (rest_fits t p fits place)
 
 is_memory : TreeError → Bool
 is_memory error.Memory = true
