@@ -4,4 +4,5 @@ pub mod OverlayLemmas
 pub mod PartLemmas
 pub mod RemovalLemmas
 pub mod ResultLemmas
+pub mod ShorterLemmas
 mod StandingLemmas

@@ -96,7 +96,7 @@ fn is_directory(tree: &Tree, path: &Path) -> bool
 }
 
 /// Plans and makes the put of a file, unless one with these bytes is there. Refused as the edit is.
-fn put_bytes(
+pub(crate) fn put_bytes(
     alloc: Global,
     work: &mut Tree,
     edits: &mut Vec<Edit>,

@@ -18,5 +18,6 @@
 mod additions;
 mod plan;
 mod removals;
+mod shorter;
 
 pub use plan::{changes, changes_at, copy_part, puts, with_part};

@@ -1,16 +1,17 @@
 //! The edits between two trees.
-ghost use Rattle.std.specs.Prelude.{◌≡◌, ◌≢◌, ◌⊎◌, [], IfErr, IfOk, Some, false, map};
+ghost use Rattle.std.specs.Prelude.{◌≡◌, ◌≢◌, ◌⊎◌, [], IfErr, IfOk, OnOk, Some, false, map};
 ghost use Rattle.std.specs.List.{AllByRecursion, IsDistinct};
 ghost use Rattle.syn_model.specs.Path.{is_root};
 ghost use Rattle.syn_model.specs.Tree.{is_directory, replace, subtree};
 ghost use Rattle.syn_tree.specs.Edits.{edit_of};
 ghost use Rattle.syn_tree.specs.Lists.{replace_refusal};
 ghost use Rattle.syn_tree.specs.Refusals.{refusal_of};
-ghost use Rattle.syn_change.specs.Changes.{AreChanges, IsAddition, IsNeeded, IsOverlaid};
+ghost use Rattle.syn_change.specs.Changes.{AreChanges, GoesOn, IsAddition, IsNeeded, IsOverlaid};
 ghost use Rattle.syn_change.specs.Changes.{IsRefusedAmong, after_edits, are_alike};
 
 use crate::additions::put_missing;
 use crate::removals::remove_extra;
+use crate::shorter::put_shorter;
 use std::alloc::Global;
 use syn_path::Path;
 use syn_tree::{Edit, Node, Tree, TreeError};
@@ -31,7 +32,7 @@ pub fn changes(alloc: Global, old: &Tree, wanted: &Tree) -> Result<Vec<Edit>, Tr
     let mut work = copy_whole(alloc, old)?;
     let mut edits = Vec::new(alloc);
     remove_extra(alloc, old, &mut work, &mut edits, wanted)?;
-    put_missing(alloc, &mut work, &mut edits, wanted)?;
+    put_all(alloc, &mut work, &mut edits, wanted)?;
     Ok(edits)
 }
 
@@ -75,8 +76,28 @@ pub fn puts(alloc: Global, old: &Tree, added: &Tree) -> Result<Vec<Edit>, TreeEr
 {
     let mut work = copy_whole(alloc, old)?;
     let mut edits = Vec::new(alloc);
-    put_missing(alloc, &mut work, &mut edits, added)?;
+    put_all(alloc, &mut work, &mut edits, added)?;
     Ok(edits)
+}
+
+/// Plans and makes what `work` lacks of the added tree. Nothing is removed. What becomes shorter is
+/// put first, so no tree on the way takes more bytes than both the first and the last of them.
+///
+/// Refused as `put_missing` is.
+fn put_all(
+    alloc: Global,
+    work: &mut Tree,
+    edits: &mut Vec<Edit>,
+    added: &Tree,
+) -> Result<(), TreeError>
+    ensures overlaid { OnOk result (IsOverlaid work.old added.now work.new) }
+    ensures edits { OnOk result (GoesOn (IsAddition work.old added.now) work.old edits.old.items
+        work.new edits.new.items) }
+    ensures refused { IfErr result (λ e. e ≢ TreeError.Memory
+        → IsRefusedAmong (IsAddition work.old added.now) work.old (refusal_of e)) }
+{
+    put_shorter(alloc, work, edits, added)?;
+    put_missing(alloc, work, edits, added)
 }
 
 /// The tree with the other in the place of what is at and below the path.

@@ -15,15 +15,15 @@ returns-clause-changes c =
     let wanted = c.args.wanted.now in
     let start = c.in_ok-work.work in
     let work = c.remove_extra.new.work in
-    let new = c.put_missing.new.work in
+    let new = c.put_all.new.work in
     let none = c.new-edits.result.items in
     let removed = c.in_ok-remove_extra.ensures in
-    let put = c.in_ok-put_missing.ensures in
-    subst (λ t. AreChanges t wanted (map edit_of c.put_missing.new.edits.items))
-    c.in_ok-work.ensures.ok (changes_of start wanted new none c.put_missing.new.edits.items
+    let put = c.in_ok-put_all.ensures in
+    subst (λ t. AreChanges t wanted (map edit_of c.put_all.new.edits.items))
+    c.in_ok-work.ensures.ok (changes_of start wanted new none c.put_all.new.edits.items
     c.new-edits.ensures.items (is_wanted work wanted new removed.trimmed put.overlaid)
     (goes_twice (IsRemoval start wanted) (IsAddition work wanted) (IsNeeded start wanted) start work
-    new none c.remove_extra.new.edits.items c.put_missing.new.edits.items (λ e is. is.0)
+    new none c.remove_extra.new.edits.items c.put_all.new.edits.items (λ e is. is.0)
     (needed_before start wanted work removed.less) (λ x y is other. kinds_apart x y is.1 other.1)
     removed.edits put.edits))
 
@@ -33,29 +33,29 @@ returns-clause-none c same =
     let wanted = c.args.wanted.now in
     let start = c.in_ok-work.work in
     let work = c.remove_extra.new.work in
-    let new = c.put_missing.new.work in
+    let new = c.put_all.new.work in
     let none = c.new-edits.result.items in
     let removed = c.in_ok-remove_extra.ensures in
-    let put = c.in_ok-put_missing.ensures in
-    none_needed start wanted c.put_missing.new.edits.items (c.in_ok-work.ensures.ok ∙ same)
-    (changes_of start wanted new none c.put_missing.new.edits.items
+    let put = c.in_ok-put_all.ensures in
+    none_needed start wanted c.put_all.new.edits.items (c.in_ok-work.ensures.ok ∙ same)
+    (changes_of start wanted new none c.put_all.new.edits.items
     c.new-edits.ensures.items (is_wanted work wanted new removed.trimmed put.overlaid)
     (goes_twice (IsRemoval start wanted) (IsAddition work wanted) (IsNeeded start wanted) start work
-    new none c.remove_extra.new.edits.items c.put_missing.new.edits.items (λ e is. is.0)
+    new none c.remove_extra.new.edits.items c.put_all.new.edits.items (λ e is. is.0)
     (needed_before start wanted work removed.less) (λ x y is other. kinds_apart x y is.1 other.1)
     removed.edits put.edits))
 
-pub returns-in_err-put_missing-clause-refused : goal.returns-in_err-put_missing-clause-refused
-returns-in_err-put_missing-clause-refused c =
-    let p = err_from_is_err_and c.from_residual-in_err-put_missing.result
-    c.from_residual-in_err-put_missing.ensures.1 in
+pub returns-in_err-put_all-clause-refused : goal.returns-in_err-put_all-clause-refused
+returns-in_err-put_all-clause-refused c =
+    let p = err_from_is_err_and c.from_residual-in_err-put_all.result
+    c.from_residual-in_err-put_all.ensures.1 in
     let wanted = c.args.wanted.now in
     let start = c.in_ok-work.work in
     let work = c.remove_extra.new.work in
     let removed = c.in_ok-remove_extra.ensures in
-    let refusal = refusal_of c.in_err-put_missing.field-0.0 in
+    let refusal = refusal_of c.in_err-put_all.field-0.0 in
     rw (p.1, p.2) (λ other. subst (λ t. IsRefusedAmong (IsNeeded t wanted) t refusal)
     c.in_ok-work.ensures.ok (refused_later (IsRemoval start wanted) (IsAddition work wanted)
     (IsNeeded start wanted) start work c.new-edits.result.items c.remove_extra.new.edits.items
     refusal (λ e is. is.0) (needed_before start wanted work removed.less) removed.edits
-    (c.in_err-put_missing.ensures.refused other)))
+    (c.in_err-put_all.ensures.refused other)))

@@ -13,39 +13,39 @@ returns-clause-made c =
     let old = c.args.old.now in
     let added = c.args.added.now in
     let work = c.in_ok-work.work in
-    let on = c.in_ok-put_missing.ensures.edits in
-    let all = added_all (IsAddition work added) work c.new-edits.result.items c.put_missing.new.work
-    c.put_missing.new.edits.items c.new-edits.ensures.items on in
+    let on = c.in_ok-put_all.ensures.edits in
+    let all = added_all (IsAddition work added) work c.new-edits.result.items c.put_all.new.work
+    c.put_all.new.edits.items c.new-edits.ensures.items on in
     subst (λ (t : Tree). IsOverlaid t added
-    (after_edits t (map edit_of c.put_missing.new.edits.items))) c.in_ok-work.ensures.ok
+    (after_edits t (map edit_of c.put_all.new.edits.items))) c.in_ok-work.ensures.ok
     (subst (λ (t : Tree). IsOverlaid work added t) (sym (ap (after_edits work) (sym all) ∙ on.make))
-    c.in_ok-put_missing.ensures.overlaid)
+    c.in_ok-put_all.ensures.overlaid)
 
 pub returns-clause-needed : goal.returns-clause-needed
 returns-clause-needed c =
     let added = c.args.added.now in
     let work = c.in_ok-work.work in
-    let on = c.in_ok-put_missing.ensures.edits in
-    let all = added_all (IsAddition work added) work c.new-edits.result.items c.put_missing.new.work
-    c.put_missing.new.edits.items c.new-edits.ensures.items on in
+    let on = c.in_ok-put_all.ensures.edits in
+    let all = added_all (IsAddition work added) work c.new-edits.result.items c.put_all.new.work
+    c.put_all.new.edits.items c.new-edits.ensures.items on in
     subst (λ (t : Tree). AllByRecursion (IsAddition t added)
-    (map edit_of c.put_missing.new.edits.items)) c.in_ok-work.ensures.ok
+    (map edit_of c.put_all.new.edits.items)) c.in_ok-work.ensures.ok
     (subst (AllByRecursion (IsAddition work added)) all on.each)
 
 pub returns-clause-once : goal.returns-clause-once
 returns-clause-once c =
     let added = c.args.added.now in
     let work = c.in_ok-work.work in
-    let on = c.in_ok-put_missing.ensures.edits in
-    let all = added_all (IsAddition work added) work c.new-edits.result.items c.put_missing.new.work
-    c.put_missing.new.edits.items c.new-edits.ensures.items on in
+    let on = c.in_ok-put_all.ensures.edits in
+    let all = added_all (IsAddition work added) work c.new-edits.result.items c.put_all.new.work
+    c.put_all.new.edits.items c.new-edits.ensures.items on in
     subst (IsDistinct are_alike) all on.once
 
-pub returns-in_err-put_missing-clause-refused : goal.returns-in_err-put_missing-clause-refused
-returns-in_err-put_missing-clause-refused c =
-    let p = err_from_is_err_and c.from_residual-in_err-put_missing.result
-    c.from_residual-in_err-put_missing.ensures.1 in
+pub returns-in_err-put_all-clause-refused : goal.returns-in_err-put_all-clause-refused
+returns-in_err-put_all-clause-refused c =
+    let p = err_from_is_err_and c.from_residual-in_err-put_all.result
+    c.from_residual-in_err-put_all.ensures.1 in
     let added = c.args.added.now in
     rw (p.1, p.2) (λ other. subst (λ (t : Tree). IsRefusedAmong (IsAddition t added) t
-    (refusal_of c.in_err-put_missing.field-0.0)) c.in_ok-work.ensures.ok
-    (c.in_err-put_missing.ensures.refused other))
+    (refusal_of c.in_err-put_all.field-0.0)) c.in_ok-work.ensures.ok
+    (c.in_err-put_all.ensures.refused other))
