@@ -90,11 +90,8 @@ def past_limits_together(_source):
     whole = {f"z{n:02}": plain(bytes(16384)) for n in range(32)}
     put_into("way.img", whole)
     write("way", {"a": plain(bytes(16384))} | whole | {"z00": plain(b"")})
-    told = syn("import", "way.img", "1", "way", wanted=1)
-    expect(told.startswith("syn: the replica has room for it at ., but not after each of"), told)
-    write("less", {name: whole[name] for name in list(whole)[1:]} | {"z00": plain(b"")})
-    syn("import", "way.img", "1", "less")
-    syn("import", "way.img", "1", "way")
+    told = syn("import", "-v", "way.img", "1", "way")
+    expect(told == "ok 34\nput z00\nput a\n", "what becomes shorter makes room first: " + told)
 
 
 def joined(name, tree, more):

@@ -1,9 +1,9 @@
 -- What becomes shorter is put first, and what is needed then was needed before.
-use Rattle.std.proofs.Common.{◌≡◌, ◌≢◌, ◌∙◌, ℕ, Bool, true, false, cond, if◌then◌else◌, [], ◌∷◌}
+use Rattle.std.proofs.Common.{◌≡◌, ◌∙◌, ℕ, Bool, true, false, cond, if◌then◌else◌, [], ◌∷◌}
 use Rattle.std.proofs.Common.{◌++◌, nat_lt, length, refl, sym, ap, subst, Option, Some, None, arith}
-use Rattle.std.proofs.Common.{true≢false}
+use Rattle.std.proofs.Common.{true≢false, List}
 use Rattle.std.proofs.lemmas.Bool.Decides.{nat_tests}
-use Rattle.std.proofs.lemmas.Option.{none-some, same_Some}
+use Rattle.std.proofs.lemmas.Option.{same_Some}
 use Rattle.std.specs.FinMap.{get, find, entries, get-entries}
 use Rattle.std.specs.FinMap.Entries.{find-append}
 use Rattle.std.specs.Ordering.{eq_by_cmp}
@@ -16,9 +16,11 @@ use Rattle.syn_model.proofs.HistoryLemmas.{same_file}
 use Rattle.syn_model.proofs.PathLemmas.{path_itself, path_total, same_path}
 use Rattle.syn_placed.specs.Pairs.{Pairs, rooted}
 use Rattle.syn_placed.proofs.FindLemmas.{find_after}
-use Rattle.syn_change.specs.Changes.{HasBytes, HasMode, IsAddition, IsOverlaid, are_alike}
-use Rattle.syn_change.specs.Shorter.{AreShortened, IsShortenedAt, Shortens, ShortensTo, is_longer}
-use Rattle.syn_change.specs.Shorter.{shortened}
+use Rattle.syn_placed.proofs.RisingLemmas.{each-map}
+use Rattle.syn_tree.specs.declared.edit.Edit.{Edit as Planned}
+use Rattle.syn_change.specs.Changes.{GoesOn, HasBytes, IsAddition, IsOverlaid, are_alike}
+use Rattle.syn_change.specs.Shorter.{AreShortened, IsShortenedAt, IsShorterFirst, Shortens}
+use Rattle.syn_change.specs.Shorter.{ShortensTo, is_longer, shortened}
 use Rattle.syn_change.proofs.NeedLemmas.{IsAmong}
 use Rattle.syn_change.proofs.StandingLemmas.{rising_below}
 
@@ -131,14 +133,13 @@ module _ (old wanted work : Tree) (short : AreShortened old wanted work) where
   added_before (MakeDir p) is =
       ((is.0.0, λ has. is.0.1 (short p ∙ (ap (shortened (get old p)) is.0.0 ∙ has))), refl)
   added_before (Remove p) is = absurd (true≢false is.1)
-  added_before (Chmod p m) is =
-      (
-        (
-          is.0.0,
-          λ has. is.0.1 (ap put_mode (short p) ∙ (mode_kept (get old p) (get wanted p) ∙ has)),
-        ),
-        refl,
-      )
+  added_before (Chmod p m) is = (
+    (
+      is.0.0,
+      λ has. is.0.1 (ap put_mode (short p) ∙ (mode_kept (get old p) (get wanted p) ∙ has)),
+    ),
+    refl,
+  )
 
   wanted_once : (p : Path) (b d : Bytes) → HasBytes wanted p b → HasBytes wanted p d → b ≡ d
   wanted_once p b d one two =
@@ -164,6 +165,25 @@ module _ (old wanted work : Tree) (short : AreShortened old wanted work) where
           let longer = subst (λ r. is_longer (get old r) b ≡ true) at is.1 in
           absurd (adds.0.1 (subst (HasBytes work q) (wanted_once q b d over adds.0.0)
           (comes q b over longer)))
+
+  added_no_shorter : (e : Edit) → IsAddition work wanted e → ¬ Shortens old wanted e
+  added_no_shorter (Put p b) adds is = adds.0.1 (comes p b is.0 is.1)
+  added_no_shorter (MakeDir p) adds is = is
+  added_no_shorter (Remove p) adds is = is
+  added_no_shorter (Chmod p m) adds is = is
+
+  pub shorter_first : (new : Tree) (es fs gs : List Planned) →
+      GoesOn (Shortens old wanted) old es work fs → GoesOn (IsAddition work wanted) work fs new gs →
+      IsShorterFirst old wanted es gs
+  shorter_first new es fs gs one two = record {
+    first = one.added;
+    rest = two.added;
+    are = two.are ∙ ap (λ xs. xs ++ two.added) one.are;
+    shorten = one.each;
+    others =
+        each-map (IsAddition work wanted) (λ e. ¬ Shortens old wanted e) added_no_shorter two.added
+        two.each;
+  }
 
   pub overlaid_before : (new : Tree) → IsOverlaid work wanted new → IsOverlaid old wanted new
   overlaid_before new over = record {

@@ -1,10 +1,13 @@
 -- The files that become shorter, and the edits that put them.
 use Rattle.std.specs.Prelude.{◌≡◌, Bool, true, false, nat_lt, length, if◌then◌else◌}
-use Rattle.std.specs.Prelude.{Option, Some, None}
+use Rattle.std.specs.Prelude.{Option, Some, List, ◌++◌, map}
 use Rattle.std.specs.FinMap.{get}
-use Rattle.syn_model.specs.Event.{Edit, Put, MakeDir, Remove, Chmod, put_contents}
+use Rattle.std.specs.List.{AllByRecursion}
+use Rattle.syn_model.specs.Event.{Edit, Put, put_contents}
 use Rattle.syn_model.specs.Path.{Bytes, Path}
 use Rattle.syn_model.specs.Tree.{Tree, Content, Directory, File, Pair}
+use Rattle.syn_tree.specs.Edits.{edit_of}
+use Rattle.syn_tree.specs.declared.edit.Edit.{Edit as Planned}
 use Rattle.syn_change.specs.Changes.{HasBytes, StaysElsewhere}
 
 -- a file with more bytes than these is there
@@ -39,3 +42,11 @@ abbrev pub ShortensTo : Tree → Pair → Edit → Type 0
 ShortensTo old (path, Directory) edit = ⊥
 ShortensTo old (path, File contents) edit = (edit ≡ Put path contents.bytes)
     × (is_longer (get old path) contents.bytes ≡ true)
+
+-- the edits have gone on, first by all those that shorten a file
+pub record IsShorterFirst (old wanted : Tree) (edits more : List Planned) : Type 0 where
+  pub first : List Edit
+  pub rest : List Edit
+  pub are : map edit_of more ≡ map edit_of edits ++ first ++ rest
+  pub shorten : AllByRecursion (Shortens old wanted) first
+  pub others : AllByRecursion (λ edit. ¬ Shortens old wanted edit) rest

@@ -10,6 +10,10 @@
 //! (`IsOverlaid`). `changes_at` plans those that put a tree in the place of what is at and below a
 //! path. All plan on a copy (`copy_part`), and make nothing.
 //!
+//! Removals come first, then the files that become shorter, then the rest in path order. So no tree
+//! on the way takes more bytes than the larger of the old and the wanted one. No public clause says
+//! that.
+//!
 //! A plan is refused for lack of memory, or for what the tree refuses of one of these edits after
 //! some of the others (`refused`, `IsRefusedAmong`). `copy_part` is refused exactly where no
 //! directory is at the path, or for lack of memory.

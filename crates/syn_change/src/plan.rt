@@ -8,6 +8,7 @@ ghost use Rattle.syn_tree.specs.Lists.{replace_refusal};
 ghost use Rattle.syn_tree.specs.Refusals.{refusal_of};
 ghost use Rattle.syn_change.specs.Changes.{AreChanges, GoesOn, IsAddition, IsNeeded, IsOverlaid};
 ghost use Rattle.syn_change.specs.Changes.{IsRefusedAmong, after_edits, are_alike};
+ghost use Rattle.syn_change.specs.Shorter.{IsShorterFirst};
 
 use crate::additions::put_missing;
 use crate::removals::remove_extra;
@@ -17,11 +18,12 @@ use syn_path::Path;
 use syn_tree::{Edit, Node, Tree, TreeError};
 
 /// The edits that make the old tree the wanted one: first what is removed, a directory with all
-/// below it, and then what is put and made, in path order. Each of them is needed, and equal trees
-/// need none.
+/// below it, then the files that become shorter, and then the rest of what is put and made, in path
+/// order. Each of them is needed, and equal trees need none.
 ///
-/// Refused as the tree refuses one of them after some of the others: 7 where it would pass a limit
-/// on the way. Refused 11 where memory is refused.
+/// Refused as the tree refuses one of them after some of the others, and 11 where memory is
+/// refused. In this order no tree on the way passes a limit that both trees keep, though no clause
+/// says so.
 pub fn changes(alloc: Global, old: &Tree, wanted: &Tree) -> Result<Vec<Edit>, TreeError>
     ensures changes { IfOk result (λ edits.
         AreChanges old.now wanted.now (map edit_of edits.items)) }
@@ -60,8 +62,8 @@ pub fn changes_at(
     changes(alloc, old, &wanted)
 }
 
-/// The edits that put into the old tree what the other has, in path order, and remove nothing. Each
-/// of them is needed.
+/// The edits that put into the old tree what the other has, and remove nothing: first the files
+/// that become shorter, and then the rest in path order. Each of them is needed.
 ///
 /// Refused 3 where a file would take the place of a directory, 4 where a directory would take the
 /// place of a file, 7 where the result would pass a limit, and 11 where memory is refused.
@@ -80,10 +82,11 @@ pub fn puts(alloc: Global, old: &Tree, added: &Tree) -> Result<Vec<Edit>, TreeEr
     Ok(edits)
 }
 
-/// Plans and makes what `work` lacks of the added tree. Nothing is removed. What becomes shorter is
-/// put first, so no tree on the way takes more bytes than both the first and the last of them.
+/// Plans and makes what `work` lacks of the added tree: first the files that become shorter, and then
+/// the rest in path order. Nothing is removed.
 ///
-/// Refused as `put_missing` is.
+/// So no tree on the way takes more bytes than the larger of the first and the last. That is not
+/// proved: what is proved is the order (`first`). Refused as `put_missing` is.
 fn put_all(
     alloc: Global,
     work: &mut Tree,
@@ -93,6 +96,7 @@ fn put_all(
     ensures overlaid { OnOk result (IsOverlaid work.old added.now work.new) }
     ensures edits { OnOk result (GoesOn (IsAddition work.old added.now) work.old edits.old.items
         work.new edits.new.items) }
+    ensures first { OnOk result (IsShorterFirst work.old added.now edits.old.items edits.new.items) }
     ensures refused { IfErr result (λ e. e ≢ TreeError.Memory
         → IsRefusedAmong (IsAddition work.old added.now) work.old (refusal_of e)) }
 {

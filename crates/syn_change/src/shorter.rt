@@ -14,7 +14,8 @@ use syn_tree::{Edit, Found, Pair, Tree, TreeError};
 /// Plans and makes the puts of those files of the wanted tree that stand in `work` with more bytes.
 /// Nothing else changes, and each of these files keeps its mode.
 ///
-/// Refused 7 where the result would pass a limit, and 11 where memory is refused.
+/// Refused as the tree refuses one of these puts after some of the others, and 11 where memory is
+/// refused.
 pub(crate) fn put_shorter(
     alloc: Global,
     work: &mut Tree,

@@ -4,7 +4,7 @@ use Rattle.syn_change.specs.Changes.{IsAddition}
 use Rattle.syn_change.specs.Shorter.{Shortens}
 use Rattle.syn_change.proofs.GoingLemmas.{goes_twice, refused_after, refused_weaker}
 use Rattle.syn_change.proofs.ShorterLemmas.{added_before, overlaid_before, shortens_adds}
-use Rattle.syn_change.proofs.ShorterLemmas.{shortens_apart}
+use Rattle.syn_change.proofs.ShorterLemmas.{shorter_first, shortens_apart}
 use Rattle.syn_change.proofs.plan.put_all.Goals as goal
 
 pub returns-clause-overlaid : goal.returns-clause-overlaid
@@ -26,6 +26,14 @@ returns-clause-edits c =
     c.put_missing.new.edits.items (shortens_adds old added)
     (added_before old added work first.shortened) (shortens_apart old added work first.shortened)
     first.edits on) c.put_missing.ensures.edits
+
+pub returns-clause-first : goal.returns-clause-first
+returns-clause-first c =
+    let first = c.in_ok-put_shorter.ensures in
+    on_ok_weaker c.put_missing.result
+    (λ on. shorter_first c.args.work.now c.args.added.now c.put_shorter.new.work first.shortened
+    c.put_missing.new.work c.args.edits.now.items c.put_shorter.new.edits.items
+    c.put_missing.new.edits.items first.edits on) c.put_missing.ensures.edits
 
 pub returns-clause-refused : goal.returns-clause-refused
 returns-clause-refused c =
