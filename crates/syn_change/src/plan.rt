@@ -82,8 +82,8 @@ pub fn puts(alloc: Global, old: &Tree, added: &Tree) -> Result<Vec<Edit>, TreeEr
     Ok(edits)
 }
 
-/// Plans and makes what `work` lacks of the added tree: first the files that become shorter, and then
-/// the rest in path order. Nothing is removed.
+/// Plans and makes what `work` lacks of the added tree: first the files that become shorter, and
+/// then the rest in path order. Nothing is removed.
 ///
 /// So no tree on the way takes more bytes than the larger of the first and the last. That is not
 /// proved: what is proved is the order (`first`). Refused as `put_missing` is.
