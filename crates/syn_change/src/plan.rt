@@ -96,7 +96,8 @@ fn put_all(
     ensures overlaid { OnOk result (IsOverlaid work.old added.now work.new) }
     ensures edits { OnOk result (GoesOn (IsAddition work.old added.now) work.old edits.old.items
         work.new edits.new.items) }
-    ensures first { OnOk result (IsShorterFirst work.old added.now edits.old.items edits.new.items) }
+    ensures first { OnOk result (IsShorterFirst work.old added.now edits.old.items
+        edits.new.items) }
     ensures refused { IfErr result (λ e. e ≢ TreeError.Memory
         → IsRefusedAmong (IsAddition work.old added.now) work.old (refusal_of e)) }
 {
