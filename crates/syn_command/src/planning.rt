@@ -18,8 +18,7 @@ use syn_tree::{Edit, LONGEST_SPELLING, MOST_CHILDREN, Tree, TreeError};
 /// them is needed, and where the part is there already, none is.
 ///
 /// Refused 2 where the path's parent is no directory, and 11 where memory is refused. Refused 7
-/// where the tree would pass a limit, in the end or after some of the edits: that limit is told to
-/// `errors`.
+/// where the tree would pass a limit, which is told to `errors`.
 pub fn plan_import<E: Write>(
     alloc: Global,
     tree: &Tree,
@@ -44,12 +43,10 @@ pub fn plan_import<E: Write>(
     }
 }
 
-/// Tells which limits of a replica the tree would pass with the part at the path. Where it would
-/// keep them in the end, it passes one on the way.
+/// Tells which limits of a replica the tree would pass with the part at the path.
 fn tell_limits<E: Write>(alloc: Global, tree: &Tree, path: &Path, part: &Tree, errors: &mut E) {
     let below = nodes_with(tree, path, part).saturating_sub(1);
     let bytes = bytes_with(tree, path, part);
-    let is_crowded = is_new_in_full_directory(alloc, tree, path);
     if below > MOST_BELOW {
         let _ = writeln!(
             errors,
@@ -64,17 +61,10 @@ fn tell_limits<E: Write>(alloc: Global, tree: &Tree, path: &Path, part: &Tree, e
              and it may take {LONGEST_SPELLING}"
         );
     }
-    if is_crowded {
+    if is_new_in_full_directory(alloc, tree, path) {
         let _ = writeln!(
             errors,
             "syn: with {path} its directory would have more than {MOST_CHILDREN} names"
-        );
-    }
-    if below <= MOST_BELOW && bytes <= LONGEST_SPELLING && !is_crowded {
-        let _ = writeln!(
-            errors,
-            "syn: the replica has room for it at {path}, but not after each of its edits: \
-             import first what becomes shorter"
         );
     }
 }
