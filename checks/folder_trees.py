@@ -124,6 +124,11 @@ def edits_between(old, new):
     below = [path for path in old if any(path.startswith(other + "/") for other in gone)]
     left = {path: old[path] for path in old if path not in gone and path not in below}
     kinds = ["rm" for path in gone if path not in below]
+    # What becomes shorter makes room for what becomes longer.
+    for path in left:
+        if new[path] is not None and len(left[path][0]) > len(new[path][0]):
+            kinds += ["put"]
+            left[path] = (new[path][0], left[path][1])
     for path in sorted(new, key=lambda path: [name.encode() for name in path.split("/")]):
         if new[path] is None:
             kinds += [] if path in left else ["mkdir"]
