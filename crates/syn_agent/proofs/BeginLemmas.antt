@@ -2,9 +2,9 @@
 use Rattle.std.proofs.Common.{◌≡◌, ◌⊎◌, ◌∙◌, ◌+◌, ◌-◌, ℕ, Bool, true, false, List, [], ◌∷◌, ◌++◌}
 use Rattle.std.proofs.Common.{Option, Some, None, ap, arith, inl, inr, length, not}
 use Rattle.std.proofs.Common.{◌≢◌, length-append, refl, subst, sym}
-use Rattle.std.proofs.lemmas.Bool.{eqb-true, eqb-false, false≢true}
-use Rattle.std.specs.Prelude.{◌==◌, Err, nat_le, nat_lt, if◌then◌else◌}
-use Rattle.syn_agent.proofs.CauseLemmas.{device_is, later_none, later_some, never_first}
+use Rattle.std.proofs.lemmas.Bool.{eqb-true, false≢true}
+use Rattle.std.specs.Prelude.{◌==◌, nat_le, nat_lt, if◌then◌else◌}
+use Rattle.syn_agent.proofs.CauseLemmas.{later_none, later_some, never_first}
 use Rattle.syn_agent.proofs.CauseLemmas.{outside, rooms}
 use Rattle.syn_agent.proofs.ReplicaLemmas.{stays}
 use Rattle.syn_agent.specs.Agents.{side_of}
@@ -22,12 +22,12 @@ use Rattle.syn_model.specs.History.{History, last_session, position_causes}
 use Rattle.syn_model.specs.Refusal.{Refusal, Cause, first_cause, WrongPair, OldSession, JournalFull}
 use Rattle.syn_model.specs.Refusal as why
 use Rattle.syn_model.specs.Spelling.{event_spelling}
-use Rattle.syn_replica.specs.Refusals.{CountsFailures, IsOneOf, MakesIfDevice, outside_refusals}
+use Rattle.syn_replica.specs.Calls.{Writes, unless}
+use Rattle.syn_replica.specs.Refusals.{IsOneOf, outside_refusals}
 use Rattle.syn_standing.specs.Refusals.{refusal_of}
-use Rattle.syn_replica.specs.Replica.{HasRecord, IsHalted, KeepsBeforeOrAfter, KeepsReadings}
-use Rattle.syn_replica.specs.Replica.{Stands, Tries, disk_of, journal_of, left_shown, pair_of}
-use Rattle.syn_replica.specs.Replica.{room_shown, standing_shown, tried_shown}
-use Rattle.syn_replica.specs.Steps.{MakesIfNew, begin_refusal, begun, room_causes}
+use Rattle.syn_replica.specs.Replica.{IsHalted, KeepsBeforeOrAfter, Stands, disk_of, journal_of}
+use Rattle.syn_replica.specs.Replica.{left_shown, pair_of, room_shown, standing_shown, tried_shown}
+use Rattle.syn_replica.specs.Steps.{begin_refusal, begun, room_causes}
 use Rattle.syn_standing.specs.declared.error.ReplicaError.{ReplicaError}
 use Rattle.syn_replica.specs.declared.replica.Replica.{Replica}
 
@@ -157,23 +157,22 @@ module _ {D : Type 0} {disk : Ghosts D} (old new : Replica D disk) (agent : Agen
         is),
   )
 
+  -- what is written, by whether the session was begun before
+  writes_if : (again : Bool) → (session == last_session history) ≡ again → (ended : Option Refusal)
+      → Writes old new (unless (session == (standing_shown old).session) (Began session)) ended
+      → Writes old new (unless again (Began session)) ended
+  writes_if again is ended writes = subst (λ b. Writes old new (unless b (Began session)) ended)
+      (ap (λ n. session == n) last_is ∙ is) writes
+
   -- the replica answers a position
   pub begun_answers : (position : ℕ)
       → (position ≡ length (begun history session)) × Stands new (begun history session)
       → (begin_refusal (room_shown old) (pair_of old) history pair session ≡ None)
-      → (session ≢ (standing_shown old).session → HasRecord old new (Began session))
-      → (pair ≡ pair_of old → session ≡ (standing_shown old).session → ¬ IsHalted old
-      → new ≡ old)
-      → (session ≢ (standing_shown old).session
-      → tried_shown new ≡ Some (event_spelling (Began session)))
+      → Writes old new (unless (session == (standing_shown old).session) (Began session)) None
       → LeavesOnly disk.moment disk.left_since (disk_of old) (disk_of new)
       (KeepsBeforeOrAfter old history (Began session))
-      → MakesIfNew (session == (standing_shown old).session) (disk.arms (disk_of old))
-      (disk.arms (disk_of new))
-      → disk.failures (disk_of new) ≡ disk.failures (disk_of old)
       → Answers old new agent agent history session (Begin pair) (Begun position)
-  begun_answers position given none has same tried any_moment calls failures =
-      by (session == last_session history) refl
+  begun_answers position given none writes any_moment = by (session == last_session history) refl
     where
       after : (again : Bool) → (session == last_session history) ≡ again
           → begun history session ≡ (if again then history else history ++ Began session ∷ [])
@@ -182,8 +181,7 @@ module _ {D : Type 0} {disk : Ghosts D} (old new : Replica D disk) (agent : Agen
       by : (again : Bool) → (session == last_session history) ≡ again
           → Answers old new agent agent history session (Begin pair) (Begun position)
       by true is =
-          let q = same (own none) (eqb-true session (last_session history) is ∙ sym last_is)
-          was_running in
+          let q = (writes_if true is None writes).written in
           subst (λ n. Answers old new agent agent history session (Begin pair) (Begun n))
           (sym (given.0 ∙ ap length (after true is)))
           (keeps (answer (side_of history agent) (Begun (length history))) (serves true is none)
@@ -200,16 +198,13 @@ module _ {D : Type 0} {disk : Ghosts D} (old new : Replica D disk) (agent : Agen
           ∙ length-append history (Began session ∷ []))))
           (adds (answer (add_event (side_of history agent) (Began session))
           (Begun (length history + 1))) (Began session) (serves false is none) refl refl
-          (record {
+          (let made = writes_if false is None writes in
+          record {
             stands = subst (Stands new) (after false is) given.1;
-            has = has (λ e. eqb-false session (last_session history) is (e ∙ last_is));
-            sends = record {
-              tried = tried (λ e. eqb-false session (last_session history) is (e ∙ last_is));
-              any_moment = any_moment;
-            };
-            calls = subst (λ b. MakesIfNew b (disk.arms (disk_of old)) (disk.arms (disk_of new)))
-                (ap (λ n. session == n) last_is ∙ is) calls;
-            failures = failures;
+            has = made.written;
+            sends = record { tried = made.tried; any_moment = any_moment };
+            calls = made.device.arms;
+            failures = made.device.failures;
           }))
 
   -- memory is refused only where the session would begin
@@ -248,20 +243,13 @@ module _ {D : Type 0} {disk : Ghosts D} (old new : Replica D disk) (agent : Agen
       → begin_refusal (room_shown old) (pair_of old) history pair session ≡ Some refusal
       → refusal_of e ≡ refusal)
       → ((pair ≡ pair_of old) → (session ≡ (standing_shown old).session) → ¬ IsHalted old → ⊥)
-      → (refusal_of e ≡ why.Device → IsHalted new)
-      → CountsFailures e (disk.failures (disk_of old)) (disk.failures (disk_of new))
-      → MakesIfDevice e 4 (disk.arms (disk_of old)) (disk.arms (disk_of new))
-      → KeepsReadings old new
-      → ((refusal_of e ≡ why.Device) ⊎ (journal_of new ≡ journal_of old))
-      → (session ≢ (standing_shown old).session → Tries {X = ℕ} old new (Began session) (Err e))
-      → (refusal_of e ≢ why.Device → tried_shown new ≡ tried_shown old)
+      → Writes old new (unless (session == (standing_shown old).session) (Began session))
+      (Some (refusal_of e))
       → LeavesOnly disk.moment disk.left_since (disk_of old) (disk_of new)
       (KeepsBeforeOrAfter old history (Began session))
-      → KeepsBeforeOrAfter old history (Began session) (disk.seen (disk_of new))
       → Answers old new agent agent history session (Begin pair) (Refused (refusal_of e))
-  begun_refused e cause refused again halts failures calls readings unchanged tried untried
-      any_moment seen =
-      elim unchanged [
+  begun_refused e cause refused again writes any_moment =
+      elim writes.unchanged [
         | inl device ↦ broken device
         | inr same ↦ elim cause [
           | inl none ↦ elim (outside e none) [
@@ -293,7 +281,11 @@ module _ {D : Type 0} {disk : Ghosts D} (old new : Replica D disk) (agent : Agen
           → Answers old new agent agent history session (Begin pair) served.reply
       kept same not served so stays_so =
           let as_it_was : IsUnchanged old new =
-          record { memory = readings.memory; journal = same; tried = untried not } in
+          record {
+            memory = writes.readings.memory;
+            journal = same;
+            tried = writes.untried not;
+          } in
           keeps served so stays_so as_it_was (stays old new history stands as_it_was)
 
       no_cause : refusal_of e ≡ why.Device → (found : Option Refusal)
@@ -304,25 +296,24 @@ module _ {D : Type 0} {disk : Ghosts D} (old new : Replica D disk) (agent : Agen
           (pair_of old) session pair history agent room_is why.Device (λ e. cc) (λ e. cc) (λ e. cc)
           (λ e. cc) refusal is (sym (refused refusal is) ∙ device))
 
-      off : refusal_of e ≡ why.Device → session ≢ (standing_shown old).session
+      off : refusal_of e ≡ why.Device → (session == last_session history) ≡ false
           → BreaksOff old new history (Began session)
-      off device fresh_session =
-          let error = device_is e device in
+      off device is =
+          let sent = subst (λ w. Writes old new (Some (Began session)) (Some w)) device
+          (writes_if false is _ writes) in
           record {
-            halted = halts device;
-            readings = readings;
+            halted = sent.halts refl;
+            readings = sent.readings;
             sends = record {
-              tried = elim (tried fresh_session) [
-                | inl sent ↦ sent.1
-                | inr none ↦ absurd (none.0 device)
+              tried = elim sent.tried [
+                | inl tried ↦ tried.1
+                | inr none ↦ absurd (none.0 refl)
               ];
               any_moment = any_moment;
             };
-            seen = seen;
-            calls = subst (λ x. MakesIfDevice x 4 (disk.arms (disk_of old))
-                (disk.arms (disk_of new))) error calls;
-            failures = subst (λ x. CountsFailures x (disk.failures (disk_of old))
-                (disk.failures (disk_of new))) error failures;
+            seen = sent.seen history stands;
+            calls = sent.device.arms;
+            failures = sent.device.failures;
           }
 
       broken_if : refusal_of e ≡ why.Device
@@ -334,7 +325,7 @@ module _ {D : Type 0} {disk : Ghosts D} (old new : Replica D disk) (agent : Agen
       broken_if device none false is =
           breaks (answer (add_event (side_of history agent) (Began session))
           (Begun (length history + 1))) (Began session) (serves false is none) refl refl
-          (off device (λ e. eqb-false session (last_session history) is (e ∙ last_is)))
+          (off device is)
 
       broken : refusal_of e ≡ why.Device
           → Answers old new agent agent history session (Begin pair) (Refused (refusal_of e))

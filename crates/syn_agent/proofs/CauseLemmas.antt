@@ -15,7 +15,7 @@ use Rattle.syn_model.specs.Refusal.{Refusal, Cause, first_cause, number}
 use Rattle.syn_model.specs.Refusal as why
 use Rattle.syn_replica.specs.Refusals.{IsOneOf, outside_refusals}
 use Rattle.syn_standing.specs.Refusals.{refusal_of}
-use Rattle.syn_replica.specs.Refusals as replica
+use Rattle.syn_journaled.specs.Endings as device
 use Rattle.syn_standing.specs.declared.error.ReplicaError.{ReplicaError}
 use Rattle.syn_standing.specs.declared.error.ReplicaError.TheVariants.{Tree, History, Journal}
 use Rattle.syn_history.specs.Refusals.{refusal_of as of_history}
@@ -163,14 +163,16 @@ later_some ((false, first) ∷ causes) second side served why some =
     later_some causes second side served why some
 
 -- a device call failed exactly where the replica says so
-pub counts : (e : ReplicaError) (old new : ℕ) → replica.CountsFailures e old new
+pub counts : (e : ReplicaError) (old new : ℕ)
+    → device.CountsFailures (Some (refusal_of e)) old new
     → CountsFailures (Refused (refusal_of e)) old new
-counts (Journal journal.Device) old new grew = inl (refl, grew)
-counts e old new same = inr (
-  λ is.
-      (let k : refusal_of e ≡ why.Device = refused_one _ _ is in let d = device_is e k in cc),
-  same,
-)
+counts e old new = by (refusal_of e)
+  where
+    by : (refusal : Refusal) → device.CountsFailures (Some refusal) old new
+        → CountsFailures (Refused refusal) old new
+    by why.Device grew = inl (refl, grew)
+    by refusal same =
+        inr ((λ is. let k : refusal ≡ why.Device = refused_one _ _ is in cc), same)
 
 -- and not where it answers
 pub counts_none : (reply : Reply) (old new : ℕ) → reply ≢ Refused why.Device → new ≡ old

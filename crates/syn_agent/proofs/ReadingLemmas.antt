@@ -90,25 +90,6 @@ absent_is (OfHistory e) is = absurd (history_absent e is)
 absent_is (OfJournal e) is = absurd (journal_absent e is)
 absent_is e is = absurd (let k : refusal_of e ≡ why.Absent = is in cc)
 
-tree_halted : (e : TreeError) → of_tree e ≢ why.Halted
-tree_halted tree_error.Memory is = let k : why.Memory ≡ why.Halted = is in cc
-tree_halted e is = let k : of_tree e ≡ why.Halted = is in cc
-
-history_halted : (e : HistoryError) → of_history e ≢ why.Halted
-history_halted history_error.Memory is = let k : why.Memory ≡ why.Halted = is in cc
-history_halted e is = let k : of_history e ≡ why.Halted = is in cc
-
-journal_halted : (e : JournalError) → of_journal e ≡ why.Halted → e ≡ journal_error.Halted
-journal_halted journal_error.Halted is = refl
-journal_halted e is = absurd (let k : of_journal e ≡ why.Halted = is in cc)
-
--- and that it is halted the journal's
-pub halted_is : (e : ReplicaError) → refusal_of e ≡ why.Halted → e ≡ OfJournal journal_error.Halted
-halted_is (OfTree e) is = absurd (tree_halted e is)
-halted_is (OfHistory e) is = absurd (history_halted e is)
-halted_is (OfJournal e) is = ap OfJournal (journal_halted e is)
-halted_is e is = absurd (let k : refusal_of e ≡ why.Halted = is in cc)
-
 -- the product's own refusal
 pub own_absent : (refusal : Answer) → cause_of refusal ≡ why.Absent → refusal ≡ own.Absent
 own_absent own.Absent is = refl

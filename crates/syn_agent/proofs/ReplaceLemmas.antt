@@ -4,8 +4,8 @@ use Rattle.std.proofs.Common.{Option, Some, None, ap, arith, inl, inr, length, n
 use Rattle.std.proofs.Common.{sym}
 use Rattle.std.proofs.lemmas.Bool.Decides.{nat_tests}
 use Rattle.std.specs.Option.{option_map_or}
-use Rattle.std.specs.Prelude.{Err, ◌||◌, ◌&&◌, ◌==◌, nat_lt, if◌then◌else◌}
-use Rattle.syn_agent.proofs.CauseLemmas.{Never, device_is, never_first, outside, rooms}
+use Rattle.std.specs.Prelude.{◌||◌, ◌&&◌, ◌==◌, nat_lt, if◌then◌else◌}
+use Rattle.syn_agent.proofs.CauseLemmas.{Never, never_first, outside, rooms}
 use Rattle.syn_agent.proofs.ReplicaLemmas.{as_was, stays}
 use Rattle.syn_agent.specs.Agents.{side_of, staging_of}
 use Rattle.syn_agent.specs.Answers.{Answers, BreaksOff, IsUnchanged, keeps, adds, breaks}
@@ -28,12 +28,12 @@ use Rattle.syn_model.specs.Refusal as why
 use Rattle.syn_model.specs.Spelling.{event_spelling}
 use Rattle.syn_model.specs.Standing.{full_causes, place_causes}
 use Rattle.syn_model.specs.Tree.{Tree, replace}
-use Rattle.syn_replica.specs.Refusals.{CountsFailures, IsOneOf, MakesIfDevice, outside_refusals}
+use Rattle.syn_replica.specs.Calls.{Writes, unless}
+use Rattle.syn_replica.specs.Refusals.{IsOneOf, outside_refusals}
 use Rattle.syn_standing.specs.Refusals.{refusal_of}
-use Rattle.syn_replica.specs.Replica.{HasRecord, IsHalted, KeepsBeforeOrAfter, KeepsReadings}
-use Rattle.syn_replica.specs.Replica.{Stands, Tries, disk_of, journal_of, left_shown, pair_of}
-use Rattle.syn_replica.specs.Replica.{room_shown, tried_shown}
-use Rattle.syn_replica.specs.Steps.{MakesIfNew, is_done, replace_refusal, replaced, room_causes}
+use Rattle.syn_replica.specs.Replica.{KeepsBeforeOrAfter, Stands, disk_of, journal_of, left_shown}
+use Rattle.syn_replica.specs.Replica.{pair_of, room_shown, standing_shown}
+use Rattle.syn_replica.specs.Steps.{is_done, is_done_at, replace_refusal, replaced, room_causes}
 use Rattle.syn_standing.specs.Causes.{since_causes}
 use Rattle.syn_standing.specs.declared.error.ReplicaError.{ReplicaError}
 use Rattle.syn_replica.specs.declared.replica.Replica.{Replica}
@@ -227,25 +227,29 @@ module _ {D : Type 0} {disk : Ghosts D} (old : Replica D disk) (agent : Agent)
           (sym causes_are ∙ some)),
     )
 
+    -- the event is written, since the token is not done
+    writes_it : (ended : Option Refusal)
+        → Writes old new (unless (is_done_at (standing_shown old) token) event) ended
+        → Writes old new (Some event) ended
+    writes_it ended writes = subst (λ b. Writes old new (unless b event) ended)
+        (ap (λ s. is_done_at s token) stands.remembers.standing ∙ fresh) writes
+
     -- the replica makes it
     pub made_answers : Stands new (replaced history token path since tree)
         → replace_refusal (room_shown old) history token path since tree ≡ None
-        → HasRecord old new event
-        → tried_shown new ≡ Some (event_spelling event)
+        → Writes old new (unless (is_done_at (standing_shown old) token) event) None
         → LeavesOnly disk.moment disk.left_since (disk_of old) (disk_of new)
         (KeepsBeforeOrAfter old history event)
-        → MakesIfNew (is_done history token) (disk.arms (disk_of old)) (disk.arms (disk_of new))
-        → disk.failures (disk_of new) ≡ disk.failures (disk_of old)
         → Answers old new agent agent history session (Replace item path since size) Done
-    made_answers after allowed has tried any_moment calls failures =
+    made_answers after allowed writes any_moment =
+        let made = writes_it None writes in
         adds (answer (add_event side event) Done) event (serves allowed) refl refl (record {
           stands = subst (Stands new)
               (ap (λ b. if b then history else history ++ event ∷ []) fresh) after;
-          has = has;
-          sends = record { tried = tried; any_moment = any_moment };
-          calls = subst (λ b. MakesIfNew b (disk.arms (disk_of old)) (disk.arms (disk_of new)))
-              fresh calls;
-          failures = failures;
+          has = made.written;
+          sends = record { tried = made.tried; any_moment = any_moment };
+          calls = made.device.arms;
+          failures = made.device.failures;
         })
 
     -- the replica refuses it
@@ -255,21 +259,14 @@ module _ {D : Type 0} {disk : Ghosts D} (old : Replica D disk) (agent : Agent)
         → ((refusal : Refusal)
         → replace_refusal (room_shown old) history token path since tree ≡ Some refusal
         → (refusal_of e ≡ refusal) ⊎ (refusal_of e ≡ why.Memory))
-        → (refusal_of e ≡ why.Device → IsHalted new)
-        → CountsFailures e (disk.failures (disk_of old)) (disk.failures (disk_of new))
-        → MakesIfDevice e 4 (disk.arms (disk_of old)) (disk.arms (disk_of new))
-        → KeepsReadings old new
-        → ((refusal_of e ≡ why.Device) ⊎ (journal_of new ≡ journal_of old))
-        → Tries {X = ℕ} old new event (Err e)
-        → (refusal_of e ≢ why.Device → tried_shown new ≡ tried_shown old)
+        → Writes old new (unless (is_done_at (standing_shown old) token) event)
+        (Some (refusal_of e))
         → LeavesOnly disk.moment disk.left_since (disk_of old) (disk_of new)
         (KeepsBeforeOrAfter old history event)
-        → KeepsBeforeOrAfter old history event (disk.seen (disk_of new))
         → Answers old new agent agent history session (Replace item path since size)
         (Refused (refusal_of e))
-    unmade_answers e cause refused halts failures calls readings unchanged tried untried any_moment
-        seen =
-        elim unchanged [
+    unmade_answers e cause refused writes any_moment =
+        elim writes.unchanged [
           | inl device ↦ broken device
           | inr same ↦ elim cause [
             | inl out ↦ elim (outside e out) [
@@ -296,7 +293,11 @@ module _ {D : Type 0} {disk : Ghosts D} (old : Replica D disk) (agent : Agent)
             served.reply
         stayed same not served so stays_so =
             let as_it_was : IsUnchanged old new =
-            record { memory = readings.memory; journal = same; tried = untried not } in
+            record {
+              memory = writes.readings.memory;
+              journal = same;
+              tried = writes.untried not;
+            } in
             keeps served so stays_so as_it_was (stays old new history stands as_it_was)
 
         never : Never why.Device all_causes
@@ -332,22 +333,21 @@ module _ {D : Type 0} {disk : Ghosts D} (old : Replica D disk) (agent : Agent)
 
         off : refusal_of e ≡ why.Device → BreaksOff old new history event
         off device =
-            let error = device_is e device in
+            let sent = subst (λ w. Writes old new (Some event) (Some w)) device
+            (writes_it _ writes) in
             record {
-              halted = halts device;
-              readings = readings;
+              halted = sent.halts refl;
+              readings = sent.readings;
               sends = record {
-                tried = elim tried [
-                  | inl sent ↦ sent.1
-                  | inr none ↦ absurd (none.0 device)
+                tried = elim sent.tried [
+                  | inl tried ↦ tried.1
+                  | inr none ↦ absurd (none.0 refl)
                 ];
                 any_moment = any_moment;
               };
-              seen = seen;
-              calls = subst (λ x. MakesIfDevice x 4 (disk.arms (disk_of old))
-                  (disk.arms (disk_of new))) error calls;
-              failures = subst (λ x. CountsFailures x (disk.failures (disk_of old))
-                  (disk.failures (disk_of new))) error failures;
+              seen = sent.seen history stands;
+              calls = sent.device.arms;
+              failures = sent.device.failures;
             }
 
         broken : refusal_of e ≡ why.Device

@@ -6,8 +6,6 @@ use Rattle.std.specs.Prelude.{◌||◌, ◌==◌, nat_le, length}
 use Rattle.syn_archive.specs.Refusals as archives
 use Rattle.syn_archive.specs.declared.error.ArchiveError.{ArchiveError}
 use Rattle.syn_archive.specs.declared.error.ArchiveError.TheVariants as errors
-use Rattle.syn_disk.specs.Arms.{Arms}
-use Rattle.syn_disk.specs.Calls.{MakesAtLeast}
 use Rattle.syn_headline.specs.SideMachine.{SideMachine, causes_of}
 use Rattle.syn_headline.specs.Machine.{Up, Halted}
 use Rattle.syn_headline.specs.MachineSteps.{causes_at, is_halted}
@@ -17,8 +15,7 @@ use Rattle.syn_model.specs.History.{event_causes}
 use Rattle.syn_model.specs.Refusal.{Refusal, Cause, first_cause, number}
 use Rattle.syn_model.specs.Refusal as why
 use Rattle.syn_model.specs.Spelling.{event_spelling}
-use Rattle.syn_replica.specs.Refusals.{AfterReads, CountsFailures, IsOneOf, MakesIfDevice}
-use Rattle.syn_replica.specs.Refusals.{checkpoint_refusals}
+use Rattle.syn_replica.specs.Refusals.{IsOneOf, checkpoint_refusals}
 use Rattle.syn_standing.specs.Refusals.{refusal_of}
 use Rattle.syn_replica.specs.Steps.{add_refusal}
 use Rattle.syn_standing.specs.declared.error.ReplicaError.{ReplicaError}
@@ -51,30 +48,7 @@ of_checkpoint e is =
           ]
     ]
 
--- no device call is made where no such call failed
-pub no_calls : (e : ReplicaError) (most : ℕ) (old new : Arms) → refusal_of e ≢ why.Device
-    → MakesIfDevice e most old new → new ≡ old
-no_calls (Journal journal.Device) most old new other calls = absurd (other refl)
-no_calls e most old new other calls = calls
-
--- and so of an opening
-pub reads_made : (e : ReplicaError) (least : ℕ) (old new : Arms) → refusal_of e ≢ why.Device
-    → AfterReads least e old new → MakesAtLeast least old new
-reads_made (Journal journal.Device) least old new other calls = absurd (other refl)
-reads_made e least old new other calls = calls
-
--- a call of the disk failed exactly where the device is the cause
-pub has_failed : (e : ReplicaError) (old new : ℕ) → refusal_of e ≡ why.Device
-    → CountsFailures e old new → old < new
-has_failed e old new device counts =
-    subst (λ e. CountsFailures e old new) (device_is e device) counts
-
-pub none_failed : (e : ReplicaError) (old new : ℕ) → refusal_of e ≢ why.Device
-    → CountsFailures e old new → new ≡ old
-none_failed (Journal journal.Device) old new other counts = absurd (other refl)
-none_failed e old new other counts = counts
-
--- and so of an archive's
+-- a call of the archive's disk failed exactly where the device is the cause
 pub archive_failed : (e : ArchiveError) (old new : ℕ) → archives.refusal_of e ≡ why.Device
     → archives.CountsFailures e old new → old < new
 archive_failed errors.Device old new device counts = counts

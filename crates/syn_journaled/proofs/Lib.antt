@@ -1,3 +1,4 @@
 pub mod Endings
 pub mod Migrations
 pub mod Results
+pub mod Spent

@@ -6,8 +6,8 @@ mod VersionLemmas
 mod MigrateLemmas
 mod MigrateCauses
 mod RememberedLemmas
-mod EndLemmas
 mod WriteLemmas
+pub mod CallLemmas
 pub mod FormattedLemmas
 pub mod SessionLemmas
 pub mod GrowthLemmas

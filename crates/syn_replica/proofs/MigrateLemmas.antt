@@ -26,7 +26,8 @@ use Rattle.syn_standing.specs.declared.error.ReplicaError.TheVariants.{OldSessio
 use Rattle.syn_standing.specs.declared.error.ReplicaError.TheVariants.{WrongPair, OldVersion}
 use Rattle.syn_replica.specs.Disks.{DiskGives, DiskKeepsIn, DiskStandsIn, IsOldDisk, IsOpenRefusal}
 use Rattle.syn_replica.specs.Migrating.{IsMigrateRefusal, IsOldAndFull, KeepsOrMigrates}
-use Rattle.syn_replica.specs.Refusals.{AfterReads, CountsFailures}
+use Rattle.syn_journaled.specs.Endings.{Reads}
+use Rattle.syn_standing.specs.Refusals.{refusal_of}
 use Rattle.syn_replica.specs.Replica.{Stands, disk_of, pair_of, standing_shown}
 use Rattle.syn_replica.specs.declared.remembered.Remembered.{Remembered}
 use Rattle.syn_replica.specs.declared.replica.Replica.{Replica}
@@ -247,16 +248,13 @@ was_old e bytes is refused = subst (λ x. IsOpenRefusal x None bytes) is refused
 
 -- a migration of the disk that came back is one of the disk as it was
 pub whole : {D : Type 0} {disk : Ghosts D} (old mid new : D) (e : ReplicaError)
-    (ended : Option Refusal) → e ≡ OldVersion →
-    Untouched disk.seen disk.may_leave disk.moment disk.left_since old mid →
-    CountsFailures e (disk.failures old) (disk.failures mid) →
-    AfterReads 1 e (disk.arms old) (disk.arms mid) →
+    (ended : Option Refusal) → e ≡ OldVersion → Reads disk (Some (refusal_of e)) old mid →
     Migrates disk (λ m. m.pair) GivesOld image_of ended mid new →
     Migrates disk (λ m. m.pair) GivesOld image_of ended old new
-whole {disk = disk} old mid new e ended is read counts calls migrates =
-    after_reads (λ m. m.pair) GivesOld image_of ended old mid new read
-    (subst (λ x. CountsFailures x (disk.failures old) (disk.failures mid)) is counts)
-    (subst (λ x. AfterReads 1 x (disk.arms old) (disk.arms mid)) is calls) migrates
+whole {disk = disk} old mid new e ended is reads migrates =
+    let read = subst (λ x. Reads disk (Some (refusal_of x)) old mid) is reads in
+    after_reads (λ m. m.pair) GivesOld image_of ended old mid new read.untouched read.failures
+    read.arms migrates
 
 -- where an opening was refused for anything else nothing was written
 pub only_read : {D : Type 0} (seen : D → List ℕ) (may_leave : D → List ℕ → Type 0)

@@ -1,24 +1,27 @@
 -- Which refusals a call may answer.
-use Rattle.std.proofs.Common.{◌≡◌, ◌⊎◌, ℕ, Bool, true, false, ◌||◌, ◌==◌, List, [], ◌∷◌, refl, sym}
+use Rattle.std.proofs.Common.{◌≡◌, ◌≢◌, ◌⊎◌, ℕ, Bool, true, false, ◌||◌, ◌==◌, List, [], ◌∷◌}
+use Rattle.std.proofs.Common.{refl, sym}
 use Rattle.std.proofs.Common.{ap, ap₂, ◌∙◌, subst, Option, Some, None, Result, Ok, Err, inl, inr}
 use Rattle.std.proofs.Common.{true≢false, arith}
-use Rattle.std.specs.Prelude.{IsErrAnd, IfErr, OnOk, MatchResult}
+use Rattle.std.specs.Prelude.{IsErrAnd, IfErr, OnOk}
 use Rattle.std.specs.List.{list_any, AllByRecursion}
 use Rattle.std.proofs.lemmas.Bool.Decides.{nat_tests}
 use Rattle.std.proofs.lemmas.Option.{none-some, same_Some}
-use Rattle.syn_model.proofs.ExitLemmas.{match_of_exit, if_err_of_exit}
 use Rattle.syn_model.specs.Refusal.{Refusal, number, Cause, first_cause}
 use Rattle.syn_model.specs.Refusal as why
 use Rattle.syn_model.specs.Event.{Edit, Event, Put, MakeDir, Remove, Chmod, Edited, Began}
 use Rattle.syn_model.specs.Event.{Replaced}
 use Rattle.syn_model.specs.Standing.{Standing, causes_at, refusal_at}
-use Rattle.syn_disk.specs.Arms.{Arms}
-use Rattle.syn_disk.specs.declared.disk.Disk.{Ghosts}
+use Rattle.syn_history.specs.Refusals.{refusal_of as of_history}
+use Rattle.syn_history.specs.declared.error.HistoryError.{HistoryError}
+use Rattle.syn_history.specs.declared.error.HistoryError.TheVariants as history_error
+use Rattle.syn_journal.specs.Refusals.{refusal_of as of_journal}
+use Rattle.syn_journal.specs.declared.error.JournalError.{JournalError}
 use Rattle.syn_journal.specs.declared.error.JournalError.TheVariants as journal
-use Rattle.syn_replica.specs.Refusals.{IsOneOf, CountsFailures, MakesIfDevice, edit_refusals}
-use Rattle.syn_replica.specs.Refusals.{outside_refusals}
-use Rattle.syn_replica.specs.Replica.{Tries}
-use Rattle.syn_replica.specs.declared.replica.Replica.{Replica}
+use Rattle.syn_tree.specs.Refusals.{refusal_of as of_tree}
+use Rattle.syn_tree.specs.declared.error.TreeError.{TreeError}
+use Rattle.syn_tree.specs.declared.error.TreeError.TheVariants as tree_error
+use Rattle.syn_replica.specs.Refusals.{IsOneOf, edit_refusals, outside_refusals}
 use Rattle.syn_standing.proofs.StandingLemmas.{early_at}
 use Rattle.syn_standing.specs.Updates.{early_causes}
 use Rattle.syn_standing.specs.Refusals.{refusal_of}
@@ -191,60 +194,28 @@ pub never : (refusals : List Refusal) (w : Refusal) →
 never refusals w none e h same =
     true≢false (sym (subst (λ r. is_among refusals r ≡ true) same h) ∙ none)
 
-no_failure : (e : ReplicaError) (n : ℕ) → (refusal_of e ≡ why.Device → ⊥) → CountsFailures e n n
-no_failure (replica.Journal journal.Device) n quiet = absurd (quiet refl)
-no_failure (replica.Journal journal.Halted) n quiet = refl
-no_failure (replica.Journal journal.Full) n quiet = refl
-no_failure (replica.Journal journal.JournalFull) n quiet = refl
-no_failure (replica.Journal journal.Memory) n quiet = refl
-no_failure (replica.Journal journal.NoImage) n quiet = refl
-no_failure (replica.Journal journal.Damaged) n quiet = refl
-no_failure (replica.Tree error) n quiet = refl
-no_failure (replica.History error) n quiet = refl
-no_failure replica.Memory n quiet = refl
-no_failure replica.Touched n quiet = refl
-no_failure replica.OldSession n quiet = refl
-no_failure replica.Damaged n quiet = refl
-no_failure replica.WrongPair n quiet = refl
-no_failure replica.OldVersion n quiet = refl
+-- a full journal is no failure, and no halt
+pub not_full_device : why.JournalFull ≡ why.Device → ⊥
+not_full_device is = cc is
 
-no_calls : (e : ReplicaError) (most : ℕ) (arms : Arms) → (refusal_of e ≡ why.Device → ⊥) →
-    MakesIfDevice e most arms arms
-no_calls (replica.Journal journal.Device) most arms quiet = absurd (quiet refl)
-no_calls (replica.Journal journal.Halted) most arms quiet = refl
-no_calls (replica.Journal journal.Full) most arms quiet = refl
-no_calls (replica.Journal journal.JournalFull) most arms quiet = refl
-no_calls (replica.Journal journal.Memory) most arms quiet = refl
-no_calls (replica.Journal journal.NoImage) most arms quiet = refl
-no_calls (replica.Journal journal.Damaged) most arms quiet = refl
-no_calls (replica.Tree error) most arms quiet = refl
-no_calls (replica.History error) most arms quiet = refl
-no_calls replica.Memory most arms quiet = refl
-no_calls replica.Touched most arms quiet = refl
-no_calls replica.OldSession most arms quiet = refl
-no_calls replica.Damaged most arms quiet = refl
-no_calls replica.WrongPair most arms quiet = refl
-no_calls replica.OldVersion most arms quiet = refl
+pub not_full_halted : why.JournalFull ≡ why.Halted → ⊥
+not_full_halted is = cc is
 
--- what a clause says of an exit, where no device call failed, and nothing changed
-module _ {X : Type 0} (r : Result X ReplicaError) (e : ReplicaError) (is : IsErrAnd r (λ x. x ≡ e))
-    (quiet : refusal_of e ≡ why.Device → ⊥) where
-  pub quiet_failures : (P : X → Type 0) (n : ℕ) → MatchResult r P (λ e. CountsFailures e n n)
-  quiet_failures P n = match_of_exit r e P (λ e. CountsFailures e n n) is (no_failure e n quiet)
+tree_halted : (e : TreeError) → of_tree e ≢ why.Halted
+tree_halted tree_error.Memory is = let k : why.Memory ≡ why.Halted = is in cc
+tree_halted e is = let k : of_tree e ≡ why.Halted = is in cc
 
-  pub quiet_calls : (P : X → Type 0) (most : ℕ) (arms : Arms) →
-      MatchResult r P (λ e. MakesIfDevice e most arms arms)
-  quiet_calls P most arms =
-      match_of_exit r e P (λ e. MakesIfDevice e most arms arms) is (no_calls e most arms quiet)
+history_halted : (e : HistoryError) → of_history e ≢ why.Halted
+history_halted history_error.Memory is = let k : why.Memory ≡ why.Halted = is in cc
+history_halted e is = let k : of_history e ≡ why.Halted = is in cc
 
-  pub quiet_device : (Q : Type 0) → IfErr r (λ e. refusal_of e ≡ why.Device → Q)
-  quiet_device Q =
-      if_err_of_exit r e (λ e. refusal_of e ≡ why.Device → Q) is (λ device. absurd (quiet device))
+journal_halted : (e : JournalError) → of_journal e ≡ why.Halted → e ≡ journal.Halted
+journal_halted journal.Halted is = refl
+journal_halted e is = absurd (let k : of_journal e ≡ why.Halted = is in cc)
 
-  pub quiet_tries : {D : Type 0} {disk : Ghosts D} (old : Replica D disk) (event : Event) →
-      Tries old old event r
-  quiet_tries old event = at r is
-    where
-      at : (r : Result X ReplicaError) → IsErrAnd r (λ x. x ≡ e) → Tries old old event r
-      at (Ok x) same = absurd same
-      at (Err x) same = inr ((λ device. quiet (ap refusal_of (sym same) ∙ device)), refl)
+-- that it is halted is the journal's
+pub halted_is : (e : ReplicaError) → refusal_of e ≡ why.Halted → e ≡ replica.Journal journal.Halted
+halted_is (replica.Tree e) is = absurd (tree_halted e is)
+halted_is (replica.History e) is = absurd (history_halted e is)
+halted_is (replica.Journal e) is = ap replica.Journal (journal_halted e is)
+halted_is e is = absurd (let k : refusal_of e ≡ why.Halted = is in cc)

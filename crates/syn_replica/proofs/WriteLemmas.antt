@@ -1,20 +1,25 @@
 -- What a machine's write makes of a replica.
-use Rattle.std.proofs.Common.{◌≡◌, ◌++◌, ◌∷◌, [], Option, None, subst, sym}
+use Rattle.std.proofs.Common.{◌≡◌, ◌≢◌, ◌⊎◌, ◌∙◌, ◌-◌, ◌++◌, ◌∷◌, [], Option, Some, None, ap}
+use Rattle.std.proofs.Common.{inl, inr, subst, sym}
+use Rattle.std.proofs.lemmas.Option.{none-some, same_Some}
 use Rattle.syn_disk.specs.Stops.{LeavesOnly}
 use Rattle.syn_disk.specs.declared.disk.Disk.{Ghosts}
-use Rattle.syn_journal.specs.Layout.{LeftBehindPayload, IsBeforeOrAfter, with_payload}
+use Rattle.syn_journal.specs.Layout.{LeftBehindPayload, IsBeforeOrAfter, record_size, with_payload}
 use Rattle.syn_journaled.specs.Journaled.{Appends, state_of}
 use Rattle.syn_model.specs.Event.{Event}
 use Rattle.syn_model.specs.History.{History, IsAllowed}
 use Rattle.syn_model.specs.Image.{StandsFor}
 use Rattle.syn_model.specs.Laws.{AllowedGoesOn, PayloadGoesOn, StandingSteps}
 use Rattle.syn_model.specs.Path.{Bytes}
-use Rattle.syn_model.specs.Refusal.{Refusal}
+use Rattle.syn_model.specs.Refusal.{Refusal, Device}
 use Rattle.syn_model.specs.Spelling.{event_spelling}
 use Rattle.syn_standing.specs.Updates.{IsOf}
 use Rattle.syn_standing.specs.declared.standing.Update.{Update}
-use Rattle.syn_replica.specs.Replica.{KeepsBeforeOrAfter, Stands, disk_of, generation_shown}
-use Rattle.syn_replica.specs.Replica.{journal_of, left_shown, pair_of, standing_shown}
+use Rattle.syn_replica.specs.Calls.{Tries, Writes}
+use Rattle.syn_replica.specs.Growth.{IsGrown}
+use Rattle.syn_replica.specs.Replica.{HasRecord, KeepsBeforeOrAfter, KeepsReadings, Stands, disk_of}
+use Rattle.syn_replica.specs.Replica.{generation_shown, journal_of, left_shown, pair_of}
+use Rattle.syn_replica.specs.Replica.{standing_shown, tried_shown}
 use Rattle.syn_replica.specs.declared.replica.Replica.{Replica}
 use Rattle.syn_replica.specs.inner.Memories.{StepsBy}
 use Rattle.syn_replica.proofs.StandLemmas.{left_behind, payload_stands}
@@ -52,3 +57,58 @@ module _ {D : Type 0} {disk : Ghosts D} (old new : Replica D disk) (payload : By
           (payload_stands goes_on (pair_of old) stands.value payload history event stands.means
           allowed spelled);
     }
+
+module _ {D : Type 0} {disk : Ghosts D} (old new : Replica D disk) (payload : Bytes)
+    (event : Event) (spelled : payload ≡ event_spelling event) (grown : IsGrown old new)
+    (seen : (history : History) → Stands old history →
+    KeepsBeforeOrAfter old history event (disk.seen (disk_of new))) where
+  -- the machine wrote it
+  pub written_call : Appends (journal_of old) (journal_of new) payload None →
+      pair_of new ≡ pair_of old → tried_shown new ≡ Some payload →
+      Writes old new (Some event) None
+  written_call appends pair tried = record {
+    written = record {
+      pair = pair;
+      left_is = appends.left_is ∙ ap (λ p. left_shown old - record_size p) spelled;
+      generation = appends.generation;
+    };
+    tried = tried ∙ ap (λ p. Some p) spelled;
+    grown = grown;
+    seen = seen;
+    halted = appends.halted;
+    halts = tt;
+    untried = tt;
+    readings = tt;
+    unchanged = tt;
+    device = appends.device;
+  }
+
+  -- the machine refused it
+  pub refused_call : (refusal : Refusal) →
+      Appends (journal_of old) (journal_of new) payload (Some refusal) →
+      state_of new.machine ≡ state_of old.machine → Tries old new (Some event) (Some refusal) →
+      Writes old new (Some event) (Some refusal)
+  refused_call refusal appends same tries = record {
+    written = tt;
+    tried = tries;
+    grown = grown;
+    seen = seen;
+    halted = appends.halted;
+    halts = λ device. appends.halts (ap (λ w. Some w) device);
+    untried = λ other. elim tries as (λ _. tried_shown new ≡ tried_shown old) [
+      | inl sent ↦ absurd (other sent.0)
+      | inr not ↦ not.1
+    ];
+    readings = record {
+      memory = record { pair = ap (λ m. m.pair) same; standing = ap (λ m. m.standing) same };
+      left_is = appends.left_is;
+      generation = appends.generation;
+    };
+    unchanged = elim appends.unchanged
+        as (λ _. (refusal ≡ Device) ⊎ (journal_of new ≡ journal_of old)) [
+          | inl none ↦ absurd (none-some _ (sym none))
+          | inr (inl device) ↦ inl (same_Some _ _ device)
+          | inr (inr still) ↦ inr still
+        ];
+    device = appends.device;
+  }

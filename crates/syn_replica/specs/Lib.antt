@@ -3,6 +3,7 @@ pub mod Edits
 pub mod Steps
 pub mod Replica
 pub mod Growth
+pub mod Calls
 pub mod Lawful
 pub mod Migrating
 pub mod Growing

@@ -1,30 +1,10 @@
--- What a refusal of a replica says of its device, and which refusals each call may answer.
-use Rattle.std.specs.Prelude.{◌≡◌, ℕ, ◌==◌, true, List, [], ◌∷◌}
+-- Which refusals each call of a replica may answer.
+use Rattle.std.specs.Prelude.{◌≡◌, ◌==◌, true, List, [], ◌∷◌}
 use Rattle.std.specs.List.{list_any}
-use Rattle.syn_disk.specs.Arms.{Arms}
-use Rattle.syn_disk.specs.Calls.{MakesAtLeast}
 use Rattle.syn_model.specs.Refusal.{Refusal, number}
 use Rattle.syn_model.specs.Refusal as why
-use Rattle.syn_journal.specs.Refusals as journal
 use Rattle.syn_standing.specs.declared.error.ReplicaError.{ReplicaError}
 use Rattle.syn_standing.specs.Refusals.{refusal_of}
-use Rattle.syn_standing.specs.declared.error.ReplicaError.TheVariants.{Journal}
-
--- Device is answered where the count of failed calls grew, and any other refusal where it did not
-abbrev pub CountsFailures : ReplicaError → ℕ → ℕ → Type 0
-CountsFailures (Journal error) old new = journal.CountsFailures error old new
-CountsFailures _ old new = new ≡ old
-
--- Where Device is answered, the last of at most so many device calls failed, and none was made
--- where any other refusal is.
-abbrev pub MakesIfDevice : ReplicaError → ℕ → Arms → Arms → Type 0
-MakesIfDevice (Journal error) most old new = journal.MakesIfDevice error most old new
-MakesIfDevice _ most old new = new ≡ old
-
--- Where Device is answered, the last device call failed, and none where any other refusal is.
-abbrev pub AfterReads : ℕ → ReplicaError → Arms → Arms → Type 0
-AfterReads least (Journal error) old new = journal.AfterReads least error old new
-AfterReads least _ old new = MakesAtLeast least old new
 
 -- the refusal is one of these
 abbrev pub IsOneOf : List Refusal → ReplicaError → Type 0

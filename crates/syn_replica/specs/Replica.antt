@@ -1,6 +1,6 @@
 -- What a replica shows, and what it stands for.
-use Rattle.std.specs.Prelude.{◌≡◌, ◌⊎◌, ◌+◌, ◌-◌, ◌++◌, ◌∷◌, [], List, ℕ, ◌≢◌}
-use Rattle.std.specs.Prelude.{Option, Some, option_map, Result, Ok, Err}
+use Rattle.std.specs.Prelude.{◌≡◌, ◌⊎◌, ◌+◌, ◌-◌, ◌++◌, ◌∷◌, [], List, ℕ}
+use Rattle.std.specs.Prelude.{Option, option_map}
 use Rattle.syn_disk.specs.declared.disk.Disk.{Ghosts}
 use Rattle.syn_journal.specs.Journal as journal
 use Rattle.syn_journal.specs.declared.journal.Journal.{Journal}
@@ -11,10 +11,6 @@ use Rattle.syn_model.specs.Standing.{Standing}
 use Rattle.syn_model.specs.History.{History, IsHistory, standing_of}
 use Rattle.syn_model.specs.Path.{Bytes}
 use Rattle.syn_model.specs.Event.{Event}
-use Rattle.syn_model.specs.Refusal.{Device}
-use Rattle.syn_model.specs.Spelling.{event_spelling}
-use Rattle.syn_standing.specs.Refusals.{refusal_of}
-use Rattle.syn_standing.specs.declared.error.ReplicaError.{ReplicaError}
 use Rattle.syn_model.specs.Image.{StandsFor}
 use Rattle.syn_replica.specs.Disks.{DiskKeeps, DiskCompacted, event_size}
 use Rattle.syn_replica.specs.declared.replica.Replica.{Replica}
@@ -96,15 +92,6 @@ pub record HasRecord {D : Type 0} {disk : Ghosts D} (old new : Replica D disk)
   pub pair : pair_of new ≡ pair_of old
   pub left_is : left_shown new ≡ left_shown old - event_size event
   pub generation : generation_shown new ≡ generation_shown old
-
--- The event is what was sent to the disk last. Where the call was refused otherwise than by a
--- device call that failed, that is what it was
-abbrev pub Tries : {D X : Type 0} → {disk : Ghosts D} → Replica D disk → Replica D disk → Event →
-    Result X ReplicaError → Type 0
-Tries old new event (Ok x) = tried_shown new ≡ Some (event_spelling event)
-Tries old new event (Err e) =
-    ((refusal_of e ≡ Device) × (tried_shown new ≡ Some (event_spelling event)))
-    ⊎ ((refusal_of e ≢ Device) × (tried_shown new ≡ tried_shown old))
 
 -- what it has in memory stays
 pub record SameMemory {D : Type 0} {disk : Ghosts D} (old new : Replica D disk) : Type 0 where

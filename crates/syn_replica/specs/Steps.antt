@@ -7,12 +7,10 @@ use Rattle.syn_model.specs.Path.{Bytes, Path}
 use Rattle.syn_model.specs.Tree.{Tree, subtree, replace}
 use Rattle.syn_model.specs.Refusal.{Refusal, JournalFull, OldSession, WrongPair, Cause, first_cause}
 use Rattle.syn_model.specs.Event.{Token, Event, Began, Replaced, is_same_token}
-use Rattle.syn_model.specs.Standing.{place_causes, full_causes}
+use Rattle.syn_model.specs.Standing.{Standing, place_causes, full_causes}
 use Rattle.syn_model.specs.History.{History, tree_of, event_causes, position_causes, is_old_token}
 use Rattle.syn_model.specs.History.{last_session, last_token}
 use Rattle.syn_model.specs.Spelling.{event_spelling, spelling}
-use Rattle.syn_disk.specs.Arms.{Arms}
-use Rattle.syn_disk.specs.Calls.{Makes}
 use Rattle.syn_standing.specs.Causes.{since_causes}
 use Rattle.syn_replica.specs.declared.replica.session.TokenStanding.{TokenStanding}
 use Rattle.syn_replica.specs.declared.replica.session.TokenStanding.TheVariants.{Done, Old, Open}
@@ -40,6 +38,10 @@ begin_refusal room own history pair session =
     else position_causes history ++ room_causes room (Began session)))
 
 -- the token is that of the last replacement
+abbrev pub is_done_at : Standing → Token → Bool
+is_done_at standing token =
+    option_map_or (λ last. is_same_token last token) standing.token false
+
 abbrev pub is_done : History → Token → Bool
 is_done history token =
     option_map_or (λ last. is_same_token last token) (last_token history) false
@@ -65,8 +67,3 @@ replace_refusal room history token path since new =
 abbrev pub how_stands : History → Token → TokenStanding
 how_stands history token =
     if is_done history token then Done else if is_old_token history token then Old else Open
-
--- four device calls for a session that was not begun before, and none for one that was
-abbrev pub MakesIfNew : Bool → Arms → Arms → Type 0
-MakesIfNew true old new = new ≡ old
-MakesIfNew false old new = Makes 4 old new

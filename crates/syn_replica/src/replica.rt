@@ -6,20 +6,19 @@ ghost use Rattle.std.specs.FinMap.{get};
 ghost use Rattle.syn_model.specs.Tree.{is_directory};
 ghost use Rattle.syn_model.specs.Event as model;
 ghost use Rattle.syn_model.specs.History.{History, IsAllowed};
-ghost use Rattle.syn_model.specs.Refusal.{Refusal, Device, Halted, first_cause};
+ghost use Rattle.syn_model.specs.Refusal.{Refusal, Device, first_cause};
 ghost use Rattle.syn_model.specs.Spelling.{event_spelling};
 ghost use Rattle.syn_tree.specs.Contents.{content_of};
 ghost use Rattle.syn_tree.specs.Lists.{listing};
 ghost use Rattle.syn_history.specs.Events.{event_of};
 ghost use Rattle.syn_journal.specs.Journal.{Takes};
 ghost use Rattle.syn_disk.specs.Arms.{is_stopped};
-ghost use Rattle.syn_disk.specs.Calls.{Makes, MakesAtLeast};
-ghost use Rattle.syn_disk.specs.Stops.{LeavesOnly, Untouched};
+ghost use Rattle.syn_disk.specs.Stops.{LeavesOnly};
+ghost use Rattle.syn_journaled.specs.Endings.{Reads, Spends, ended};
 ghost use Rattle.syn_standing.specs.Refusals.{refusal_of};
 ghost use Rattle.syn_replica.specs.Refusals.{IsOneOf, format_refusals, reading_refusals};
 ghost use Rattle.syn_replica.specs.Refusals.{edit_refusals, outside_refusals, hiding_refusals};
 ghost use Rattle.syn_replica.specs.Refusals.{old_refusals};
-ghost use Rattle.syn_replica.specs.Refusals.{CountsFailures, MakesIfDevice, AfterReads};
 ghost use Rattle.syn_replica.specs.Disks.{DiskGives, DiskStands, IsOfOtherPair, IsOpenRefusal};
 ghost use Rattle.syn_replica.specs.Disks.{IsOldDisk};
 ghost use Rattle.syn_replica.specs.Edits.{event_by};
@@ -70,9 +69,8 @@ impl<D: Disk> Replica<D> {
     ghost use Rattle.syn_replica.specs.Replica.{pair_of, standing_shown, tree_shown};
     ghost use Rattle.syn_replica.specs.Replica.{position_shown, disk_of, journal_of, room_shown};
     ghost use Rattle.syn_replica.specs.Replica.{generation_shown, IsHalted, Stands};
-    ghost use Rattle.syn_replica.specs.Replica.{KeepsReadings, HasRecord};
-    ghost use Rattle.syn_replica.specs.Replica.{KeepsBeforeOrAfter, tried_shown, Tries};
-    ghost use Rattle.syn_replica.specs.Growth.{IsGrown};
+    ghost use Rattle.syn_replica.specs.Replica.{KeepsBeforeOrAfter, tried_shown};
+    ghost use Rattle.syn_replica.specs.Calls.{Writes};
 
     /// Formats the disk as a replica of the pair, with no events.
     ///
@@ -87,14 +85,11 @@ impl<D: Disk> Replica<D> {
         ensures refusals { IfErr result (λ refused. IsOneOf format_refusals refused.0) }
         ensures unchanged { IfErr result (λ refused. (refusal_of refused.0 ≡ Device)
             ⊎ (refused.1 ≡ disk)) }
-        ensures failures { MatchResult result
-            (λ replica. D.failures (disk_of replica) ≡ D.failures disk)
-            (λ refused. CountsFailures refused.0 (D.failures disk) (D.failures refused.1)) }
 
-        // Seven device calls if it succeeds. After Device none before the last was to be refused.
-        ensures calls { MatchResult result
-            (λ replica. Makes 7 (D.arms disk) (D.arms (disk_of replica)))
-            (λ refused. MakesIfDevice refused.0 7 (D.arms disk) (D.arms refused.1)) }
+        // Seven device calls where it succeeds.
+        ensures device { MatchResult result
+            (λ replica. Spends D.Disk 7 None disk (disk_of replica))
+            (λ refused. Spends D.Disk 7 (Some (refusal_of refused.0)) disk refused.1) }
     {
         history_laws();
         worked_rows();
@@ -135,17 +130,10 @@ impl<D: Disk> Replica<D> {
         ensures old { IsOldDisk (D.seen disk)
             → IsErrAnd result (λ refused. IsOneOf old_refusals refused.0) }
 
-        ensures untouched { MatchResult result
-            (λ replica. Untouched D.seen D.may_leave D.moment D.left_since disk (disk_of replica))
-            (λ refused. Untouched D.seen D.may_leave D.moment D.left_since disk refused.1) }
-        ensures failures { MatchResult result
-            (λ replica. D.failures (disk_of replica) ≡ D.failures disk)
-            (λ refused. CountsFailures refused.0 (D.failures disk) (D.failures refused.1)) }
-
-        // A sync and then reads, whose number is not fixed; after Device the last of them failed.
-        ensures calls { MatchResult result
-            (λ replica. MakesAtLeast 1 (D.arms disk) (D.arms (disk_of replica)))
-            (λ refused. AfterReads 1 refused.0 (D.arms disk) (D.arms refused.1)) }
+        // A sync and then reads, whose number is not fixed.
+        ensures device { MatchResult result
+            (λ replica. Reads D.Disk None disk (disk_of replica))
+            (λ refused. Reads D.Disk (Some (refusal_of refused.0)) disk refused.1) }
     {
         opening_laws();
         match Journaled::open(alloc, disk, pair) {
@@ -297,11 +285,6 @@ impl<D: Disk> Replica<D> {
         ensures any_moment { (history : History) → Stands self.old history
             → LeavesOnly D.moment D.left_since (disk_of self.old) (disk_of self.new)
             (KeepsBeforeOrAfter self.old history (event_by user edit)) }
-        ensures seen { (history : History) → Stands self.old history
-            → KeepsBeforeOrAfter self.old history (event_by user edit)
-            (D.seen (disk_of self.new)) }
-        ensures record { OnOk result (HasRecord self.old self.new (event_by user edit)) }
-        ensures tried { Tries self.old self.new (event_by user edit) result }
 
         // Each refusal has its cause, and each cause its refusal: the first of them is answered.
         ensures cause { (history : History) → Stands self.old history
@@ -312,28 +295,10 @@ impl<D: Disk> Replica<D> {
             → add_refusal (room_shown self.old) history (event_by user edit) ≡ Some why
             → IsErrAnd result (λ e. refusal_of e ≡ why) }
         ensures refusals { IfErr result (IsOneOf edit_refusals) }
-        ensures halted { (result ≡ Err (ReplicaError.Journal JournalError.Halted))
-            ↔ IsHalted self.old }
-        ensures halts { IfErr result (λ e. refusal_of e ≡ Device → IsHalted self.new) }
-        ensures failures { MatchResult result
-            (λ _. D.failures (disk_of self.new) ≡ D.failures (disk_of self.old))
-            (λ e. CountsFailures e (D.failures (disk_of self.old))
-            (D.failures (disk_of self.new))) }
-
-        // Four device calls where it succeeds. After Device none before the last was to be refused.
-        ensures calls { MatchResult result
-            (λ _. Makes 4 (D.arms (disk_of self.old)) (D.arms (disk_of self.new)))
-            (λ e. MakesIfDevice e 4 (D.arms (disk_of self.old)) (D.arms (disk_of self.new))) }
-
-        // Whatever is answered, no history is lost.
-        ensures grown { IsGrown self.old self.new }
-
-        // What stays after a refusal.
-        ensures readings { IfErr result (λ _. KeepsReadings self.old self.new) }
         ensures unchanged { (history : History) → Stands self.old history
             → IfErr result (λ e. (refusal_of e ≡ Device) ⊎ Stands self.new history) }
-        ensures journal { IfErr result (λ e. (refusal_of e ≡ Device)
-            ⊎ (journal_of self.new ≡ journal_of self.old)) }
+        ensures machine { Writes self.old self.new (Some (event_by user edit))
+            (ended refusal_of result) }
     {
         opening_laws();
         if self.is_halted() {
@@ -371,10 +336,6 @@ impl<D: Disk> Replica<D> {
         ensures any_moment { (history : History) → Stands self.old history
             → LeavesOnly D.moment D.left_since (disk_of self.old) (disk_of self.new)
             (KeepsBeforeOrAfter self.old history (event_of event)) }
-        ensures seen { (history : History) → Stands self.old history
-            → KeepsBeforeOrAfter self.old history (event_of event) (D.seen (disk_of self.new)) }
-        ensures record { OnOk result (HasRecord self.old self.new (event_of event)) }
-        ensures tried { Tries self.old self.new (event_of event) result }
         ensures cause { IfErr result (λ e. IsOneOf outside_refusals e
             ⊎ (add_refusal_at (room_shown self.old) (standing_shown self.old) (event_of event)
             ≡ Some (refusal_of e))) }
@@ -384,19 +345,8 @@ impl<D: Disk> Replica<D> {
         ensures device { IfErr result (λ e. refusal_of e ≡ Device
             → add_refusal_at (room_shown self.old) (standing_shown self.old) (event_of event)
             ≡ None) }
-        ensures running { IfErr result (λ e. refusal_of e ≢ Halted) }
-        ensures halts { IfErr result (λ e. refusal_of e ≡ Device → IsHalted self.new) }
-        ensures failures { MatchResult result
-            (λ _. D.failures (disk_of self.new) ≡ D.failures (disk_of self.old))
-            (λ e. CountsFailures e (D.failures (disk_of self.old))
-            (D.failures (disk_of self.new))) }
-        ensures calls { MatchResult result
-            (λ _. Makes 4 (D.arms (disk_of self.old)) (D.arms (disk_of self.new)))
-            (λ e. MakesIfDevice e 4 (D.arms (disk_of self.old)) (D.arms (disk_of self.new))) }
-        ensures grown { IsGrown self.old self.new }
-        ensures readings { IfErr result (λ _. KeepsReadings self.old self.new) }
-        ensures unchanged { IfErr result (λ e. (refusal_of e ≡ Device)
-            ⊎ (journal_of self.new ≡ journal_of self.old)) }
+        ensures machine { Writes self.old self.new (Some (event_of event))
+            (ended refusal_of result) }
     {
         let payload = encode_event(alloc, &event)?;
         let update = self.prepare(alloc, event)?;
@@ -423,29 +373,11 @@ impl<D: Disk> Replica<D> {
             → IsAllowed history event → payload.items ≡ event_spelling event
             → LeavesOnly D.moment D.left_since (disk_of self.old) (disk_of self.new)
             (KeepsBeforeOrAfter self.old history event) }
-        ensures seen { (history : History) (event : model.Event) → Stands self.old history
-            → IsAllowed history event → payload.items ≡ event_spelling event
-            → KeepsBeforeOrAfter self.old history event (D.seen (disk_of self.new)) }
-        ensures record { (event : model.Event) → payload.items ≡ event_spelling event
-            → OnOk result (HasRecord self.old self.new event) }
-        ensures tried { (event : model.Event) → payload.items ≡ event_spelling event
-            → Tries self.old self.new event result }
         ensures refusals { IfErr result (IsOneOf outside_refusals) }
-        ensures halts { IfErr result (λ e. refusal_of e ≡ Device → IsHalted self.new) }
-        ensures failures { MatchResult result
-            (λ _. D.failures (disk_of self.new) ≡ D.failures (disk_of self.old))
-            (λ e. CountsFailures e (D.failures (disk_of self.old))
-            (D.failures (disk_of self.new))) }
-        ensures calls { MatchResult result
-            (λ _. Makes 4 (D.arms (disk_of self.old)) (D.arms (disk_of self.new)))
-            (λ e. MakesIfDevice e 4 (D.arms (disk_of self.old)) (D.arms (disk_of self.new))) }
-        ensures grown { (event : model.Event)
+        ensures machine { (event : model.Event)
             → ((history : History) → Stands self.old history → IsAllowed history event)
             → payload.items ≡ event_spelling event → IsOf (standing_shown self.old) event update
-            → IsGrown self.old self.new }
-        ensures readings { IfErr result (λ _. KeepsReadings self.old self.new) }
-        ensures unchanged { IfErr result (λ e. (refusal_of e ≡ Device)
-            ⊎ (journal_of self.new ≡ journal_of self.old)) }
+            → Writes self.old self.new (Some event) (ended refusal_of result) }
     {
         history_laws();
         layout_laws();

@@ -18,7 +18,7 @@ use Rattle.syn_model.specs.Refusal as why
 use Rattle.syn_model.specs.Standing.{place_causes, full_causes}
 use Rattle.syn_model.specs.Spelling.{event_spelling}
 use Rattle.syn_standing.specs.Refusals.{refusal_of}
-use Rattle.syn_replica.specs.Refusals.{IsOneOf, outside_refusals, checkpoint_refusals, AfterReads}
+use Rattle.syn_replica.specs.Refusals.{IsOneOf, outside_refusals, checkpoint_refusals}
 use Rattle.syn_replica.specs.Steps.{add_refusal, replace_refusal, room_causes}
 use Rattle.syn_standing.specs.Causes.{since_causes}
 use Rattle.syn_standing.specs.declared.error.ReplicaError.{ReplicaError}
@@ -111,22 +111,3 @@ checkpoint_one OldSession is = cc is
 checkpoint_one Damaged is = cc is
 checkpoint_one WrongPair is = cc is
 checkpoint_one OldVersion is = cc is
-
--- where memory is refused all device calls of an opening were made
-pub after_reads : (e : ReplicaError) (old new : Arms) → refusal_of e ≡ why.Memory →
-    AfterReads 1 e old new → MakesAtLeast 1 old new
-after_reads (Tree x) old new is made = made
-after_reads (replica_error.History x) old new is made = made
-after_reads (Journal journal_error.Device) old new is made = cc is
-after_reads (Journal journal_error.Halted) old new is made = made
-after_reads (Journal journal_error.Full) old new is made = made
-after_reads (Journal journal_error.Memory) old new is made = made
-after_reads (Journal journal_error.JournalFull) old new is made = made
-after_reads (Journal journal_error.NoImage) old new is made = made
-after_reads (Journal journal_error.Damaged) old new is made = made
-after_reads Memory old new is made = made
-after_reads Touched old new is made = made
-after_reads OldSession old new is made = made
-after_reads Damaged old new is made = made
-after_reads WrongPair old new is made = made
-after_reads OldVersion old new is made = made

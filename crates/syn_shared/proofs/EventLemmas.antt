@@ -194,27 +194,19 @@ module _ {D : Type 0} {disk : Ghosts D} (pair : ℕ) (found left : Replica D dis
           LeavesOnly disk.moment disk.left_since (disk_of found) (disk_of left)
           (KeepsBeforeOrAfter found value event) → (answer : Result ℕ ReplicaError) → IfOk answer
           (λ position. (position ≡ length value + 1) × Stands left (value ++ event ∷ [])) →
-          OnOk answer (HasRecord found left event) →
-          IfErr answer (λ e. refusal_of e ≡ why.Device → IsHalted left) →
-          IfErr answer (λ e. (refusal_of e ≡ why.Device) ⊎ (journal_of left ≡ journal_of found)) →
-          IfErr answer (λ _. KeepsReadings found left) →
-          MatchResult answer (λ _. Makes 4 (disk.arms (disk_of found)) (disk.arms (disk_of left)))
-          (λ e. MakesIfDevice e 4 (disk.arms (disk_of found)) (disk.arms (disk_of left))) →
+          Writes found left (Some event) (ended refusal_of answer) →
           MatchResult answer (λ _. Allowed) (λ e. refusal_of e ≡ why.Device → Allowed) →
           IfErr answer (λ e. refusal_of e ≢ why.Device → Refused e) → Written answer
-      event_up up stands moments
-          (Ok position) acknowledged record_is halts unchanged readings makes allowed refused =
+      event_up up stands moments (Ok position) acknowledged writes allowed refused =
           subst (λ n. Written (Ok n)) (sym acknowledged.0)
-          (wrote up moments law up_law made allowed acknowledged.1 record_is makes)
-      event_up up stands moments
-          (Err e) acknowledged record_is halts unchanged readings makes allowed refused =
-          elim (device_or_other e) as (λ _. Written (Err e)) [
-            | inl d ↦
-                let device : refusal_of e ≡ why.Device = ap refusal_of d in
-                broke up moments law broken (allowed device) stands.remembers
-                (halts device) readings e device (subst (λ x. MakesIfDevice x 4
-                (disk.arms (disk_of found)) (disk.arms (disk_of left))) d makes)
-            | inr not ↦ other e not (refused not) unchanged readings
+          (wrote up moments law up_law made allowed acknowledged.1 writes.written
+          writes.device.arms)
+      event_up up stands moments (Err e) acknowledged writes allowed refused =
+          elim writes.tried as (λ _. Written (Err e)) [
+            | inl sent ↦ broke up moments law broken (allowed sent.0) stands.remembers
+                (writes.halts sent.0) writes.readings e sent.0
+                (broke_off (refusal_of e) (disk_of found) (disk_of left) 4 sent.0 writes.device).1
+            | inr not ↦ other e not.0 (refused not.0) writes.unchanged writes.readings
           ]
 
       pub event_halted : (e : ReplicaError) → refusal_of e ≡ why.Halted → Refused e →

@@ -1,3 +1,4 @@
+pub mod AnswerLemmas
 pub mod CauseLemmas
 pub mod EventLemmas
 pub mod HoldLemmas

@@ -3,13 +3,13 @@
 use Rattle.std.proofs.Common.{◌≡◌, ◌≢◌, ◌⊎◌, ◌+◌, ◌≤◌, ℕ, ◌∷◌, ◌++◌, List, length, refl, sym, ap}
 use Rattle.std.proofs.Common.{◌∙◌, subst, inl, inr, true, false, Bool, if◌then◌else◌, None, Some}
 use Rattle.std.proofs.Common.{Result, Ok, Err, arith, ◌<◌, ◌^◌, true≢false, []}
-use Rattle.std.specs.Prelude.{IfErr, OnOk, ◌↔◌, nat_le}
-use Rattle.std.specs.Result.{MatchResult}
+use Rattle.std.specs.Prelude.{IfErr, OnOk, nat_le}
 use Rattle.std.proofs.lemmas.List.{length-append}
 use Rattle.syn_agent.specs.Machines.{IsOf, StandsAs, UpIsOf, CompactedIsOf}
 use Rattle.syn_agent.specs.declared.agent.Agent.{Agent}
-use Rattle.syn_disk.specs.Calls.{Makes, MakesAtLeast}
-use Rattle.syn_disk.specs.Stops.{LeavesOnly, Untouched}
+use Rattle.syn_disk.specs.Stops.{LeavesOnly}
+use Rattle.syn_journaled.specs.Endings.{ended}
+use Rattle.syn_journaled.proofs.Spent.{broke_off, read_all, read_broke}
 use Rattle.syn_disk.specs.declared.disk.Disk.{Ghosts}
 use Rattle.syn_headline.specs.Machine.{Status, Up, Halted, Down, Journaled}
 use Rattle.syn_headline.specs.SideMachine.{SideMachine, staging_after}
@@ -22,22 +22,19 @@ use Rattle.syn_model.specs.Refusal.{first_cause}
 use Rattle.syn_model.specs.Refusal as why
 use Rattle.syn_recovery.specs.Calls.{BrokenCallsMeet, MadeCallsMeet, MadeReadsMeet}
 use Rattle.syn_standing.specs.Refusals.{refusal_of}
-use Rattle.syn_replica.specs.Refusals.{IsOneOf, outside_refusals, MakesIfDevice}
-use Rattle.syn_replica.specs.Refusals.{checkpoint_refusals, AfterReads}
-use Rattle.syn_replica.specs.Replica.{IsHalted, Stands, KeepsReadings, disk_of, journal_of}
-use Rattle.syn_replica.specs.Replica.{Remembers, SameMemory, KeepsOrCompacts, position_shown}
-use Rattle.syn_replica.specs.Replica.{standing_shown, generation_shown, pair_of}
+use Rattle.syn_replica.specs.Calls.{Compacts, Reopens}
+use Rattle.syn_replica.specs.Refusals.{IsOneOf, checkpoint_refusals, outside_refusals}
+use Rattle.syn_replica.specs.Replica.{IsHalted, Stands, disk_of, journal_of, Remembers, SameMemory}
+use Rattle.syn_replica.specs.Replica.{KeepsOrCompacts, position_shown, generation_shown, pair_of}
 use Rattle.syn_standing.specs.declared.error.ReplicaError.{ReplicaError}
 use Rattle.syn_standing.specs.declared.error.ReplicaError.TheVariants.{Journal}
 use Rattle.syn_replica.specs.declared.replica.Replica.{Replica}
-use Rattle.syn_shared.proofs.CauseLemmas.{after_reads, checkpoint_one, device_or_other}
+use Rattle.syn_shared.proofs.AnswerLemmas.{halted_answer}
+use Rattle.syn_shared.proofs.CauseLemmas.{checkpoint_one}
 use Rattle.syn_shared.proofs.EventLemmas.{still_of}
 use Rattle.syn_shared.specs.Machines.{IsMade, IsRefused, CompactsSide, keeps, ReopensSide}
 use Rattle.syn_agent.proofs.CauseLemmas.{outside as memory_or_device}
 use Rattle.std.proofs.lemmas.Bool.Decides.{leb_tells}
-use Rattle.syn_journal.specs.Journal as journal
-use Rattle.syn_journal.specs.Layout.{image_alone}
-use Rattle.syn_model.specs.Image.{image_spelling}
 use Rattle.syn_model.specs.Limits.{greatest}
 use Rattle.syn_model.specs.Standing.{Standing}
 use Rattle.syn_recovery.specs.Machines.{of_side, SidesOpen}
@@ -99,49 +96,42 @@ module _ {D : Type 0} {disk : Ghosts D} (pair : ℕ) (found left : Replica D dis
   checkpoint_up : machine.journal.status ≡ Up → (stands : Stands found machine.journal.value) →
       LeavesOnly disk.moment disk.left_since (disk_of found) (disk_of left)
       (KeepsOrCompacts found machine.journal.value) → (answer : Result Unit ReplicaError) →
-      OnOk answer (Stands left machine.journal.value) → OnOk answer (journal.Stands
-      (journal_of left) (image_alone (image_spelling (pair_of found) (standing_shown found)))) →
-      OnOk answer (generation_shown left ≡ generation_shown found + 1) →
+      OnOk answer (Stands left machine.journal.value) →
       IfErr answer (λ e. refusal_of e ≡ why.Full → generation_shown found + 1 ≡ 2 ^ 64) →
       (generation_shown found + 1 ≡ 2 ^ 64 → answer ≡ Err (Journal journal_error.Full)) →
-      IfErr answer (IsOneOf checkpoint_refusals) →
-      (answer ≡ Err (Journal journal_error.Halted) → ⊥) →
-      IfErr answer (λ e. refusal_of e ≡ why.Device → IsHalted left) →
-      IfErr answer (λ _. KeepsReadings found left) →
-      IfErr answer (λ e. (refusal_of e ≡ why.Device) ⊎ (journal_of left ≡ journal_of found)) →
-      MatchResult answer (λ _. Makes 6 (disk.arms (disk_of found)) (disk.arms (disk_of left)))
-      (λ e. MakesIfDevice e 6 (disk.arms (disk_of found)) (disk.arms (disk_of left))) →
+      IfErr answer (IsOneOf checkpoint_refusals) → ¬ IsHalted found →
+      Compacts found left (ended refusal_of answer) →
       CompactsSide pair left agent machine answer
-  checkpoint_up up stands moments (Ok x) acknowledged image numbered full first refusals running
-      halts readings unchanged makes =
+  checkpoint_up up stands moments (Ok x) acknowledged full first refusals running compacts =
       compacts_ok pair found left agent machine is counts_now up stands moments law memory up_law
       made
       (made_of up (not_greatest (generation_shown found) fits (λ g. let k : ◌≡◌
       {A = Result Unit ReplicaError} (Ok x) (Err (Journal journal_error.Full)) = first g in cc)))
-      acknowledged image numbered makes
-  checkpoint_up up stands moments (Err e) acknowledged image numbered full first refusals running
-      halts readings unchanged makes =
+      acknowledged compacts.image compacts.generation compacts.device.arms
+  checkpoint_up up stands moments (Err e) acknowledged full first refusals running compacts =
       elim (checkpoint_one e refusals) as (λ _. CompactsSide pair left agent machine (Err e)) [
-        | inl halted ↦ absurd (running (ap (λ x. Err x) halted))
+        | inl halted ↦ absurd (running (compacts.halted.0 (ap (λ x. Some (refusal_of x)) halted)))
         | inr (inl is_full) ↦ keeps e
             (refused_of up e (by_full (nat_le greatest (generation_shown found)) e
             (is_greatest (generation_shown found) (full is_full)) is_full))
-            (unchanged_is e (λ d. let k : why.Full ≡ why.Device = sym is_full ∙ d in cc) unchanged)
+            (unchanged_is e (λ d. let k : why.Full ≡ why.Device = sym is_full ∙ d in cc)
+            compacts.unchanged)
         | inr (inr (inl is_memory)) ↦ keeps e
             (refused_of up e (by_memory (nat_le greatest (generation_shown found)) e
             (not_greatest (generation_shown found) fits (λ g. not_full e is_memory (first g)))
             is_memory))
-            (unchanged_is e (λ d. let k : why.Memory ≡ why.Device = sym is_memory ∙ d in
-            cc) unchanged)
+            (unchanged_is e (λ d. let k : why.Memory ≡ why.Device = sym is_memory ∙ d in cc)
+            compacts.unchanged)
         | inr (inr (inr device)) ↦
+            let is_device = ap refusal_of device in
             compacts_not pair found left agent machine is counts_now up stands moments law memory
             broken
             (made_of up (not_greatest (generation_shown found) fits (λ g. let k :
             ◌≡◌ {A = Result Unit ReplicaError} (Err e) (Err (Journal journal_error.Full)) =
             first g in
             let d : e ≡ Journal journal_error.Device = device in cc)))
-            (halts (ap refusal_of device)) readings e (ap refusal_of device) (subst (λ x.
-            MakesIfDevice x 6 (disk.arms (disk_of found)) (disk.arms (disk_of left))) device makes)
+            (compacts.halts is_device) compacts.readings e is_device
+            (broke_off (refusal_of e) (disk_of found) (disk_of left) 6 is_device compacts.device).1
       ]
     where
       not_full : (e : ReplicaError) → refusal_of e ≡ why.Memory →
@@ -162,22 +152,13 @@ module _ {D : Type 0} {disk : Ghosts D} (pair : ℕ) (found left : Replica D dis
       ((history : History) → Stands found history → LeavesOnly disk.moment disk.left_since
       (disk_of found) (disk_of left) (KeepsOrCompacts found history)) →
       ((history : History) → Stands found history → OnOk answer (Stands left history)) →
-      OnOk answer (journal.Stands (journal_of left)
-      (image_alone (image_spelling (pair_of found) (standing_shown found)))) →
-      OnOk answer (generation_shown left ≡ generation_shown found + 1) →
       ((history : History) → Stands found history →
       IfErr answer (λ e. refusal_of e ≡ why.Full → generation_shown found + 1 ≡ 2 ^ 64)) →
       (generation_shown found + 1 ≡ 2 ^ 64 → ¬ IsHalted found →
       answer ≡ Err (Journal journal_error.Full)) → IfErr answer (IsOneOf checkpoint_refusals) →
-      (answer ≡ Err (Journal journal_error.Halted)) ↔ IsHalted found →
-      IfErr answer (λ e. refusal_of e ≡ why.Device → IsHalted left) →
-      IfErr answer (λ _. KeepsReadings found left) →
-      IfErr answer (λ e. (refusal_of e ≡ why.Device) ⊎ (journal_of left ≡ journal_of found)) →
-      MatchResult answer (λ _. Makes 6 (disk.arms (disk_of found)) (disk.arms (disk_of left)))
-      (λ e. MakesIfDevice e 6 (disk.arms (disk_of found)) (disk.arms (disk_of left))) →
+      Compacts found left (ended refusal_of answer) →
       CompactsSide pair left agent machine answer
-  checkpoint_world answer moments acknowledged image numbered full first refusals halted halts
-      readings unchanged makes =
+  checkpoint_world answer moments acknowledged full first refusals compacts =
       by machine.journal.status refl is.stands
     where
       by : (status : Status) → machine.journal.status ≡ status →
@@ -185,17 +166,16 @@ module _ {D : Type 0} {disk : Ghosts D} (pair : ℕ) (found left : Replica D dis
       by Up up stands =
           let running : ¬ IsHalted found = λ h. true≢false (sym h ∙ stands.runs.running) in
           checkpoint_up up stands (moments machine.journal.value stands) answer
-          (acknowledged machine.journal.value stands) image numbered
-          (full machine.journal.value stands) (λ g. first g running) refusals
-          (λ same. running (halted.0 same)) halts readings unchanged makes
+          (acknowledged machine.journal.value stands)
+          (full machine.journal.value stands) (λ g. first g running) refusals running compacts
       by Halted at stands =
-          let same = halted.1 stands.0 in
-          subst (λ a. CompactsSide pair left agent machine a) (sym same)
+          let same = compacts.halted.1 stands.0 in
+          subst (λ a. CompactsSide pair left agent machine a) (sym (halted_answer answer same))
           (keeps (Journal journal_error.Halted)
           (subst (λ s. first_cause ((is_halted s, why.Halted) ∷ full_generation
           machine.journal.generation ++ (true, why.Memory) ∷ []) ≡ Some why.Halted) (sym at) refl)
-          (elim (subst (λ a. IfErr a (λ e. (refusal_of e ≡ why.Device) ⊎ (journal_of left
-          ≡ journal_of found))) same unchanged) as (λ _. IsOf pair left agent machine) [
+          (elim (subst (λ w. Compacts found left w) same compacts).unchanged
+          as (λ _. IsOf pair left agent machine) [
             | inl d ↦ absurd (let k : why.Halted ≡ why.Device = d in cc)
             | inr j ↦ still_of pair found left agent machine is memory j
           ]))
@@ -236,10 +216,9 @@ some_history pair machine bytes may = by may.means
 -- another opening in a hold
 module _ {D : Type 0} {disk : Ghosts D} (pair : ℕ) (found left : Replica D disk) (agent : Agent)
     (machine : SideMachine) (is : IsOf pair found agent machine)
-    (untouched : Untouched disk.seen disk.may_leave disk.moment disk.left_since (disk_of found)
-    (disk_of left)) (stays : (d : D) → disk.may_leave d (disk.seen d))
-    (up_law : UpIsOf found) (laws : SidesOpen) (reads : MadeReadsMeet) (broken : BrokenCallsMeet)
-    (same_pair : pair_of left ≡ pair_of found) where
+    (stays : (d : D) → disk.may_leave d (disk.seen d))
+    (up_law : UpIsOf found) (laws : SidesOpen) (reads : MadeReadsMeet)
+    (broken : BrokenCallsMeet) where
   remembered : (status : Status) → StandsAs status found machine.journal.value →
       Remembers found machine.journal.value
   remembered Up stands = stands.remembers
@@ -256,38 +235,26 @@ module _ {D : Type 0} {disk : Ghosts D} (pair : ℕ) (found left : Replica D dis
       DiskStands (pair_of left) (disk.seen (disk_of found)) history → Stands left history) →
       ((history : History) → DiskStands (pair_of found) (disk.seen (disk_of found)) history →
       position_shown found ≤ length history → IfErr answer (IsOneOf outside_refusals)) →
-      IfErr answer (λ e. refusal_of e ≢ why.Memory → IsHalted left) →
-      IfErr answer (λ _. SameMemory found left) →
-      IfErr answer (λ _. IsHalted found → IsHalted left) →
-      ((history : History) → Stands found history → IfErr answer (λ _. KeepsReadings found left)) →
       ((history : History) → Stands found history →
-      IfErr answer (λ e. (refusal_of e ≡ why.Device) ⊎ Stands left history)) → MatchResult answer
-      (λ _. MakesAtLeast 1 (disk.arms (disk_of found)) (disk.arms (disk_of left)))
-      (λ e. AfterReads 1 e (disk.arms (disk_of found)) (disk.arms (disk_of left))) →
-      ReopensSide pair left agent machine answer
-  reopen_world (Ok x) each lawful halts memory halted room unchanged makes =
-      opens_again pair found left agent machine is untouched stays up_law laws reads same_pair each
-      makes
-  reopen_world (Err e) each lawful halts memory halted room unchanged makes =
-      elim (device_or_other e) as (λ _. ReopensSide pair left agent machine (Err e)) [
-        | inl device ↦
-            let d = ap refusal_of device in
-            opens_not pair found left agent machine is untouched stays broken memory
-            (halts (λ m. let k : why.Device ≡ why.Memory = sym d ∙ m in cc))
+      IfErr answer (λ e. (refusal_of e ≡ why.Device) ⊎ Stands left history)) →
+      Reopens found left (ended refusal_of answer) → ReopensSide pair left agent machine answer
+  reopen_world (Ok x) each lawful unchanged opens =
+      opens_again pair found left agent machine is opens.device.untouched stays up_law laws reads
+      opens.pair each opens.device.arms
+  reopen_world (Err e) each lawful unchanged opens =
+      elim (memory_or_device e outside) as (λ _. ReopensSide pair left agent machine (Err e)) [
+        | inl m ↦ opens_later pair found left agent machine is opens.device.untouched stays reads
+            opens.memory
+            (λ up. opens.room machine.journal.value
+            (subst (λ s. StandsAs s found machine.journal.value) up is.stands))
+            (stands_as machine.journal.status is.stands m) e m
+            (read_all (refusal_of e) (disk_of found) (disk_of left)
+            (λ d. let k : why.Memory ≡ why.Device = sym m ∙ d in cc) opens.device).1
+            (staged machine.journal.status is.stands)
+        | inr d ↦ opens_not pair found left agent machine is opens.device.untouched stays broken
+            opens.memory (opens.halts (λ m. let k : why.Device ≡ why.Memory = sym d ∙ m in cc))
             (remembered machine.journal.status is.stands) e d
-            (subst (λ x. AfterReads 1 x (disk.arms (disk_of found)) (disk.arms (disk_of left)))
-            device
-            makes)
-        | inr not ↦ elim (memory_or_device e outside)
-            as (λ _. ReopensSide pair left agent machine (Err e)) [
-              | inl m ↦ opens_later pair found left agent machine is untouched stays reads memory
-                  (λ up. room machine.journal.value
-                  (subst (λ s. StandsAs s found machine.journal.value) up is.stands))
-                  (stands_as machine.journal.status is.stands m) e m
-                  (after_reads e (disk.arms (disk_of found)) (disk.arms (disk_of left)) m makes)
-                  (staged machine.journal.status is.stands)
-              | inr d ↦ absurd (not d)
-            ]
+            (read_broke (refusal_of e) (disk_of found) (disk_of left) d opens.device).1
       ]
     where
       here : (history : History) × DiskStands pair (disk.seen (disk_of found)) history
@@ -317,7 +284,7 @@ module _ {D : Type 0} {disk : Ghosts D} (pair : ℕ) (found left : Replica D dis
           not_both : refusal_of e ≡ why.Memory → refusal_of e ≡ why.Device → ⊥
           not_both a b = let k : why.Memory ≡ why.Device = sym a ∙ b in cc
       stands_as Halted stands m = (
-        halted stands.0,
-        record { lawful = stands.1.lawful; standing = memory.standing ∙ stands.1.standing },
+        opens.halted stands.0,
+        record { lawful = stands.1.lawful; standing = opens.memory.standing ∙ stands.1.standing },
       )
       stands_as Down stands m = stands

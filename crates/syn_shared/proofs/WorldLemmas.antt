@@ -2,12 +2,12 @@
 use Rattle.std.proofs.Common.{◌≡◌, ◌≢◌, ◌⊎◌, ◌+◌, ◌-◌, ◌≤◌, ℕ, ◌∷◌, ◌++◌, List, length, refl, sym}
 use Rattle.std.proofs.Common.{ap, ◌∙◌, subst, inl, inr, true, false, Bool, if◌then◌else◌, Option}
 use Rattle.std.proofs.Common.{None, Some, Result, Ok, Err, arith, []}
-use Rattle.std.specs.Prelude.{IfOk, IfErr, OnOk, IsErrAnd, ◌↔◌}
+use Rattle.std.specs.Prelude.{IfOk, IfErr, IsErrAnd}
 use Rattle.std.specs.Result.{MatchResult}
 use Rattle.std.proofs.lemmas.List.{length-append}
 use Rattle.syn_agent.specs.Machines.{IsOf, StandsAs, UpIsOf, WrittenIsOf}
 use Rattle.syn_agent.specs.declared.agent.Agent.{Agent}
-use Rattle.syn_disk.specs.Calls.{Makes}
+use Rattle.syn_journaled.specs.Endings.{ended}
 use Rattle.syn_disk.specs.Stops.{LeavesOnly}
 use Rattle.syn_disk.specs.declared.disk.Disk.{Ghosts}
 use Rattle.syn_headline.specs.Machine.{Status, Up, Halted, Down}
@@ -21,11 +21,12 @@ use Rattle.syn_model.specs.Refusal.{Refusal, Cause, first_cause}
 use Rattle.syn_model.specs.Refusal as why
 use Rattle.syn_recovery.specs.Calls.{BrokenCallsMeet, MadeCallsMeet}
 use Rattle.syn_standing.specs.Refusals.{refusal_of}
-use Rattle.syn_replica.specs.Refusals.{IsOneOf, outside_refusals, MakesIfDevice}
-use Rattle.syn_replica.specs.Replica.{IsHalted, Stands, KeepsReadings, HasRecord}
-use Rattle.syn_replica.specs.Replica.{KeepsBeforeOrAfter, disk_of, journal_of, room_shown}
-use Rattle.syn_replica.specs.Replica.{left_shown}
-use Rattle.syn_replica.specs.Steps.{add_refusal, replace_refusal, replaced, is_done, MakesIfNew}
+use Rattle.syn_replica.specs.Calls.{Writes, unless}
+use Rattle.syn_replica.specs.Refusals.{IsOneOf, outside_refusals}
+use Rattle.syn_replica.specs.Replica.{Stands, KeepsBeforeOrAfter, disk_of, room_shown, left_shown}
+use Rattle.syn_replica.specs.Replica.{standing_shown}
+use Rattle.syn_replica.specs.Steps.{add_refusal, replace_refusal, replaced, is_done, is_done_at}
+use Rattle.syn_shared.proofs.AnswerLemmas.{halted_answer}
 use Rattle.syn_standing.specs.declared.error.ReplicaError.{ReplicaError}
 use Rattle.syn_standing.specs.declared.error.ReplicaError.TheVariants.{Journal}
 use Rattle.syn_replica.specs.declared.replica.Replica.{Replica}
@@ -131,7 +132,6 @@ module _ {D : Type 0} {disk : Ghosts D} (pair : ℕ) (found left : Replica D dis
 
     pub edit_world : ((history : History) → Stands found history → IfOk answer
         (λ position. (position ≡ length history + 1) × Stands left (history ++ event ∷ []))) →
-        OnOk answer (HasRecord found left event) →
         ((history : History) → Stands found history → LeavesOnly disk.moment disk.left_since
         (disk_of found) (disk_of left) (KeepsBeforeOrAfter found history event)) →
         ((history : History) → Stands found history → IfErr answer (λ e. IsOneOf outside_refusals e
@@ -139,14 +139,9 @@ module _ {D : Type 0} {disk : Ghosts D} (pair : ℕ) (found left : Replica D dis
         ((history : History) (other : Refusal) → Stands found history →
         add_refusal (room_shown found) history event ≡ Some other →
         IsErrAnd answer (λ e. refusal_of e ≡ other)) →
-        (answer ≡ Err (Journal journal_error.Halted)) ↔ IsHalted found →
-        IfErr answer (λ e. refusal_of e ≡ why.Device → IsHalted left) →
-        IfErr answer (λ e. (refusal_of e ≡ why.Device) ⊎ (journal_of left ≡ journal_of found)) →
-        IfErr answer (λ _. KeepsReadings found left) →
-        MatchResult answer (λ _. Makes 4 (disk.arms (disk_of found)) (disk.arms (disk_of left)))
-        (λ e. MakesIfDevice e 4 (disk.arms (disk_of found)) (disk.arms (disk_of left))) →
+        Writes found left (Some event) (ended refusal_of answer) →
         EditsSide pair left agent machine event answer
-    edit_world acknowledged record_is moments cause refused halted halts unchanged readings makes =
+    edit_world acknowledged moments cause refused writes =
         by machine.journal.status refl is.stands
       where
         by : (status : Status) → machine.journal.status ≡ status → StandsAs status found value →
@@ -154,7 +149,7 @@ module _ {D : Type 0} {disk : Ghosts D} (pair : ℕ) (found left : Replica D dis
         by Up up stands =
             event_up pair found left agent machine is counts_now event (IsMade machine causes)
             (IsRefused machine causes) up_law law made broken up stands (moments value stands)
-            answer (acknowledged value stands) record_is halts unchanged readings makes
+            answer (acknowledged value stands) writes
             (match_map answer (add_refusal (room_shown found) value event ≡ None)
             (IsMade machine causes) (λ none. made_up up causes
             (sym (same_causes pair (room_shown found) machine event (room_is up)) ∙ none))
@@ -164,14 +159,14 @@ module _ {D : Type 0} {disk : Ghosts D} (pair : ℕ) (found left : Replica D dis
             (edit_refused up stands answer (cause value stands)
             (λ other some. refused value other stands some))
         by Halted at stands =
-            let same = halted.1 stands.0 in
-            subst (λ a. EditsSide pair left agent machine event a) (sym same)
+            let same = writes.halted.1 stands.0 in
+            let refused = subst (λ w. Writes found left (Some event) w) same writes in
+            subst (λ a. EditsSide pair left agent machine event a)
+            (sym (halted_answer answer same))
             (event_halted pair found left agent machine is counts_now event (IsMade machine causes)
             (IsRefused machine causes) up_law law made broken
-            (Journal journal_error.Halted) refl (refused_halted at causes)
-            (subst (λ a. IfErr a (λ e. (refusal_of e ≡ why.Device)
-            ⊎ (journal_of left ≡ journal_of found))) same unchanged)
-            (subst (λ a. IfErr a (λ _. KeepsReadings found left)) same readings))
+            (Journal journal_error.Halted) refl (refused_halted at causes) refused.unchanged
+            refused.readings)
         by Down at stands = absurd stands
 
   module _ (token : Token) (path : Path) (since : ℕ) (new : Model)
@@ -196,16 +191,6 @@ module _ {D : Type 0} {disk : Ghosts D} (pair : ℕ) (found left : Replica D dis
     )
     replaced_ok (Err e) acknowledged = tt
 
-    calls_are : (given : Result ℕ ReplicaError) → MatchResult given (λ _. MakesIfNew
-        (is_done value token) (disk.arms (disk_of found)) (disk.arms (disk_of left)))
-        (λ e. MakesIfDevice e 4 (disk.arms (disk_of found)) (disk.arms (disk_of left))) →
-        MatchResult given (λ _. Makes 4 (disk.arms (disk_of found)) (disk.arms (disk_of left)))
-        (λ e. MakesIfDevice e 4 (disk.arms (disk_of found)) (disk.arms (disk_of left)))
-    calls_are (Ok n) makes =
-        subst (λ (b : Bool). MakesIfNew b (disk.arms (disk_of found)) (disk.arms (disk_of left)))
-        open_is makes
-    calls_are (Err e) makes = makes
-
     refused_early : machine.journal.status ≡ Up → (given : Result ℕ ReplicaError) →
         IfErr given (λ e. IsOneOf outside_refusals e ⊎ (cause_now ≡ Some (refusal_of e))) →
         IfErr given (λ e. refusal_of e ≢ why.Device → IsRefusedEarly machine cause_now e)
@@ -220,8 +205,6 @@ module _ {D : Type 0} {disk : Ghosts D} (pair : ℕ) (found left : Replica D dis
     pub replace_world : ((history : History) → Stands found history →
         let after = replaced history token path since new in
         IfOk answer (λ position. (position ≡ length after) × Stands left after)) →
-        ((history : History) → Stands found history → is_done history token ≡ false →
-        OnOk answer (HasRecord found left replacement)) →
         ((history : History) → Stands found history → LeavesOnly disk.moment disk.left_since
         (disk_of found) (disk_of left) (KeepsBeforeOrAfter found history replacement)) →
         ((history : History) → Stands found history →
@@ -230,17 +213,11 @@ module _ {D : Type 0} {disk : Ghosts D} (pair : ℕ) (found left : Replica D dis
         ((history : History) (other : Refusal) → Stands found history → is_done history token
         ≡ false → replace_refusal (room_shown found) history token path since new ≡ Some other →
         IsErrAnd answer (λ e. (refusal_of e ≡ other) ⊎ (refusal_of e ≡ why.Memory))) →
-        (answer ≡ Err (Journal journal_error.Halted)) ↔ IsHalted found →
-        IfErr answer (λ e. refusal_of e ≡ why.Device → IsHalted left) →
-        IfErr answer (λ e. (refusal_of e ≡ why.Device) ⊎ (journal_of left ≡ journal_of found)) →
-        IfErr answer (λ _. KeepsReadings found left) →
-        ((history : History) → Stands found history → MatchResult answer (λ _. MakesIfNew
-        (is_done history token) (disk.arms (disk_of found)) (disk.arms (disk_of left)))
-        (λ e. MakesIfDevice e 4 (disk.arms (disk_of found)) (disk.arms (disk_of left)))) →
+        Writes found left (unless (is_done_at (standing_shown found) token) replacement)
+        (ended refusal_of answer) →
         WritesEvent pair left agent machine replacement (cause_now ≡ None)
         (IsRefusedEarly machine cause_now) answer
-    replace_world acknowledged record_is moments cause refused halted halts unchanged readings
-        makes =
+    replace_world acknowledged moments cause refused writes =
         by machine.journal.status refl is.stands
       where
         by : (status : Status) → machine.journal.status ≡ status → StandsAs status found value →
@@ -250,19 +227,20 @@ module _ {D : Type 0} {disk : Ghosts D} (pair : ℕ) (found left : Replica D dis
             event_up pair found left agent machine is counts_now replacement (cause_now ≡ None)
             (IsRefusedEarly machine cause_now) up_law law made broken up stands
             (moments value stands) answer (replaced_ok answer (acknowledged value stands))
-            (record_is value stands open_is) halts unchanged readings
-            (calls_are answer (makes value stands))
+            (subst (λ (b : Bool). Writes found left (unless b replacement)
+            (ended refusal_of answer))
+            (ap (λ s. is_done_at s token) stands.remembers.standing ∙ open_is) writes)
             (no_cause answer cause_now (replace_never (room_shown found) value token path since new)
             (λ other some. refused value other stands open_is some))
             (refused_early up answer (cause value stands))
         by Halted at stands =
-            let same = halted.1 stands.0 in
+            let same = writes.halted.1 stands.0 in
+            let refused = subst (λ w. Writes found left
+            (unless (is_done_at (standing_shown found) token) replacement) w) same writes in
             subst (λ a. WritesEvent pair left agent machine replacement (cause_now ≡ None)
-            (IsRefusedEarly machine cause_now) a) (sym same)
+            (IsRefusedEarly machine cause_now) a) (sym (halted_answer answer same))
             (event_halted pair found left agent machine is counts_now replacement (cause_now ≡ None)
             (IsRefusedEarly machine cause_now) up_law law made broken
-            (Journal journal_error.Halted) refl (inl (at, refl))
-            (subst (λ a. IfErr a (λ e. (refusal_of e ≡ why.Device)
-            ⊎ (journal_of left ≡ journal_of found))) same unchanged)
-            (subst (λ a. IfErr a (λ _. KeepsReadings found left)) same readings))
+            (Journal journal_error.Halted) refl (inl (at, refl)) refused.unchanged
+            refused.readings)
         by Down at stands = absurd stands

@@ -1,25 +1,21 @@
 -- What the edit of one thread answers and leaves.
-use Rattle.std.specs.Prelude.{◌≡◌, ◌⊎◌, ◌↔◌, ◌+◌, ℕ, [], ◌∷◌, ◌++◌, length, Some, Result, Err}
-use Rattle.std.specs.Prelude.{IfOk, IfErr, OnOk, IsErrAnd, MatchResult}
+use Rattle.std.specs.Prelude.{◌≡◌, ◌⊎◌, ◌+◌, ℕ, [], ◌∷◌, ◌++◌, length, Some, Result}
+use Rattle.std.specs.Prelude.{IfOk, IfErr, IsErrAnd}
 use Rattle.syn_agent.specs.Machines.{IsOf}
 use Rattle.syn_agent.specs.declared.agent.Agent.{Agent}
-use Rattle.syn_disk.specs.Calls.{Makes}
 use Rattle.syn_disk.specs.Stops.{LeavesOnly}
 use Rattle.syn_disk.specs.declared.disk.Disk.{Ghosts}
 use Rattle.syn_headline.specs.SideMachine.{SideMachine}
-use Rattle.syn_journal.specs.declared.error.JournalError.TheVariants.{Halted}
+use Rattle.syn_journaled.specs.Endings.{ended}
 use Rattle.syn_model.specs.Event.{Event}
 use Rattle.syn_model.specs.History.{History}
 use Rattle.syn_model.specs.Refusal.{Refusal, Device}
-use Rattle.syn_replica.specs.Growth.{IsGrown}
+use Rattle.syn_replica.specs.Calls.{Writes}
 use Rattle.syn_standing.specs.Refusals.{refusal_of}
 use Rattle.syn_replica.specs.Refusals.{IsOneOf, edit_refusals, outside_refusals}
-use Rattle.syn_replica.specs.Refusals.{CountsFailures, MakesIfDevice}
-use Rattle.syn_replica.specs.Replica.{disk_of, journal_of, room_shown, IsHalted, Stands}
-use Rattle.syn_replica.specs.Replica.{KeepsReadings, HasRecord, KeepsBeforeOrAfter, Tries}
+use Rattle.syn_replica.specs.Replica.{disk_of, room_shown, Stands, KeepsBeforeOrAfter}
 use Rattle.syn_replica.specs.Steps.{add_refusal}
 use Rattle.syn_standing.specs.declared.error.ReplicaError.{ReplicaError}
-use Rattle.syn_standing.specs.declared.error.ReplicaError.TheVariants.{Journal}
 use Rattle.syn_replica.specs.declared.replica.Replica.{Replica}
 use Rattle.syn_shared.specs.Machines.{EditsSide}
 use Rattle.syn_shared.specs.Steps.{StepsBy}
@@ -37,15 +33,10 @@ pub record Edits {D : Type 0} {disk : Ghosts D} (event : Event) (answer : Result
   pub acknowledged : (history : History) → Stands found history
       → IfOk answer (λ position. (position ≡ length history + 1)
       × Stands left (history ++ event ∷ []))
-  pub writes : OnOk answer (HasRecord found left event)
-  -- a stop, and a read after the call, find the history before or after
+  -- a stop finds the history before or after
   pub any_moment : (history : History) → Stands found history
       → LeavesOnly disk.moment disk.left_since (disk_of found) (disk_of left)
       (KeepsBeforeOrAfter found history event)
-  pub seen : (history : History) → Stands found history
-      → KeepsBeforeOrAfter found history event (disk.seen (disk_of left))
-  pub grown : IsGrown found left
-  pub tried : Tries found left event answer
   -- refused: each refusal has its cause, and each cause its refusal
   pub cause : (history : History) → Stands found history
       → IfErr answer (λ e. IsOneOf outside_refusals e
@@ -54,16 +45,7 @@ pub record Edits {D : Type 0} {disk : Ghosts D} (event : Event) (answer : Result
       → add_refusal (room_shown found) history event ≡ Some why
       → IsErrAnd answer (λ e. refusal_of e ≡ why)
   pub refusals : IfErr answer (IsOneOf edit_refusals)
-  pub halted : (answer ≡ Err (Journal Halted)) ↔ IsHalted found
-  pub halts : IfErr answer (λ e. refusal_of e ≡ Device → IsHalted left)
-  pub readings : IfErr answer (λ _. KeepsReadings found left)
   pub unchanged : (history : History) → Stands found history
       → IfErr answer (λ e. (refusal_of e ≡ Device) ⊎ Stands left history)
-  pub journal : IfErr answer (λ e. (refusal_of e ≡ Device) ⊎ (journal_of left ≡ journal_of found))
-  -- what its device was asked
-  pub failures : MatchResult answer
-      (λ _. disk.failures (disk_of left) ≡ disk.failures (disk_of found))
-      (λ e. CountsFailures e (disk.failures (disk_of found)) (disk.failures (disk_of left)))
-  pub calls : MatchResult answer
-      (λ _. Makes 4 (disk.arms (disk_of found)) (disk.arms (disk_of left)))
-      (λ e. MakesIfDevice e 4 (disk.arms (disk_of found)) (disk.arms (disk_of left)))
+  -- what it made of the replica, and what its device was asked
+  pub machine : Writes found left (Some event) (ended refusal_of answer)

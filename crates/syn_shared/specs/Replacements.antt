@@ -1,26 +1,24 @@
 -- What the replacement of one thread answers and leaves.
-use Rattle.std.specs.Prelude.{◌≡◌, ◌⊎◌, ◌↔◌, ℕ, true, false, length, Some, None, Result, Ok, Err}
-use Rattle.std.specs.Prelude.{IfOk, IfErr, OnOk, IsErrAnd, MatchResult}
+use Rattle.std.specs.Prelude.{◌≡◌, ◌⊎◌, ℕ, true, false, length, Some, None, Result, Ok}
+use Rattle.std.specs.Prelude.{IfOk, IfErr, IsErrAnd}
 use Rattle.syn_agent.specs.Machines.{IsOf}
 use Rattle.syn_agent.specs.declared.agent.Agent.{Agent}
 use Rattle.syn_disk.specs.Stops.{LeavesOnly}
 use Rattle.syn_disk.specs.declared.disk.Disk.{Ghosts}
 use Rattle.syn_headline.specs.SideMachine.{SideMachine}
-use Rattle.syn_journal.specs.declared.error.JournalError.TheVariants.{Halted}
+use Rattle.syn_journaled.specs.Endings.{ended}
 use Rattle.syn_model.specs.Event.{Token, Replaced}
 use Rattle.syn_model.specs.History.{History}
 use Rattle.syn_model.specs.Path.{Path}
-use Rattle.syn_model.specs.Refusal.{Refusal, Device, Memory}
+use Rattle.syn_model.specs.Refusal.{Refusal, Memory}
 use Rattle.syn_model.specs.Tree.{Tree}
-use Rattle.syn_replica.specs.Growth.{IsGrown}
+use Rattle.syn_replica.specs.Calls.{Writes, unless}
 use Rattle.syn_standing.specs.Refusals.{refusal_of}
 use Rattle.syn_replica.specs.Refusals.{IsOneOf, replace_refusals, outside_refusals}
-use Rattle.syn_replica.specs.Refusals.{CountsFailures, MakesIfDevice}
-use Rattle.syn_replica.specs.Replica.{disk_of, journal_of, room_shown, tried_shown, IsHalted}
-use Rattle.syn_replica.specs.Replica.{Stands, KeepsReadings, HasRecord, KeepsBeforeOrAfter, Tries}
-use Rattle.syn_replica.specs.Steps.{is_done, replaced, replace_refusal, MakesIfNew}
+use Rattle.syn_replica.specs.Replica.{disk_of, room_shown, standing_shown, Stands}
+use Rattle.syn_replica.specs.Replica.{KeepsBeforeOrAfter}
+use Rattle.syn_replica.specs.Steps.{is_done, is_done_at, replaced, replace_refusal}
 use Rattle.syn_standing.specs.declared.error.ReplicaError.{ReplicaError}
-use Rattle.syn_standing.specs.declared.error.ReplicaError.TheVariants.{Journal}
 use Rattle.syn_replica.specs.declared.replica.Replica.{Replica}
 use Rattle.syn_shared.specs.Machines.{WritesEvent, IsRefusedEarly}
 use Rattle.syn_shared.specs.Steps.{StepsBy}
@@ -44,20 +42,10 @@ pub record Replaces {D : Type 0} {disk : Ghosts D} (token : Token) (path : Path)
       IfOk answer (λ position. (position ≡ length after) × Stands left after)
   pub again : (history : History) → Stands found history → is_done history token ≡ true
       → (answer ≡ Ok (length history)) × (left ≡ found)
-  pub writes : (history : History) → Stands found history → is_done history token ≡ false
-      → OnOk answer (HasRecord found left (Replaced token path since new))
-  -- a stop, and a read after the call, find the history before or after
+  -- a stop finds the history before or after
   pub any_moment : (history : History) → Stands found history
       → LeavesOnly disk.moment disk.left_since (disk_of found) (disk_of left)
       (KeepsBeforeOrAfter found history (Replaced token path since new))
-  pub seen : (history : History) → Stands found history
-      → KeepsBeforeOrAfter found history (Replaced token path since new)
-      (disk.seen (disk_of left))
-  pub grown : IsGrown found left
-  pub tried : (history : History) → Stands found history → is_done history token ≡ false
-      → Tries found left (Replaced token path since new) answer
-  pub untried : IfErr answer (λ e. ¬ (refusal_of e ≡ Device)
-      → tried_shown left ≡ tried_shown found)
   -- refused: each refusal has its cause, and each cause its refusal
   pub cause : (history : History) → Stands found history
       → IfErr answer (λ e. IsOneOf outside_refusals e
@@ -67,16 +55,6 @@ pub record Replaces {D : Type 0} {disk : Ghosts D} (token : Token) (path : Path)
       → replace_refusal (room_shown found) history token path since new ≡ Some why
       → IsErrAnd answer (λ e. (refusal_of e ≡ why) ⊎ (refusal_of e ≡ Memory))
   pub refusals : IfErr answer (IsOneOf replace_refusals)
-  pub halted : (answer ≡ Err (Journal Halted)) ↔ IsHalted found
-  pub halts : IfErr answer (λ e. refusal_of e ≡ Device → IsHalted left)
-  pub readings : IfErr answer (λ _. KeepsReadings found left)
-  pub unchanged : IfErr answer (λ e. (refusal_of e ≡ Device)
-      ⊎ (journal_of left ≡ journal_of found))
-  -- what its device was asked
-  pub failures : MatchResult answer
-      (λ _. disk.failures (disk_of left) ≡ disk.failures (disk_of found))
-      (λ e. CountsFailures e (disk.failures (disk_of found)) (disk.failures (disk_of left)))
-  pub calls : (history : History) → Stands found history → MatchResult answer
-      (λ _. MakesIfNew (is_done history token) (disk.arms (disk_of found))
-      (disk.arms (disk_of left)))
-      (λ e. MakesIfDevice e 4 (disk.arms (disk_of found)) (disk.arms (disk_of left)))
+  -- what it made of the replica, and what its device was asked
+  pub machine : Writes found left (unless (is_done_at (standing_shown found) token)
+      (Replaced token path since new)) (ended refusal_of answer)

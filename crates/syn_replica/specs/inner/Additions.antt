@@ -1,23 +1,17 @@
 -- Why an event is not added to what is kept in memory.
 use Rattle.std.specs.Prelude.{◌≡◌, ℕ, Bool, true, false, ◌++◌, List, [], ◌∷◌, Option}
-use Rattle.std.specs.Option.{option_map_or}
-use Rattle.syn_model.specs.Event.{Token, Event, is_same_token}
+use Rattle.syn_model.specs.Event.{Token, Event}
 use Rattle.syn_model.specs.Limits.{fits_part, fits_paths}
 use Rattle.syn_model.specs.Refusal.{Refusal, first_cause}
 use Rattle.syn_model.specs.Refusal as why
 use Rattle.syn_model.specs.Standing.{Standing, causes_at, is_old}
 use Rattle.syn_model.specs.Tree.{Tree}
-use Rattle.syn_replica.specs.Steps.{room_causes}
+use Rattle.syn_replica.specs.Steps.{is_done_at, room_causes}
 
 -- why the event is not added there, with so much room in the journal
 abbrev pub add_refusal_at : ℕ → Standing → Event → Option Refusal
 add_refusal_at room standing event =
     first_cause (causes_at standing event ++ room_causes room event)
-
--- the token is that of the last replacement
-abbrev pub is_done_at : Standing → Token → Bool
-is_done_at standing token =
-    option_map_or (λ last. is_same_token last token) standing.token false
 
 -- What is known of a replacement before any memory is taken for its event: the token is neither
 -- done nor old, and what is put has the limits of each file, directory and path.

@@ -7,7 +7,7 @@ ghost use Rattle.syn_model.specs.Standing.{is_old, refusal_at};
 ghost use Rattle.syn_standing.specs.Causes.{since_causes};
 ghost use Rattle.syn_standing.specs.Refusals.{refusal_in, refusal_of};
 ghost use Rattle.syn_standing.specs.Updates.{IsOf, IsReady, early_causes};
-ghost use Rattle.syn_replica.specs.inner.Additions.{is_done_at};
+ghost use Rattle.syn_replica.specs.Steps.{is_done_at};
 
 use super::Replica;
 use std::alloc::Global;

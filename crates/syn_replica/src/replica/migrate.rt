@@ -1,7 +1,8 @@
 //! A migration: what a disk of version 1 holds is written in version 2.
 ghost use Rattle.std.specs.Prelude.{◌≡◌, ◌⊎◌, ◌^◌, ◌<◌, ℕ, IfOk, IfErr};
-ghost use Rattle.std.specs.Prelude.{IsErrAnd, MatchResult, None};
+ghost use Rattle.std.specs.Prelude.{IsErrAnd, MatchResult, None, Some};
 ghost use Rattle.syn_disk.specs.Calls.{MakesAtLeast};
+ghost use Rattle.syn_journaled.specs.Endings.{CountsFailures, ReadsOrBreaks};
 ghost use Rattle.syn_disk.specs.Stops.{LeavesOnly, Untouched};
 ghost use Rattle.syn_journal.specs.Layout.{Value, HasJournal};
 ghost use Rattle.syn_model.specs.History.{History};
@@ -14,7 +15,7 @@ ghost use Rattle.syn_replica.specs.Disks.{DiskGives, DiskKeepsIn, DiskStandsIn};
 ghost use Rattle.syn_replica.specs.Disks.{IsOldDisk};
 ghost use Rattle.syn_replica.specs.Migrating.{GivesInEither, KeepsOrMigrates, OrBefore};
 ghost use Rattle.syn_replica.specs.Migrating.{IsMigrateRefusal, IsOldAndFull};
-ghost use Rattle.syn_replica.specs.Refusals.{IsOneOf, CountsFailures, AfterReads};
+ghost use Rattle.syn_replica.specs.Refusals.{IsOneOf};
 ghost use Rattle.syn_replica.specs.Refusals.{greatest_refusals, lawful_refusals};
 
 use super::Replica;
@@ -85,15 +86,16 @@ impl<D: Disk> Replica<D> {
         ensures untouched { IfErr result (λ refused. (refusal_of refused.0 ≡ Device)
             ⊎ Untouched D.seen D.may_leave D.moment D.left_since disk refused.1) }
         ensures failures { MatchResult result
-            (λ replica. D.failures (disk_of replica) ≡ D.failures disk)
-            (λ refused. CountsFailures refused.0 (D.failures disk) (D.failures refused.1)) }
+            (λ replica. CountsFailures None (D.failures disk) (D.failures (disk_of replica)))
+            (λ refused. CountsFailures (Some (refusal_of refused.0)) (D.failures disk)
+            (D.failures refused.1)) }
 
         // A sync and then reads, whose number is not fixed, as an opening makes them. Where the
         // disk is of version 1 they come twice, and then the six device calls of a checkpoint.
-        // After Device the last of them failed.
         ensures calls { MatchResult result
-            (λ replica. MakesAtLeast 1 (D.arms disk) (D.arms (disk_of replica)))
-            (λ refused. AfterReads 1 refused.0 (D.arms disk) (D.arms refused.1)) }
+            (λ replica. ReadsOrBreaks 1 None (D.arms disk) (D.arms (disk_of replica)))
+            (λ refused. ReadsOrBreaks 1 (Some (refusal_of refused.0)) (D.arms disk)
+            (D.arms refused.1)) }
         ensures writes { IsOldDisk (D.seen disk) → IfOk result
             (λ replica. MakesAtLeast 8 (D.arms disk) (D.arms (disk_of replica))) }
     {

@@ -1,14 +1,13 @@
 //! A reopening: a replica finds out anew what its own disk stands for.
 ghost use Rattle.std.specs.Prelude.{◌≡◌, ◌≢◌, ◌≤◌, ◌<◌, ◌⊎◌, ◌++◌, ◌∷◌, [], None, Ok};
 ghost use Rattle.std.specs.Prelude.{IfErr, OnOk, MatchResult, length};
-ghost use Rattle.syn_disk.specs.Calls.{MakesAtLeast};
-ghost use Rattle.syn_disk.specs.Stops.{Untouched};
+ghost use Rattle.syn_journaled.specs.Endings.{ended};
 ghost use Rattle.syn_model.specs.Event.{Event};
 ghost use Rattle.syn_model.specs.History.{History};
 ghost use Rattle.syn_model.specs.Refusal.{Device, Memory};
 ghost use Rattle.syn_replica.specs.Disks.{DiskGives, DiskStands, IsReopenRefusal};
 ghost use Rattle.syn_standing.specs.Refusals.{refusal_of};
-ghost use Rattle.syn_replica.specs.Refusals.{CountsFailures, AfterReads, IsOneOf, outside_refusals};
+ghost use Rattle.syn_replica.specs.Refusals.{IsOneOf, outside_refusals};
 
 use super::Replica;
 use std::alloc::Global;
@@ -17,9 +16,9 @@ use syn_standing::{ReplicaError, opening_laws};
 
 impl<D: Disk> Replica<D> {
     ghost use Rattle.syn_replica.specs.Replica.{pair_of, standing_shown, tried_shown, disk_of};
-    ghost use Rattle.syn_replica.specs.Replica.{position_shown, IsHalted, Stands, SameMemory};
-    ghost use Rattle.syn_replica.specs.Replica.{KeepsReadings, KeepsBeforeOrAfter, ShowsDisk};
-    ghost use Rattle.syn_replica.specs.Growth.{KeepsUp, IsGrown, WithTried};
+    ghost use Rattle.syn_replica.specs.Replica.{position_shown, Stands, KeepsBeforeOrAfter};
+    ghost use Rattle.syn_replica.specs.Growth.{KeepsUp, WithTried};
+    ghost use Rattle.syn_replica.specs.Calls.{Reopens};
 
     /// Opens the replica's own disk again. A replica that was halted runs again.
     ///
@@ -35,9 +34,6 @@ impl<D: Disk> Replica<D> {
         ensures each { OnOk result ((history : History)
             → DiskStands (pair_of self.new) (D.seen (disk_of self.old)) history
             → Stands self.new history) }
-        ensures pair { pair_of self.new ≡ pair_of self.old }
-        ensures tried { MatchResult result (λ _. tried_shown self.new ≡ None)
-            (λ _. tried_shown self.new ≡ tried_shown self.old) }
 
         // Where a call was refused 9, it leaves the history before the call, or that with the event
         // that was being written.
@@ -58,37 +54,12 @@ impl<D: Disk> Replica<D> {
             → position_shown self.old ≤ length history
             → IfErr result (IsOneOf outside_refusals) }
 
-        // Whatever is answered, no history is lost.
-        ensures grown { IsGrown self.old self.new }
-
         // Each refusal has its cause.
         ensures refusals { IfErr result (λ e. IsReopenRefusal e (pair_of self.old)
             (position_shown self.old) (D.seen (disk_of self.old))) }
-        ensures halts { IfErr result (λ e. refusal_of e ≢ Memory → IsHalted self.new) }
-
-        // What stays after a refusal.
-        ensures memory { IfErr result (λ _. SameMemory self.old self.new) }
-        ensures readings { IfErr result (λ _. KeepsReadings self.old self.new
-            ⊎ ShowsDisk self.new) }
-        ensures room { (history : History) → Stands self.old history
-            → IfErr result (λ _. KeepsReadings self.old self.new) }
-        ensures halted { IfErr result (λ _. IsHalted self.old → IsHalted self.new) }
-        ensures remembers { IsHalted self.old
-            → IfErr result (λ _. KeepsReadings self.old self.new) }
         ensures unchanged { (history : History) → Stands self.old history
             → IfErr result (λ e. (refusal_of e ≡ Device) ⊎ Stands self.new history) }
-
-        ensures untouched { Untouched D.seen D.may_leave D.moment D.left_since
-            (disk_of self.old) (disk_of self.new) }
-        ensures failures { MatchResult result
-            (λ _. D.failures (disk_of self.new) ≡ D.failures (disk_of self.old))
-            (λ e. CountsFailures e (D.failures (disk_of self.old))
-            (D.failures (disk_of self.new))) }
-
-        // A sync and then reads, whose number is not fixed; after Device the last of them failed.
-        ensures calls { MatchResult result
-            (λ _. MakesAtLeast 1 (D.arms (disk_of self.old)) (D.arms (disk_of self.new)))
-            (λ e. AfterReads 1 e (D.arms (disk_of self.old)) (D.arms (disk_of self.new))) }
+        ensures machine { Reopens self.old self.new (ended refusal_of result) }
     {
         opening_laws();
         match self.machine.reopen(alloc) {

@@ -1,8 +1,8 @@
 //! What sessions ask of a replica.
 ghost use Rattle.std.specs.Prelude.{◌≡◌, ◌≢◌, ◌⊎◌, ◌↔◌, ◌+◌, ◌≤◌, ℕ, length, IfOk, IfErr, OnOk};
 ghost use Rattle.std.specs.Prelude.{IsErrAnd, MatchResult, Err, Ok, Some, true, false};
-ghost use Rattle.syn_disk.specs.Calls.{Makes};
 ghost use Rattle.syn_disk.specs.Stops.{LeavesOnly};
+ghost use Rattle.syn_journaled.specs.Endings.{ended};
 ghost use Rattle.syn_model.specs.Limits.{greatest_piece};
 ghost use Rattle.syn_model.specs.Event.{Began, Replaced};
 ghost use Rattle.syn_model.specs.History.{History, is_old_token, last_session, standing_of};
@@ -14,12 +14,12 @@ ghost use Rattle.syn_history.specs.Events.{token_of};
 ghost use Rattle.syn_tree.specs.Nodes.{part_of};
 ghost use Rattle.syn_standing.specs.Refusals.{refusal_of};
 ghost use Rattle.syn_replica.specs.Refusals.{IsOneOf, outside_refusals};
-ghost use Rattle.syn_replica.specs.inner.Additions.{checking_refusals, is_done_at, MayReplace};
+ghost use Rattle.syn_replica.specs.inner.Additions.{checking_refusals, MayReplace};
 ghost use Rattle.syn_replica.specs.Refusals.{begin_refusals, fetch_refusals, replace_refusals};
-ghost use Rattle.syn_replica.specs.Refusals.{CountsFailures, MakesIfDevice};
-ghost use Rattle.syn_replica.specs.Steps.{begun, begin_refusal, is_done, piece};
+ghost use Rattle.syn_replica.specs.Calls.{unless};
+ghost use Rattle.syn_replica.specs.Steps.{begun, begin_refusal, is_done, is_done_at, piece};
 ghost use Rattle.syn_standing.specs.Causes.{since_causes};
-ghost use Rattle.syn_replica.specs.Steps.{replaced, replace_refusal, how_stands, MakesIfNew};
+ghost use Rattle.syn_replica.specs.Steps.{replaced, replace_refusal, how_stands};
 ghost use Rattle.std.specs.Prelude.{◌==◌, None, IfSome, option_map};
 
 use super::Replica;
@@ -56,11 +56,10 @@ pub enum TokenStanding {
 }
 
 impl<D: Disk> Replica<D> {
-    ghost use Rattle.syn_replica.specs.Replica.{pair_of, standing_shown, disk_of, journal_of};
+    ghost use Rattle.syn_replica.specs.Replica.{pair_of, standing_shown, disk_of};
     ghost use Rattle.syn_replica.specs.Replica.{room_shown, IsHalted, Remembers, Stands};
-    ghost use Rattle.syn_replica.specs.Replica.{KeepsReadings, HasRecord, KeepsBeforeOrAfter};
-    ghost use Rattle.syn_replica.specs.Replica.{Tries, tried_shown};
-    ghost use Rattle.syn_replica.specs.Growth.{IsGrown};
+    ghost use Rattle.syn_replica.specs.Replica.{KeepsBeforeOrAfter};
+    ghost use Rattle.syn_replica.specs.Calls.{Writes};
 
     /// Begins the session, and answers the position. The session that was begun last begins again
     /// without an event.
@@ -76,14 +75,6 @@ impl<D: Disk> Replica<D> {
         ensures any_moment { (history : History) → Stands self.old history
             → LeavesOnly D.moment D.left_since (disk_of self.old) (disk_of self.new)
             (KeepsBeforeOrAfter self.old history (Began session)) }
-        ensures seen { (history : History) → Stands self.old history
-            → KeepsBeforeOrAfter self.old history (Began session) (D.seen (disk_of self.new)) }
-        ensures record { session ≢ (standing_shown self.old).session
-            → OnOk result (HasRecord self.old self.new (Began session)) }
-        ensures tried { session ≢ (standing_shown self.old).session
-            → Tries self.old self.new (Began session) result }
-        ensures untried { IfErr result (λ e. refusal_of e ≢ Device
-            → tried_shown self.new ≡ tried_shown self.old) }
 
         // The session begun last begins again, and nothing changes.
         ensures again { pair ≡ pair_of self.old → session ≡ (standing_shown self.old).session
@@ -99,28 +90,11 @@ impl<D: Disk> Replica<D> {
             → begin_refusal (room_shown self.old) (pair_of self.old) history pair session ≡ Some why
             → IsErrAnd result (λ e. refusal_of e ≡ why) }
         ensures refusals { IfErr result (IsOneOf begin_refusals) }
-        ensures halted { (result ≡ Err (ReplicaError.Journal JournalError.Halted))
-            ↔ IsHalted self.old }
-        ensures halts { IfErr result (λ e. refusal_of e ≡ Device → IsHalted self.new) }
-        ensures failures { MatchResult result
-            (λ _. D.failures (disk_of self.new) ≡ D.failures (disk_of self.old))
-            (λ e. CountsFailures e (D.failures (disk_of self.old))
-            (D.failures (disk_of self.new))) }
 
-        // Four device calls where a session is begun, and none where it was begun before. After
-        // Device the last that was made failed.
-        ensures calls { MatchResult result
-            (λ _. MakesIfNew (session == (standing_shown self.old).session)
-            (D.arms (disk_of self.old)) (D.arms (disk_of self.new)))
-            (λ e. MakesIfDevice e 4 (D.arms (disk_of self.old)) (D.arms (disk_of self.new))) }
-
-        // Whatever is answered, no history is lost.
-        ensures grown { IsGrown self.old self.new }
-
-        // What stays after a refusal.
-        ensures readings { IfErr result (λ _. KeepsReadings self.old self.new) }
-        ensures unchanged { IfErr result (λ e. (refusal_of e ≡ Device)
-            ⊎ (journal_of self.new ≡ journal_of self.old)) }
+        // The event is written where the session was not begun before.
+        ensures machine { Writes self.old self.new
+            (unless (session == (standing_shown self.old).session) (Began session))
+            (ended refusal_of result) }
     {
         opening_laws();
         if self.is_halted() {
@@ -219,17 +193,6 @@ impl<D: Disk> Replica<D> {
             → LeavesOnly D.moment D.left_since (disk_of self.old) (disk_of self.new)
             (KeepsBeforeOrAfter self.old history
             (Replaced (token_of token) path.now since (part_of new))) }
-        ensures seen { (history : History) → Stands self.old history
-            → KeepsBeforeOrAfter self.old history
-            (Replaced (token_of token) path.now since (part_of new)) (D.seen (disk_of self.new)) }
-        ensures record { (history : History) → Stands self.old history
-            → is_done history (token_of token) ≡ false → OnOk result
-            (HasRecord self.old self.new (Replaced (token_of token) path.now since (part_of new))) }
-        ensures tried { (history : History) → Stands self.old history
-            → is_done history (token_of token) ≡ false → Tries self.old self.new
-            (Replaced (token_of token) path.now since (part_of new)) result }
-        ensures untried { IfErr result (λ e. refusal_of e ≢ Device
-            → tried_shown self.new ≡ tried_shown self.old) }
 
         // A token that is done stays done, and nothing changes.
         ensures again { (history : History) → Stands self.old history
@@ -248,28 +211,11 @@ impl<D: Disk> Replica<D> {
             (part_of new) ≡ Some why
             → IsErrAnd result (λ e. (refusal_of e ≡ why) ⊎ (refusal_of e ≡ Memory)) }
         ensures refusals { IfErr result (IsOneOf replace_refusals) }
-        ensures halted { (result ≡ Err (ReplicaError.Journal JournalError.Halted))
-            ↔ IsHalted self.old }
-        ensures halts { IfErr result (λ e. refusal_of e ≡ Device → IsHalted self.new) }
-        ensures failures { MatchResult result
-            (λ _. D.failures (disk_of self.new) ≡ D.failures (disk_of self.old))
-            (λ e. CountsFailures e (D.failures (disk_of self.old))
-            (D.failures (disk_of self.new))) }
 
-        // Four device calls where the event is written, and none where the token is done. After
-        // Device the last that was made failed.
-        ensures calls { (history : History) → Stands self.old history → MatchResult result
-            (λ _. MakesIfNew (is_done history (token_of token)) (D.arms (disk_of self.old))
-            (D.arms (disk_of self.new)))
-            (λ e. MakesIfDevice e 4 (D.arms (disk_of self.old)) (D.arms (disk_of self.new))) }
-
-        // Whatever is answered, no history is lost.
-        ensures grown { IsGrown self.old self.new }
-
-        // What stays after a refusal.
-        ensures readings { IfErr result (λ _. KeepsReadings self.old self.new) }
-        ensures unchanged { IfErr result (λ e. (refusal_of e ≡ Device)
-            ⊎ (journal_of self.new ≡ journal_of self.old)) }
+        // The event is written where the token is not done.
+        ensures machine { Writes self.old self.new
+            (unless (is_done_at (standing_shown self.old) (token_of token))
+            (Replaced (token_of token) path.now since (part_of new))) (ended refusal_of result) }
     {
         opening_laws();
         let Some(path) = self.path_to_replace(alloc, &token, path, since, new.as_ref())? else {

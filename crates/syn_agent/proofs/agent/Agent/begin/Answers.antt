@@ -12,15 +12,15 @@ returns-in-Ok-clause-answers g c history stands =
     let told = c.in-Ok.ensures in
     begun_answers c.args.replica.now c.begin.new.self c.args.self.now history c.args.session
     c.args.pair stands c.in-Ok.position (told.acknowledged history stands)
-    (none_of _ (λ why is. told.refused history why stands is)) told.record
-    (λ p s r. (told.again p s r).1) told.tried (told.any_moment history stands) told.calls
-    told.failures
+    (none_of _ (λ why is. told.refused history why stands is)) told.machine
+    (told.any_moment history stands)
 
 pub returns-in-Ok-clause-memory : goal.returns-in-Ok-clause-memory
 returns-in-Ok-clause-memory g c history stands is = absurd (let k = is in cc)
 
 pub returns-in-Ok-clause-failures : goal.returns-in-Ok-clause-failures
-returns-in-Ok-clause-failures g c = inr ((λ is. let k = is in cc), c.in-Ok.ensures.failures)
+returns-in-Ok-clause-failures g c =
+    inr ((λ is. let k = is in cc), c.in-Ok.ensures.machine.device.failures)
 
 pub returns-in-Err-clause-answers : goal.returns-in-Err-clause-answers
 returns-in-Err-clause-answers g c history stands =
@@ -30,9 +30,7 @@ returns-in-Err-clause-answers g c history stands =
     (begun_refused c.args.replica.now c.begin.new.self c.args.self.now history c.args.session
     c.args.pair stands c.in-Err.error (told.cause history stands)
     (λ why is. told.refused history why stands is)
-    (λ p s r. let k = (told.again p s r).0 in cc) told.halts told.failures told.calls
-    told.readings told.unchanged told.tried told.untried (told.any_moment history stands)
-    (told.seen history stands))
+    (λ p s r. let k = (told.again p s r).0 in cc) told.machine (told.any_moment history stands))
 
 pub returns-in-Err-clause-memory : goal.returns-in-Err-clause-memory
 returns-in-Err-clause-memory g c history stands is =
@@ -46,4 +44,4 @@ pub returns-in-Err-clause-failures : goal.returns-in-Err-clause-failures
 returns-in-Err-clause-failures g c =
     subst (λ r. CountsFailures (Refused r) (g.D.Disk.failures (disk_of c.args.replica.now))
     (g.D.Disk.failures (disk_of c.begin.new.self))) (sym c.refusal.ensures)
-    (counts c.in-Err.error _ _ c.in-Err.ensures.failures)
+    (counts c.in-Err.error _ _ c.in-Err.ensures.machine.device.failures)

@@ -1,6 +1,7 @@
 use Rattle.std.proofs.Common.{◌≡◌, ◌∙◌, ℕ, true, Err, ap, inl, inr, refl, rules, sym}
 use Rattle.syn_agent.proofs.CauseLemmas.{refused_one}
-use Rattle.syn_agent.proofs.ReadingLemmas.{absent_is, halted_is, is_listed, is_no_directory}
+use Rattle.syn_agent.proofs.ReadingLemmas.{absent_is, is_listed, is_no_directory}
+use Rattle.syn_replica.proofs.RefusalLemmas.{halted_is}
 use Rattle.syn_agent.proofs.ReadingLemmas.{is_listing, is_there, no_device}
 use Rattle.syn_agent.proofs.ReadingLemmas.{no_memory, own_absent, reading}
 use Rattle.syn_agent.proofs.ReadingLemmas.{running}

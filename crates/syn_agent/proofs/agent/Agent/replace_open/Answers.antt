@@ -55,8 +55,7 @@ returns-in-Ok-replace-clause-answers g c history stands fresh young =
     c.in-Ok.ensures.none (part_of c.in-Ok-Some.new) reads c.replace.new.self
     (told.acknowledged history stands).1
     (none_of _ (λ why is. told.refused history why stands fresh is))
-    (told.record history stands fresh) (told.tried history stands fresh)
-    (told.any_moment history stands) (told.calls history stands) told.failures
+    told.machine (told.any_moment history stands)
 
 pub returns-in-Err-replace-clause-answers : goal.returns-in-Err-replace-clause-answers
 returns-in-Err-replace-clause-answers g c history stands fresh young =
@@ -70,16 +69,14 @@ returns-in-Err-replace-clause-answers g c history stands fresh young =
     (unmade_answers c.args.replica.now c.args.self.now history c.args.token.session
     c.args.token.item c.args.path.now c.args.since c.args.length stands fresh young
     c.in-Ok.ensures.none (part_of c.in-Ok-Some.new) reads c.replace.new.self c.in-Err-replace.error
-    (told.cause history stands) (λ why is. told.refused history why stands fresh is) told.halts
-    told.failures (told.calls history stands) told.readings told.unchanged
-    (told.tried history stands fresh) told.untried (told.any_moment history stands)
-    (told.seen history stands))
+    (told.cause history stands) (λ why is. told.refused history why stands fresh is) told.machine
+    (told.any_moment history stands))
 
 pub returns-in-Err-replace-clause-failures : goal.returns-in-Err-replace-clause-failures
 returns-in-Err-replace-clause-failures g c =
     subst (λ r. CountsFailures (Refused r) (g.D.Disk.failures (disk_of c.args.replica.now))
     (g.D.Disk.failures (disk_of c.replace.new.self))) (sym c.refusal.ensures)
-    (counts c.in-Err-replace.error _ _ c.in-Err-replace.ensures.failures)
+    (counts c.in-Err-replace.error _ _ c.in-Err-replace.ensures.machine.device.failures)
 
 pub returns-in-Err-clause-grown : goal.returns-in-Err-clause-grown
 returns-in-Err-clause-grown g c = itself c.args.replica.now

@@ -1,9 +1,9 @@
 use Rattle.std.proofs.Common.{◌∙◌, ◌<◌, arith, sym, subst, inl, inr}
 use Rattle.std.specs.Prelude.{◌^◌, option_map}
 use Rattle.syn_host.specs.Sides.{Gains}
-use Rattle.syn_replica.specs.Refusals.{AfterReads}
-use Rattle.syn_agent.proofs.CauseLemmas.{device_is}
-use Rattle.syn_host.proofs.CauseLemmas.{has_failed, memory_not_device, none_failed, reads_made}
+use Rattle.syn_host.proofs.CauseLemmas.{memory_not_device}
+use Rattle.syn_journaled.proofs.Spent.{read_all, read_broke}
+use Rattle.syn_standing.specs.Refusals.{refusal_of}
 use Rattle.syn_host.proofs.OpenLemmas.{open_failed, open_ok, open_refused, some_stands}
 use Rattle.syn_host.proofs.side.DownSide.open.Goals as goal
 
@@ -13,11 +13,11 @@ returns-in-Ok g c machine rests =
     let tried = option_map (λ spelled. spelled.items) c.args.self.tried in
     open_ok g.D.Disk c.args.pair c.args.self machine rests g.met.D.Disk.seen_may_stay
     c.device_laws.ensures.reads c.in-Ok.replica c.new-agent.result c.gained-outcome.result tried
-    rests.tries fits c.in-Ok.ensures.untouched c.in-Ok.ensures.each c.new-agent.ensures
+    rests.tries fits c.in-Ok.ensures.device.untouched c.in-Ok.ensures.each c.new-agent.ensures
     (c.machine_laws.ensures.up c.args.pair)
     (subst (λ n. Gains c.gained-outcome.result c.args.self.position n tried) c.position.ensures
-    c.gained-outcome.ensures) c.opening_laws.ensures.sides c.in-Ok.ensures.failures
-    c.in-Ok.ensures.calls
+    c.gained-outcome.ensures) c.opening_laws.ensures.sides c.in-Ok.ensures.device.failures
+    c.in-Ok.ensures.device.arms
 
 pub returns-in-Err : goal.returns-in-Err
 returns-in-Err g c machine rests =
@@ -27,18 +27,18 @@ returns-in-Err g c machine rests =
     (rests.leaves bytes (g.met.D.Disk.seen_may_stay c.args.self.disk)) in
     elim (c.disk_laws.ensures c.args.pair bytes found.0 c.in-Err.error fits found.1
     c.in-Err.ensures.refusals) [
-      | inl device ↦ open_failed g.D.Disk c.args.pair c.args.self machine rests
+      | inl device ↦
+          let broke = read_broke (refusal_of c.in-Err.error) c.args.self.disk c.in-Err.disk device
+          c.in-Err.ensures.device in
+          open_failed g.D.Disk c.args.pair c.args.self machine rests
           g.met.D.Disk.seen_may_stay c.device_laws.ensures.reads c.in-Err.disk
-          c.in-Err.ensures.untouched c.refusal.result (c.refusal.ensures ∙ device)
-          (has_failed c.in-Err.error _ _ device c.in-Err.ensures.failures)
-          c.device_laws.ensures.broken (subst (λ e. AfterReads 1 e
-          (g.D.Disk.arms c.args.self.disk) (g.D.Disk.arms c.in-Err.disk))
-          (device_is c.in-Err.error device) c.in-Err.ensures.calls)
-      | inr memory ↦ open_refused g.D.Disk c.args.pair c.args.self machine rests
+          c.in-Err.ensures.device.untouched c.refusal.result (c.refusal.ensures ∙ device) broke.0
+          c.device_laws.ensures.broken broke.1
+      | inr memory ↦
+          let read = read_all (refusal_of c.in-Err.error) c.args.self.disk c.in-Err.disk
+          (λ device. memory_not_device (sym memory ∙ device)) c.in-Err.ensures.device in
+          open_refused g.D.Disk c.args.pair c.args.self machine rests
           g.met.D.Disk.seen_may_stay c.device_laws.ensures.reads c.in-Err.disk
-          c.in-Err.ensures.untouched c.refusal.result (c.refusal.ensures ∙ memory)
-          (none_failed c.in-Err.error _ _ (λ device. memory_not_device (sym memory ∙ device))
-          c.in-Err.ensures.failures)
-          (reads_made c.in-Err.error 1 _ _ (λ device. memory_not_device (sym memory ∙ device))
-          c.in-Err.ensures.calls)
+          c.in-Err.ensures.device.untouched c.refusal.result (c.refusal.ensures ∙ memory) read.0
+          read.1
     ]

@@ -1,18 +1,17 @@
-use Rattle.std.proofs.Common.{◌≡◌, ◌⊎◌, ◌∙◌, ◌-◌, Some, ap, arith, inl, inr, refl, subst, sym, []}
+use Rattle.std.proofs.Common.{◌≡◌, ◌⊎◌, ◌∙◌, ◌-◌, Some, ap, arith, inl, inr, refl, sym, []}
 use Rattle.std.proofs.Common.{◌∷◌}
 use Rattle.syn_headline.specs.SideMachine.{UserEdits, causes_of}
 use Rattle.syn_host.specs.Sides.{CallIsStep}
 use Rattle.syn_model.specs.Refusal.{Refusal, first_cause}
 use Rattle.syn_model.specs.Refusal as why
 use Rattle.syn_replica.specs.Edits.{event_by}
-use Rattle.syn_replica.specs.Refusals.{MakesIfDevice}
 use Rattle.syn_standing.specs.Refusals.{refusal_of}
 use Rattle.syn_replica.specs.Replica.{Stands, disk_of, left_shown, room_shown}
 use Rattle.syn_replica.specs.Steps.{add_refusal}
 use Rattle.syn_tree.specs.Edits.{edit_of}
-use Rattle.syn_agent.proofs.CauseLemmas.{device_is, edit_never, none_of, outside}
-use Rattle.syn_host.proofs.CauseLemmas.{causes_are, causes_none, causes_some, has_failed, no_calls}
-use Rattle.syn_host.proofs.CauseLemmas.{none_failed, reason_is}
+use Rattle.syn_agent.proofs.CauseLemmas.{edit_never, none_of, outside}
+use Rattle.syn_host.proofs.CauseLemmas.{causes_are, causes_none, causes_some, reason_is}
+use Rattle.syn_journaled.proofs.Spent.{broke_off, nothing_spent}
 use Rattle.syn_host.proofs.EditLemmas.{edit_failed, edit_ok, edit_refused, failed_by}
 use Rattle.syn_host.proofs.SideLemmas.{position_is, when_up}
 use Rattle.syn_host.proofs.side.UpSide.add.Goals as goal
@@ -32,10 +31,11 @@ returns-in-Ok g c pair machine runs =
     c.requires.lawful c.settle_added.result _
     (c.position-position.ensures ∙ position_is pair c.args.self machine runs)
     g.met.D.Disk.counts_now c.machine_laws.ensures.written
-    (c.in-Ok.ensures.any_moment machine.journal.value is_up.1) c.in-Ok.ensures.tried
+    (c.in-Ok.ensures.any_moment machine.journal.value is_up.1) c.in-Ok.ensures.machine.tried
     c.settle_added.ensures none (c.machine_laws.ensures.up pair)
-    (c.in-Ok.ensures.acknowledged machine.journal.value is_up.1).1 c.in-Ok.ensures.record
-    c.in-Ok.ensures.failures c.device_laws.ensures.made c.in-Ok.ensures.calls
+    (c.in-Ok.ensures.acknowledged machine.journal.value is_up.1).1
+    c.in-Ok.ensures.machine.written c.in-Ok.ensures.machine.device.failures
+    c.device_laws.ensures.made c.in-Ok.ensures.machine.device.arms
 
 pub returns-in-Err : goal.returns-in-Err
 returns-in-Err g c pair machine runs =
@@ -48,10 +48,13 @@ returns-in-Err g c pair machine runs =
     let same = causes_are pair (room_shown old) (left_shown old) c.args.user
     (edit_of c.args.edit) machine room_is (runs.is.room is_up.0) in
     let position_now = c.position-position.ensures ∙ position_is pair c.args.self machine runs in
-    elim c.in-Err.ensures.tried
+    let made = c.in-Err.ensures.machine in
+    elim made.tried
     as (λ _. CallIsStep pair machine (failed_by old) (UserEdits pair machine event)
     c.settle.result) [
       | inl device ↦
+          let broke = broke_off (refusal_of e) (disk_of old) (disk_of c.edit.new.self) 4 device.0
+          made.device in
           let none = causes_none machine (causes_of pair machine event) is_up.0 (sym same
           ∙ none_of (add_refusal (room_shown old) value event)
           (λ why some. edit_never (room_shown old) value c.args.user (edit_of c.args.edit)
@@ -61,12 +64,10 @@ returns-in-Err g c pair machine runs =
           c.machine_laws-in-Err.ensures.written
           (c.in-Err.ensures.any_moment value is_up.1) device.1 _ c.settle.ensures
           (ap (λ r. r ∷ []) (c.refusal.ensures ∙ device.0)) refl none
-          (c.in-Err.ensures.halts device.0) c.in-Err.ensures.readings
-          (has_failed e _ _ device.0 c.in-Err.ensures.failures) c.device_laws.ensures.broken
-          (subst (λ e. MakesIfDevice e 4 (g.D.Disk.arms (disk_of old))
-          (g.D.Disk.arms (disk_of c.edit.new.self))) (device_is e device.0)
-          c.in-Err.ensures.calls)
+          (made.halts device.0) made.readings broke.0 c.device_laws.ensures.broken broke.1
       | inr other ↦
+          let unspent = nothing_spent (refusal_of e) (disk_of old) (disk_of c.edit.new.self) 4
+          other.0 made.device in
           let stands : Stands c.edit.new.self value =
           elim (c.in-Err.ensures.unchanged value is_up.1) [
             | inl device ↦ absurd (other.0 device)
@@ -85,9 +86,8 @@ returns-in-Err g c pair machine runs =
           (reason_is (causes_of pair machine event) (refusal_of e)
           (λ found is. c.in-Err.ensures.refused value found is_up.1 (same ∙ is)) either) in
           edit_refused pair old c.edit.new.self c.args.self.agent machine runs is_up.0 stands
-          c.in-Err.ensures.readings other.1
-          (no_calls e 4 _ _ other.0 c.in-Err.ensures.calls) (c.machine_laws-in-Err.ensures.up pair)
+          made.readings other.1 unspent.1 (c.machine_laws-in-Err.ensures.up pair)
           event _ (refusal_of e) c.settle.result _ c.settle.ensures
           (ap (λ r. r ∷ []) c.refusal.ensures) refl some
-          (none_failed e _ _ other.0 c.in-Err.ensures.failures)
+          unspent.0
     ]

@@ -1,11 +1,12 @@
-use Rattle.std.proofs.Common.{◌∙◌, ◌∷◌, [], ap, inl, inr, refl, subst, sym}
+use Rattle.std.proofs.Common.{◌∙◌, ◌∷◌, [], ap, inl, inr, refl, sym}
 use Rattle.syn_headline.specs.MachineSteps.{Does, Reopen}
 use Rattle.syn_headline.specs.SideMachine.{side_kind}
 use Rattle.syn_host.specs.Sides.{CallIsStep}
-use Rattle.syn_replica.specs.Refusals.{AfterReads}
 use Rattle.syn_replica.specs.Replica.{Stands, disk_of}
-use Rattle.syn_agent.proofs.CauseLemmas.{device_is, outside}
-use Rattle.syn_host.proofs.CauseLemmas.{has_failed, memory_not_device, none_failed, reads_made}
+use Rattle.syn_agent.proofs.CauseLemmas.{outside}
+use Rattle.syn_host.proofs.CauseLemmas.{memory_not_device}
+use Rattle.syn_journaled.proofs.Spent.{read_all, read_broke}
+use Rattle.syn_standing.specs.Refusals.{refusal_of}
 use Rattle.syn_host.proofs.EditLemmas.{failed_by}
 use Rattle.syn_host.proofs.ReopenLemmas.{keeps_up, reopen_failed, reopen_ok, reopen_refused}
 use Rattle.syn_host.proofs.SideLemmas.{position_is}
@@ -13,14 +14,15 @@ use Rattle.syn_host.proofs.side.UpSide.reopen_with.Goals as goal
 
 pub returns-in-Ok : goal.returns-in-Ok
 returns-in-Ok g c pair machine runs =
+    let made = c.in-Ok.ensures.machine in
     reopen_ok pair c.args.self.replica c.reopen.new.self c.args.self.agent machine runs
     c.settle_opened.result _
     (c.position-position.ensures ∙ position_is pair c.args.self machine runs)
-    c.in-Ok.ensures.untouched c.in-Ok.ensures.pair _
+    made.device.untouched made.pair _
     (λ told writing. c.requires ∙ runs.tries told writing) c.settle_opened.ensures
     g.met.D.Disk.seen_may_stay c.in-Ok.ensures.each (c.machine_laws.ensures.up pair)
-    c.opening_laws.ensures.sides c.in-Ok.ensures.failures c.device_laws.ensures.reads
-    c.in-Ok.ensures.calls
+    c.opening_laws.ensures.sides made.device.failures c.device_laws.ensures.reads
+    made.device.arms
 
 pub returns-in-Err : goal.returns-in-Err
 returns-in-Err g c pair machine runs =
@@ -29,6 +31,7 @@ returns-in-Err g c pair machine runs =
     let value = machine.journal.value in
     let e = c.in-Err.error in
     let position_now = c.position-position.ensures ∙ position_is pair c.args.self machine runs in
+    let made = c.in-Err.ensures.machine in
     elim (outside e (c.in-Err.ensures.keeps_up value (keeps_up pair old c.args.self.agent machine
     runs g.met.D.Disk.seen_may_stay)))
     as (λ _. CallIsStep pair machine (failed_by old) (Does (side_kind pair) machine Reopen)
@@ -39,20 +42,17 @@ returns-in-Err g c pair machine runs =
             | inl device ↦ absurd (memory_not_device (sym memory ∙ device))
             | inr stays ↦ stays
           ] in
+          let read = read_all (refusal_of e) (disk_of old) (disk_of new)
+          (λ device. memory_not_device (sym memory ∙ device)) made.device in
           reopen_refused pair old new c.args.self.agent machine runs c.settle.result _ position_now
-          c.in-Err.ensures.untouched _ c.settle.ensures c.in-Err.ensures.tried
-          c.in-Err.ensures.memory refl (ap (λ r. r ∷ []) (c.refusal.ensures ∙ memory)) unchanged
-          c.in-Err.ensures.halted
-          (none_failed e _ _ (λ device. memory_not_device (sym memory ∙ device))
-          c.in-Err.ensures.failures) c.device_laws.ensures.reads
-          (reads_made e 1 _ _ (λ device. memory_not_device (sym memory ∙ device))
-          c.in-Err.ensures.calls)
+          made.device.untouched _ c.settle.ensures made.tried made.memory refl
+          (ap (λ r. r ∷ []) (c.refusal.ensures ∙ memory)) unchanged made.halted read.0
+          c.device_laws.ensures.reads read.1
       | inr device ↦
+          let broke = read_broke (refusal_of e) (disk_of old) (disk_of new) device made.device in
           reopen_failed pair old new c.args.self.agent machine runs c.settle.result _ position_now
-          c.in-Err.ensures.untouched _ c.settle.ensures c.in-Err.ensures.tried
-          c.in-Err.ensures.memory refl (ap (λ r. r ∷ []) (c.refusal.ensures ∙ device))
-          (c.in-Err.ensures.halts (λ memory. memory_not_device (sym memory ∙ device)))
-          (has_failed e _ _ device c.in-Err.ensures.failures) c.device_laws.ensures.broken
-          (subst (λ e. AfterReads 1 e (g.D.Disk.arms (disk_of old)) (g.D.Disk.arms (disk_of new)))
-          (device_is e device) c.in-Err.ensures.calls)
+          made.device.untouched _ c.settle.ensures made.tried made.memory refl
+          (ap (λ r. r ∷ []) (c.refusal.ensures ∙ device))
+          (made.halts (λ memory. memory_not_device (sym memory ∙ device))) broke.0
+          c.device_laws.ensures.broken broke.1
     ]

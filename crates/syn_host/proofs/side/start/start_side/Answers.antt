@@ -1,14 +1,15 @@
 use Rattle.std.proofs.Common.{◌∙◌, inl, inr, sym}
 use Rattle.syn_replica.specs.Replica.{standing_shown}
 use Rattle.syn_host.proofs.StartLemmas.{as_wanted, side_starts, stands_for}
-use Rattle.syn_host.proofs.CauseLemmas.{has_failed, none_failed}
+use Rattle.syn_journaled.proofs.Spent.{read_all, read_broke}
+use Rattle.syn_standing.specs.Refusals.{refusal_of}
 use Rattle.syn_host.proofs.side.start.start_side.Goals as goal
 
 pub returns-in-Ok-clause-starts : goal.returns-in-Ok-clause-starts
 returns-in-Ok-clause-starts g c number history fits can =
     side_starts g.D.Disk number c.args.disk history fits can c.in-Ok.replica c.new-agent.result
-    c.in-Ok.ensures.untouched c.in-Ok.ensures.each c.device_laws.ensures.reads
-    c.in-Ok.ensures.calls c.new-agent.ensures (c.machine_laws.ensures.up number)
+    c.in-Ok.ensures.device.untouched c.in-Ok.ensures.each c.device_laws.ensures.reads
+    c.in-Ok.ensures.device.arms c.new-agent.ensures (c.machine_laws.ensures.up number)
 
 pub returns-in-Ok-clause-holds : goal.returns-in-Ok-clause-holds
 returns-in-Ok-clause-holds g c = record {
@@ -25,10 +26,10 @@ returns-in-Err-clause-cause g c = record {
 
 pub returns-in-Err-clause-failures : goal.returns-in-Err-clause-failures
 returns-in-Err-clause-failures g c = record {
-  grew = λ device. has_failed c.in-Err.error _ _ (sym c.refusal.ensures ∙ device)
-      c.in-Err.ensures.failures;
-  same = λ other. none_failed c.in-Err.error _ _ (λ device. other (c.refusal.ensures ∙ device))
-      c.in-Err.ensures.failures;
+  grew = λ device. (read_broke (refusal_of c.in-Err.error) c.args.disk _
+      (sym c.refusal.ensures ∙ device) c.in-Err.ensures.device).0;
+  same = λ other. (read_all (refusal_of c.in-Err.error) c.args.disk _
+      (λ device. other (c.refusal.ensures ∙ device)) c.in-Err.ensures.device).0;
 }
 
 pub returns-in-Err-clause-refused : goal.returns-in-Err-clause-refused

@@ -1,4 +1,6 @@
 use Rattle.std.proofs.Common.{◌≡◌, ◌≢◌, ◌⊎◌, ◌<◌, ◌≤◌, Some, length, sym, ap, ◌∙◌, refl, subst, inl}
+use Rattle.std.proofs.Common.{None, true≢false}
+use Rattle.std.proofs.lemmas.Bool.{eq-eqb, ne_eqb}
 use Rattle.std.specs.Prelude.{IfOk, IfErr}
 use Rattle.syn_replica.specs.Refusals.{IsOneOf, outside_refusals, begin_refusals}
 use Rattle.syn_standing.specs.Refusals.{refusal_of, refusal_in}
@@ -11,10 +13,12 @@ use Rattle.syn_replica.proofs.SessionLemmas.{begin_cause, begin_refused, begin_a
 use Rattle.syn_replica.proofs.SessionLemmas.{rest_at, not_begun, one_longer}
 use Rattle.syn_standing.proofs.StandingLemmas.{early_at}
 use Rattle.syn_replica.proofs.StandLemmas.{keeps_now, not_written}
-use Rattle.syn_replica.specs.Growing.{itself}
 use Rattle.syn_model.specs.Refusal as why
-use Rattle.syn_replica.proofs.RefusalLemmas.{inner_refusals, never, early_among, quiet_failures}
-use Rattle.syn_replica.proofs.RefusalLemmas.{quiet_calls, quiet_device, quiet_tries}
+use Rattle.syn_replica.proofs.RefusalLemmas.{inner_refusals, never, early_among}
+use Rattle.syn_replica.proofs.RefusalLemmas.{not_full_device, not_full_halted}
+use Rattle.syn_replica.proofs.CallLemmas.{done_before, exits_early, refused_early}
+use Rattle.syn_replica.specs.Calls.{Writes, unless}
+use Rattle.syn_journaled.specs.Endings.{ended}
 use Rattle.syn_replica.proofs.replica.Replica.begin.Goals as goal
 
 pub returns-clause-acknowledged : goal.returns-clause-acknowledged
@@ -28,80 +32,25 @@ returns-clause-acknowledged g c history stands =
     × Stands c.add.new.self h)) (sym (not_begun history session other))
     (one_longer c.add.result history (Began session) _ (c.add.ensures.acknowledged history stands))
 
-pub returns-then-is_halted-clause-grown : goal.returns-then-is_halted-clause-grown
-returns-then-is_halted-clause-grown g c = itself c.args.self.now
-
-pub returns-then-pair-clause-grown : goal.returns-then-pair-clause-grown
-returns-then-pair-clause-grown g c = itself c.args.self.now
-
-pub returns-then-session-last_session-clause-grown :
-    goal.returns-then-session-last_session-clause-grown
-returns-then-session-last_session-clause-grown g c = itself c.args.self.now
-
-pub returns-in_err-check-clause-grown : goal.returns-in_err-check-clause-grown
-returns-in_err-check-clause-grown g c = itself c.args.self.now
-
-pub returns-in_err-check_room-clause-grown : goal.returns-in_err-check_room-clause-grown
-returns-in_err-check_room-clause-grown g c = itself c.args.self.now
-
 pub returns-then-is_halted-clause-any_moment : goal.returns-then-is_halted-clause-any_moment
 returns-then-is_halted-clause-any_moment g c history stands =
     not_written g.met.D.Disk.only_now c.args.self.now history stands _
     (inl (keeps_now c.args.self.now history stands))
-
-pub returns-then-is_halted-clause-seen : goal.returns-then-is_halted-clause-seen
-returns-then-is_halted-clause-seen g c history stands =
-    inl (keeps_now c.args.self.now history stands)
 
 pub returns-then-pair-clause-any_moment : goal.returns-then-pair-clause-any_moment
 returns-then-pair-clause-any_moment g c history stands =
     not_written g.met.D.Disk.only_now c.args.self.now history stands _
     (inl (keeps_now c.args.self.now history stands))
 
-pub returns-then-pair-clause-seen : goal.returns-then-pair-clause-seen
-returns-then-pair-clause-seen g c history stands =
-    inl (keeps_now c.args.self.now history stands)
-
 pub returns-in_err-check-clause-any_moment : goal.returns-in_err-check-clause-any_moment
 returns-in_err-check-clause-any_moment g c history stands =
     not_written g.met.D.Disk.only_now c.args.self.now history stands _
     (inl (keeps_now c.args.self.now history stands))
 
-pub returns-in_err-check-clause-seen : goal.returns-in_err-check-clause-seen
-returns-in_err-check-clause-seen g c history stands = inl (keeps_now c.args.self.now history stands)
-
 pub returns-in_err-check_room-clause-any_moment : goal.returns-in_err-check_room-clause-any_moment
 returns-in_err-check_room-clause-any_moment g c history stands =
     not_written g.met.D.Disk.only_now c.args.self.now history stands _
     (inl (keeps_now c.args.self.now history stands))
-
-pub returns-in_err-check_room-clause-seen : goal.returns-in_err-check_room-clause-seen
-returns-in_err-check_room-clause-seen g c history stands =
-    inl (keeps_now c.args.self.now history stands)
-
-pub returns-in_err-check-clause-tried : goal.returns-in_err-check-clause-tried
-returns-in_err-check-clause-tried g c other =
-    quiet_tries c.from_residual.result _ c.from_residual.ensures.1
-    (never inner_refusals why.Device refl _ (early_among (standing_shown c.args.self.now)
-    (Began c.args.session) _ c.in_err-check.ensures)) c.args.self.now (Began c.args.session)
-
-pub returns-in_err-check-clause-failures : goal.returns-in_err-check-clause-failures
-returns-in_err-check-clause-failures g c =
-    quiet_failures c.from_residual.result _ c.from_residual.ensures.1
-    (never inner_refusals why.Device refl _ (early_among (standing_shown c.args.self.now)
-    (Began c.args.session) _ c.in_err-check.ensures)) _ _
-
-pub returns-in_err-check-clause-calls : goal.returns-in_err-check-clause-calls
-returns-in_err-check-clause-calls g c =
-    quiet_calls c.from_residual.result _ c.from_residual.ensures.1
-    (never inner_refusals why.Device refl _ (early_among (standing_shown c.args.self.now)
-    (Began c.args.session) _ c.in_err-check.ensures)) _ 4 _
-
-pub returns-in_err-check-clause-halts : goal.returns-in_err-check-clause-halts
-returns-in_err-check-clause-halts g c =
-    quiet_device c.from_residual.result _ c.from_residual.ensures.1
-    (never inner_refusals why.Device refl _ (early_among (standing_shown c.args.self.now)
-    (Began c.args.session) _ c.in_err-check.ensures)) _
 
 pub returns-in_err-check-clause-cause : goal.returns-in_err-check-clause-cause
 returns-in_err-check-clause-cause g c history stands =
@@ -178,3 +127,48 @@ pub returns-clause-refusals : goal.returns-clause-refusals
 returns-clause-refusals g c =
     added_refusals begin_refusals refl refl _ (begun_among (room_shown c.args.self.now)
     (standing_shown c.args.self.now) c.args.session) c.add.result c.add.ensures.cause
+
+-- ---- the machine
+
+pub returns-then-is_halted-clause-machine : goal.returns-then-is_halted-clause-machine
+returns-then-is_halted-clause-machine g c =
+    refused_early c.args.self.now _ why.Halted (λ is. cc)
+    (λ _. c.is_halted.ensures.0 c.if-is_halted.true, λ _. refl)
+
+pub returns-then-pair-clause-machine : goal.returns-then-pair-clause-machine
+returns-then-pair-clause-machine g c =
+    refused_early c.args.self.now _ why.WrongPair (λ is. cc)
+    (λ is. cc, λ h. absurd (true≢false (sym (c.is_halted.ensures.1 h) ∙ c.if-is_halted.false)))
+
+pub returns-then-session-last_session-clause-machine :
+    goal.returns-then-session-last_session-clause-machine
+returns-then-session-last_session-clause-machine g c =
+    let old = c.args.self.now in
+    let last = c.if-session-last_session.true ∙ c.last_session.ensures in
+    subst (λ b. Writes old old (unless b (Began c.args.session)) None)
+    (sym (eq-eqb c.args.session _ last))
+    (done_before old (λ h. true≢false (sym (c.is_halted.ensures.1 h) ∙ c.if-is_halted.false)))
+
+pub returns-in_err-check-clause-machine : goal.returns-in_err-check-clause-machine
+returns-in_err-check-clause-machine g c =
+    let event = Began c.args.session in
+    let among = early_among (standing_shown c.args.self.now) event _ c.in_err-check.ensures in
+    exits_early c.args.self.now c.from_residual.result _ _ c.from_residual.ensures.1
+    (λ h. true≢false (sym (c.is_halted.ensures.1 h) ∙ c.if-is_halted.false))
+    (never inner_refusals why.Halted refl _ among) (never inner_refusals why.Device refl _ among)
+
+pub returns-in_err-check_room-clause-machine : goal.returns-in_err-check_room-clause-machine
+returns-in_err-check_room-clause-machine g c =
+    let full = ap refusal_of c.in_err-check_room.ensures.refused.0 in
+    exits_early c.args.self.now c.from_residual-in_err-check_room.result _ _
+    c.from_residual-in_err-check_room.ensures.1
+    (λ h. true≢false (sym (c.is_halted.ensures.1 h) ∙ c.if-is_halted.false))
+    (λ halted. not_full_halted (sym full ∙ halted)) (λ device. not_full_device (sym full ∙ device))
+
+pub returns-clause-machine : goal.returns-clause-machine
+returns-clause-machine g c =
+    subst (λ b. Writes c.args.self.now c.add.new.self (unless b (Began c.args.session))
+    (ended refusal_of c.add.result))
+    (sym (ne_eqb c.args.session _
+    (λ same. c.if-session-last_session.false (same ∙ sym c.last_session.ensures))))
+    c.add.ensures.machine

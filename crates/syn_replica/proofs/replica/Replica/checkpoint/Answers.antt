@@ -1,21 +1,22 @@
-use Rattle.std.proofs.Common.{◌≡◌, ◌≤◌, ◌+◌, ◌∷◌, [], Bool, true, false, true≢false}
+use Rattle.std.proofs.Common.{◌≡◌, ◌≤◌, ◌+◌, []}
 use Rattle.std.proofs.Common.{Some, length, ap, inl, inr, refl, subst, sym, ◌∙◌, arith}
 use Rattle.std.proofs.lemmas.Option.{none-some}
-use Rattle.std.specs.Prelude.{IsErrAnd}
 use Rattle.syn_journal.specs.Layout.{IsBeforeOrAfter, image_alone, longest_image}
 use Rattle.syn_journal.specs.declared.error.JournalError.TheVariants as by_journal
 use Rattle.syn_journal.specs.Journal as journal
-use Rattle.syn_journaled.proofs.Results.{answered, if_err_of, is_err_of, ok_part, on_ok_of}
+use Rattle.syn_journaled.proofs.Results.{answered, if_err_of, ok_part, on_ok_of}
 use Rattle.syn_model.specs.Image.{StandsFor, image_spelling}
 use Rattle.syn_model.specs.Refusal as why
 use Rattle.syn_standing.specs.Refusals.{refusal_of}
 use Rattle.syn_standing.specs.declared.error.ReplicaError.TheVariants.{Journal}
-use Rattle.syn_replica.specs.Replica.{KeepsOrCompacts, generation_shown, left_shown}
-use Rattle.syn_replica.specs.Replica.{pair_of, standing_shown}
+use Rattle.syn_model.specs.History.{History}
+use Rattle.syn_replica.specs.Replica.{KeepsOrCompacts, Stands, disk_of, generation_shown}
+use Rattle.syn_replica.specs.Replica.{left_shown, pair_of, standing_shown}
 use Rattle.syn_replica.specs.declared.replica.Replica.{Replica}
-use Rattle.syn_replica.specs.Refusals.{IsOneOf}
+use Rattle.syn_journaled.specs.Endings.{ended}
 use Rattle.syn_replica.proofs.GrowthLemmas.{broken, kept, of_checkpoint, stands_still, unmoved}
-use Rattle.syn_replica.proofs.RefusalLemmas.{is_among}
+use Rattle.syn_replica.specs.Growth.{IsGrown}
+use Rattle.syn_replica.proofs.CallLemmas.{compacts}
 use Rattle.syn_replica.proofs.StandLemmas.{image_stands, left_behind}
 use Rattle.syn_disk.proofs.LeftLemmas.{leaves_weaker, seen_is_left}
 use Rattle.syn_replica.proofs.StandLemmas.{stop_compacts}
@@ -51,16 +52,6 @@ returns-clause-any_moment g c history stands =
     stands.remembers.standing refl (left_behind old stands.value stands.runs))
     (c.checkpoint.ensures.journal.any_moment stands.value stands.runs)
 
-pub returns-clause-seen : goal.returns-clause-seen
-returns-clause-seen g c history stands =
-    seen_is_left g.D.Disk.seen g.D.Disk.may_leave g.D.Disk.moment g.D.Disk.left_since
-    g.met.D.Disk.seen_may_stay g.met.D.Disk.counts_now _ _
-    (KeepsOrCompacts c.args.self.now history) (returns-clause-any_moment g c history stands)
-
-pub returns-clause-image : goal.returns-clause-image
-returns-clause-image g c =
-    on_ok_of refusal_of c.checkpoint.result _ c.checkpoint.ensures.journal.acknowledged
-
 pub returns-clause-cause : goal.returns-clause-cause
 returns-clause-cause g c =
     if_err_of refusal_of c.checkpoint.result _
@@ -85,35 +76,22 @@ returns-clause-first g c last running =
     answered refusal_of (λ by. Journal by) c.checkpoint.result by_journal.Full
     c.checkpoint.ensures.answer (c.checkpoint.ensures.journal.greatest running last)
 
-pub returns-clause-greatest : goal.returns-clause-greatest
-returns-clause-greatest g c last = by_halted c.args.self.now.machine.journal.halted refl
-  where
-    among : (w : _) → is_among (why.Halted ∷ why.Full ∷ why.Memory ∷ []) w ≡ true → (e : _) →
-        refusal_of e ≡ w → IsOneOf (why.Halted ∷ why.Full ∷ why.Memory ∷ []) e
-    among w is e same =
-        subst (λ r. is_among (why.Halted ∷ why.Full ∷ why.Memory ∷ []) r ≡ true) (sym same) is
-
-    by_halted : (halted : Bool) → c.args.self.now.machine.journal.halted ≡ halted →
-        IsErrAnd c.checkpoint.result (IsOneOf (why.Halted ∷ why.Full ∷ why.Memory ∷ []))
-    by_halted true is =
-        is_err_of refusal_of c.checkpoint.result _ why.Halted
-        (c.checkpoint.ensures.journal.halted.1 is) (among why.Halted refl)
-    by_halted false is =
-        is_err_of refusal_of c.checkpoint.result _ why.Full
-        (c.checkpoint.ensures.journal.greatest (λ halted. true≢false (sym halted ∙ is)) last)
-        (among why.Full refl)
-
 device_is_no_halt : Some why.Device ≡ Some why.Halted → ⊥
 device_is_no_halt is = cc is
 
-pub returns-clause-grown : goal.returns-clause-grown
-returns-clause-grown g c =
+pub returns-clause-machine : goal.returns-clause-machine
+returns-clause-machine g c =
     let old = c.args.self.now in
     let new : Replica _ _ = record old { machine = c.checkpoint.new.self } in
     let told = c.checkpoint.ensures.journal in
     let pair = ap (λ m. m.pair) c.checkpoint.ensures.state in
     let standing = ap (λ m. m.standing) c.checkpoint.ensures.state in
-    elim told.unchanged [
+    let seen : (history : History) → Stands old history →
+    KeepsOrCompacts old history (g.D.Disk.seen (disk_of new)) =
+    λ history stands. seen_is_left g.D.Disk.seen g.D.Disk.may_leave g.D.Disk.moment
+    g.D.Disk.left_since g.met.D.Disk.seen_may_stay g.met.D.Disk.counts_now _ _
+    (KeepsOrCompacts old history) (returns-clause-any_moment g c history stands) in
+    let grown : IsGrown old new = elim told.unchanged [
       | inl none ↦ kept old new pair standing
           (λ halted. none-some _ (sym none ∙ told.halted.1 halted))
           (λ history stands. ok_part refusal_of c.checkpoint.result _ _
@@ -121,10 +99,11 @@ returns-clause-grown g c =
       | inr (inl device) ↦ broken old new pair standing
           (λ halted. device_is_no_halt (sym device ∙ told.halted.1 halted))
           (inl (told.halts device))
-          (λ _ history stands. of_checkpoint old history _ _
-          (returns-clause-seen g c history stands))
+          (λ _ history stands. of_checkpoint old history _ _ (seen history stands))
       | inr (inr same) ↦ unmoved old new pair standing refl
           (ap (λ j. g.D.Disk.seen (journal.disk_of j)) same)
           (λ halted. subst (λ j. journal.IsHalted j) (sym same) halted)
           (λ history stands. inr (stands_still old new pair standing same history stands))
-    ]
+    ] in
+    compacts old new (ended refusal_of c.checkpoint.result) told
+    (record { pair = pair; standing = standing }) refl grown seen

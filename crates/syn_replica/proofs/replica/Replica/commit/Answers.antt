@@ -1,12 +1,18 @@
-use Rattle.std.proofs.Common.{◌≤◌, ◌+◌, ◌∷◌, ◌∙◌, [], Some, ap, inl, inr, refl, subst, sym}
+use Rattle.std.proofs.Common.{◌≡◌, ◌≤◌, ◌+◌, ◌∷◌, ◌∙◌, [], Some, ap, inl, inr, refl, subst, sym}
 use Rattle.std.proofs.Common.{true≢false}
-use Rattle.std.proofs.lemmas.Option.{none-some}
+use Rattle.std.proofs.lemmas.Option.{none-some, same_Some}
+use Rattle.syn_journal.specs.Journal as journal
+use Rattle.syn_model.specs.Refusal as why
 use Rattle.syn_model.specs.Standing.{Standing}
-use Rattle.syn_replica.specs.Replica.{KeepsBeforeOrAfter, position_shown}
+use Rattle.syn_standing.specs.Refusals.{refusal_of}
+use Rattle.syn_model.specs.History.{History}
+use Rattle.syn_replica.specs.Growth.{IsGrown}
+use Rattle.syn_replica.specs.Replica.{KeepsBeforeOrAfter, Stands, disk_of, position_shown}
 use Rattle.syn_replica.specs.declared.replica.Replica.{Replica}
 use Rattle.syn_replica.proofs.GrowthLemmas.{added, broken, kept, of_write, one_more, stands_still}
 use Rattle.syn_disk.proofs.LeftLemmas.{seen_is_left}
-use Rattle.syn_replica.proofs.WriteLemmas.{written_moment, written_stands}
+use Rattle.syn_replica.proofs.WriteLemmas.{refused_call, written_call, written_moment}
+use Rattle.syn_replica.proofs.WriteLemmas.{written_stands}
 use Rattle.syn_replica.proofs.replica.Replica.commit.Goals as goal
 
 -- ---- a device call failed
@@ -18,22 +24,33 @@ returns-then-is_halted-clause-any_moment g c history event stands allowed e =
     c.deref.result.now _ c.write.ensures.journal event (c.deref.ensures.value ∙ e)
     c.history_laws.ensures.payload c.layout_laws.ensures.left history stands allowed
 
-pub returns-then-is_halted-clause-seen : goal.returns-then-is_halted-clause-seen
-returns-then-is_halted-clause-seen g c history event stands allowed e =
-    seen_is_left g.D.Disk.seen g.D.Disk.may_leave g.D.Disk.moment g.D.Disk.left_since
-    g.met.D.Disk.seen_may_stay g.met.D.Disk.counts_now _ _
-    (KeepsBeforeOrAfter c.args.self.now history event)
-    (returns-then-is_halted-clause-any_moment g c history event stands allowed e)
-
-pub returns-then-is_halted-clause-grown : goal.returns-then-is_halted-clause-grown
-returns-then-is_halted-clause-grown g c event allowed e of =
+pub returns-then-is_halted-clause-machine : goal.returns-then-is_halted-clause-machine
+returns-then-is_halted-clause-machine g c event allowed e of =
     let old = c.args.self.now in
+    let new : Replica _ _ =
+    record old { machine = c.write.new.self; tried = Some c.args.payload } in
     let same = c.in-Err.ensures.state in
-    broken old (record old { machine = c.write.new.self; tried = Some c.args.payload })
-    (ap (λ m. m.pair) same) (ap (λ m. m.standing) same) c.requires.running
-    (inl (c.is_halted.ensures.0 c.if-is_halted.true))
+    let halted = c.is_halted.ensures.0 c.if-is_halted.true in
+    let device : refusal_of c.in-Err.error ≡ why.Device =
+    elim c.in-Err.ensures.journal.unchanged [
+      | inl none ↦ absurd (none-some _ (sym none))
+      | inr (inl device) ↦ same_Some _ _ device
+      | inr (inr still) ↦ absurd (c.requires.running
+          (subst (λ j. journal.IsHalted j) still halted))
+    ] in
+    let seen : (history : History) → Stands old history →
+    KeepsBeforeOrAfter old history event (g.D.Disk.seen (disk_of new)) =
+    λ history stands. seen_is_left g.D.Disk.seen g.D.Disk.may_leave g.D.Disk.moment
+    g.D.Disk.left_since g.met.D.Disk.seen_may_stay g.met.D.Disk.counts_now _ _
+    (KeepsBeforeOrAfter old history event) (returns-then-is_halted-clause-any_moment g c history
+    event stands (allowed history stands) e) in
+    let grown : IsGrown old new = broken old new (ap (λ m. m.pair) same) (ap (λ m. m.standing) same)
+    c.requires.running (inl halted)
     (λ _ history stands. of_write old history event _ _ (ap (λ x. Some x) e)
-    (returns-then-is_halted-clause-seen g c history event stands (allowed history stands) e))
+    (seen history stands)) in
+    refused_call old new c.deref.result.now event (c.deref.ensures.value ∙ e) grown seen
+    (refusal_of c.in-Err.error) c.in-Err.ensures.journal same
+    (inl (device, ap (λ x. Some x) e))
 
 -- ---- nothing was written
 
@@ -44,27 +61,31 @@ returns-else-is_halted-clause-any_moment g c history event stands allowed e =
     c.write.ensures.journal event (c.deref.ensures.value ∙ e) c.history_laws.ensures.payload
     c.layout_laws.ensures.left history stands allowed
 
-pub returns-else-is_halted-clause-seen : goal.returns-else-is_halted-clause-seen
-returns-else-is_halted-clause-seen g c history event stands allowed e =
-    seen_is_left g.D.Disk.seen g.D.Disk.may_leave g.D.Disk.moment g.D.Disk.left_since
-    g.met.D.Disk.seen_may_stay g.met.D.Disk.counts_now _ _
-    (KeepsBeforeOrAfter c.args.self.now history event)
-    (returns-else-is_halted-clause-any_moment g c history event stands allowed e)
-
-pub returns-else-is_halted-clause-grown : goal.returns-else-is_halted-clause-grown
-returns-else-is_halted-clause-grown g c event allowed e of =
+pub returns-else-is_halted-clause-machine : goal.returns-else-is_halted-clause-machine
+returns-else-is_halted-clause-machine g c event allowed e of =
     let old = c.args.self.now in
     let new : Replica _ _ = record old { machine = c.write.new.self } in
-    let pair = ap (λ m. m.pair) c.in-Err.ensures.state in
-    let standing = ap (λ m. m.standing) c.in-Err.ensures.state in
-    elim c.in-Err.ensures.journal.unchanged [
+    let same = c.in-Err.ensures.state in
+    let pair = ap (λ m. m.pair) same in
+    let standing = ap (λ m. m.standing) same in
+    let told = c.in-Err.ensures.journal in
+    let not : refusal_of c.in-Err.error ≡ why.Device → ⊥ =
+    λ device. true≢false (sym (c.is_halted.ensures.1 (told.halts (ap (λ w. Some w) device)))
+    ∙ c.if-is_halted.false) in
+    let seen : (history : History) → Stands old history →
+    KeepsBeforeOrAfter old history event (g.D.Disk.seen (disk_of new)) =
+    λ history stands. seen_is_left g.D.Disk.seen g.D.Disk.may_leave g.D.Disk.moment
+    g.D.Disk.left_since g.met.D.Disk.seen_may_stay g.met.D.Disk.counts_now _ _
+    (KeepsBeforeOrAfter old history event) (returns-else-is_halted-clause-any_moment g c history
+    event stands (allowed history stands) e) in
+    let grown : IsGrown old new = elim told.unchanged [
       | inl none ↦ absurd (none-some _ (sym none))
-      | inr (inl device) ↦ absurd (true≢false
-          (sym (c.is_halted.ensures.1 (c.in-Err.ensures.journal.halts device))
-          ∙ c.if-is_halted.false))
+      | inr (inl device) ↦ absurd (not (same_Some _ _ device))
       | inr (inr still) ↦ kept old new pair standing c.requires.running
           (stands_still old new pair standing still)
-    ]
+    ] in
+    refused_call old new c.deref.result.now event (c.deref.ensures.value ∙ e) grown seen
+    (refusal_of c.in-Err.error) told same (inr (not, refl))
 
 -- ---- it was written
 
@@ -86,18 +107,22 @@ returns-clause-any_moment g c history event stands allowed e =
     c.deref.result.now _ c.write.ensures.journal event (c.deref.ensures.value ∙ e)
     c.history_laws.ensures.payload c.layout_laws.ensures.left history stands allowed
 
-pub returns-clause-seen : goal.returns-clause-seen
-returns-clause-seen g c history event stands allowed e =
-    seen_is_left g.D.Disk.seen g.D.Disk.may_leave g.D.Disk.moment g.D.Disk.left_since
-    g.met.D.Disk.seen_may_stay g.met.D.Disk.counts_now _ _
-    (KeepsBeforeOrAfter c.args.self.now history event)
-    (returns-clause-any_moment g c history event stands allowed e)
-
-pub returns-clause-grown : goal.returns-clause-grown
-returns-clause-grown g c event allowed e of =
+pub returns-clause-machine : goal.returns-clause-machine
+returns-clause-machine g c event allowed e of =
     let old = c.args.self.now in
+    let new : Replica _ _ =
+    record old { machine = c.write.new.self; tried = Some c.args.payload } in
     let makes = c.in_default.ensures.state in
-    added old _ (event ∷ []) makes.pair (subst (λ (s : Standing). position_shown old ≤ s.position)
+    let seen : (history : History) → Stands old history →
+    KeepsBeforeOrAfter old history event (g.D.Disk.seen (disk_of new)) =
+    λ history stands. seen_is_left g.D.Disk.seen g.D.Disk.may_leave g.D.Disk.moment
+    g.D.Disk.left_since g.met.D.Disk.seen_may_stay g.met.D.Disk.counts_now _ _
+    (KeepsBeforeOrAfter old history event) (returns-clause-any_moment g c history
+    event stands (allowed history stands) e) in
+    let grown : IsGrown old new = added old new (event ∷ []) makes.pair
+    (subst (λ (s : Standing). position_shown old ≤ s.position)
     (sym (makes.standing event of)) (one_more (position_shown old))) c.requires.running
-    (λ history stands.
-    (returns-clause-acknowledged g c history event stands (allowed history stands) e of).1)
+    (λ history stands. (returns-clause-acknowledged g c history event stands
+    (allowed history stands) e of).1) in
+    written_call old new c.deref.result.now event (c.deref.ensures.value ∙ e) grown seen
+    c.in_default.ensures.journal makes.pair (ap (λ x. Some x) (sym c.deref.ensures.value))

@@ -1,4 +1,5 @@
 use Rattle.std.proofs.Common.{◌≡◌, ◌⊎◌, ◌<◌, ◌≤◌, Some, sym, ap, ◌∙◌, refl, subst, inl, inr}
+use Rattle.std.proofs.Common.{true≢false}
 use Rattle.std.proofs.lemmas.Result.{err_from_is_err_and}
 use Rattle.syn_tree.specs.Edits.{edit_of}
 use Rattle.syn_replica.specs.Edits.{event_by}
@@ -8,8 +9,8 @@ use Rattle.syn_replica.specs.Steps.{add_refusal}
 use Rattle.syn_replica.specs.inner.Additions.{add_refusal_at}
 use Rattle.syn_model.specs.Refusal as why
 use Rattle.syn_replica.proofs.RefusalLemmas.{inner_refusals, never, edit_among, same_refusal}
-use Rattle.syn_replica.proofs.RefusalLemmas.{early_among, quiet_failures, quiet_calls, quiet_device}
-use Rattle.syn_replica.proofs.RefusalLemmas.{quiet_tries}
+use Rattle.syn_replica.proofs.RefusalLemmas.{early_among, not_full_device, not_full_halted}
+use Rattle.syn_replica.proofs.CallLemmas.{exits_early, refused_early}
 use Rattle.syn_standing.proofs.StandingLemmas.{early_at}
 use Rattle.syn_replica.proofs.RoomLemmas.{added_refusals, edited_among, refused_at, room_at}
 use Rattle.syn_replica.proofs.RoomLemmas.{room_refused, room_passed}
@@ -17,7 +18,6 @@ use Rattle.syn_replica.specs.Refusals.{IsOneOf, outside_refusals, edit_refusals}
 use Rattle.std.specs.Prelude.{IfErr}
 use Rattle.std.proofs.lemmas.Option.{none-some}
 use Rattle.syn_replica.proofs.StandLemmas.{keeps_now, not_written}
-use Rattle.syn_replica.specs.Growing.{itself}
 use Rattle.syn_replica.proofs.replica.Replica.edit.Goals as goal
 
 pub returns-in_err-check-clause-cause : goal.returns-in_err-check-clause-cause
@@ -68,65 +68,20 @@ add-requires-clause-brief g c =
     c.opening_laws.ensures.short (standing_shown c.args.self.now)
     (event_by c.args.user c.args.edit) none
 
-pub returns-then-is_halted-clause-grown : goal.returns-then-is_halted-clause-grown
-returns-then-is_halted-clause-grown g c = itself c.args.self.now
-
-pub returns-in_err-check-clause-grown : goal.returns-in_err-check-clause-grown
-returns-in_err-check-clause-grown g c = itself c.args.self.now
-
-pub returns-in_err-check_room-clause-grown : goal.returns-in_err-check_room-clause-grown
-returns-in_err-check_room-clause-grown g c = itself c.args.self.now
-
 pub returns-then-is_halted-clause-any_moment : goal.returns-then-is_halted-clause-any_moment
 returns-then-is_halted-clause-any_moment g c history stands =
     not_written g.met.D.Disk.only_now c.args.self.now history stands _
     (inl (keeps_now c.args.self.now history stands))
-
-pub returns-then-is_halted-clause-seen : goal.returns-then-is_halted-clause-seen
-returns-then-is_halted-clause-seen g c history stands =
-    inl (keeps_now c.args.self.now history stands)
 
 pub returns-in_err-check-clause-any_moment : goal.returns-in_err-check-clause-any_moment
 returns-in_err-check-clause-any_moment g c history stands =
     not_written g.met.D.Disk.only_now c.args.self.now history stands _
     (inl (keeps_now c.args.self.now history stands))
 
-pub returns-in_err-check-clause-seen : goal.returns-in_err-check-clause-seen
-returns-in_err-check-clause-seen g c history stands = inl (keeps_now c.args.self.now history stands)
-
 pub returns-in_err-check_room-clause-any_moment : goal.returns-in_err-check_room-clause-any_moment
 returns-in_err-check_room-clause-any_moment g c history stands =
     not_written g.met.D.Disk.only_now c.args.self.now history stands _
     (inl (keeps_now c.args.self.now history stands))
-
-pub returns-in_err-check_room-clause-seen : goal.returns-in_err-check_room-clause-seen
-returns-in_err-check_room-clause-seen g c history stands =
-    inl (keeps_now c.args.self.now history stands)
-
-pub returns-in_err-check-clause-tried : goal.returns-in_err-check-clause-tried
-returns-in_err-check-clause-tried g c =
-    quiet_tries c.from_residual.result _ c.from_residual.ensures.1
-    (never inner_refusals why.Device refl _ (early_among (standing_shown c.args.self.now)
-    (event_by c.args.user c.args.edit) _ c.in_err-check.ensures)) c.args.self.now
-    (event_by c.args.user c.args.edit)
-
-pub returns-in_err-check-clause-failures : goal.returns-in_err-check-clause-failures
-returns-in_err-check-clause-failures g c =
-    quiet_failures c.from_residual.result _ c.from_residual.ensures.1
-    (never inner_refusals why.Device refl _ (early_among (standing_shown c.args.self.now)
-    (event_by c.args.user c.args.edit) _ c.in_err-check.ensures)) _ _
-
-pub returns-in_err-check-clause-calls : goal.returns-in_err-check-clause-calls
-returns-in_err-check-clause-calls g c =
-    quiet_calls c.from_residual.result _ c.from_residual.ensures.1
-    (never inner_refusals why.Device refl _ (early_among (standing_shown c.args.self.now)
-    (event_by c.args.user c.args.edit) _ c.in_err-check.ensures)) _ 4 _
-
-pub returns-in_err-check-clause-halts : goal.returns-in_err-check-clause-halts
-returns-in_err-check-clause-halts g c =
-    quiet_device c.from_residual.result _ c.from_residual.ensures.1
-    (never inner_refusals why.Device refl _ (early_among (standing_shown c.args.self.now)
-    (event_by c.args.user c.args.edit) _ c.in_err-check.ensures)) _
 
 pub returns-in_err-check_room-clause-cause : goal.returns-in_err-check_room-clause-cause
 returns-in_err-check_room-clause-cause g c history stands =
@@ -161,3 +116,26 @@ returns-clause-refusals g c =
     added_refusals edit_refusals refl refl _
     (edited_among (room_shown c.args.self.now) (standing_shown c.args.self.now) c.args.user
     (edit_of c.args.edit)) c.add.result c.add.ensures.cause
+
+-- ---- the machine
+
+pub returns-then-is_halted-clause-machine : goal.returns-then-is_halted-clause-machine
+returns-then-is_halted-clause-machine g c =
+    refused_early c.args.self.now (Some (event_by c.args.user c.args.edit)) why.Halted (λ is. cc)
+    (λ _. c.is_halted.ensures.0 c.if-is_halted.true, λ _. refl)
+
+pub returns-in_err-check-clause-machine : goal.returns-in_err-check-clause-machine
+returns-in_err-check-clause-machine g c =
+    let event = event_by c.args.user c.args.edit in
+    let among = early_among (standing_shown c.args.self.now) event _ c.in_err-check.ensures in
+    exits_early c.args.self.now c.from_residual.result _ (Some event) c.from_residual.ensures.1
+    (λ h. true≢false (sym (c.is_halted.ensures.1 h) ∙ c.if-is_halted.false))
+    (never inner_refusals why.Halted refl _ among) (never inner_refusals why.Device refl _ among)
+
+pub returns-in_err-check_room-clause-machine : goal.returns-in_err-check_room-clause-machine
+returns-in_err-check_room-clause-machine g c =
+    let full = ap refusal_of c.in_err-check_room.ensures.refused.0 in
+    exits_early c.args.self.now c.from_residual-in_err-check_room.result _
+    (Some (event_by c.args.user c.args.edit)) c.from_residual-in_err-check_room.ensures.1
+    (λ h. true≢false (sym (c.is_halted.ensures.1 h) ∙ c.if-is_halted.false))
+    (λ halted. not_full_halted (sym full ∙ halted)) (λ device. not_full_device (sym full ∙ device))

@@ -5,10 +5,9 @@ use Rattle.syn_model.specs.Version.{One, Two}
 use Rattle.syn_standing.specs.Refusals.{refusal_of}
 use Rattle.syn_standing.specs.declared.error.ReplicaError.TheVariants.{Journal}
 use Rattle.syn_replica.specs.Disks.{DiskKeepsIn}
-use Rattle.syn_replica.specs.Refusals.{AfterReads}
+use Rattle.syn_journaled.specs.Endings.{ReadsOrBreaks}
 use Rattle.syn_replica.specs.Replica.{pair_of, standing_shown}
 use Rattle.syn_replica.specs.inner.Memories.{GivesOld, IsUnreadOld, image_of}
-use Rattle.syn_replica.proofs.EndLemmas.{reads}
 use Rattle.syn_replica.proofs.MigrateCauses.{migrates_greatest, migrates_lawful}
 use Rattle.syn_replica.proofs.MigrateLemmas.{any_moment, migrate_refusal, migrated_each}
 use Rattle.syn_replica.proofs.MigrateLemmas.{migrated_gives, not_both, old_disk, only_read}
@@ -41,7 +40,7 @@ returns-in-Ok-migrate-clause-migrated g c =
     let laws = c.history_laws.ensures in
     migrated_each laws.image laws.standing_fits _ (g.D.Disk.seen c.args.disk)
     (subst (λ bytes. Migrated (λ m. m.pair) GivesOld image_of bytes c.in-Ok-migrate.machine)
-    c.in-Err.ensures.untouched.same c.in-Ok-migrate.ensures.migrated)
+    c.in-Err.ensures.device.untouched.same c.in-Ok-migrate.ensures.migrated)
 
 pub returns-in-Ok-migrate-clause-any_moment : goal.returns-in-Ok-migrate-clause-any_moment
 returns-in-Ok-migrate-clause-any_moment g c =
@@ -49,7 +48,7 @@ returns-in-Ok-migrate-clause-any_moment g c =
     let found = c.in-Err.ensures in
     any_moment laws.image laws.standing_fits None c.args.disk _
     (whole c.args.disk c.in-Err.refused.1 _ c.in-Err.refused.0 None c.in-OldVersion.is
-    found.untouched found.failures found.calls c.in-Ok-migrate.ensures.device)
+    found.device c.in-Ok-migrate.ensures.device)
 
 pub returns-in-Ok-migrate-clause-seen : goal.returns-in-Ok-migrate-clause-seen
 returns-in-Ok-migrate-clause-seen g c =
@@ -57,13 +56,14 @@ returns-in-Ok-migrate-clause-seen g c =
     let found = c.in-Err.ensures in
     seen_after laws.image laws.standing_fits None c.args.disk _
     (whole c.args.disk c.in-Err.refused.1 _ c.in-Err.refused.0 None c.in-OldVersion.is
-    found.untouched found.failures found.calls c.in-Ok-migrate.ensures.device)
+    found.device c.in-Ok-migrate.ensures.device)
 
 pub returns-in-Ok-migrate-clause-writes : goal.returns-in-Ok-migrate-clause-writes
 returns-in-Ok-migrate-clause-writes g c old =
     more_made 1 7 8 (g.D.Disk.arms c.args.disk) (g.D.Disk.arms c.in-Err.refused.1) _
-    (subst (λ e. AfterReads 1 e (g.D.Disk.arms c.args.disk) (g.D.Disk.arms c.in-Err.refused.1))
-    c.in-OldVersion.is c.in-Err.ensures.calls) c.in-Ok-migrate.ensures.device.arms (omega arith)
+    (subst (λ e. ReadsOrBreaks 1 (Some (refusal_of e)) (g.D.Disk.arms c.args.disk)
+    (g.D.Disk.arms c.in-Err.refused.1)) c.in-OldVersion.is c.in-Err.ensures.device.arms)
+    c.in-Ok-migrate.ensures.device.arms (omega arith)
 
 pub returns-in-Ok-migrate-clause-calls : goal.returns-in-Ok-migrate-clause-calls
 returns-in-Ok-migrate-clause-calls g c =
@@ -80,8 +80,8 @@ returns-in-Err-migrate-clause-any_moment g c =
     any_moment laws.image laws.standing_fits (Some (refusal_of c.in-Err-migrate.refused.0))
     c.args.disk _
     (whole c.args.disk c.in-Err.refused.1 c.in-Err-migrate.refused.1 c.in-Err.refused.0
-    (Some (refusal_of c.in-Err-migrate.refused.0)) c.in-OldVersion.is found.untouched
-    found.failures found.calls c.in-Err-migrate.ensures.device)
+    (Some (refusal_of c.in-Err-migrate.refused.0)) c.in-OldVersion.is found.device
+    c.in-Err-migrate.ensures.device)
 
 pub returns-in-Err-migrate-clause-seen : goal.returns-in-Err-migrate-clause-seen
 returns-in-Err-migrate-clause-seen g c =
@@ -90,8 +90,8 @@ returns-in-Err-migrate-clause-seen g c =
     seen_after laws.image laws.standing_fits (Some (refusal_of c.in-Err-migrate.refused.0))
     c.args.disk _
     (whole c.args.disk c.in-Err.refused.1 c.in-Err-migrate.refused.1 c.in-Err.refused.0
-    (Some (refusal_of c.in-Err-migrate.refused.0)) c.in-OldVersion.is found.untouched
-    found.failures found.calls c.in-Err-migrate.ensures.device)
+    (Some (refusal_of c.in-Err-migrate.refused.0)) c.in-OldVersion.is found.device
+    c.in-Err-migrate.ensures.device)
 
 pub returns-in-Err-migrate-clause-refusals : goal.returns-in-Err-migrate-clause-refusals
 returns-in-Err-migrate-clause-refusals g c =
@@ -101,7 +101,7 @@ returns-in-Err-migrate-clause-refusals g c =
     (was_old c.in-Err.refused.0 (g.D.Disk.seen c.args.disk) c.in-OldVersion.is
     c.in-Err.ensures.refusals)
     (subst (λ bytes. NotMigrated (λ m. m.pair) GivesOld image_of (λ by. Journal by) IsUnreadOld e
-    bytes) c.in-Err.ensures.untouched.same c.in-Err-migrate.ensures.refused)
+    bytes) c.in-Err.ensures.device.untouched.same c.in-Err-migrate.ensures.refused)
 
 pub returns-in-Err-migrate-clause-lawful : goal.returns-in-Err-migrate-clause-lawful
 returns-in-Err-migrate-clause-lawful g c version number history small there =
@@ -111,10 +111,9 @@ returns-in-Err-migrate-clause-lawful g c version number history small there =
 pub returns-in-Err-migrate-clause-calls : goal.returns-in-Err-migrate-clause-calls
 returns-in-Err-migrate-clause-calls g c =
     let found = c.in-Err.ensures in
-    reads c.in-Err-migrate.refused.0 1 _ _
     (whole c.args.disk c.in-Err.refused.1 c.in-Err-migrate.refused.1 c.in-Err.refused.0
-    (Some (refusal_of c.in-Err-migrate.refused.0)) c.in-OldVersion.is found.untouched
-    found.failures found.calls c.in-Err-migrate.ensures.device).arms
+    (Some (refusal_of c.in-Err-migrate.refused.0)) c.in-OldVersion.is found.device
+    c.in-Err-migrate.ensures.device).arms
 
 -- ---- it was not opened, for another cause than its version
 
@@ -130,18 +129,19 @@ returns-in_default g c =
       tried = tt;
       gives = tt;
       image = λ value generation has old. tt;
-      same = λ young. found.untouched;
+      same = λ young. found.device.untouched;
       any_moment = λ number history left generation small keeps. only_read g.D.Disk.seen
           g.D.Disk.may_leave g.D.Disk.moment g.D.Disk.left_since c.args.disk c.in-Err.refused.1 _
-          found.untouched;
+          found.device.untouched;
       seen = λ number history left generation small keeps. inl
-          (subst (DiskKeepsIn One number history left generation) (sym found.untouched.same) keeps);
+          (subst (DiskKeepsIn One number history left generation)
+          (sym found.device.untouched.same) keeps);
       refusals = cause;
       greatest = λ full. migrates_greatest e seen full cause;
       lawful = λ version number history small there. migrates_lawful version number seen history
           small there e cause;
-      untouched = inr found.untouched;
-      failures = found.failures;
-      calls = found.calls;
+      untouched = inr found.device.untouched;
+      failures = found.device.failures;
+      calls = found.device.arms;
       writes = λ old. tt;
     }

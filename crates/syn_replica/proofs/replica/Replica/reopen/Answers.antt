@@ -1,8 +1,10 @@
-use Rattle.std.proofs.Common.{◌≡◌, ◌++◌, ◌∷◌, [], ap, inl, inr, refl, subst, sym, ◌∙◌}
+use Rattle.std.proofs.Common.{◌≡◌, ◌⊎◌, ◌++◌, ◌∷◌, [], ap, inl, inr, refl, subst, sym, ◌∙◌}
 use Rattle.syn_model.specs.Image.{Gives, StandsFor}
 use Rattle.syn_model.specs.Refusal as why
 use Rattle.syn_replica.specs.Disks.{DiskStands}
-use Rattle.syn_replica.specs.Replica.{disk_of, pair_of}
+use Rattle.syn_journaled.specs.Journaled as machine
+use Rattle.syn_replica.specs.Replica.{KeepsReadings, SameMemory, ShowsDisk, disk_of, pair_of}
+use Rattle.syn_replica.specs.declared.replica.Replica.{Replica}
 use Rattle.syn_replica.proofs.GrowthLemmas.{reopened, unmoved}
 use Rattle.syn_replica.proofs.MeaningLemmas.{reopen_refusal}
 use Rattle.syn_replica.proofs.ReopenLemmas.{kept_outside, stands_again, unopened_outside}
@@ -31,10 +33,23 @@ returns-in-Ok-clause-keeps_up g c history k =
     stands_again c.args.self.now _ history c.in-Ok.ensures.follows.pair
     (λ h d. returns-in-Ok-clause-each g c h d) k
 
-pub returns-in-Ok-clause-grown : goal.returns-in-Ok-clause-grown
-returns-in-Ok-clause-grown g c =
-    reopened c.args.self.now _ c.in-Ok.ensures.follows.pair c.in-Ok.ensures.follows.position
-    (λ h d. returns-in-Ok-clause-each g c h d)
+pub returns-in-Ok-clause-machine : goal.returns-in-Ok-clause-machine
+returns-in-Ok-clause-machine g c =
+    let follows = c.in-Ok.ensures.follows in
+    record {
+      pair = follows.pair;
+      forgets = refl;
+      grown = reopened c.args.self.now _ follows.pair follows.position
+          (λ h d. returns-in-Ok-clause-each g c h d);
+      halted = tt;
+      halts = tt;
+      tried = tt;
+      memory = tt;
+      readings = tt;
+      room = λ history stands. tt;
+      remembers = λ h. tt;
+      device = c.in-Ok.ensures.device;
+    }
 
 -- ---- it was refused
 
@@ -76,14 +91,37 @@ returns-in-Err-clause-unchanged g c history stands =
       })
     ]
 
-pub returns-in-Err-clause-grown : goal.returns-in-Err-clause-grown
-returns-in-Err-clause-grown g c =
+pub returns-in-Err-clause-machine : goal.returns-in-Err-clause-machine
+returns-in-Err-clause-machine g c =
     let old = c.args.self.now in
-    let same = c.in-Err.ensures.state in
-    unmoved old (record old { machine = c.reopen.new.self })
-    (ap (λ m. m.pair) same) (ap (λ m. m.standing) same) refl c.in-Err.ensures.device.untouched.same
-    c.in-Err.ensures.halted
-    (λ history stands. elim (returns-in-Err-clause-unchanged g c history stands) [
-      | inl device ↦ inl (c.in-Err.ensures.halts (λ memory. no_memory (sym device ∙ memory)))
-      | inr runs ↦ inr runs
-    ])
+    let new : Replica _ _ = record old { machine = c.reopen.new.self } in
+    let told = c.in-Err.ensures in
+    let pair = ap (λ m. m.pair) told.state in
+    let standing = ap (λ m. m.standing) told.state in
+    let memory : SameMemory old new = record { pair = pair; standing = standing } in
+    let kept : machine.KeepsReadings old.machine new.machine → KeepsReadings old new =
+    λ keeps. record { memory = memory; left_is = keeps.left_is; generation = keeps.generation } in
+    record {
+      pair = pair;
+      forgets = tt;
+      grown = unmoved old new pair standing refl told.device.untouched.same told.halted
+          (λ history stands. elim (returns-in-Err-clause-unchanged g c history stands) [
+            | inl device ↦ inl (told.halts (λ memory. no_memory (sym device ∙ memory)))
+            | inr runs ↦ inr runs
+          ]);
+      halted = told.halted;
+      halts = told.halts;
+      tried = refl;
+      memory = memory;
+      readings = elim told.readings as (λ _. KeepsReadings old new ⊎ ShowsDisk new) [
+        | inl keeps ↦ inl (kept keeps)
+        | inr shows ↦ inr (record {
+          value = shows.value;
+          journal = shows.journal;
+          left_is = shows.left_is;
+        })
+      ];
+      room = λ history stands. kept (told.room stands.value stands.runs);
+      remembers = λ h. kept (told.remembers h);
+      device = told.device;
+    }

@@ -1,6 +1,6 @@
 use Rattle.std.proofs.Common.{◌≡◌, ◌⊎◌, ◌++◌, ◌∷◌, [], Some, None, inl, length, refl, true≢false}
 use Rattle.std.proofs.Common.{sym, ap, ◌∙◌, subst}
-use Rattle.std.specs.Prelude.{IfOk, IfErr, OnOk, MatchResult}
+use Rattle.std.specs.Prelude.{IfOk, IfErr, OnOk}
 use Rattle.syn_disk.specs.Stops.{LeavesOnly}
 use Rattle.syn_model.specs.Event.{Replaced}
 use Rattle.syn_model.specs.History.{History}
@@ -9,18 +9,19 @@ use Rattle.syn_model.specs.Refusal as refusal
 use Rattle.syn_model.specs.Standing.{is_old}
 use Rattle.syn_history.specs.Events.{token_of}
 use Rattle.syn_tree.specs.Nodes.{part_of}
-use Rattle.syn_replica.specs.Refusals.{IsOneOf, MakesIfDevice, outside_refusals, replace_refusals}
+use Rattle.syn_replica.specs.Refusals.{IsOneOf, outside_refusals, replace_refusals}
 use Rattle.syn_standing.specs.Refusals.{refusal_of}
-use Rattle.syn_replica.specs.Replica.{Stands, HasRecord, Tries, KeepsBeforeOrAfter, room_shown}
+use Rattle.syn_replica.specs.Replica.{Stands, KeepsBeforeOrAfter, room_shown}
 use Rattle.syn_replica.specs.Replica.{standing_shown, disk_of}
-use Rattle.syn_replica.specs.Steps.{MakesIfNew, add_refusal, replace_refusal}
-use Rattle.syn_replica.specs.inner.Additions.{add_refusal_at, is_done_at, checking_refusals}
+use Rattle.syn_replica.specs.Steps.{add_refusal, is_done_at, replace_refusal}
+use Rattle.syn_replica.specs.inner.Additions.{add_refusal_at, checking_refusals}
 use Rattle.syn_replica.proofs.RoomLemmas.{added_refusals, replaced_among}
-use Rattle.syn_replica.proofs.RefusalLemmas.{never, refused_by, quiet_tries, quiet_failures}
-use Rattle.syn_replica.proofs.RefusalLemmas.{quiet_calls, quiet_device}
+use Rattle.syn_replica.proofs.RefusalLemmas.{never, refused_by}
+use Rattle.syn_replica.proofs.CallLemmas.{done_before, exits_halted, not_refused}
+use Rattle.syn_replica.specs.Calls.{Writes, unless}
+use Rattle.syn_journaled.specs.Endings.{ended}
 use Rattle.syn_replica.proofs.SessionLemmas.{replaced_rest, one_longer, not_done, in_some}
 use Rattle.syn_replica.proofs.StandLemmas.{keeps_now, not_written}
-use Rattle.syn_replica.specs.Growing.{itself}
 use Rattle.syn_replica.proofs.replica.Replica.replace.Goals as goal
 
 pub returns-clause-acknowledged : goal.returns-clause-acknowledged
@@ -47,15 +48,6 @@ returns-clause-any_moment g c history stands =
     (disk_of c.add.new.self) (KeepsBeforeOrAfter c.args.self.now history
     (Replaced token q c.args.since (part_of c.args.new))))
     found.0 (c.add.ensures.any_moment history stands)
-
-pub returns-clause-seen : goal.returns-clause-seen
-returns-clause-seen g c history stands =
-    let token = token_of c.args.token in
-    let found =
-    in_some _ c.in_ok-path.field-0 c.in-Some.path c.in_ok-path.ensures.found c.in-Some.is in
-    subst (λ q. KeepsBeforeOrAfter c.args.self.now history
-    (Replaced token q c.args.since (part_of c.args.new)) (g.D.Disk.seen (disk_of c.add.new.self)))
-    found.0 (c.add.ensures.seen history stands)
 
 pub returns-clause-cause : goal.returns-clause-cause
 returns-clause-cause g c history stands =
@@ -97,64 +89,15 @@ returns-clause-refused g c history why stands done e =
     (subst (λ r. IfErr c.add.result (λ e. IsOneOf outside_refusals e ⊎ (r ≡ Some (refusal_of e))))
     rest c.add.ensures.cause)
 
-pub returns-in_default-clause-grown : goal.returns-in_default-clause-grown
-returns-in_default-clause-grown g c = itself c.args.self.now
-
-pub returns-in_err-path-clause-grown : goal.returns-in_err-path-clause-grown
-returns-in_err-path-clause-grown g c = itself c.args.self.now
-
 pub returns-in_default-clause-any_moment : goal.returns-in_default-clause-any_moment
 returns-in_default-clause-any_moment g c history stands =
     not_written g.met.D.Disk.only_now c.args.self.now history stands _
     (inl (keeps_now c.args.self.now history stands))
 
-pub returns-in_default-clause-seen : goal.returns-in_default-clause-seen
-returns-in_default-clause-seen g c history stands = inl (keeps_now c.args.self.now history stands)
-
 pub returns-in_err-path-clause-any_moment : goal.returns-in_err-path-clause-any_moment
 returns-in_err-path-clause-any_moment g c history stands =
     not_written g.met.D.Disk.only_now c.args.self.now history stands _
     (inl (keeps_now c.args.self.now history stands))
-
-pub returns-in_err-path-clause-seen : goal.returns-in_err-path-clause-seen
-returns-in_err-path-clause-seen g c history stands = inl (keeps_now c.args.self.now history stands)
-
-pub returns-in_err-path-clause-tried : goal.returns-in_err-path-clause-tried
-returns-in_err-path-clause-tried g c history stands fresh =
-    quiet_tries c.from_residual.result _ c.from_residual.ensures.1
-    (never checking_refusals refusal.Device refl _ c.in_err-path.ensures.refusals) c.args.self.now
-    (Replaced (token_of c.args.token) c.args.path.now c.args.since (part_of c.args.new))
-
-pub returns-in_err-path-clause-failures : goal.returns-in_err-path-clause-failures
-returns-in_err-path-clause-failures g c =
-    quiet_failures c.from_residual.result _ c.from_residual.ensures.1
-    (never checking_refusals refusal.Device refl _ c.in_err-path.ensures.refusals) _ _
-
-pub returns-in_err-path-clause-calls : goal.returns-in_err-path-clause-calls
-returns-in_err-path-clause-calls g c history stands =
-    quiet_calls c.from_residual.result _ c.from_residual.ensures.1
-    (never checking_refusals refusal.Device refl _ c.in_err-path.ensures.refusals) _ 4 _
-
-pub returns-in_err-path-clause-halts : goal.returns-in_err-path-clause-halts
-returns-in_err-path-clause-halts g c =
-    quiet_device c.from_residual.result _ c.from_residual.ensures.1
-    (never checking_refusals refusal.Device refl _ c.in_err-path.ensures.refusals) _
-
-pub returns-clause-record : goal.returns-clause-record
-returns-clause-record g c history stands fresh =
-    let token = token_of c.args.token in
-    let found =
-    in_some _ c.in_ok-path.field-0 c.in-Some.path c.in_ok-path.ensures.found c.in-Some.is in
-    subst (λ q. OnOk c.add.result (HasRecord c.args.self.now c.add.new.self
-    (Replaced token q c.args.since (part_of c.args.new)))) found.0 c.add.ensures.record
-
-pub returns-clause-tried : goal.returns-clause-tried
-returns-clause-tried g c history stands fresh =
-    let token = token_of c.args.token in
-    let found =
-    in_some _ c.in_ok-path.field-0 c.in-Some.path c.in_ok-path.ensures.found c.in-Some.is in
-    subst (λ q. Tries c.args.self.now c.add.new.self
-    (Replaced token q c.args.since (part_of c.args.new)) c.add.result) found.0 c.add.ensures.tried
 
 pub returns-clause-again : goal.returns-clause-again
 returns-clause-again g c history stands again =
@@ -164,19 +107,38 @@ returns-clause-again g c history stands again =
     absurd (true≢false (sym again
     ∙ (ap (λ s. is_done_at s token) (sym stands.remembers.standing) ∙ found.1.not_done)))
 
-pub returns-clause-calls : goal.returns-clause-calls
-returns-clause-calls g c history stands =
-    let token = token_of c.args.token in
-    let found =
-    in_some _ c.in_ok-path.field-0 c.in-Some.path c.in_ok-path.ensures.found c.in-Some.is in
-    subst (λ b. MatchResult c.add.result (λ _. MakesIfNew b (g.D.Disk.arms
-    (disk_of c.args.self.now)) (g.D.Disk.arms (disk_of c.add.new.self))) (λ e. MakesIfDevice e 4
-    (g.D.Disk.arms (disk_of c.args.self.now)) (g.D.Disk.arms (disk_of c.add.new.self))))
-    (sym (ap (λ s. is_done_at s token) (sym stands.remembers.standing) ∙ found.1.not_done))
-    c.add.ensures.calls
-
 pub returns-clause-refusals : goal.returns-clause-refusals
 returns-clause-refusals g c =
     added_refusals replace_refusals refl refl _ (replaced_among (room_shown c.args.self.now)
     (standing_shown c.args.self.now) (token_of c.args.token) c.in-Some.path c.args.since
     (part_of c.args.new)) c.add.result c.add.ensures.cause
+
+-- ---- the machine
+
+pub returns-in_default-clause-machine : goal.returns-in_default-clause-machine
+returns-in_default-clause-machine g c =
+    let old = c.args.self.now in
+    let token = token_of c.args.token in
+    subst (λ b. Writes old old
+    (unless b (Replaced token c.args.path.now c.args.since (part_of c.args.new))) None)
+    (sym (c.in_ok-path.ensures.done c.in_default.is))
+    (done_before old (λ h. not_refused _ _ (c.in_ok-path.ensures.halted.1 h)))
+
+pub returns-in_err-path-clause-machine : goal.returns-in_err-path-clause-machine
+returns-in_err-path-clause-machine g c =
+    exits_halted c.args.self.now c.from_residual.result _ _ c.from_residual.ensures.1
+    (never checking_refusals refusal.Device refl _ c.in_err-path.ensures.refusals)
+    c.in_err-path.ensures.halted
+
+pub returns-clause-machine : goal.returns-clause-machine
+returns-clause-machine g c =
+    let token = token_of c.args.token in
+    let new = part_of c.args.new in
+    let found =
+    in_some _ c.in_ok-path.field-0 c.in-Some.path c.in_ok-path.ensures.found c.in-Some.is in
+    subst (λ b. Writes c.args.self.now c.add.new.self
+    (unless b (Replaced token c.args.path.now c.args.since new)) (ended refusal_of c.add.result))
+    (sym found.1.not_done)
+    (subst (λ q. Writes c.args.self.now c.add.new.self
+    (Some (Replaced token q c.args.since new)) (ended refusal_of c.add.result)) found.0
+    c.add.ensures.machine)

@@ -21,33 +21,21 @@ returns-clause-held g c = (
             g.met.D.Disk.counts_now c.step_laws.ensures.up c.step_laws.ensures.written
             c.step_laws.ensures.made c.step_laws.ensures.broken c.args.user
             (edit_of c.args.edit) c.edit-made.result c.edit-made.ensures.acknowledged
-            c.edit-made.ensures.record c.edit-made.ensures.any_moment c.edit-made.ensures.cause
-            c.edit-made.ensures.refused c.edit-made.ensures.halted c.edit-made.ensures.halts
-            c.edit-made.ensures.journal c.edit-made.ensures.readings c.edit-made.ensures.calls;
+            c.edit-made.ensures.any_moment c.edit-made.ensures.cause
+            c.edit-made.ensures.refused c.edit-made.ensures.machine;
         step =
             λ history stands. step_by _ c.edit-made.new.self history
             (event_by c.args.user c.args.edit) _ stands c.edit-made.result
-            (c.edit-made.ensures.acknowledged history stands) c.edit-made.ensures.record
-            (c.edit-made.ensures.cause history stands) c.edit-made.ensures.halts
-            c.edit-made.ensures.tried (c.edit-made.ensures.unchanged history stands)
-            c.edit-made.ensures.readings (c.edit-made.ensures.seen history stands)
-            c.edit-made.ensures.calls c.edit-made.ensures.failures;
+            (c.edit-made.ensures.acknowledged history stands)
+            (c.edit-made.ensures.cause history stands)
+            (c.edit-made.ensures.unchanged history stands) c.edit-made.ensures.machine;
         acknowledged = c.edit-made.ensures.acknowledged;
-        writes = c.edit-made.ensures.record;
         any_moment = c.edit-made.ensures.any_moment;
-        seen = c.edit-made.ensures.seen;
-        grown = c.edit-made.ensures.grown;
-        tried = c.edit-made.ensures.tried;
         cause = c.edit-made.ensures.cause;
         refused = c.edit-made.ensures.refused;
         refusals = c.edit-made.ensures.refusals;
-        halted = c.edit-made.ensures.halted;
-        halts = c.edit-made.ensures.halts;
-        readings = c.edit-made.ensures.readings;
         unchanged = c.edit-made.ensures.unchanged;
-        journal = c.edit-made.ensures.journal;
-        failures = c.edit-made.ensures.failures;
-        calls = c.edit-made.ensures.calls;
+        machine = c.edit-made.ensures.machine;
       }),
 )
 
@@ -55,4 +43,4 @@ pub returns-clause-later : goal.returns-clause-later
 returns-clause-later g c =
     later_now _ _ _ (origin_of c.own-own.result.now) (ap origin_of c.own-own.ensures)
     c.enter-guard.result c.deref_mut.result.now c.edit-made.new.self c.enter-guard.ensures.later
-    c.deref_mut.ensures.value (search rules) c.edit-made.ensures.grown
+    c.deref_mut.ensures.value (search rules) c.edit-made.ensures.machine.grown

@@ -21,41 +21,28 @@ returns-clause-held g c =
           g.met.D.Disk.counts_now c.step_laws.ensures.up c.step_laws.ensures.written
           c.step_laws.ensures.made c.step_laws.ensures.broken c.args.user
           (edit_of c.args.edit) c.edit-answer.result c.edit-answer.ensures.acknowledged
-          c.edit-answer.ensures.record c.edit-answer.ensures.any_moment
-          c.edit-answer.ensures.cause c.edit-answer.ensures.refused c.edit-answer.ensures.halted
-          c.edit-answer.ensures.halts c.edit-answer.ensures.journal c.edit-answer.ensures.readings
-          c.edit-answer.ensures.calls;
+          c.edit-answer.ensures.any_moment c.edit-answer.ensures.cause
+          c.edit-answer.ensures.refused c.edit-answer.ensures.machine;
       step =
           λ history stands. step_by _ c.edit-answer.new.self history
           (event_by c.args.user c.args.edit) _ stands c.edit-answer.result
-          (c.edit-answer.ensures.acknowledged history stands) c.edit-answer.ensures.record
-          (c.edit-answer.ensures.cause history stands) c.edit-answer.ensures.halts
-          c.edit-answer.ensures.tried (c.edit-answer.ensures.unchanged history stands)
-          c.edit-answer.ensures.readings (c.edit-answer.ensures.seen history stands)
-          c.edit-answer.ensures.calls c.edit-answer.ensures.failures;
+          (c.edit-answer.ensures.acknowledged history stands)
+          (c.edit-answer.ensures.cause history stands)
+          (c.edit-answer.ensures.unchanged history stands) c.edit-answer.ensures.machine;
       acknowledged = c.edit-answer.ensures.acknowledged;
-      writes = c.edit-answer.ensures.record;
       any_moment = c.edit-answer.ensures.any_moment;
-      seen = c.edit-answer.ensures.seen;
-      grown = c.edit-answer.ensures.grown;
-      tried = c.edit-answer.ensures.tried;
       cause = c.edit-answer.ensures.cause;
       refused = c.edit-answer.ensures.refused;
       refusals = c.edit-answer.ensures.refusals;
-      halted = c.edit-answer.ensures.halted;
-      halts = c.edit-answer.ensures.halts;
-      readings = c.edit-answer.ensures.readings;
       unchanged = c.edit-answer.ensures.unchanged;
-      journal = c.edit-answer.ensures.journal;
-      failures = c.edit-answer.ensures.failures;
-      calls = c.edit-answer.ensures.calls;
+      machine = c.edit-answer.ensures.machine;
     }))
 
 pub returns-clause-later : goal.returns-clause-later
 returns-clause-later g c =
     later_now _ _ _ (origin_of c.own-own.result.now) (ap origin_of c.own-own.ensures) c.in-Ok.guard
     c.deref_mut.result.now c.edit-answer.new.self c.in-Ok.ensures.later c.deref_mut.ensures.value
-    (search rules) c.edit-answer.ensures.grown
+    (search rules) c.edit-answer.ensures.machine.grown
 
 pub returns-in_default-clause-later : goal.returns-in_default-clause-later
 returns-in_default-clause-later g c = later_none _ _ _ (search rules)

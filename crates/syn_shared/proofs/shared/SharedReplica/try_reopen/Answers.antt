@@ -14,38 +14,26 @@ returns-clause-held g c =
     c.in-Ok.ensures.entered c.deref_mut.ensures.value (search rules) (record {
       world =
           λ pair agent machine is. reopen_world pair _ c.reopen-answer.new.self agent machine is
-          c.reopen-answer.ensures.untouched g.met.D.Disk.seen_may_stay c.step_laws.ensures.up
-          c.step_laws.ensures.opens c.step_laws.ensures.reads c.step_laws.ensures.broken
-          c.reopen-answer.ensures.pair c.reopen-answer.result c.reopen-answer.ensures.each
-          c.reopen-answer.ensures.lawful c.reopen-answer.ensures.halts
-          c.reopen-answer.ensures.memory c.reopen-answer.ensures.halted
-          c.reopen-answer.ensures.room c.reopen-answer.ensures.unchanged
-          c.reopen-answer.ensures.calls;
+          g.met.D.Disk.seen_may_stay c.step_laws.ensures.up c.step_laws.ensures.opens
+          c.step_laws.ensures.reads c.step_laws.ensures.broken c.reopen-answer.result
+          c.reopen-answer.ensures.each c.reopen-answer.ensures.lawful
+          c.reopen-answer.ensures.unchanged c.reopen-answer.ensures.machine;
       given = c.reopen-answer.ensures.given;
       each = c.reopen-answer.ensures.each;
-      pair = c.reopen-answer.ensures.pair;
-      tried = c.reopen-answer.ensures.tried;
       before_or_after = c.reopen-answer.ensures.before_or_after;
       keeps_up = c.reopen-answer.ensures.keeps_up;
       lawful = c.reopen-answer.ensures.lawful;
-      grown = c.reopen-answer.ensures.grown;
       refusals = c.reopen-answer.ensures.refusals;
-      halts = c.reopen-answer.ensures.halts;
-      memory = c.reopen-answer.ensures.memory;
-      readings = c.reopen-answer.ensures.readings;
-      room = c.reopen-answer.ensures.room;
-      halted = c.reopen-answer.ensures.halted;
       unchanged = c.reopen-answer.ensures.unchanged;
-      untouched = c.reopen-answer.ensures.untouched;
-      failures = c.reopen-answer.ensures.failures;
-      calls = c.reopen-answer.ensures.calls;
+      machine = c.reopen-answer.ensures.machine;
     }))
 
 pub returns-clause-later : goal.returns-clause-later
 returns-clause-later g c =
     later_now _ _ _ (origin_of c.own-own.result.now)
     (ap origin_of c.own-own.ensures) c.in-Ok.guard c.deref_mut.result.now c.reopen-answer.new.self
-    c.in-Ok.ensures.later c.deref_mut.ensures.value (search rules) c.reopen-answer.ensures.grown
+    c.in-Ok.ensures.later c.deref_mut.ensures.value (search rules)
+    c.reopen-answer.ensures.machine.grown
 
 pub returns-in_default-clause-later : goal.returns-in_default-clause-later
 returns-in_default-clause-later g c = later_none _ _ _ (search rules)

@@ -21,44 +21,28 @@ returns-clause-held g c =
           machine is g.met.D.Disk.counts_now c.step_laws.ensures.up c.step_laws.ensures.written
           c.step_laws.ensures.made c.step_laws.ensures.broken (token_of c.args.token)
           c.args.path.now c.args.since (part_of c.args.new) open_is c.replace-answer.result
-          c.replace-answer.ensures.acknowledged c.replace-answer.ensures.record
-          c.replace-answer.ensures.any_moment c.replace-answer.ensures.cause
-          c.replace-answer.ensures.refused c.replace-answer.ensures.halted
-          c.replace-answer.ensures.halts c.replace-answer.ensures.unchanged
-          c.replace-answer.ensures.readings c.replace-answer.ensures.calls;
+          c.replace-answer.ensures.acknowledged c.replace-answer.ensures.any_moment
+          c.replace-answer.ensures.cause c.replace-answer.ensures.refused
+          c.replace-answer.ensures.machine;
       step =
           λ history stands done. replaced_by _ c.replace-answer.new.self history
           (token_of c.args.token) c.args.path.now c.args.since (part_of c.args.new) stands done
           c.replace-answer.result (c.replace-answer.ensures.acknowledged history stands)
-          (c.replace-answer.ensures.record history stands done)
-          (c.replace-answer.ensures.cause history stands) c.replace-answer.ensures.halts
-          (c.replace-answer.ensures.tried history stands done) c.replace-answer.ensures.unchanged
-          c.replace-answer.ensures.readings (c.replace-answer.ensures.seen history stands)
-          (c.replace-answer.ensures.calls history stands) c.replace-answer.ensures.failures;
+          (c.replace-answer.ensures.cause history stands) c.replace-answer.ensures.machine;
       acknowledged = c.replace-answer.ensures.acknowledged;
       again = c.replace-answer.ensures.again;
-      writes = c.replace-answer.ensures.record;
       any_moment = c.replace-answer.ensures.any_moment;
-      seen = c.replace-answer.ensures.seen;
-      grown = c.replace-answer.ensures.grown;
-      tried = c.replace-answer.ensures.tried;
-      untried = c.replace-answer.ensures.untried;
       cause = c.replace-answer.ensures.cause;
       refused = c.replace-answer.ensures.refused;
       refusals = c.replace-answer.ensures.refusals;
-      halted = c.replace-answer.ensures.halted;
-      halts = c.replace-answer.ensures.halts;
-      readings = c.replace-answer.ensures.readings;
-      unchanged = c.replace-answer.ensures.unchanged;
-      failures = c.replace-answer.ensures.failures;
-      calls = c.replace-answer.ensures.calls;
+      machine = c.replace-answer.ensures.machine;
     }))
 
 pub returns-clause-later : goal.returns-clause-later
 returns-clause-later g c =
     later_now _ _ _ (origin_of c.own-own.result.now) (ap origin_of c.own-own.ensures) c.in-Ok.guard
     c.deref_mut.result.now c.replace-answer.new.self c.in-Ok.ensures.later
-    c.deref_mut.ensures.value (search rules) c.replace-answer.ensures.grown
+    c.deref_mut.ensures.value (search rules) c.replace-answer.ensures.machine.grown
 
 pub returns-in_default-clause-later : goal.returns-in_default-clause-later
 returns-in_default-clause-later g c = later_none _ _ _ (search rules)
