@@ -51,8 +51,8 @@
 //!   comes from no history. It is refused 18 only where the disk has no image, and 26 only where
 //!   its image is of version 1, whatever else the disk holds (`old`). It is refused 19 only where
 //!   its layout is broken, or where its image is not of version 1 and gives nothing with the
-//!   payloads. It is refused 20 only where they give something, but for another pair than the wanted one
-//!   (`refusals`, `wrong_pair`, `wanted`). No two of these hold at once.
+//!   payloads. It is refused 20 only where they give something, but for another pair than the
+//!   wanted one (`refusals`, `wrong_pair`, `wanted`). No two of these hold at once.
 //! - `migrate` reads what the disk gives in version 1 or in version 2, and stands for each history
 //!   that the disk stands for in either (`given`, `migrated`). One of version 1 then has the image
 //!   alone, in version 2, with the next generation (`image`, `gives`), and one of version 2 is left
@@ -66,16 +66,18 @@
 //!   was tried, so nobody takes it from a halted replica.
 //! - `reopen` does the same with the replica's own disk (`given`, `each`), also where it was
 //!   halted. After 11 it is as it was (`unchanged`), and after any other refusal it is halted; what
-//!   it shows of itself is one record (`machine`: `Reopens`). Where what is read is what a failed call leaves, it gives the
-//!   history before that call, or the one with its event (`before_or_after`). A disk that gives
-//!   fewer events than the replica remembers is refused 19, too (`refusals`): so no reopening goes
-//!   back, and no replica runs on over such a disk. An image of version 1 there is refused 19.
+//!   it shows of itself is one record (`machine`: `Reopens`). Where what is read is what a failed
+//!   call leaves, it gives the history before that call, or the one with its event
+//!   (`before_or_after`). A disk that gives fewer events than the replica remembers is refused 19,
+//!   too (`refusals`): so no reopening goes back, and no replica runs on over such a disk. An image
+//!   of version 1 there is refused 19.
 //! - Of a replica that keeps up with a history, halted or not, the disk never gives fewer. A
 //!   reopening is refused 9 and 11 alone, and gives that history, or it with the event that was
 //!   tried last (`keeps_up`). It is refused 9 and 11 alone wherever its disk stands for a history
 //!   that is not shorter than what it remembers (`lawful`). After any refusal its room and
-//!   generation are as they were, or they are those of its disk (`readings` of `Reopens`). A replica
-//!   that stood for a history keeps them (`room`), and so does one that was halted (`remembers`).
+//!   generation are as they were, or they are those of its disk (`readings` of `Reopens`). A
+//!   replica that stood for a history keeps them (`room`), and so does one that was halted
+//!   (`remembers`).
 //! - A replica only grows (`IsGrown`): each history that it keeps up with goes on, by events that
 //!   are allowed in turn; the pair stays, and the position does not fall. It keeps up with a
 //!   history where it stands for it, or where it was cut off there (`IsCutOff`). Then it is halted
