@@ -13,7 +13,7 @@ use Rattle.syn_model.specs.History.{History as Past, event_causes}
 use Rattle.syn_replica.specs.Steps.{add_refusal, room_causes}
 use Rattle.syn_model.specs.Refusal.{Refusal, Cause, first_cause, number}
 use Rattle.syn_model.specs.Refusal as why
-use Rattle.syn_replica.specs.Refusals.{IsOneOf, outside_refusals}
+use Rattle.syn_replica.specs.Refusals.{IsOneOf, checkpoint_refusals, outside_refusals}
 use Rattle.syn_standing.specs.Refusals.{refusal_of}
 use Rattle.syn_journaled.specs.Endings as device
 use Rattle.syn_standing.specs.declared.error.ReplicaError.{ReplicaError}
@@ -49,6 +49,29 @@ outside e is =
         | inl device ↦ inr (device_number (refusal_of e) (eqb-true _ _ device))
         | inr none ↦ absurd (false≢true none)
       ]
+    ]
+
+pub halted_number : (refusal : Refusal) → 10 ≡ number refusal → refusal ≡ why.Halted
+halted_number why.Halted is = refl
+halted_number refusal is = absurd (let k : 10 ≡ number refusal = is in omega (arith, k))
+
+full_number : (refusal : Refusal) → 7 ≡ number refusal → refusal ≡ why.Full
+full_number why.Full is = refl
+full_number refusal is = absurd (let k : 7 ≡ number refusal = is in omega (arith, k))
+
+-- why a checkpoint is refused
+pub of_checkpoint : (e : ReplicaError) → IsOneOf checkpoint_refusals e
+    → (refusal_of e ≡ why.Halted) ⊎ ((refusal_of e ≡ why.Full)
+    ⊎ ((refusal_of e ≡ why.Memory) ⊎ (refusal_of e ≡ why.Device)))
+of_checkpoint e is =
+    elim (or_cases (10 == number (refusal_of e)) ((7 == number (refusal_of e))
+    || ((11 == number (refusal_of e)) || ((9 == number (refusal_of e)) || false))) is) [
+      | inl halted ↦ inl (halted_number (refusal_of e) (eqb-true _ _ halted))
+      | inr more ↦ elim (or_cases (7 == number (refusal_of e)) ((11 == number (refusal_of e))
+          || ((9 == number (refusal_of e)) || false)) more) [
+            | inl full ↦ inr (inl (full_number (refusal_of e) (eqb-true _ _ full)))
+            | inr rest ↦ inr (inr (outside e rest))
+          ]
     ]
 
 pub tree_is_none : (e : TreeError) → of_tree e ≢ why.Device

@@ -5,7 +5,8 @@ use Rattle.std.proofs.Common.{take}
 use Rattle.std.proofs.lemmas.Bool.{eqb-true, false≢true}
 use Rattle.std.specs.List.{list_any}
 use Rattle.std.specs.Prelude.{◌==◌, ◌||◌, if◌then◌else◌}
-use Rattle.syn_agent.proofs.CauseLemmas.{memory_number, never_first, none_of, or_cases}
+use Rattle.syn_agent.proofs.CauseLemmas.{halted_number, memory_number, never_first, none_of}
+use Rattle.syn_agent.proofs.CauseLemmas.{or_cases}
 use Rattle.syn_agent.proofs.ReplicaLemmas.{as_was}
 use Rattle.syn_agent.specs.Agents.{side_of}
 use Rattle.syn_agent.specs.Answers.{Answers, keeps, room_for}
@@ -45,10 +46,6 @@ use Rattle.syn_replica.specs.declared.replica.Replica.{Replica}
 use Rattle.syn_tree.specs.Refusals.{refusal_of as of_tree}
 use Rattle.syn_tree.specs.declared.error.TreeError.{TreeError}
 use Rattle.syn_tree.specs.declared.error.TreeError.TheVariants as tree_error
-
-pub halted_number : (refusal : Refusal) → 10 ≡ number refusal → refusal ≡ why.Halted
-halted_number why.Halted is = refl
-halted_number refusal is = absurd (let k : 10 ≡ number refusal = is in omega (arith, k))
 
 absent_number : (refusal : Refusal) → 5 ≡ number refusal → refusal ≡ why.Absent
 absent_number why.Absent is = refl

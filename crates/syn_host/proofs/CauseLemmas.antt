@@ -29,25 +29,6 @@ use Rattle.syn_agent.proofs.ReadingLemmas.{halted_number}
 use Rattle.syn_replica.proofs.RoomLemmas.{spelled_long}
 use Rattle.syn_standing.proofs.CauseLemmas.{first_skips, first_stays}
 
-full_number : (refusal : Refusal) → 7 ≡ number refusal → refusal ≡ why.Full
-full_number why.Full is = refl
-full_number refusal is = absurd (let k : 7 ≡ number refusal = is in omega (arith, k))
-
--- why a checkpoint is refused
-pub of_checkpoint : (e : ReplicaError) → IsOneOf checkpoint_refusals e
-    → (refusal_of e ≡ why.Halted) ⊎ ((refusal_of e ≡ why.Full)
-    ⊎ ((refusal_of e ≡ why.Memory) ⊎ (refusal_of e ≡ why.Device)))
-of_checkpoint e is =
-    elim (or_cases (10 == number (refusal_of e)) ((7 == number (refusal_of e))
-    || ((11 == number (refusal_of e)) || ((9 == number (refusal_of e)) || false))) is) [
-      | inl halted ↦ inl (halted_number (refusal_of e) (eqb-true _ _ halted))
-      | inr more ↦ elim (or_cases (7 == number (refusal_of e)) ((11 == number (refusal_of e))
-          || ((9 == number (refusal_of e)) || false)) more) [
-            | inl full ↦ inr (inl (full_number (refusal_of e) (eqb-true _ _ full)))
-            | inr rest ↦ inr (inr (outside e rest))
-          ]
-    ]
-
 -- a call of the archive's disk failed exactly where the device is the cause
 pub archive_failed : (e : ArchiveError) (old new : ℕ) → archives.refusal_of e ≡ why.Device
     → archives.CountsFailures e old new → old < new

@@ -31,25 +31,6 @@ use Rattle.syn_agent.proofs.CauseLemmas.{Never, history_is_none, never_first, no
 use Rattle.syn_agent.proofs.CauseLemmas.{tree_is_none}
 use Rattle.syn_replica.proofs.RoomLemmas.{spelled_long}
 
--- a device call that failed is the journal's
-pub device_or_other : (e : ReplicaError) →
-    (e ≡ Journal journal_error.Device) ⊎ (refusal_of e ≢ why.Device)
-device_or_other (Tree x) = inr (tree_is_none x)
-device_or_other (replica_error.History x) = inr (history_is_none x)
-device_or_other (Journal journal_error.Device) = inl refl
-device_or_other (Journal journal_error.Full) = inr (λ d. cc d)
-device_or_other (Journal journal_error.JournalFull) = inr (λ d. cc d)
-device_or_other (Journal journal_error.Halted) = inr (λ d. cc d)
-device_or_other (Journal journal_error.Memory) = inr (λ d. cc d)
-device_or_other (Journal journal_error.NoImage) = inr (λ d. cc d)
-device_or_other (Journal journal_error.Damaged) = inr (λ d. cc d)
-device_or_other Memory = inr (λ d. cc d)
-device_or_other Touched = inr (λ d. cc d)
-device_or_other OldSession = inr (λ d. cc d)
-device_or_other Damaged = inr (λ d. cc d)
-device_or_other WrongPair = inr (λ d. cc d)
-device_or_other OldVersion = inr (λ d. cc d)
-
 -- no history causes that a device call fails as a side replaces
 pub replace_never : (room : ℕ) (history : History) (token : Token) (path : Path) (since : ℕ)
     (new : Model) (other : Refusal) →
@@ -83,31 +64,3 @@ pub memory_last : (causes : List Cause) → first_cause causes ≡ None →
 memory_last [] is = refl
 memory_last ((true, first) ∷ causes) is = absurd (none_is_no first (sym is))
 memory_last ((false, first) ∷ causes) is = memory_last causes is
-
--- the refusals of a checkpoint
-pub checkpoint_one : (e : ReplicaError) → IsOneOf checkpoint_refusals e →
-    (e ≡ Journal journal_error.Halted) ⊎ ((refusal_of e ≡ why.Full)
-    ⊎ ((refusal_of e ≡ why.Memory) ⊎ (e ≡ Journal journal_error.Device)))
-checkpoint_one (Tree tree_error.Full) is = inr (inl refl)
-checkpoint_one (Tree tree_error.Memory) is = inr (inr (inl refl))
-checkpoint_one (Tree tree_error.NoParent) is = cc is
-checkpoint_one (Tree tree_error.IsDirectory) is = cc is
-checkpoint_one (Tree tree_error.Exists) is = cc is
-checkpoint_one (Tree tree_error.Absent) is = cc is
-checkpoint_one (Tree tree_error.Root) is = cc is
-checkpoint_one (replica_error.History history_error.Full) is = inr (inl refl)
-checkpoint_one (replica_error.History history_error.Memory) is = inr (inr (inl refl))
-checkpoint_one (replica_error.History history_error.BelowFloor) is = cc is
-checkpoint_one (Journal journal_error.Halted) is = inl refl
-checkpoint_one (Journal journal_error.Full) is = inr (inl refl)
-checkpoint_one (Journal journal_error.Memory) is = inr (inr (inl refl))
-checkpoint_one (Journal journal_error.Device) is = inr (inr (inr refl))
-checkpoint_one (Journal journal_error.JournalFull) is = cc is
-checkpoint_one (Journal journal_error.NoImage) is = cc is
-checkpoint_one (Journal journal_error.Damaged) is = cc is
-checkpoint_one Memory is = inr (inr (inl refl))
-checkpoint_one Touched is = cc is
-checkpoint_one OldSession is = cc is
-checkpoint_one Damaged is = cc is
-checkpoint_one WrongPair is = cc is
-checkpoint_one OldVersion is = cc is

@@ -1,7 +1,7 @@
 -- An event that a hold writes is what the world's side writes.
 use Rattle.std.proofs.Common.{◌≡◌, ◌≢◌, ◌⊎◌, ◌+◌, ◌-◌, ◌≤◌, ℕ, [], ◌∷◌, ◌++◌, List, length, refl}
 use Rattle.std.proofs.Common.{sym, ap, ◌∙◌, subst, inl, inr, Some, Result, Ok, Err}
-use Rattle.std.specs.Prelude.{IfOk, IfErr, OnOk}
+use Rattle.std.specs.Prelude.{IfOk, IfErr}
 use Rattle.std.specs.Result.{MatchResult}
 use Rattle.syn_agent.specs.Agents.{staging_of}
 use Rattle.syn_agent.specs.Machines.{IsOf, goes_on, stops, StandsAs, UpIsOf, WrittenIsOf}
@@ -24,13 +24,14 @@ use Rattle.syn_recovery.specs.Machines.{of_side}
 use Rattle.syn_recovery.specs.Meaning.{MayBeOf}
 use Rattle.syn_replica.specs.Disks.{DiskKeeps, event_size}
 use Rattle.syn_standing.specs.Refusals.{refusal_of}
-use Rattle.syn_replica.specs.Refusals.{MakesIfDevice}
+use Rattle.syn_journaled.specs.Endings.{ended}
+use Rattle.syn_journaled.proofs.Spent.{broke_off}
+use Rattle.syn_replica.specs.Calls.{Writes}
 use Rattle.syn_replica.specs.Replica.{IsHalted, Stands, Remembers, SameMemory, KeepsReadings}
 use Rattle.syn_replica.specs.Replica.{HasRecord, KeepsBeforeOrAfter, disk_of, journal_of}
 use Rattle.syn_replica.specs.Replica.{left_shown, generation_shown}
 use Rattle.syn_standing.specs.declared.error.ReplicaError.{ReplicaError}
 use Rattle.syn_replica.specs.declared.replica.Replica.{Replica}
-use Rattle.syn_shared.proofs.CauseLemmas.{device_or_other}
 use Rattle.syn_shared.specs.Machines.{Says, WritesEvent, writes, refuses}
 use Rattle.syn_replica.proofs.GrowthLemmas.{stands_still}
 
@@ -197,16 +198,16 @@ module _ {D : Type 0} {disk : Ghosts D} (pair : ℕ) (found left : Replica D dis
           Writes found left (Some event) (ended refusal_of answer) →
           MatchResult answer (λ _. Allowed) (λ e. refusal_of e ≡ why.Device → Allowed) →
           IfErr answer (λ e. refusal_of e ≢ why.Device → Refused e) → Written answer
-      event_up up stands moments (Ok position) acknowledged writes allowed refused =
+      event_up up stands moments (Ok position) acknowledged told allowed refused =
           subst (λ n. Written (Ok n)) (sym acknowledged.0)
-          (wrote up moments law up_law made allowed acknowledged.1 writes.written
-          writes.device.arms)
-      event_up up stands moments (Err e) acknowledged writes allowed refused =
-          elim writes.tried as (λ _. Written (Err e)) [
+          (wrote up moments law up_law made allowed acknowledged.1 told.written
+          told.device.arms)
+      event_up up stands moments (Err e) acknowledged told allowed refused =
+          elim told.tried as (λ _. Written (Err e)) [
             | inl sent ↦ broke up moments law broken (allowed sent.0) stands.remembers
-                (writes.halts sent.0) writes.readings e sent.0
-                (broke_off (refusal_of e) (disk_of found) (disk_of left) 4 sent.0 writes.device).1
-            | inr not ↦ other e not.0 (refused not.0) writes.unchanged writes.readings
+                (told.halts sent.0) told.readings e sent.0
+                (broke_off (refusal_of e) (disk_of found) (disk_of left) 4 sent.0 told.device).1
+            | inr not ↦ other e not.0 (refused not.0) told.unchanged told.readings
           ]
 
       pub event_halted : (e : ReplicaError) → refusal_of e ≡ why.Halted → Refused e →

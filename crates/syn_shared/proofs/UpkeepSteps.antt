@@ -18,7 +18,7 @@ use Rattle.syn_journal.specs.declared.error.JournalError.TheVariants as journal_
 use Rattle.syn_model.specs.Event.{Event}
 use Rattle.syn_model.specs.History.{History}
 use Rattle.syn_model.specs.Path.{Bytes}
-use Rattle.syn_model.specs.Refusal.{first_cause}
+use Rattle.syn_model.specs.Refusal.{Refusal, first_cause}
 use Rattle.syn_model.specs.Refusal as why
 use Rattle.syn_recovery.specs.Calls.{BrokenCallsMeet, MadeCallsMeet, MadeReadsMeet}
 use Rattle.syn_standing.specs.Refusals.{refusal_of}
@@ -30,10 +30,9 @@ use Rattle.syn_standing.specs.declared.error.ReplicaError.{ReplicaError}
 use Rattle.syn_standing.specs.declared.error.ReplicaError.TheVariants.{Journal}
 use Rattle.syn_replica.specs.declared.replica.Replica.{Replica}
 use Rattle.syn_shared.proofs.AnswerLemmas.{halted_answer}
-use Rattle.syn_shared.proofs.CauseLemmas.{checkpoint_one}
 use Rattle.syn_shared.proofs.EventLemmas.{still_of}
 use Rattle.syn_shared.specs.Machines.{IsMade, IsRefused, CompactsSide, keeps, ReopensSide}
-use Rattle.syn_agent.proofs.CauseLemmas.{outside as memory_or_device}
+use Rattle.syn_agent.proofs.CauseLemmas.{of_checkpoint, outside as memory_or_device}
 use Rattle.std.proofs.lemmas.Bool.Decides.{leb_tells}
 use Rattle.syn_model.specs.Limits.{greatest}
 use Rattle.syn_model.specs.Standing.{Standing}
@@ -109,8 +108,8 @@ module _ {D : Type 0} {disk : Ghosts D} (pair : ℕ) (found left : Replica D dis
       {A = Result Unit ReplicaError} (Ok x) (Err (Journal journal_error.Full)) = first g in cc)))
       acknowledged compacts.image compacts.generation compacts.device.arms
   checkpoint_up up stands moments (Err e) acknowledged full first refusals running compacts =
-      elim (checkpoint_one e refusals) as (λ _. CompactsSide pair left agent machine (Err e)) [
-        | inl halted ↦ absurd (running (compacts.halted.0 (ap (λ x. Some (refusal_of x)) halted)))
+      elim (of_checkpoint e refusals) as (λ _. CompactsSide pair left agent machine (Err e)) [
+        | inl halted ↦ absurd (running (compacts.halted.0 (ap (λ r. Some r) halted)))
         | inr (inl is_full) ↦ keeps e
             (refused_of up e (by_full (nat_le greatest (generation_shown found)) e
             (is_greatest (generation_shown found) (full is_full)) is_full))
@@ -118,29 +117,27 @@ module _ {D : Type 0} {disk : Ghosts D} (pair : ℕ) (found left : Replica D dis
             compacts.unchanged)
         | inr (inr (inl is_memory)) ↦ keeps e
             (refused_of up e (by_memory (nat_le greatest (generation_shown found)) e
-            (not_greatest (generation_shown found) fits (λ g. not_full e is_memory (first g)))
+            (not_greatest (generation_shown found) fits (λ g. not_full e why.Memory is_memory
+            (λ w. cc w) (first g)))
             is_memory))
             (unchanged_is e (λ d. let k : why.Memory ≡ why.Device = sym is_memory ∙ d in cc)
             compacts.unchanged)
         | inr (inr (inr device)) ↦
-            let is_device = ap refusal_of device in
             compacts_not pair found left agent machine is counts_now up stands moments law memory
             broken
-            (made_of up (not_greatest (generation_shown found) fits (λ g. let k :
-            ◌≡◌ {A = Result Unit ReplicaError} (Err e) (Err (Journal journal_error.Full)) =
-            first g in
-            let d : e ≡ Journal journal_error.Device = device in cc)))
-            (compacts.halts is_device) compacts.readings e is_device
-            (broke_off (refusal_of e) (disk_of found) (disk_of left) 6 is_device compacts.device).1
+            (made_of up (not_greatest (generation_shown found) fits (λ g. not_full e why.Device
+            device (λ w. cc w) (first g))))
+            (compacts.halts device) compacts.readings e device
+            (broke_off (refusal_of e) (disk_of found) (disk_of left) 6 device compacts.device).1
       ]
     where
-      not_full : (e : ReplicaError) → refusal_of e ≡ why.Memory →
+      not_full : (e : ReplicaError) (refusal : Refusal) → refusal_of e ≡ refusal →
+          refusal ≢ why.Full →
           ◌≡◌ {A = Result Unit ReplicaError} (Err e) (Err (Journal journal_error.Full)) → ⊥
-      not_full e memory same =
+      not_full e refusal is other same =
           let k : e ≡ Journal journal_error.Full = (let s : ◌≡◌ {A = Result Unit ReplicaError}
           (Err e) (Err (Journal journal_error.Full)) = same in cc) in
-          let m : why.Full ≡ why.Memory = sym (ap refusal_of k) ∙ memory in
-          cc
+          other (sym is ∙ ap refusal_of k)
 
       unchanged_is : (e : ReplicaError) → refusal_of e ≢ why.Device →
           (refusal_of e ≡ why.Device) ⊎ (journal_of left ≡ journal_of found) →

@@ -9,7 +9,7 @@ use Rattle.syn_model.specs.Refusal as why
 use Rattle.syn_standing.specs.Refusals.{refusal_of}
 use Rattle.syn_replica.specs.Replica.{disk_of, journal_of}
 use Rattle.syn_host.proofs.CauseLemmas.{causes_none, causes_some, memory_not_device}
-use Rattle.syn_host.proofs.CauseLemmas.{of_checkpoint}
+use Rattle.syn_agent.proofs.CauseLemmas.{of_checkpoint}
 use Rattle.syn_journaled.proofs.Spent.{broke_off, nothing_spent}
 use Rattle.syn_host.proofs.EditLemmas.{failed_by}
 use Rattle.syn_host.proofs.CheckpointLemmas.{compact_failed, compact_ok, compact_refused, is_less}
