@@ -1,6 +1,6 @@
 -- What stands in a directory of a history is a listing that can be sent.
 use Rattle.sha2.proofs.Facts256.{length-sha256}
-use Rattle.std.proofs.Common.{◌≡◌, ◌∙◌, ◌+◌, ◌<◌, ◌≤◌, ℕ, zero, suc, Bool, true, false, ◌&&◌}
+use Rattle.std.proofs.Common.{◌≡◌, ◌∙◌, ◌+◌, ◌≤◌, ℕ, zero, suc, Bool, true, false, ◌&&◌}
 use Rattle.std.proofs.Common.{List, [], ◌∷◌, ◌++◌, Option, Some, None, T, Less, Equal, Greater, ap}
 use Rattle.std.proofs.Common.{ap₂, arith, cond, is_eq, IsSome, length, map, nat_le, refl}
 use Rattle.std.proofs.Common.{option_map, subst, sym}
@@ -27,7 +27,7 @@ use Rattle.syn_model.specs.Limits.{fits_replica, only_name, tree_spelling_length
 use Rattle.syn_model.specs.Mark.{mark, mark_of}
 use Rattle.syn_model.specs.Path.{IsName, Name, Path, name_cmp, path_cmp, strip_prefix}
 use Rattle.syn_model.specs.Tree.{Content, Directory, File, IsPart, IsTree, Pair, Tree}
-use Rattle.syn_model.specs.Tree.{is_directory, is_directory_content}
+use Rattle.syn_model.specs.Tree.{is_directory}
 use Rattle.std.specs.FinMap.{get, len}
 use Rattle.syn_model.proofs.ContentsLemmas.{digest_is_bytes}
 use Rattle.syn_tree.specs.Contents.{IsLawful}

@@ -1,5 +1,5 @@
 -- What a device saw of a call that was refused.
-use Rattle.std.proofs.Common.{◌≡◌, ◌≢◌, ◌<◌, ℕ, false, Some, refl, subst, sym}
+use Rattle.std.proofs.Common.{◌≡◌, ◌≢◌, ◌<◌, ℕ, false, Some, refl, subst}
 use Rattle.syn_disk.specs.Calls.{Breaks, BreaksSometime, MakesAtLeast}
 use Rattle.syn_disk.specs.declared.disk.Disk.{Ghosts}
 use Rattle.syn_model.specs.Refusal.{Refusal, Device}

@@ -1,13 +1,13 @@
 -- A call that makes nothing of a replica, and one that passes on what its machine made.
-use Rattle.std.proofs.Common.{◌≡◌, ◌≢◌, ◌⊎◌, ◌∙◌, ℕ, Bool, true, false, Option, Some, None, Result}
-use Rattle.std.proofs.Common.{Ok, Err, List, ap, inl, inr, refl, subst, sym}
+use Rattle.std.proofs.Common.{◌≡◌, ◌≢◌, ◌⊎◌, ◌∙◌, Option, Some, None, Result}
+use Rattle.std.proofs.Common.{Ok, Err, ap, inl, inr, refl, subst, sym}
 use Rattle.std.proofs.lemmas.Option.{none-some, same_Some}
 use Rattle.std.specs.Prelude.{◌↔◌, IfErr, IsErrAnd}
 use Rattle.syn_disk.specs.Arms.{Arms}
 use Rattle.syn_disk.specs.Calls.{Makes}
 use Rattle.syn_disk.specs.declared.disk.Disk.{Ghosts}
 use Rattle.syn_journal.specs.declared.error.JournalError.TheVariants as journal
-use Rattle.syn_journaled.specs.Endings.{BreaksIf, Grows, ended, is_device}
+use Rattle.syn_journaled.specs.Endings.{BreaksIf, Grows, ended}
 use Rattle.syn_journaled.specs.Journaled as machine
 use Rattle.syn_journaled.proofs.Spent.{not_device}
 use Rattle.syn_model.specs.Event.{Event}

@@ -1,7 +1,7 @@
 -- Why a disk is not opened.
-use Rattle.std.proofs.Common.{◌≡◌, ℕ, List, refl, sym, ap, ◌∙◌, subst, Option, Result, Ok, Err}
-use Rattle.std.proofs.Common.{true≢false, Bool, true, false, Some, inl, inr}
-use Rattle.syn_journal.specs.Layout.{Value, Fault, meaning}
+use Rattle.std.proofs.Common.{◌≡◌, ℕ, List, refl, sym, subst, Option, Ok}
+use Rattle.std.proofs.Common.{Some, inl, inr}
+use Rattle.syn_journal.specs.Layout.{Value, meaning}
 use Rattle.syn_journal.proofs.Meanings.{no_value, one_value}
 use Rattle.syn_journal.specs.Refusals as journal
 use Rattle.syn_journal.specs.declared.error.JournalError.{JournalError}

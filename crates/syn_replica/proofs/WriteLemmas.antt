@@ -1,5 +1,5 @@
 -- What a machine's write makes of a replica.
-use Rattle.std.proofs.Common.{◌≡◌, ◌≢◌, ◌⊎◌, ◌∙◌, ◌-◌, ◌++◌, ◌∷◌, [], Option, Some, None, ap}
+use Rattle.std.proofs.Common.{◌≡◌, ◌⊎◌, ◌∙◌, ◌-◌, ◌++◌, ◌∷◌, [], Option, Some, None, ap}
 use Rattle.std.proofs.Common.{inl, inr, subst, sym}
 use Rattle.std.proofs.lemmas.Option.{none-some, same_Some}
 use Rattle.syn_disk.specs.Stops.{LeavesOnly}
@@ -17,7 +17,7 @@ use Rattle.syn_standing.specs.Updates.{IsOf}
 use Rattle.syn_standing.specs.declared.standing.Update.{Update}
 use Rattle.syn_replica.specs.Calls.{Tries, Writes}
 use Rattle.syn_replica.specs.Growth.{IsGrown}
-use Rattle.syn_replica.specs.Replica.{HasRecord, KeepsBeforeOrAfter, KeepsReadings, Stands, disk_of}
+use Rattle.syn_replica.specs.Replica.{KeepsBeforeOrAfter, Stands, disk_of}
 use Rattle.syn_replica.specs.Replica.{generation_shown, journal_of, left_shown, pair_of}
 use Rattle.syn_replica.specs.Replica.{standing_shown, tried_shown}
 use Rattle.syn_replica.specs.declared.replica.Replica.{Replica}

@@ -1,5 +1,5 @@
 -- The steps of a side: what they leave, and why they are refused, the first cause first.
-use Rattle.std.specs.Prelude.{◌≡◌, ℕ, Bool, true, false, not, ◌==◌, nat_lt, if◌then◌else◌, List, []}
+use Rattle.std.specs.Prelude.{ℕ, Bool, false, not, ◌==◌, nat_lt, if◌then◌else◌, List, []}
 use Rattle.std.specs.Prelude.{◌∷◌, ◌++◌, length, take, drop, Option}
 use Rattle.std.specs.Option.{option_map_or}
 use Rattle.syn_model.specs.Limits.{greatest_piece}

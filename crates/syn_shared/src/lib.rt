@@ -16,7 +16,8 @@
 //!     what the call of one thread gives there.
 //! - What that is, is one record for each call: `Edits`, `Replaces`, `Checkpoints`, `Reopens`,
 //!   `Gets`, `Lists`, `ListsMarks`. Each has the clauses of the replica's own call, of the replica
-//!   found and the one left. One that reads leaves the replica as it was found.
+//!   found and the one left, and its record (`machine`) as it is. One that reads leaves the replica
+//!   as it was found.
 //! - What is got is within the limit of a file, also of a replica that stands for no history
 //!   (`Gets`: `fits`).
 //! - An edit, and a replacement under a token that is not done, are one step in the form of a

@@ -1,5 +1,5 @@
 -- Why an event is not added to what is kept in memory.
-use Rattle.std.specs.Prelude.{◌≡◌, ℕ, Bool, true, false, ◌++◌, List, [], ◌∷◌, Option}
+use Rattle.std.specs.Prelude.{◌≡◌, ℕ, true, false, ◌++◌, List, [], ◌∷◌, Option}
 use Rattle.syn_model.specs.Event.{Token, Event}
 use Rattle.syn_model.specs.Limits.{fits_part, fits_paths}
 use Rattle.syn_model.specs.Refusal.{Refusal, first_cause}
