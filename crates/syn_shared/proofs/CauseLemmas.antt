@@ -1,15 +1,8 @@
 -- Which refusals a history causes, and which cause the world names first.
-use Rattle.std.proofs.Common.{◌≡◌, ◌≢◌, ◌⊎◌, ◌+◌, ◌-◌, ◌≤◌, ℕ, suc, [], ◌∷◌, ◌++◌, List, length}
-use Rattle.std.proofs.Common.{refl, sym, ap, ◌∙◌, inl, inr, true, false, not, Option, None, Some}
-use Rattle.std.proofs.Common.{arith}
-use Rattle.std.proofs.lemmas.Bool.Decides.{leb_tells}
-use Rattle.std.specs.Prelude.{nat_le, nat_lt}
-use Rattle.syn_disk.specs.Arms.{Arms}
-use Rattle.syn_disk.specs.Calls.{MakesAtLeast}
+use Rattle.std.proofs.Common.{◌≡◌, ◌≢◌, ◌-◌, ℕ, [], ◌∷◌, ◌++◌, List, length}
+use Rattle.std.proofs.Common.{refl, sym, ap, true, false, None, Some}
 use Rattle.syn_headline.specs.SideMachine.{SideMachine, causes_of}
-use Rattle.syn_history.specs.declared.error.HistoryError.TheVariants as history_error
-use Rattle.syn_journal.specs.declared.error.JournalError.TheVariants as journal_error
-use Rattle.syn_model.specs.Event.{Event, Edit, Put, MakeDir, Remove, Token, Edited, Began, Replaced}
+use Rattle.syn_model.specs.Event.{Event, Token, Replaced}
 use Rattle.syn_model.specs.History.{History, event_causes, position_causes, is_old_token, tree_of}
 use Rattle.syn_model.specs.Path.{Path}
 use Rattle.syn_model.specs.Tree.{Tree as Model, replace}
@@ -17,18 +10,9 @@ use Rattle.syn_model.specs.Refusal.{Refusal, Cause, first_cause, JournalFull}
 use Rattle.syn_model.specs.Refusal as why
 use Rattle.syn_model.specs.Standing.{place_causes, full_causes}
 use Rattle.syn_model.specs.Spelling.{event_spelling}
-use Rattle.syn_standing.specs.Refusals.{refusal_of}
-use Rattle.syn_replica.specs.Refusals.{IsOneOf, outside_refusals, checkpoint_refusals}
 use Rattle.syn_replica.specs.Steps.{add_refusal, replace_refusal, room_causes}
 use Rattle.syn_standing.specs.Causes.{since_causes}
-use Rattle.syn_standing.specs.declared.error.ReplicaError.{ReplicaError}
-use Rattle.syn_standing.specs.declared.error.ReplicaError.TheVariants.{Tree, Journal, Memory}
-use Rattle.syn_standing.specs.declared.error.ReplicaError.TheVariants.{Touched, OldSession, Damaged}
-use Rattle.syn_standing.specs.declared.error.ReplicaError.TheVariants.{WrongPair, OldVersion}
-use Rattle.syn_standing.specs.declared.error.ReplicaError.TheVariants as replica_error
-use Rattle.syn_tree.specs.declared.error.TreeError.TheVariants as tree_error
-use Rattle.syn_agent.proofs.CauseLemmas.{Never, history_is_none, never_first, none_is_no, rooms}
-use Rattle.syn_agent.proofs.CauseLemmas.{tree_is_none}
+use Rattle.syn_agent.proofs.CauseLemmas.{never_first, none_is_no, rooms}
 use Rattle.syn_replica.proofs.RoomLemmas.{spelled_long}
 
 -- no history causes that a device call fails as a side replaces

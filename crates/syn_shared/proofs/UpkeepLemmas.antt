@@ -30,7 +30,7 @@ use Rattle.syn_replica.specs.Replica.{KeepsOrCompacts, disk_of, journal_of, stan
 use Rattle.syn_replica.specs.Replica.{left_shown, generation_shown, pair_of}
 use Rattle.syn_standing.specs.declared.error.ReplicaError.{ReplicaError}
 use Rattle.syn_replica.specs.declared.replica.Replica.{Replica}
-use Rattle.syn_shared.proofs.EventLemmas.{met, value}
+use Rattle.syn_shared.proofs.EventLemmas.{met}
 use Rattle.syn_shared.specs.Machines.{Says, IsMade, CompactsSide, compacts, ReopensSide, opens}
 use Rattle.syn_shared.specs.Machines.{stops_within, fails, has_no_memory}
 use Rattle.syn_recovery.proofs.DiskLemmas.{behind_image, may_be_still, one_generation, one_value}

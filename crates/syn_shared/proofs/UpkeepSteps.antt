@@ -41,7 +41,6 @@ use Rattle.syn_recovery.specs.Meaning.{MayBeOf, MayMean, as_kept, with_record, c
 use Rattle.syn_replica.specs.Disks.{DiskStands}
 use Rattle.syn_shared.proofs.UpkeepLemmas.{compacts_ok, compacts_not, opens_again, opens_not}
 use Rattle.syn_shared.proofs.UpkeepLemmas.{opens_later}
-use Rattle.syn_shared.proofs.WorldLemmas.{value}
 
 -- the greatest generation
 is_greatest : (n : ℕ) → n + 1 ≡ 2 ^ 64 → nat_le greatest n ≡ true
