@@ -1,7 +1,7 @@
 -- A checkpoint of the archive is what its machine does.
 use Rattle.std.proofs.Common.{◌≡◌, ◌⊎◌, ◌≤◌, ℕ, suc, ◌+◌, true, List, refl, sym, ap, ap₂, ◌∙◌}
 use Rattle.std.proofs.Common.{subst, inl, inr, Some, None, arith}
-use Rattle.syn_archive.specs.Archive.{Stands, KeepsOrCompacts, pair_of, shown, disk_of, left_shown}
+use Rattle.syn_archive.specs.Archive.{Stands, KeepsOrCompacts, pair_of, disk_of, left_shown}
 use Rattle.syn_archive.specs.Archive.{generation_shown}
 use Rattle.syn_archive.specs.Disks.{DiskKeeps, DiskCompacted}
 use Rattle.syn_archive.specs.Writes.{Compacts}

@@ -1,12 +1,9 @@
 -- How a call of an archive did not come out.
-use Rattle.std.proofs.Common.{◌≡◌, ◌≢◌, ◌∙◌, ℕ, Result, Ok, Err, Some, sym}
+use Rattle.std.proofs.Common.{◌≡◌, ◌≢◌, ◌∙◌, Result, Ok, Err, Some, sym}
 use Rattle.std.proofs.lemmas.Option.{same_Some}
 use Rattle.syn_archive.specs.Refusals.{refusal_of}
 use Rattle.syn_archive.specs.declared.error.ArchiveError.{ArchiveError}
 use Rattle.syn_archive.specs.declared.error.ArchiveError.TheVariants as error
-use Rattle.syn_journaled.specs.Endings as machine
-use Rattle.syn_keep.specs.Due.{CountsFailures}
-use Rattle.syn_keep.specs.inner.Recording.{ended_by}
 use Rattle.syn_model.specs.Refusal.{Refusal, Halted}
 
 abbrev pub failed : (T : Type 0) → ArchiveError → Result T ArchiveError
@@ -24,9 +21,3 @@ ok_not_full x r ok full = cc
 pub not_halted : (e : ArchiveError) (w : Refusal) → refusal_of e ≡ w → w ≢ Halted →
     Some (refusal_of e) ≡ Some Halted → ⊥
 not_halted e w is other halted = other (sym is ∙ same_Some _ _ halted)
-
--- what is due ends for the device where a device call failed
-pub ended_counts : (e : ArchiveError) (old new : ℕ) →
-    machine.CountsFailures (Some (refusal_of e)) old new → CountsFailures (ended_by e) old new
-ended_counts error.Device old new counts = counts
-ended_counts _ old new counts = counts

@@ -15,6 +15,12 @@ pub returns-in-Ok-clause-writes : goal.returns-in-Ok-clause-writes
 returns-in-Ok-clause-writes g c pair machine is ready =
     written (by (is_directory (marks_shown c.args.archive.now) c.args.path.now) refl)
   where
+    ended : (b : Bool) → is_directory (marks_shown c.args.archive.now) c.args.path.now ≡ b →
+        Ended c.args.archive.now c.record_dir.new.self
+        (if b then None else Some (RecordedDir c.args.path.now)) None
+    ended b is = subst (λ x. Ended c.args.archive.now c.record_dir.new.self
+        (if x then None else Some (RecordedDir c.args.path.now)) None) is c.in-Ok.ensures.machine
+
     by : (b : Bool) → is_directory (marks_shown c.args.archive.now) c.args.path.now ≡ b →
         KeepsSo c.record_dir.new.self pair machine (RecordedDir c.args.path.now)
         (RecordedDir c.args.path.now ∷ []) Up
@@ -27,12 +33,6 @@ returns-in-Ok-clause-writes g c pair machine is ready =
         (idle_is c.args.archive.now c.record_dir.new.self pair machine is c.args.path.now ready)
         ∙ none) (ended false none) c.in-Ok.ensures.acknowledged c.keeps_on_disk.ensures
         c.device_laws.ensures.made c.device_laws.ensures.behind
-
-    ended : (b : Bool) → is_directory (marks_shown c.args.archive.now) c.args.path.now ≡ b →
-        Ended c.args.archive.now c.record_dir.new.self
-        (if b then None else Some (RecordedDir c.args.path.now)) None
-    ended b is = subst (λ x. Ended c.args.archive.now c.record_dir.new.self
-        (if x then None else Some (RecordedDir c.args.path.now)) None) is c.in-Ok.ensures.machine
 
 pub returns-in-Err-clause-writes : goal.returns-in-Err-clause-writes
 returns-in-Err-clause-writes g c pair machine is ready =
