@@ -1,5 +1,5 @@
 //! The machine of a coordinator is started again.
-ghost use Rattle.std.specs.Prelude.{◌≡◌, IfErr, IfOk, MatchResult, None, Some, option_map};
+ghost use Rattle.std.specs.Prelude.{IfErr, IfOk, MatchResult, None, Some, option_map};
 ghost use Rattle.syn_archive.specs.Refusals.{refusal_of};
 ghost use Rattle.syn_coordinator.specs.Coordinators.{device_of};
 ghost use Rattle.syn_coordinator.specs.Openings.{OpensAs, RestsStill, RestsWith};
