@@ -38,8 +38,8 @@ pub returns-in-Err-clause-failures : goal.returns-in-Err-clause-failures
 returns-in-Err-clause-failures g c = record {
   grew = λ device. archive_failed (refusal_of c.in-Err.error) _ _ (sym c.refusal.ensures ∙ device)
       c.in-Err.ensures.device.failures;
-  same = λ other. archive_did_not (refusal_of c.in-Err.error) _ _ (λ device. other (c.refusal.ensures ∙ device))
-      c.in-Err.ensures.device.failures;
+  same = λ other. archive_did_not (refusal_of c.in-Err.error) _ _
+      (λ device. other (c.refusal.ensures ∙ device)) c.in-Err.ensures.device.failures;
 }
 
 pub returns-in-Err-clause-refused : goal.returns-in-Err-clause-refused
