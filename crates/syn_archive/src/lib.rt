@@ -24,13 +24,13 @@
 //! - After a failed device call it is halted (`halts`) and shows what it had (`readings`,
 //!   `memory`). After any other refusal its journal is as it was (`unchanged`).
 //! - `open` shows what the disk stands for (`given`), and stands for each archive that the disk
-//!   stands for, whatever its pair (`stands`, `each`). It changes nothing (`device`: `Reads`). It is
-//!   refused 18 only where no half is open, and 26 only where the image begins as one of the first
-//!   version. It is refused 19 only where the layout is broken, or where the disk's value is not of
-//!   the first version and stands for no archive of any pair. It is refused 20 only where it stands
-//!   for one of another pair than the wanted one (`refusals`, `wanted`). No two of these hold of
-//!   one disk. A disk of the wanted pair's archive is refused 9 and 11 alone (`lawful`), and one of
-//!   the first version 9, 11 and 26 alone (`old`).
+//!   stands for, whatever its pair (`stands`, `each`). It changes nothing (`device`: `Reads`). It
+//!   is refused 18 only where no half is open, and 26 only where the image begins as one of the
+//!   first version. It is refused 19 only where the layout is broken, or where the disk's value is
+//!   not of the first version and stands for no archive of any pair. It is refused 20 only where
+//!   it stands for one of another pair than the wanted one (`refusals`, `wanted`). No two of these
+//!   hold of one disk. A disk of the wanted pair's archive is refused 9 and 11 alone (`lawful`),
+//!   and one of the first version 9, 11 and 26 alone (`old`).
 //! - `reopen` does the same with the archive's own disk (`given`, `each`), also where it was
 //!   halted. Where a call was refused 9, it leaves the archive before that call, or with what was
 //!   being kept (`before_or_after`, of what `seen` says). A disk that stands for no archive of its
@@ -41,9 +41,9 @@
 //!   or the other (`any_moment`). It is refused as `open` is, but for 20 and 26, and 7 exactly at
 //!   the greatest generation (`refusals`, `greatest`). A disk of the second version it opens, and
 //!   writes nothing (`same`).
-//! - What the device sees of a call is one fact, as `syn_journaled` says it: how many device calls
-//!   were made, and whether the last of them failed (`device`: `Spends`, `Reads`; `calls` and
-//!   `failures` of `migrate`). `arm` and `is_cut` are the disk's.
+//! - What the device sees of a call is one fact: how many device calls were made, and whether the
+//!   last of them failed (`device`: `Spends`, `Reads`). `migrate` says it in two (`calls`,
+//!   `failures`). `arm` and `is_cut` are the disk's.
 //! - After Ok a call of those that keep leaves as many bytes less as its record takes, and after
 //!   any refusal as many as were there (`written`, `readings`). After a reopening that is refused,
 //!   room and generation are as they were, or they are those of its disk (`readings` of `reopen`).

@@ -68,7 +68,8 @@ module _ {D : Type 0} {disk : Ghosts D} (old new : Archive D disk) (pair : ℕ) 
       subst (λ a. Meets a calls status arms failed) is.armed meets
 
   -- it stands with the record
-  module _ (stands : Stands new (after_kept machine.value kept)) (ended : Writes old new (Some kept) None)
+  module _ (stands : Stands new (after_kept machine.value kept))
+      (ended : Writes old new (Some kept) None)
       (on_disk : (bytes : Bytes) → disk.may_leave (disk_of new) bytes → DiskKeeps (pair_of new)
       (after_kept machine.value kept) (left_shown new) (generation_shown new) bytes) where
     left_is : left_shown new ≡ machine.room - kept_size kept
@@ -91,7 +92,8 @@ module _ {D : Type 0} {disk : Ghosts D} (old new : Archive D disk) (pair : ℕ) 
         machine_new.generation ≡ machine.generation → machine_new.writing ≡ None →
         IsShown new pair machine_new
     shows_record machine_new room generation idle = record {
-      as_left = inl (left_is ∙ sym room, ended.written.generation ∙ (was.generation ∙ sym generation));
+      as_left = inl
+          (left_is ∙ sym room, ended.written.generation ∙ (was.generation ∙ sym generation));
       exactly = λ what is. absurd (none-some _ (sym idle ∙ is));
     }
 

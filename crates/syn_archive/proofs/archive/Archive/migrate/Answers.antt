@@ -60,7 +60,8 @@ pub returns-in-Ok-migrate-clause-writes : goal.returns-in-Ok-migrate-clause-writ
 returns-in-Ok-migrate-clause-writes g c old =
     more_made 1 7 8 (g.D.Disk.arms c.args.disk) (g.D.Disk.arms c.in-Err.refused.1) _
     (subst (λ e. ReadsOrBreaks 1 (Some (refusal_of e)) (g.D.Disk.arms c.args.disk)
-    (g.D.Disk.arms c.in-Err.refused.1)) c.in-OldVersion.is c.in-Err.ensures.device.arms) c.in-Ok-migrate.ensures.device.arms (omega arith)
+    (g.D.Disk.arms c.in-Err.refused.1)) c.in-OldVersion.is c.in-Err.ensures.device.arms)
+    c.in-Ok-migrate.ensures.device.arms (omega arith)
 
 pub returns-in-Ok-migrate-clause-calls : goal.returns-in-Ok-migrate-clause-calls
 returns-in-Ok-migrate-clause-calls g c =
@@ -134,7 +135,8 @@ returns-in_default g c =
           g.D.Disk.may_leave g.D.Disk.moment g.D.Disk.left_since c.args.disk c.in-Err.refused.1 _
           found.device.untouched;
       seen = λ number kept left generation fits keeps. inl
-          (subst (DiskKeepsIn One number kept left generation) (sym found.device.untouched.same) keeps);
+          (subst (DiskKeepsIn One number kept left generation)
+          (sym found.device.untouched.same) keeps);
       refusals = refusal;
       lawful = λ version number kept fits d. lawful_migrate e version seen number kept fits d
           refusal;

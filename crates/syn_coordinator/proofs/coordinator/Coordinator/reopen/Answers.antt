@@ -36,8 +36,9 @@ returns-in-Err-clause-device g c pair machine stands is_device =
     c.in-Err.ensures.pair c.in-Err.ensures.device.untouched g.met.D.Disk.seen_may_stay
     c.keeps_on_disk-in-Err.ensures c.in-Err.ensures.memory
     (c.in-Err.ensures.halts (no_memory _ device)) c.device_laws.ensures.broken
-    (subst (λ e. ReadsOrBreaks 1 (Some (refusal_of e)) (g.D.Disk.arms (disk_of c.args.self.now.archive))
-    (g.D.Disk.arms (disk_of c.reopen.new.self))) device c.in-Err.ensures.device.arms))
+    (subst (λ e. ReadsOrBreaks 1 (Some (refusal_of e))
+    (g.D.Disk.arms (disk_of c.args.self.now.archive)) (g.D.Disk.arms (disk_of c.reopen.new.self)))
+    device c.in-Err.ensures.device.arms))
 
 pub returns-in-Err-clause-memory : goal.returns-in-Err-clause-memory
 returns-in-Err-clause-memory g c pair machine stands other =
@@ -56,7 +57,8 @@ returns-in-Err-clause-memory g c pair machine stands other =
           (λ kept was. elim (c.in-Err.ensures.unchanged kept was)
           [ inl device ↦ absurd (other device) | inr stays ↦ stays ]) c.keeps_on_disk.ensures
           c.device_laws.ensures.reads
-          (subst (λ e. ReadsOrBreaks 1 (Some (refusal_of e)) (g.D.Disk.arms (disk_of c.args.self.now.archive))
+          (subst (λ e. ReadsOrBreaks 1 (Some (refusal_of e))
+          (g.D.Disk.arms (disk_of c.args.self.now.archive))
           (g.D.Disk.arms (disk_of c.reopen.new.self))) memory c.in-Err.ensures.device.arms)),
     )
 
