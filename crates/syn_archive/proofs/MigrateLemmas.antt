@@ -1,7 +1,7 @@
 -- What a migration of a machine says of an archive.
 use Rattle.std.proofs.Common.{◌≡◌, ◌⊎◌, ◌<◌, ◌^◌, ◌+◌, ◌∙◌, ℕ, List, [], length, inl, inr}
 use Rattle.std.proofs.Common.{⊎_elim, refl}
-use Rattle.std.proofs.Common.{sym, ap, subst, Ok, Option, None, arith, ◌≤◌}
+use Rattle.std.proofs.Common.{sym, ap, subst, Ok, Option, Some, None, arith, ◌≤◌}
 use Rattle.std.proofs.lemmas.Option.{none-some}
 use Rattle.syn_disk.specs.Stops.{LeavesOnly, Untouched}
 use Rattle.syn_disk.specs.declared.disk.Disk.{Ghosts}
@@ -11,6 +11,7 @@ use Rattle.syn_journal.specs.Layout.{longest_image, meaning}
 use Rattle.syn_journal.specs.Refusals as journal_refusals
 use Rattle.syn_journal.specs.declared.error.JournalError.{JournalError}
 use Rattle.syn_journal.specs.declared.error.JournalError.TheVariants as refused_by
+use Rattle.syn_journaled.specs.Endings.{Reads}
 use Rattle.syn_journaled.specs.Migrations.{Holds, IsUnwritten, Migrated, Migrates, NotMigrated}
 use Rattle.syn_journaled.specs.Migrations.{NotWritten}
 use Rattle.syn_journaled.proofs.Migrations.{after_reads, one_journal}
@@ -26,7 +27,7 @@ use Rattle.syn_archive.specs.Archive.{Stands, generation_shown, journal_of, pair
 use Rattle.syn_archive.specs.Disks.{DiskKeepsIn, DiskStandsIn, IsAtGreatest}
 use Rattle.syn_archive.specs.Disks.{IsMigrateRefusal, IsOldDisk, IsOpenRefusal, KeepsOrMigrates}
 use Rattle.syn_archive.specs.Disks.{StandsForNoneIn}
-use Rattle.syn_archive.specs.Refusals.{AfterReads, CountsFailures, of_journal}
+use Rattle.syn_archive.specs.Refusals.{of_journal, refusal_of}
 use Rattle.syn_archive.specs.inner.Agreements.{GivesOld, IsUnreadOld, agreed_archive}
 use Rattle.syn_archive.specs.declared.agreed.Agreed.{Agreed}
 use Rattle.syn_archive.specs.declared.archive.Archive.{Archive}
@@ -311,16 +312,13 @@ was_old e bytes is refused = subst (λ x. IsOpenRefusal x None bytes) is refused
 
 -- a migration of the disk that came back is one of the disk as it was
 pub whole : {D : Type 0} {disk : Ghosts D} (old mid new : D) (e : ArchiveError)
-    (ended : Option Refusal) → e ≡ OldVersion →
-    Untouched disk.seen disk.may_leave disk.moment disk.left_since old mid →
-    CountsFailures e (disk.failures old) (disk.failures mid) →
-    AfterReads 1 e (disk.arms old) (disk.arms mid) →
+    (ended : Option Refusal) → e ≡ OldVersion → Reads disk (Some (refusal_of e)) old mid →
     Migrates disk (λ a. a.pair) GivesOld image_of ended mid new →
     Migrates disk (λ a. a.pair) GivesOld image_of ended old new
-whole {disk = disk} old mid new e ended is read counts calls migrates =
-    after_reads (λ a. a.pair) GivesOld image_of ended old mid new read
-    (subst (λ x. CountsFailures x (disk.failures old) (disk.failures mid)) is counts)
-    (subst (λ x. AfterReads 1 x (disk.arms old) (disk.arms mid)) is calls) migrates
+whole {disk = disk} old mid new e ended is reads migrates =
+    let read = subst (λ x. Reads disk (Some (refusal_of x)) old mid) is reads in
+    after_reads (λ a. a.pair) GivesOld image_of ended old mid new read.untouched read.failures
+    read.arms migrates
 
 -- where an opening was refused for anything else nothing was written
 pub only_read : {D : Type 0} (seen : D → List ℕ) (may_leave : D → List ℕ → Type 0)

@@ -1,72 +1,65 @@
 -- What a machine's write makes of an archive.
 use Rattle.std.specs.Prelude.{Result, Ok, Err, IfErr}
-use Rattle.std.proofs.Common.{◌≡◌, ◌⊎◌, ◌≤◌, ◌<◌, ◌∙◌, Option, Some, None, length, inl, refl}
-use Rattle.std.proofs.Common.{sym, ap, ap₂, subst, arith}
+use Rattle.std.proofs.Common.{◌≡◌, ◌≢◌, ◌⊎◌, ◌≤◌, ◌<◌, ◌∙◌, Option, Some, None, length, inl, refl}
+use Rattle.std.proofs.Common.{◌+◌, sym, ap, ap₂, subst, arith}
+use Rattle.std.proofs.lemmas.Option.{none-some}
 use Rattle.syn_disk.specs.Stops.{LeavesOnly}
 use Rattle.syn_disk.specs.declared.disk.Disk.{Ghosts}
+use Rattle.syn_journal.specs.Journal as journal
 use Rattle.syn_journal.specs.Layout.{LeftBehindPayload, IsBeforeOrAfter, record_size, with_payload}
+use Rattle.syn_journal.specs.Layout.{image_alone}
 use Rattle.syn_model.specs.Path.{Bytes}
 use Rattle.syn_model.specs.Refusal.{Refusal}
+use Rattle.syn_model.specs.Refusal as reason
 use Rattle.syn_model.specs.Archive as model
 use Rattle.syn_model.specs.Archive.{Kept, Session, Recorded, RecordedDir, CanKeep, after_kept}
 use Rattle.syn_model.specs.ArchiveImage.{ArchiveStandsFor, RecordGoesOn}
-use Rattle.syn_model.specs.MarkSpelling.{kept_spelling}
+use Rattle.syn_model.specs.MarkSpelling.{archive_spelling, kept_spelling}
 use Rattle.syn_journaled.specs.Endings.{ended}
-use Rattle.syn_journaled.specs.Journaled.{Appends, IsOfWrite, left_after}
+use Rattle.syn_journaled.specs.Journaled.{Appends, IsOfWrite, generation_after, left_after}
+use Rattle.syn_journaled.specs.Journaled.{Compacts as MachineCompacts}
 use Rattle.syn_archive.specs.Archive.{HasRecord, KeepsBeforeOrAfter, KeepsReadings, Stands, disk_of}
-use Rattle.syn_archive.specs.Archive.{generation_shown, journal_of, left_shown, pair_of, room_shown}
-use Rattle.syn_archive.specs.Archive.{shown}
+use Rattle.syn_archive.specs.Archive.{IsHalted, generation_shown, journal_of, left_shown, pair_of}
+use Rattle.syn_archive.specs.Archive.{KeepsOrCompacts, SameMemory, room_shown, shown}
 use Rattle.syn_archive.specs.Refusals.{IsOfRecord, IsOutside, refusal_of}
+use Rattle.syn_archive.specs.Writes.{Compacts, Writes}
 use Rattle.syn_archive.specs.inner.Agreements.{after_update, agreed_archive}
 use Rattle.syn_archive.specs.inner.Openings.{Keeps}
 use Rattle.syn_archive.specs.declared.agreed.Update.{Update}
 use Rattle.syn_archive.specs.declared.archive.Archive.{Archive}
 use Rattle.syn_archive.specs.declared.error.ArchiveError.{ArchiveError}
-use Rattle.syn_archive.specs.declared.error.ArchiveError.TheVariants.{NoParent, Root, Full}
-use Rattle.syn_archive.specs.declared.error.ArchiveError.TheVariants.{JournalFull, Device, Halted}
-use Rattle.syn_archive.specs.declared.error.ArchiveError.TheVariants.{Memory, NoImage, Damaged}
-use Rattle.syn_archive.specs.declared.error.ArchiveError.TheVariants.{OldVersion, WrongPair}
+use Rattle.syn_archive.specs.declared.error.ArchiveError.TheVariants.{Device, Halted, JournalFull}
+use Rattle.syn_archive.specs.declared.error.ArchiveError.TheVariants.{Memory}
+use Rattle.syn_archive.proofs.EndLemmas.{if_none_of, if_some_of, same_unless}
 use Rattle.syn_archive.proofs.StandLemmas.{left_behind, payload_keeps, stop_keeps}
 use Rattle.syn_disk.proofs.LeftLemmas.{leaves_weaker}
 
 -- ---- of a result
 
-outside : (e : ArchiveError) → IsOfWrite (Some (refusal_of e)) → IsOutside e
-outside NoParent h = h
-outside Root h = h
-outside Full h = h
-outside JournalFull h = h
-outside Device h = h
-outside Halted h = h
-outside Memory h = h
-outside NoImage h = h
-outside Damaged h = h
-outside WrongPair h = h
-outside OldVersion h = h
+outside : (e : ArchiveError) → IsOfWrite (Some (refusal_of e)) → e ≢ JournalFull → IsOutside e
+outside JournalFull h other = absurd (other refl)
+outside _ h other = h
 
-outside_record : (e : ArchiveError) → IsOutside e → IsOfRecord e
-outside_record NoParent h = absurd h
-outside_record Root h = absurd h
-outside_record Full h = absurd h
+outside_record : (e : ArchiveError) → IsOfWrite (Some (refusal_of e)) → IsOfRecord e
 outside_record JournalFull h = tt
 outside_record Device h = tt
 outside_record Halted h = tt
 outside_record Memory h = tt
-outside_record NoImage h = absurd h
-outside_record Damaged h = absurd h
-outside_record WrongPair h = absurd h
-outside_record OldVersion h = absurd h
+outside_record _ h = absurd h
 
 module _ {T : Type 0} where
   pub cause_of_write : (result : Result T ArchiveError) (P : ArchiveError → Type 0) →
-      IsOfWrite (ended refusal_of result) → IfErr result (λ e. IsOutside e ⊎ P e)
-  cause_of_write (Ok value) P h = tt
-  cause_of_write (Err e) P h = inl (outside e h)
+      IsOfWrite (ended refusal_of result) →
+      ended refusal_of result ≢ Some (refusal_of JournalFull) →
+      IfErr result (λ e. IsOutside e ⊎ P e)
+  cause_of_write (Ok value) P h other = tt
+  cause_of_write (Err e) P h other =
+      inl (outside e h (λ is. other (ap (λ f. Some (refusal_of f)) is)))
 
   pub record_of_write : (result : Result T ArchiveError) →
       IsOfWrite (ended refusal_of result) → IfErr result IsOfRecord
   record_of_write (Ok value) h = tt
-  record_of_write (Err e) h = outside_record e (outside e h)
+  record_of_write (Err e) h = outside_record e h
 
 -- what is kept is spelled with some bytes
 some_bytes : (what : Kept) → 0 < length (kept_spelling what)
@@ -93,17 +86,34 @@ module _ {D : Type 0} {disk : Ghosts D} (old new : Archive D disk) (payload : By
       (subst (λ a. CanKeep a what) stands.remembers keeps.can) spelled
       (left_behind old stands.value stands.runs)) (appends.any_moment stands.value stands.runs)
 
-  pub lacks_room : length (kept_spelling what) ≤ room_shown old →
-      why ≡ Some (refusal_of JournalFull) → room_shown old < length (kept_spelling what)
-  lacks_room fits is =
-      omega (arith, some_bytes what, (appends.full.0 is).1, ap length spelled, fits)
+  -- it fits, so that the journal does not refuse it for its length
+  pub has_room : length (kept_spelling what) ≤ room_shown old → why ≢ Some (refusal_of JournalFull)
+  has_room fits is = omega (arith, some_bytes what, (appends.full.0 is).1, ap length spelled, fits)
 
-  pub unwritten_readings : (refusal : Refusal) → why ≡ Some refusal →
+  unwritten_readings : (refusal : Refusal) → why ≡ Some refusal →
       new.machine.state ≡ old.machine.state → KeepsReadings old new
   unwritten_readings refusal some same = record {
     memory = record { pair = ap (λ a. a.pair) same; archive = ap agreed_archive same };
     left_is = appends.left_is ∙ ap (λ w. left_after w (left_shown old) (record_size payload)) some;
     generation = appends.generation;
+  }
+
+  pub writes : ((kept : model.Archive) → Stands old kept →
+      KeepsBeforeOrAfter old kept what (disk.seen (disk_of new))) →
+      (why ≡ None → HasRecord old new what) →
+      ((refusal : Refusal) → why ≡ Some refusal → new.machine.state ≡ old.machine.state) →
+      Writes old new (Some what) why
+  writes seen has same = record {
+    seen = seen;
+    written = if_none_of why (HasRecord old new what) has;
+    halted = appends.halted;
+    halts = if_some_of why (λ w. w ≡ reason.Device → IsHalted new)
+        (λ w some is. appends.halts (some ∙ ap (λ w. Some w) is));
+    readings = if_some_of why (λ _. KeepsReadings old new)
+        (λ w some. unwritten_readings w some (same w some));
+    unchanged = if_some_of why (λ w. (w ≡ reason.Device) ⊎ (journal_of new ≡ journal_of old))
+        (same_unless why (journal_of new ≡ journal_of old) appends.unchanged);
+    device = appends.device;
   }
 
   module _ (update : Update) (none : why ≡ None)
@@ -135,13 +145,33 @@ module _ {D : Type 0} {disk : Ghosts D} (old new : Archive D disk) (payload : By
             (subst (λ a. CanKeep a what) stands.remembers keeps.can) spelled);
       }
 
--- after a refusal the readings stay
-pub written_readings : {D T : Type 0} {disk : Ghosts D} (old new : Archive D disk)
-    (payload : Bytes) (what : Kept) (result : Result T ArchiveError) →
-    Appends (journal_of old) (journal_of new) payload (ended refusal_of result) →
-    payload ≡ kept_spelling what →
-    IfErr result (λ _. new.machine.state ≡ old.machine.state) →
-    IfErr result (λ _. KeepsReadings old new)
-written_readings old new payload what (Ok value) appends spelled same = tt
-written_readings old new payload what (Err e) appends spelled same =
-    unwritten_readings old new payload what _ appends spelled (refusal_of e) refl same
+-- ---- of a checkpoint
+
+pub compacts : {D : Type 0} {disk : Ghosts D} (old new : Archive D disk) (why : Option Refusal) →
+    MachineCompacts (journal_of old) (journal_of new) (archive_spelling (pair_of old) (shown old))
+    why → new.machine.state ≡ old.machine.state →
+    ((kept : model.Archive) → Stands old kept →
+    KeepsOrCompacts old kept (disk.seen (disk_of new))) → Compacts old new why
+compacts {disk = disk} old new why by_machine same seen = record {
+  seen = seen;
+  image = if_none_of why (journal.Stands (journal_of new)
+      (image_alone (archive_spelling (pair_of old) (shown old)))) by_machine.acknowledged;
+  generation = if_none_of why (generation_shown new ≡ generation_shown old + 1) (λ none.
+      by_machine.generation ∙ ap (λ w. generation_after w (generation_shown old)) none);
+  memory = memory;
+  halted = by_machine.halted;
+  halts = if_some_of why (λ w. w ≡ reason.Device → IsHalted new)
+      (λ w some is. by_machine.halts (some ∙ ap (λ w. Some w) is));
+  readings = if_some_of why (λ _. KeepsReadings old new) (λ w some. record {
+    memory = memory;
+    left_is = by_machine.left_is (λ none. none-some _ (sym none ∙ some));
+    generation = by_machine.generation
+        ∙ ap (λ w. generation_after w (generation_shown old)) some;
+  });
+  unchanged = if_some_of why (λ w. (w ≡ reason.Device) ⊎ (journal_of new ≡ journal_of old))
+      (same_unless why (journal_of new ≡ journal_of old) by_machine.unchanged);
+  device = by_machine.device;
+}
+  where
+    memory : SameMemory old new
+    memory = record { pair = ap (λ a. a.pair) same; archive = ap agreed_archive same }

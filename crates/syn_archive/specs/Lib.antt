@@ -1,4 +1,5 @@
 pub mod Archive
 pub mod Disks
 pub mod Refusals
+pub mod Writes
 pub mod inner

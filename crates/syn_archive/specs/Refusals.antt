@@ -1,9 +1,11 @@
 -- Why a call of an archive is refused, as a refusal of the product.
-use Rattle.std.specs.Prelude.{◌≡◌, ◌<◌, ℕ, Result, Ok, Err, Option, Some, None}
-use Rattle.syn_disk.specs.Arms.{Arms}
-use Rattle.syn_disk.specs.Calls.{Breaks, BreaksSometime, MakesAtLeast}
+use Rattle.std.specs.Prelude.{ℕ, length, nat_lt, if◌then◌else◌, Result, Ok, Err, Option, Some, None}
+use Rattle.std.specs.Option.{option_or}
+use Rattle.syn_model.specs.Archive.{Archive, Kept, Session, Recorded, RecordedDir, kept_refusal}
+use Rattle.syn_model.specs.MarkSpelling.{kept_spelling}
 use Rattle.syn_model.specs.Refusal.{Refusal}
 use Rattle.syn_model.specs.Refusal as why
+use Rattle.syn_model.specs.Tree.{is_directory}
 use Rattle.syn_tree.specs.declared.error.TreeError.{TreeError}
 use Rattle.syn_tree.specs.declared.error.TreeError.TheVariants as tree
 use Rattle.syn_journal.specs.declared.error.JournalError.{JournalError}
@@ -50,26 +52,27 @@ of_journal journal.Memory = Memory
 of_journal journal.NoImage = NoImage
 of_journal journal.Damaged = Damaged
 
--- Device is answered where the count of failed calls grew, and any other refusal where it did not
-abbrev pub CountsFailures : ArchiveError → ℕ → ℕ → Type 0
-CountsFailures Device old new = old < new
-CountsFailures _ old new = new ≡ old
+-- what has to be written so that it is kept; nothing where a directory is recorded already
+abbrev pub to_write : Archive → Kept → Option Kept
+to_write archive (Session session) = Some (Session session)
+to_write archive (Recorded path marks) = Some (Recorded path marks)
+to_write archive (RecordedDir path) =
+    if is_directory archive.marks path then None else Some (RecordedDir path)
 
--- Where Device is answered, the last of at most so many device calls failed, and none was made
--- where any other refusal is.
-abbrev pub MakesIfDevice : ArchiveError → ℕ → Arms → Arms → Type 0
-MakesIfDevice Device most old new = Breaks most old new
-MakesIfDevice _ most old new = new ≡ old
+-- it does not fit in the journal, which has so much room
+abbrev pub room_refusal : ℕ → Option Kept → Option Refusal
+room_refusal room None = None
+room_refusal room (Some kept) =
+    if nat_lt room (length (kept_spelling kept)) then Some why.JournalFull else None
 
--- Where Device is answered, the last device call failed, and none where any other refusal is.
-abbrev pub AfterReads : ℕ → ArchiveError → Arms → Arms → Type 0
-AfterReads least Device old new = BreaksSometime old new
-AfterReads least _ old new = MakesAtLeast least old new
+-- why it is not kept: for the marks, and else for the room in the journal
+abbrev pub keep_refusal : ℕ → Archive → Kept → Option Refusal
+keep_refusal room archive kept =
+    option_or (kept_refusal archive kept) (room_refusal room (to_write archive kept))
 
--- what the marks are no cause of: a journal that is full or halted, lack of memory, and a device
--- call that failed
+-- what neither the marks nor the room are a cause of: a journal that is halted, lack of memory, and
+-- a device call that failed
 abbrev pub IsOutside : ArchiveError → Type 0
-IsOutside JournalFull = Unit {0}
 IsOutside Device = Unit {0}
 IsOutside Halted = Unit {0}
 IsOutside Memory = Unit {0}

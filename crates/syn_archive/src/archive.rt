@@ -1,6 +1,6 @@
 //! An archive over a journal.
 ghost use Rattle.std.specs.Prelude.{◌≡◌, ◌⊎◌, ◌↔◌, ◌+◌, ◌<◌, ◌≤◌, ◌^◌, [], ℕ, length, OnOk};
-ghost use Rattle.std.specs.Prelude.{IfOk, IfErr, IsErrAnd, MatchResult, Err, None, Some, true};
+ghost use Rattle.std.specs.Prelude.{IfOk, IfErr, IsErrAnd, MatchResult, None, Some, true};
 ghost use Rattle.std.specs.Prelude.{false, option_map};
 ghost use Rattle.syn_model.specs.Archive.{Archive as KeptArchive, Session, Recorded, RecordedDir};
 ghost use Rattle.syn_model.specs.Archive.{new_archive, after_kept, kept_refusal};
@@ -16,16 +16,15 @@ ghost use Rattle.syn_disk.specs.Arms.{is_stopped};
 ghost use Rattle.syn_disk.specs.Disk.{SameOutcomes};
 ghost use Rattle.syn_model.specs.MarkSpelling.{archive_spelling, kept_spelling};
 ghost use Rattle.syn_mark.specs.Marks.{or_absent};
-ghost use Rattle.syn_disk.specs.Calls.{Makes};
 ghost use Rattle.syn_disk.specs.Stops.{LeavesOnly};
-ghost use Rattle.syn_archive.specs.Refusals.{refusal_of, refusal_in, CountsFailures, MakesIfDevice};
-ghost use Rattle.syn_archive.specs.Refusals.{IsOfFormat, IsOfSession, IsOfRecord, IsOfCheckpoint};
-ghost use Rattle.syn_archive.specs.Refusals.{IsOutside};
+ghost use Rattle.syn_archive.specs.Refusals.{refusal_of, refusal_in, keep_refusal, to_write};
+ghost use Rattle.syn_archive.specs.Refusals.{IsOfFormat, IsOfSession, IsOfRecord, IsOutside};
 ghost use Rattle.syn_archive.specs.inner.Agreements.{IsReady, agreed_archive, after_update};
 ghost use Rattle.syn_archive.specs.inner.Keepings.{kept_in, IsNews, NotPrepared};
 ghost use Rattle.syn_archive.specs.inner.Openings.{Keeps};
 ghost use Rattle.syn_journal.specs.Journal as journal;
 ghost use Rattle.syn_journal.specs.Layout.{image_alone};
+ghost use Rattle.syn_journaled.specs.Endings.{Spends, ended};
 
 use crate::agreed::Agreed;
 use crate::error::ArchiveError;
@@ -52,9 +51,9 @@ pub struct Archive<D: Disk> {
 impl<D: Disk> Archive<D> {
     ghost use Rattle.syn_archive.specs.Archive.{pair_of, marks_shown, session_shown, shown};
     ghost use Rattle.syn_archive.specs.Archive.{disk_of, journal_of, room_shown, generation_shown};
-    ghost use Rattle.syn_archive.specs.Archive.{left_shown};
-    ghost use Rattle.syn_archive.specs.Archive.{IsHalted, Stands, SameMemory, KeepsReadings};
-    ghost use Rattle.syn_archive.specs.Archive.{HasRecord, KeepsBeforeOrAfter, KeepsOrCompacts};
+    ghost use Rattle.syn_archive.specs.Archive.{left_shown, IsHalted, Stands, SameMemory};
+    ghost use Rattle.syn_archive.specs.Archive.{KeepsBeforeOrAfter};
+    ghost use Rattle.syn_archive.specs.Writes.{Writes};
 
     /// Formats the disk as an archive of the pair, whose root is an empty directory, with no
     /// session.
@@ -69,14 +68,11 @@ impl<D: Disk> Archive<D> {
         ensures refusals { IfErr result (λ refused. IsOfFormat refused.0) }
         ensures unchanged { IfErr result
             (λ refused. (refused.0 ≡ ArchiveError.Device) ⊎ (refused.1 ≡ disk)) }
-        ensures failures { MatchResult result
-            (λ archive. D.failures (disk_of archive) ≡ D.failures disk)
-            (λ refused. CountsFailures refused.0 (D.failures disk) (D.failures refused.1)) }
 
         // Seven device calls where it succeeds. After 9 the last that was made failed.
-        ensures calls { MatchResult result
-            (λ archive. Makes 7 (D.arms disk) (D.arms (disk_of archive)))
-            (λ refused. MakesIfDevice refused.0 7 (D.arms disk) (D.arms refused.1)) }
+        ensures device { MatchResult result
+            (λ archive. Spends D.Disk 7 None disk (disk_of archive))
+            (λ refused. Spends D.Disk 7 (Some (refusal_of refused.0)) disk refused.1) }
     {
         archive_laws();
         let marks = match MarkTree::of_mark(alloc, Mark::Dir) {
@@ -179,40 +175,20 @@ impl<D: Disk> Archive<D> {
         ensures any_moment { (kept : KeptArchive) → Stands self.old kept
             → LeavesOnly D.moment D.left_since (disk_of self.old) (disk_of self.new)
             (KeepsBeforeOrAfter self.old kept (Session (kept.last_session + 1))) }
-        ensures record { OnOk result
-            (HasRecord self.old self.new (Session (session_shown self.old + 1))) }
-        ensures seen { (kept : KeptArchive) → Stands self.old kept
-            → KeepsBeforeOrAfter self.old kept (Session (kept.last_session + 1))
-            (D.seen (disk_of self.new)) }
 
-        // Each refusal has its cause, and each cause its refusal.
-        ensures refused { (kept : KeptArchive) (why : Refusal) → Stands self.old kept
-            → kept_refusal kept (Session (kept.last_session + 1)) ≡ Some why
+        // Each refusal has its cause, and each cause its refusal. Nine bytes spell the record.
+        ensures refused { (why : Refusal) → ¬ IsHalted self.old
+            → keep_refusal (room_shown self.old) (shown self.old)
+            (Session (session_shown self.old + 1)) ≡ Some why
             → IsErrAnd result (λ e. refusal_of e ≡ why) }
         ensures cause { IfErr result (λ e. IsOutside e
-            ⊎ (kept_refusal (shown self.old) (Session (session_shown self.old + 1))
-            ≡ Some (refusal_of e))) }
-        ensures no_room { result ≡ Err ArchiveError.JournalFull → room_shown self.old < 9 }
-        ensures full { (kept : KeptArchive) → Stands self.old kept
-            → kept_refusal kept (Session (kept.last_session + 1)) ≡ None
-            → room_shown self.old < 9 → result ≡ Err ArchiveError.JournalFull }
+            ⊎ (keep_refusal (room_shown self.old) (shown self.old)
+            (Session (session_shown self.old + 1)) ≡ Some (refusal_of e))) }
         ensures refusals { IfErr result IsOfSession }
-        ensures halted { (result ≡ Err ArchiveError.Halted) ↔ IsHalted self.old }
-        ensures halts { result ≡ Err ArchiveError.Device → IsHalted self.new }
-        ensures failures { MatchResult result
-            (λ _. D.failures (disk_of self.new) ≡ D.failures (disk_of self.old))
-            (λ e. CountsFailures e (D.failures (disk_of self.old))
-            (D.failures (disk_of self.new))) }
 
         // Four device calls where it succeeds. After 9 the last that was made failed.
-        ensures calls { MatchResult result
-            (λ _. Makes 4 (D.arms (disk_of self.old)) (D.arms (disk_of self.new)))
-            (λ e. MakesIfDevice e 4 (D.arms (disk_of self.old)) (D.arms (disk_of self.new))) }
-
-        // What stays after a refusal.
-        ensures readings { IfErr result (λ _. KeepsReadings self.old self.new) }
-        ensures unchanged { IfErr result
-            (λ e. (e ≡ ArchiveError.Device) ⊎ (journal_of self.new ≡ journal_of self.old)) }
+        ensures machine { Writes self.old self.new (Some (Session (session_shown self.old + 1)))
+            (ended refusal_of result) }
     {
         match self.keep(alloc, Keeping::Session) {
             Ok(()) => Ok(self.last_session()),
@@ -249,42 +225,20 @@ impl<D: Disk> Archive<D> {
         ensures any_moment { (kept : KeptArchive) → Stands self.old kept
             → LeavesOnly D.moment D.left_since (disk_of self.old) (disk_of self.new)
             (KeepsBeforeOrAfter self.old kept (Recorded path.now (or_absent marks))) }
-        ensures record { OnOk result
-            (HasRecord self.old self.new (Recorded path.now (or_absent marks))) }
-        ensures seen { (kept : KeptArchive) → Stands self.old kept
-            → KeepsBeforeOrAfter self.old kept (Recorded path.now (or_absent marks))
-            (D.seen (disk_of self.new)) }
 
         // Each refusal has its cause, and each cause its refusal.
         ensures refused { (why : Refusal) → ¬ IsHalted self.old
-            → kept_refusal (shown self.old) (Recorded path.now (or_absent marks)) ≡ Some why
+            → keep_refusal (room_shown self.old) (shown self.old)
+            (Recorded path.now (or_absent marks)) ≡ Some why
             → IsErrAnd result (λ e. refusal_of e ≡ why) }
         ensures cause { IfErr result (λ e. IsOutside e
-            ⊎ (kept_refusal (shown self.old) (Recorded path.now (or_absent marks))
-            ≡ Some (refusal_of e))) }
-        ensures no_room { result ≡ Err ArchiveError.JournalFull
-            → room_shown self.old < length (kept_spelling (Recorded path.now (or_absent marks))) }
-        ensures full { ¬ IsHalted self.old
-            → kept_refusal (shown self.old) (Recorded path.now (or_absent marks)) ≡ None
-            → room_shown self.old < length (kept_spelling (Recorded path.now (or_absent marks)))
-            → result ≡ Err ArchiveError.JournalFull }
+            ⊎ (keep_refusal (room_shown self.old) (shown self.old)
+            (Recorded path.now (or_absent marks)) ≡ Some (refusal_of e))) }
         ensures refusals { IfErr result IsOfRecord }
-        ensures halted { (result ≡ Err ArchiveError.Halted) ↔ IsHalted self.old }
-        ensures halts { result ≡ Err ArchiveError.Device → IsHalted self.new }
-        ensures failures { MatchResult result
-            (λ _. D.failures (disk_of self.new) ≡ D.failures (disk_of self.old))
-            (λ e. CountsFailures e (D.failures (disk_of self.old))
-            (D.failures (disk_of self.new))) }
 
         // Four device calls where it succeeds. After 9 the last that was made failed.
-        ensures calls { MatchResult result
-            (λ _. Makes 4 (D.arms (disk_of self.old)) (D.arms (disk_of self.new)))
-            (λ e. MakesIfDevice e 4 (D.arms (disk_of self.old)) (D.arms (disk_of self.new))) }
-
-        // What stays after a refusal.
-        ensures readings { IfErr result (λ _. KeepsReadings self.old self.new) }
-        ensures unchanged { IfErr result
-            (λ e. (e ≡ ArchiveError.Device) ⊎ (journal_of self.new ≡ journal_of self.old)) }
+        ensures machine { Writes self.old self.new (Some (Recorded path.now (or_absent marks)))
+            (ended refusal_of result) }
     {
         self.keep(alloc, Keeping::Record(path, marks))
     }
@@ -302,46 +256,23 @@ impl<D: Disk> Archive<D> {
         ensures any_moment { (kept : KeptArchive) → Stands self.old kept
             → LeavesOnly D.moment D.left_since (disk_of self.old) (disk_of self.new)
             (KeepsBeforeOrAfter self.old kept (RecordedDir path.now)) }
-        ensures record { is_directory (marks_shown self.old) path.now ≡ false
-            → OnOk result (HasRecord self.old self.new (RecordedDir path.now)) }
-        ensures seen { (kept : KeptArchive) → Stands self.old kept
-            → KeepsBeforeOrAfter self.old kept (RecordedDir path.now)
-            (D.seen (disk_of self.new)) }
 
-        // Where a directory is recorded, nothing happens, and no device call is made.
-        ensures recorded { is_directory (marks_shown self.old) path.now ≡ true
-            → self.new ≡ self.old }
-        ensures root { is_root path.now ≡ true → IfErr result
-            (λ e. (e ≡ ArchiveError.Root) ⊎ IsHalted self.old) }
+        // Each refusal has its cause, and each cause its refusal. The root is one, and a directory
+        // that is recorded is none.
+        ensures refused { (why : Refusal) → ¬ IsHalted self.old
+            → keep_refusal (room_shown self.old) (shown self.old) (RecordedDir path.now) ≡ Some why
+            → IsErrAnd result (λ e. refusal_of e ≡ why) }
+        ensures cause { IfErr result (λ e. IsOutside e
+            ⊎ (keep_refusal (room_shown self.old) (shown self.old) (RecordedDir path.now)
+            ≡ Some (refusal_of e))) }
         ensures done { IfErr result (λ _. IsHalted self.old ⊎ (is_root path.now ≡ true)
             ⊎ (is_directory (marks_shown self.old) path.now ≡ false)) }
-        ensures no_room { result ≡ Err ArchiveError.JournalFull
-            → room_shown self.old < length (kept_spelling (RecordedDir path.now)) }
-        ensures full { ¬ IsHalted self.old → is_directory (marks_shown self.old) path.now ≡ false
-            → kept_refusal (shown self.old) (RecordedDir path.now) ≡ None
-            → room_shown self.old < length (kept_spelling (RecordedDir path.now))
-            → result ≡ Err ArchiveError.JournalFull }
-        ensures cause { IfErr result (λ e. IsOutside e
-            ⊎ (kept_refusal (shown self.old) (RecordedDir path.now) ≡ Some (refusal_of e))) }
-        ensures refused { (why : Refusal) → ¬ IsHalted self.old
-            → kept_refusal (shown self.old) (RecordedDir path.now) ≡ Some why
-            → IsErrAnd result (λ e. refusal_of e ≡ why) }
-        ensures calls { MatchResult result
-            (λ _. (D.arms (disk_of self.new) ≡ D.arms (disk_of self.old))
-            ⊎ Makes 4 (D.arms (disk_of self.old)) (D.arms (disk_of self.new)))
-            (λ e. MakesIfDevice e 4 (D.arms (disk_of self.old)) (D.arms (disk_of self.new))) }
-        ensures made { is_directory (marks_shown self.old) path.now ≡ false
-            → OnOk result (Makes 4 (D.arms (disk_of self.old)) (D.arms (disk_of self.new))) }
         ensures refusals { IfErr result IsOfRecord }
-        ensures halted { (result ≡ Err ArchiveError.Halted) ↔ IsHalted self.old }
-        ensures halts { result ≡ Err ArchiveError.Device → IsHalted self.new }
-        ensures failures { MatchResult result
-            (λ _. D.failures (disk_of self.new) ≡ D.failures (disk_of self.old))
-            (λ e. CountsFailures e (D.failures (disk_of self.old))
-            (D.failures (disk_of self.new))) }
-        ensures readings { IfErr result (λ _. KeepsReadings self.old self.new) }
-        ensures unchanged { IfErr result
-            (λ e. (e ≡ ArchiveError.Device) ⊎ (journal_of self.new ≡ journal_of self.old)) }
+
+        // Where a directory is recorded, nothing happens, and no device call is made. Else four are
+        // made where it succeeds, and after 9 the last that was made failed.
+        ensures machine { Writes self.old self.new
+            (to_write (shown self.old) (RecordedDir path.now)) (ended refusal_of result) }
     {
         archive_laws();
         if self.is_halted() {
@@ -365,39 +296,18 @@ impl<D: Disk> Archive<D> {
         ensures any_moment { (kept : KeptArchive) → Stands self.old kept
             → LeavesOnly D.moment D.left_since (disk_of self.old) (disk_of self.new)
             (KeepsBeforeOrAfter self.old kept (kept_in (session_shown self.old) what.entry)) }
-        ensures record { OnOk result
-            (HasRecord self.old self.new (kept_in (session_shown self.old) what.entry)) }
-        ensures seen { (kept : KeptArchive) → Stands self.old kept
-            → KeepsBeforeOrAfter self.old kept (kept_in (session_shown self.old) what.entry)
-            (D.seen (disk_of self.new)) }
         ensures session { OnOk result (shown self.new
             ≡ after_kept (shown self.old) (kept_in (session_shown self.old) what.entry)) }
         ensures refused { (why : Refusal) → ¬ IsHalted self.old
-            → kept_refusal (shown self.old) (kept_in (session_shown self.old) what.entry) ≡ Some why
+            → keep_refusal (room_shown self.old) (shown self.old)
+            (kept_in (session_shown self.old) what.entry) ≡ Some why
             → IsErrAnd result (λ e. refusal_of e ≡ why) }
         ensures cause { IfErr result (λ e. IsOutside e
-            ⊎ (kept_refusal (shown self.old) (kept_in (session_shown self.old) what.entry)
-            ≡ Some (refusal_of e))) }
-        ensures no_room { result ≡ Err ArchiveError.JournalFull → room_shown self.old
-            < length (kept_spelling (kept_in (session_shown self.old) what.entry)) }
-        ensures full { ¬ IsHalted self.old
-            → kept_refusal (shown self.old) (kept_in (session_shown self.old) what.entry) ≡ None
-            → room_shown self.old
-            < length (kept_spelling (kept_in (session_shown self.old) what.entry))
-            → result ≡ Err ArchiveError.JournalFull }
+            ⊎ (keep_refusal (room_shown self.old) (shown self.old)
+            (kept_in (session_shown self.old) what.entry) ≡ Some (refusal_of e))) }
         ensures refusals { IfErr result IsOfRecord }
-        ensures halted { (result ≡ Err ArchiveError.Halted) ↔ IsHalted self.old }
-        ensures halts { result ≡ Err ArchiveError.Device → IsHalted self.new }
-        ensures failures { MatchResult result
-            (λ _. D.failures (disk_of self.new) ≡ D.failures (disk_of self.old))
-            (λ e. CountsFailures e (D.failures (disk_of self.old))
-            (D.failures (disk_of self.new))) }
-        ensures calls { MatchResult result
-            (λ _. Makes 4 (D.arms (disk_of self.old)) (D.arms (disk_of self.new)))
-            (λ e. MakesIfDevice e 4 (D.arms (disk_of self.old)) (D.arms (disk_of self.new))) }
-        ensures readings { IfErr result (λ _. KeepsReadings self.old self.new) }
-        ensures unchanged { IfErr result
-            (λ e. (e ≡ ArchiveError.Device) ⊎ (journal_of self.new ≡ journal_of self.old)) }
+        ensures machine { Writes self.old self.new
+            (Some (kept_in (session_shown self.old) what.entry)) (ended refusal_of result) }
     {
         archive_laws();
         layout_laws();

@@ -167,9 +167,16 @@ fn has_mode(tree: &Tree, path: &Path, mode: Mode) -> bool
 
 /// Plans the edit and makes it. It is refused as the tree refuses it, and 11 where memory is
 /// refused.
-fn make(alloc: Global, work: &mut Tree, edits: &mut Vec<Edit>, edit: Edit) -> Result<(), TreeError>
+pub(crate) fn make(
+    alloc: Global,
+    work: &mut Tree,
+    edits: &mut Vec<Edit>,
+    edit: Edit,
+) -> Result<(), TreeError>
     ensures done { OnOk result (work.new ≡ after_edit work.old (edit_of edit)) }
     ensures allowed { OnOk result (edit_refusal work.old (edit_of edit) ≡ None) }
+    ensures cause { IfErr result (λ e. e ≢ TreeError.Memory
+        → edit_refusal work.old (edit_of edit) ≡ Some (refusal_of e)) }
     ensures edits { OnOk result (GoesOn (λ made. made ≡ edit_of edit) work.old edits.old.items
         work.new edits.new.items) }
     ensures refused { IfErr result (λ e. e ≢ TreeError.Memory

@@ -5,6 +5,7 @@ ghost use Rattle.syn_tree.specs.Contents.{found_content};
 ghost use Rattle.syn_change.specs.Changes.{GoesOn, IsLess, IsRemoval, IsTrimmed, IsWithout};
 ghost use Rattle.syn_change.specs.Changes.{Removes, can_stay};
 
+use crate::additions::make;
 use std::alloc::Global;
 use syn_path::Path;
 use syn_tree::{Edit, Found, Tree, TreeError};
@@ -58,8 +59,7 @@ fn remove_entry(
     if is_wanted(&there, wanted, path) {
         return Ok(());
     }
-    edits.push(Edit::Remove(path.copy(alloc)?))?;
-    work.apply(alloc, Edit::Remove(path.copy(alloc)?))
+    make(alloc, work, edits, Edit::Remove(path.copy(alloc)?))
 }
 
 /// The wanted tree has the same kind at the path.

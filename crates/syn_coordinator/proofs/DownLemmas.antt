@@ -1,18 +1,15 @@
 -- What an opening of a coordinator's disk gives, whose machine was down.
-use Rattle.std.proofs.Common.{◌≡◌, ◌≢◌, ◌⊎◌, ◌<◌, ◌^◌, ◌-◌, ℕ, suc, false, List, Option, None, refl}
-use Rattle.std.proofs.Common.{sym, ap, ap₂, ◌∙◌, subst, inl, inr, arith}
+use Rattle.std.proofs.Common.{◌≡◌, ◌≢◌, ◌⊎◌, ◌<◌, ◌^◌, ◌-◌, ℕ, suc, false, List, Option, None, Some}
+use Rattle.std.proofs.Common.{refl, sym, ap, ap₂, ◌∙◌, subst, inl, inr, arith}
 use Rattle.syn_archive.specs.Archive.{Stands as ArchiveStands, disk_of, generation_shown}
 use Rattle.syn_archive.specs.Archive.{left_shown, pair_of}
 use Rattle.syn_archive.specs.Disks.{DiskKeeps, DiskStands}
-use Rattle.syn_archive.specs.Refusals.{AfterReads}
+use Rattle.syn_archive.specs.Refusals.{refusal_of}
 use Rattle.syn_archive.specs.declared.archive.Archive.{Archive}
 use Rattle.syn_archive.specs.declared.error.ArchiveError.{ArchiveError}
 use Rattle.syn_archive.specs.declared.error.ArchiveError.TheVariants as error
 use Rattle.syn_disk.specs.Arms.{Arms as DiskArms, is_stopped}
-use Rattle.syn_disk.specs.Calls.{BreaksSometime, MakesAtLeast}
-use Rattle.syn_disk.specs.Stops.{Untouched}
 use Rattle.syn_disk.specs.declared.disk.Disk.{Ghosts}
-use Rattle.syn_archive.specs.Refusals.{refusal_of}
 use Rattle.syn_headline.specs.Coordinator.{CoordinatorMachine, archive_layout, coordinator_kind}
 use Rattle.syn_headline.specs.Coordinator.{running_after, with_archive}
 use Rattle.syn_headline.specs.MachineSteps.{no_memory_to_open, open_fails, with_device}
@@ -20,6 +17,7 @@ use Rattle.syn_headline.specs.MachineSteps.{opens as opens_down}
 use Rattle.syn_headline.specs.Machine.{Arms, Down, Halted, Meets, Opens, Status, Up, all_made}
 use Rattle.syn_headline.specs.Machine.{one_fails, one_stops, unarmed}
 use Rattle.syn_journal.specs.Layout.{bytes_left}
+use Rattle.syn_journaled.specs.Endings.{Reads}
 use Rattle.syn_model.specs.Archive as model
 use Rattle.syn_model.specs.Archive.{CanKeep, Kept}
 use Rattle.syn_model.specs.Path.{Bytes}
@@ -104,8 +102,8 @@ module _ {D : Type 0} (disk : Ghosts D) (pair : ℕ) (device : D) (tried : Optio
       (subst (λ a. Meets a calls Down unarmed 0) rests.armed meets))
 
   -- it is opened
-  module _ (archive : Archive D disk) (fits : pair < 2 ^ 64) (untouched :
-      Untouched disk.seen disk.may_leave disk.moment disk.left_since device (disk_of archive))
+  module _ (archive : Archive D disk) (fits : pair < 2 ^ 64)
+      (read : Reads disk None device (disk_of archive))
       (each : (number : ℕ) (kept : model.Archive) → number < 2 ^ 64 → DiskStands number
       (disk.seen device) kept → (number ≡ pair_of archive) × ArchiveStands archive kept)
       (on_disk : (kept : model.Archive) → ArchiveStands archive kept → (bytes : Bytes) →
@@ -135,7 +133,7 @@ module _ {D : Type 0} (disk : Ghosts D) (pair : ℕ) (device : D) (tried : Optio
         (sym stood.0) (on_disk found.new.value stands bytes left) in
         let read =
         subst (DiskKeeps pair found.new.value (left_shown archive) (generation_shown archive))
-        untouched.same (of_pair (disk.seen (disk_of archive)) (stays (disk_of archive))) in
+        read.untouched.same (of_pair (disk.seen (disk_of archive)) (stays (disk_of archive))) in
         let value = one_value
         (disk.seen device) read.value here.value _ _ read.journal here.journal in
         let room : left_shown archive ≡ found.new.room = sym read.left_is
@@ -174,10 +172,9 @@ module _ {D : Type 0} (disk : Ghosts D) (pair : ℕ) (device : D) (tried : Optio
         found ≡ found_in tried archive →
         ((number : ℕ) (journal : Journal) → IsMachine archive number journal → journal.writing
         ≡ None → Stands coordinator number (record { journal = journal; running = None })) →
-        MakesAtLeast 1 (disk.arms device) (disk.arms (disk_of archive)) →
         OpensAs coordinator pair opening (listed found)
-    open_ok coordinator found is_found is_new makes =
-        let met = reads 1 (disk.arms device) (disk.arms (disk_of archive)) rests.goes makes in
+    open_ok coordinator found is_found is_new =
+        let met = reads 1 (disk.arms device) (disk.arms (disk_of archive)) rests.goes read.arms in
         let went = goes_so met.0 Up 0 (disk.arms (disk_of archive)) met.2 in
         let so = opened_so met.0 went.0 went.1 in
         record {
@@ -191,15 +188,13 @@ module _ {D : Type 0} (disk : Ghosts D) (pair : ℕ) (device : D) (tried : Optio
         }
 
   -- it is not, and the disk comes back
-  module _ (back : D)
-      (untouched : Untouched disk.seen disk.may_leave disk.moment disk.left_since device back)
-      (broken : BrokenCallsMeet) where
+  module _ (back : D) (broken : BrokenCallsMeet) where
     pub open_not : (e : ArchiveError) → (e ≡ error.Device) ⊎ (e ≡ error.Memory) →
-        AfterReads 1 e (disk.arms device) (disk.arms back) →
+        Reads disk (Some (refusal_of e)) device back →
         RestsStill disk.arms disk.may_leave pair back tried opening (refusal_of e)
-    open_not e (inl is_device) calls =
-        let breaks : BreaksSometime (disk.arms device) (disk.arms back) =
-        subst (λ x. AfterReads 1 x (disk.arms device) (disk.arms back)) is_device calls in
+    open_not e (inl is_device) read =
+        let breaks = (subst (λ x. Reads disk (Some (refusal_of x)) device back) is_device read).arms
+        in
         let met = goes_so breaks.0 Halted 1 (disk.arms back)
         (broken breaks.0 (disk.arms device) (disk.arms back) rests.goes breaks.1) in
         subst (λ e. RestsStill disk.arms disk.may_leave pair back tried opening (refusal_of e))
@@ -215,15 +210,15 @@ module _ {D : Type 0} (disk : Ghosts D) (pair : ℕ) (device : D) (tried : Optio
             leaves =
                 λ bytes left. may_be_still (of_archive pair) machine Down
                 (armed_at (disk.arms back)) 1 bytes
-                (rests.leaves bytes (untouched.nothing_new bytes left));
+                (rests.leaves bytes (read.untouched.nothing_new bytes left));
             tries =
                 tries_still pair tried machine Down (armed_at (disk.arms back)) 1
                 (λ _. down_not_up) rests.tries;
           };
         })
-    open_not e (inr is_memory) calls =
-        let makes : MakesAtLeast 1 (disk.arms device) (disk.arms back) =
-        subst (λ x. AfterReads 1 x (disk.arms device) (disk.arms back)) is_memory calls in
+    open_not e (inr is_memory) read =
+        let makes = (subst (λ x. Reads disk (Some (refusal_of x)) device back) is_memory read).arms
+        in
         let found = reads 1 (disk.arms device) (disk.arms back) rests.goes makes in
         let met = goes_so found.0 Up 0 (disk.arms back) found.2 in
         subst (λ e. RestsStill disk.arms disk.may_leave pair back tried opening (refusal_of e))
@@ -236,7 +231,7 @@ module _ {D : Type 0} (disk : Ghosts D) (pair : ℕ) (device : D) (tried : Optio
             idle = rests.idle;
             armed = met.2;
             goes = met.0;
-            leaves = λ bytes left. rests.leaves bytes (untouched.nothing_new bytes left);
+            leaves = λ bytes left. rests.leaves bytes (read.untouched.nothing_new bytes left);
             tries = rests.tries;
           };
         })

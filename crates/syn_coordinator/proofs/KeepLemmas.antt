@@ -1,21 +1,22 @@
 -- A session's number is kept in the archive.
 use Rattle.std.proofs.Common.{◌≡◌, ◌≢◌, ◌≤◌, ◌<◌, ◌^◌, ℕ, ◌+◌, List, [], ◌∷◌, refl, sym, ap, ◌∙◌}
-use Rattle.std.proofs.Common.{subst, inl, inr, arith}
-use Rattle.syn_archive.specs.Archive.{Stands as ArchiveStands, IsHalted, HasRecord, KeepsReadings}
-use Rattle.syn_archive.specs.Archive.{KeepsBeforeOrAfter, disk_of, pair_of, session_shown}
-use Rattle.syn_archive.specs.Archive.{left_shown, generation_shown}
+use Rattle.std.proofs.Common.{subst, inl, inr, Some, None, arith}
+use Rattle.syn_archive.specs.Archive.{Stands as ArchiveStands, IsHalted, KeepsBeforeOrAfter}
+use Rattle.syn_archive.specs.Archive.{disk_of, pair_of, session_shown, left_shown, generation_shown}
 use Rattle.syn_archive.specs.Disks.{DiskKeeps}
-use Rattle.syn_archive.specs.Refusals.{CountsFailures}
+use Rattle.syn_archive.specs.Refusals.{refusal_of}
+use Rattle.syn_archive.specs.Writes.{Writes}
 use Rattle.syn_archive.specs.declared.archive.Archive.{Archive}
 use Rattle.syn_archive.specs.declared.error.ArchiveError.{ArchiveError}
 use Rattle.syn_archive.specs.declared.error.ArchiveError.TheVariants as error
-use Rattle.syn_disk.specs.Calls.{Makes, Breaks}
 use Rattle.syn_disk.specs.Stops.{LeavesOnly}
 use Rattle.syn_disk.specs.declared.disk.Disk.{Ghosts}
 use Rattle.syn_headline.specs.Machine.{Up, Halted}
+use Rattle.syn_journaled.specs.Endings.{CountsFailures}
 use Rattle.syn_model.specs.Archive as model
 use Rattle.syn_model.specs.Archive.{CanKeep, Session, after_kept}
 use Rattle.syn_model.specs.Path.{Bytes}
+use Rattle.syn_model.specs.Refusal.{Device}
 use Rattle.syn_recovery.specs.Calls.{MadeCallsMeet, StopsBehind, BrokenCallsMeet}
 use Rattle.syn_keep.specs.Machines.{Journal, Runs, IsMachine}
 use Rattle.syn_keep.specs.Steps.{KeepsSo}
@@ -23,19 +24,10 @@ use Rattle.syn_keep.proofs.MachineLemmas.{kept_ok, kept_failed}
 use Rattle.syn_archive.proofs.StandLemmas.{can_begin}
 
 -- where no device call failed, none is counted
-pub counts_none : (e : ArchiveError) (old new : ℕ) → e ≢ error.Device → CountsFailures e old new →
-    new ≡ old
+pub counts_none : (e : ArchiveError) (old new : ℕ) → e ≢ error.Device →
+    CountsFailures (Some (refusal_of e)) old new → new ≡ old
 counts_none error.Device old new other counts = absurd (other refl)
-counts_none error.NoParent old new other counts = counts
-counts_none error.Root old new other counts = counts
-counts_none error.Full old new other counts = counts
-counts_none error.JournalFull old new other counts = counts
-counts_none error.Halted old new other counts = counts
-counts_none error.Memory old new other counts = counts
-counts_none error.NoImage old new other counts = counts
-counts_none error.OldVersion old new other counts = counts
-counts_none error.Damaged old new other counts = counts
-counts_none error.WrongPair old new other counts = counts
+counts_none _ old new other counts = counts
 
 module _ {D : Type 0} {disk : Ghosts D} (old new : Archive D disk) (pair : ℕ) (machine : Journal)
     (is : IsMachine old pair machine) (up : IsHalted old → ⊥) where
@@ -48,32 +40,32 @@ module _ {D : Type 0} {disk : Ghosts D} (old new : Archive D disk) (pair : ℕ) 
   last = ap (λ a. a.last_session) is.remembers
 
   pub number_kept : MadeCallsMeet →
-      StopsBehind → (session : ℕ) → ((kept : model.Archive) → ArchiveStands old kept →
+      StopsBehind → Writes old new (Some (Session (session_shown old + 1))) None →
+      (session : ℕ) → ((kept : model.Archive) → ArchiveStands old kept →
       (session ≡ kept.last_session + 1) × ArchiveStands new (after_kept kept (Session session))) →
-      HasRecord old new (Session (session_shown old + 1)) → ((kept : model.Archive) →
-      ArchiveStands new kept → (bytes : Bytes) → disk.may_leave (disk_of new) bytes →
-      DiskKeeps (pair_of new) kept (left_shown new) (generation_shown new) bytes) →
-      Makes 4 (disk.arms (disk_of old)) (disk.arms (disk_of new)) → KeepsSo new pair machine
-      (Session (session_shown old + 1)) (Session (session_shown old + 1) ∷ []) Up
-  number_kept made behind session acknowledged has on_disk makes =
+      ((kept : model.Archive) → ArchiveStands new kept → (bytes : Bytes) →
+      disk.may_leave (disk_of new) bytes →
+      DiskKeeps (pair_of new) kept (left_shown new) (generation_shown new) bytes) → KeepsSo new pair
+      machine (Session (session_shown old + 1)) (Session (session_shown old + 1) ∷ []) Up
+  number_kept made behind ended session acknowledged on_disk =
       let now = acknowledged machine.value running.stands in
       let stands = subst (λ n. ArchiveStands new (after_kept machine.value (Session n)))
       (now.0 ∙ ap (λ n. n + 1) (sym last)) now.1 in
-      kept_ok old new pair machine (Session (session_shown old + 1)) is running refl stands has
-      (on_disk _ stands) made behind makes
+      kept_ok old new pair machine (Session (session_shown old + 1)) is running refl stands ended
+      (on_disk _ stands) made behind
 
-  pub number_failed : BrokenCallsMeet → session_shown old + 1 < 2 ^ 64 → IsHalted new →
-      KeepsReadings old new → ((d : D) (t : ℕ) (c : List ℕ) → t ≤ disk.moment d →
-      disk.may_leave d c → disk.left_since d t c) →
+  pub number_failed : BrokenCallsMeet → session_shown old + 1 < 2 ^ 64 →
+      Writes old new (Some (Session (session_shown old + 1))) (Some Device) →
+      ((d : D) (t : ℕ) (c : List ℕ) → t ≤ disk.moment d → disk.may_leave d c →
+      disk.left_since d t c) →
       ((kept : model.Archive) → ArchiveStands old kept → LeavesOnly disk.moment disk.left_since
       (disk_of old) (disk_of new) (KeepsBeforeOrAfter old kept (Session (kept.last_session + 1)))) →
-      Breaks 4 (disk.arms (disk_of old)) (disk.arms (disk_of new)) →
       KeepsSo new pair machine (Session (session_shown old + 1)) [] Halted
-  number_failed broken fits halted readings counts moments breaks =
+  number_failed broken fits ended counts moments =
       let can = subst (λ n. CanKeep machine.value (Session (n + 1))) (sym last)
       (can_begin machine.value (omega (arith, fits, last))) in
       let leaves = subst (λ n. LeavesOnly disk.moment disk.left_since (disk_of old) (disk_of new)
       (KeepsBeforeOrAfter old machine.value (Session (n + 1)))) (sym last)
       (moments machine.value running.stands) in
-      kept_failed old new pair machine (Session (session_shown old + 1)) is running refl halted
-      readings can counts leaves broken breaks
+      kept_failed old new pair machine (Session (session_shown old + 1)) is running refl ended can
+      counts leaves broken

@@ -68,11 +68,11 @@ pub not_down : {D : Type 0} {disk : Ghosts D} (archive : Archive D disk) (machin
 not_down archive machine (inl was) down = up_not_down (sym was.up ∙ down)
 not_down archive machine (inr fails) down = halted_not_down (sym fails.halted ∙ down)
 
-full_not_halted : (T : Type 0) → failed T error.Full ≡ failed T error.Halted → ⊥
-full_not_halted T e = cc
+full_not_halted : Some why.Full ≡ Some why.Halted → ⊥
+full_not_halted e = cc
 
-memory_not_halted : (T : Type 0) → failed T error.Memory ≡ failed T error.Halted → ⊥
-memory_not_halted T e = cc
+memory_not_halted : Some why.Memory ≡ Some why.Halted → ⊥
+memory_not_halted e = cc
 
 memory_not_full : (T : Type 0) → failed T error.Memory ≡ failed T error.Full → ⊥
 memory_not_full T e = cc
@@ -100,7 +100,7 @@ module _ {D : Type 0} {disk : Ghosts D} (archive : Archive D disk) (pair : ℕ)
       (ap (nat_le greatest) (sym was.generation) ∙ is_less (generation_shown archive) fits less)
 
   pub refused_for : (T : Type 0) (e : ArchiveError) → IsOfCheckpoint e → e ≢ error.Device →
-      ((failed T e ≡ failed T error.Halted) ↔ IsHalted archive) →
+      ((Some (refusal_of e) ≡ Some why.Halted) ↔ IsHalted archive) →
       ((kept : model.Archive) → ArchiveStands archive kept →
       (failed T e ≡ failed T error.Full) ↔ (generation_shown archive + 1 ≡ 2 ^ 64)) →
       first_cause (checkpoint_causes machine) ≡ Some (refusal_of e)
@@ -108,23 +108,17 @@ module _ {D : Type 0} {disk : Ghosts D} (archive : Archive D disk) (pair : ℕ)
       causes_with machine true (nat_le greatest machine.journal.generation)
       (when_halted (halted.0 refl)) refl
   refused_for T error.Full of other halted full =
-      let was = when_up (λ h. full_not_halted T (halted.1 h)) in
+      let was = when_up (λ h. full_not_halted (halted.1 h)) in
       causes_with machine false true (ap is_halted was.up)
       (ap (nat_le greatest) (sym was.generation)
       ∙ is_greatest (generation_shown archive) ((full machine.journal.value was.stands).0 refl))
   refused_for T error.Memory of other halted full =
-      let was = when_up (λ h. memory_not_halted T (halted.1 h)) in
+      let was = when_up (λ h. memory_not_halted (halted.1 h)) in
       causes_with machine false false (ap is_halted was.up)
       (ap (nat_le greatest) (sym was.generation) ∙ is_less (generation_shown archive) fits
       (λ e. memory_not_full T ((full machine.journal.value was.stands).1 e)))
   refused_for T error.Device of other halted full = absurd (other refl)
-  refused_for T error.NoParent of other halted full = absurd of
-  refused_for T error.Root of other halted full = absurd of
-  refused_for T error.JournalFull of other halted full = absurd of
-  refused_for T error.NoImage of other halted full = absurd of
-  refused_for T error.OldVersion of other halted full = absurd of
-  refused_for T error.Damaged of other halted full = absurd of
-  refused_for T error.WrongPair of other halted full = absurd of
+  refused_for T _ of other halted full = absurd of
 
 -- a checkpoint keeps the value, and no record is written in it
 compact_keeps : (pair : ℕ) (machine journal : Journal) →

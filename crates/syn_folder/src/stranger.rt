@@ -40,10 +40,7 @@ impl Stranger {
     pub fn copy(&self, alloc: Global) -> Result<Stranger, AllocError> {
         let text = String::from_str(alloc, self.text.as_str())?;
         let path = match &self.path {
-            Some(path) => match path.copy(alloc) {
-                Ok(path) => Some(path),
-                Err(_) => return Err(AllocError),
-            },
+            Some(path) => Some(path.copy(alloc).map_err(|_| AllocError)?),
             None => None,
         };
         Ok(Stranger {

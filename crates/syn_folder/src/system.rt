@@ -97,9 +97,7 @@ impl<F: Files> Folder for SystemFolder<'_, F> {
 
     fn make(&mut self, alloc: Global, edit: Edit) -> Result<(), FolderError> {
         writing::make(alloc, self.files, self.root, &self.tree, &edit)?;
-        match self.tree.apply(alloc, edit) {
-            Ok(()) => Ok(()),
-            Err(_) => Err(FolderError::System(io::Error::from(io::ErrorKind::OutOfMemory))),
-        }
+        let made = self.tree.apply(alloc, edit);
+        made.map_err(|_| FolderError::System(io::ErrorKind::OutOfMemory.into()))
     }
 }

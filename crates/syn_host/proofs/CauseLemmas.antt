@@ -3,13 +3,11 @@ use Rattle.std.proofs.Common.{◌≡◌, ◌≢◌, ◌⊎◌, ◌∙◌, ◌+�
 use Rattle.std.proofs.Common.{◌++◌, Option, Some, None, ap, arith, inl, inr, refl, subst, sym, ◌<◌}
 use Rattle.std.proofs.lemmas.Bool.{eqb-true}
 use Rattle.std.specs.Prelude.{◌||◌, ◌==◌, nat_le, length}
-use Rattle.syn_archive.specs.Refusals as archives
-use Rattle.syn_archive.specs.declared.error.ArchiveError.{ArchiveError}
-use Rattle.syn_archive.specs.declared.error.ArchiveError.TheVariants as errors
 use Rattle.syn_headline.specs.SideMachine.{SideMachine, causes_of}
 use Rattle.syn_headline.specs.Machine.{Up, Halted}
 use Rattle.syn_headline.specs.MachineSteps.{causes_at, is_halted}
 use Rattle.syn_journal.specs.declared.error.JournalError.TheVariants as journal
+use Rattle.syn_journaled.specs.Endings as endings
 use Rattle.syn_model.specs.Event.{Edit, Edited}
 use Rattle.syn_model.specs.History.{event_causes}
 use Rattle.syn_model.specs.Refusal.{Refusal, Cause, first_cause, number}
@@ -25,21 +23,19 @@ use Rattle.syn_history.specs.declared.error.HistoryError.TheVariants as history
 use Rattle.syn_tree.specs.declared.error.TreeError.{TreeError}
 use Rattle.syn_tree.specs.declared.error.TreeError.TheVariants as tree
 use Rattle.syn_agent.proofs.CauseLemmas.{device_is, none_is_no, or_cases, outside, rooms}
-use Rattle.syn_agent.proofs.ReadingLemmas.{halted_number}
 use Rattle.syn_replica.proofs.RoomLemmas.{spelled_long}
 use Rattle.syn_standing.proofs.CauseLemmas.{first_skips, first_stays}
 
 -- a call of the archive's disk failed exactly where the device is the cause
-pub archive_failed : (e : ArchiveError) (old new : ℕ) → archives.refusal_of e ≡ why.Device
-    → archives.CountsFailures e old new → old < new
-archive_failed errors.Device old new device counts = counts
-archive_failed e old new device counts =
-    absurd (let k : archives.refusal_of e ≡ why.Device = device in cc)
+pub archive_failed : (w : Refusal) (old new : ℕ) → w ≡ why.Device
+    → endings.CountsFailures (Some w) old new → old < new
+archive_failed w old new device counts =
+    subst (λ w. endings.CountsFailures (Some w) old new) device counts
 
-pub archive_did_not : (e : ArchiveError) (old new : ℕ) → archives.refusal_of e ≢ why.Device
-    → archives.CountsFailures e old new → new ≡ old
-archive_did_not errors.Device old new other counts = absurd (other refl)
-archive_did_not e old new other counts = counts
+pub archive_did_not : (w : Refusal) (old new : ℕ) → w ≢ why.Device
+    → endings.CountsFailures (Some w) old new → new ≡ old
+archive_did_not why.Device old new other counts = absurd (other refl)
+archive_did_not w old new other counts = counts
 
 pub memory_not_device : why.Memory ≢ why.Device
 memory_not_device e = cc

@@ -1,10 +1,7 @@
 -- How many failed calls an opening of a coordinator's disk counts.
 use Rattle.std.proofs.Common.{◌≡◌, ◌≢◌, ◌⊎◌, ◌<◌, ◌≤◌, ◌+◌, ◌∷◌, [], ℕ, List, ap, arith, inl, inr}
-use Rattle.std.proofs.Common.{refl, slice_get}
+use Rattle.std.proofs.Common.{Some, refl, slice_get}
 use Rattle.std.proofs.lemmas.Option.{none-some, same_Some}
-use Rattle.syn_archive.specs.Refusals.{CountsFailures}
-use Rattle.syn_archive.specs.declared.error.ArchiveError.{ArchiveError}
-use Rattle.syn_archive.specs.declared.error.ArchiveError.TheVariants as error
 use Rattle.syn_headline.specs.Coordinator.{Call, CoordinatorMachine, archive_layout}
 use Rattle.syn_headline.specs.Coordinator.{coordinator_kind}
 use Rattle.syn_headline.specs.Machine.{Arms, Down, Halted, Meets, Status, Up, all_made, one_fails}
@@ -12,6 +9,7 @@ use Rattle.syn_headline.specs.Machine.{one_stops}
 use Rattle.syn_headline.specs.MachineSteps.{OpensDown, Reopens, is_open, no_memory_to_open}
 use Rattle.syn_headline.specs.MachineSteps.{no_memory_to_reopen, open_fails, opens, reopen_fails}
 use Rattle.syn_headline.specs.MachineSteps.{reopen_is_cut, reopens}
+use Rattle.syn_journaled.specs.Endings.{CountsFailures}
 use Rattle.syn_model.specs.Archive.{CanKeep}
 use Rattle.syn_model.specs.Refusal.{Device, Refusal}
 use Rattle.syn_host.proofs.OpenLemmas.{opens_counts}
@@ -23,9 +21,9 @@ pub which_nine : (reason : Refusal) → reason ∷ [] ≡ Device ∷ [] → reas
 which_nine reason e = same_Some _ _ (ap (λ refusals. slice_get refusals 0) e)
 
 -- no count of an archive's disk goes back
-pub never_less : (e : ArchiveError) (old new : ℕ) → CountsFailures e old new → old ≤ new
-never_less error.Device old new counts = omega (arith, counts)
-never_less e old new counts = omega (arith, counts)
+pub never_less : (reason : Refusal) (old new : ℕ) → CountsFailures (Some reason) old new → old ≤ new
+never_less Device old new counts = omega (arith, counts)
+never_less reason old new counts = omega (arith, counts)
 
 -- device calls of which one halted the machine: one failed
 halts_by_one : (arms : Arms) (calls : ℕ) (status : Status) (left : Arms) (failed : ℕ)

@@ -1,22 +1,21 @@
 -- A checkpoint of the archive is what its machine does.
 use Rattle.std.proofs.Common.{◌≡◌, ◌⊎◌, ◌≤◌, ℕ, suc, ◌+◌, true, List, refl, sym, ap, ap₂, ◌∙◌}
-use Rattle.std.proofs.Common.{subst, inl, inr, arith}
-use Rattle.syn_archive.specs.Archive.{Stands, IsHalted, KeepsOrCompacts, KeepsReadings, SameMemory}
-use Rattle.syn_archive.specs.Archive.{pair_of, shown, disk_of, left_shown, generation_shown}
-use Rattle.syn_archive.specs.Archive.{journal_of}
+use Rattle.std.proofs.Common.{subst, inl, inr, Some, None, arith}
+use Rattle.syn_archive.specs.Archive.{Stands, KeepsOrCompacts, pair_of, disk_of, left_shown}
+use Rattle.syn_archive.specs.Archive.{generation_shown}
 use Rattle.syn_archive.specs.Disks.{DiskKeeps, DiskCompacted}
+use Rattle.syn_archive.specs.Writes.{Compacts}
 use Rattle.syn_archive.specs.declared.archive.Archive.{Archive}
-use Rattle.syn_disk.specs.Calls.{Makes, Breaks}
 use Rattle.syn_disk.specs.Stops.{LeavesOnly}
 use Rattle.syn_disk.specs.declared.disk.Disk.{Ghosts}
 use Rattle.syn_headline.specs.Coordinator.{archive_layout}
 use Rattle.syn_headline.specs.Machine.{Up, Halted, Down, Meets, unarmed, with_image, after_device}
 use Rattle.syn_headline.specs.Machine.{compacted, not_compacted, room_behind}
-use Rattle.syn_journal.specs.Journal as journal
 use Rattle.syn_journal.specs.Layout.{HasJournal, image_alone, bytes_left}
 use Rattle.syn_model.specs.Path.{Bytes}
 use Rattle.syn_model.specs.ArchiveImage.{ArchiveStandsFor}
 use Rattle.syn_model.specs.MarkSpelling.{archive_spelling}
+use Rattle.syn_model.specs.Refusal.{Device}
 use Rattle.syn_recovery.specs.Calls.{armed_at, goes_on, goes_down, MadeCallsMeet, BrokenCallsMeet}
 use Rattle.syn_recovery.specs.Machines.{of_archive}
 use Rattle.syn_recovery.specs.Meaning.{MayBeOf, compacted as is_compacted}
@@ -42,9 +41,7 @@ may_be_compacted pair machine bytes generation under_way numbered has = record {
 
 module _ {D : Type 0} {disk : Ghosts D} (old new : Archive D disk) (pair : ℕ) (machine : Journal)
     (is : IsMachine old pair machine) (was : Runs old machine) where
-  module _ (memory : SameMemory old new) (stands : Stands new machine.value)
-      (numbered : generation_shown new ≡ generation_shown old + 1) (alone :
-      journal.Stands (journal_of new) (image_alone (archive_spelling (pair_of old) (shown old))))
+  module _ (ended : Compacts old new None) (stands : Stands new machine.value)
       (stays : (d : D) → disk.may_leave d (disk.seen d))
       (on_disk : (bytes : Bytes) → disk.may_leave (disk_of new) bytes →
       DiskKeeps (pair_of new) machine.value (left_shown new) (generation_shown new) bytes) where
@@ -55,15 +52,16 @@ module _ {D : Type 0} {disk : Ghosts D} (old new : Archive D disk) (pair : ℕ) 
         DiskKeeps pair machine.value (left_shown new) (generation_shown new) bytes
     of_pair bytes left =
         subst (λ p. DiskKeeps p machine.value (left_shown new) (generation_shown new) bytes)
-        (memory.pair ∙ is.pair_is) (on_disk bytes left)
+        (ended.memory.pair ∙ is.pair_is) (on_disk bytes left)
 
     holds : (bytes : Bytes) → disk.may_leave (disk_of new) bytes →
         HasJournal bytes (image_alone (archive_spelling pair machine.value)) (generation_shown new)
     holds bytes left =
         let same = ap₂ (λ p a. image_alone (archive_spelling p a)) is.pair_is is.remembers in
         subst (λ b. HasJournal b (image_alone (archive_spelling pair machine.value))
-        (generation_shown new)) (sym (alone.durable bytes left)) (subst
-        (λ v. HasJournal (disk.seen (disk_of new)) v (generation_shown new)) same alone.holds)
+        (generation_shown new)) (sym (ended.image.durable bytes left)) (subst
+        (λ v. HasJournal (disk.seen (disk_of new)) v (generation_shown new)) same
+        ended.image.holds)
 
     value_is : (bytes : Bytes) (left : disk.may_leave (disk_of new) bytes) →
         (of_pair bytes left).value ≡ image_alone (archive_spelling pair machine.value)
@@ -84,10 +82,9 @@ module _ {D : Type 0} {disk : Ghosts D} (old new : Archive D disk) (pair : ℕ) 
           (of_pair bytes left).stands;
     }
 
-    pub compact_ok : MadeCallsMeet → Makes 6 (disk.arms (disk_of old)) (disk.arms (disk_of new)) →
-        CompactsSo new pair machine Up
-    compact_ok made makes =
-        elim (made 6 (disk.arms (disk_of old)) (disk.arms (disk_of new)) is.goes makes)
+    pub compact_ok : MadeCallsMeet → CompactsSo new pair machine Up
+    compact_ok made =
+        elim (made 6 (disk.arms (disk_of old)) (disk.arms (disk_of new)) is.goes ended.device.arms)
         as (λ _. CompactsSo new pair machine Up) [
           | goes_on goes meets ↦ moves_on
               (with_image (archive_layout pair) machine (armed_at (disk.arms (disk_of new)))) (
@@ -99,7 +96,7 @@ module _ {D : Type 0} {disk : Ghosts D} (old new : Archive D disk) (pair : ℕ) 
                   exactly = λ what writing. absurd (none-some _ (sym was.idle ∙ writing));
                 },
               ) was.up (record {
-                pair_is = memory.pair ∙ is.pair_is;
+                pair_is = ended.memory.pair ∙ is.pair_is;
                 remembers = stands.remembers;
                 armed = refl;
                 goes = goes;
@@ -132,12 +129,12 @@ module _ {D : Type 0} {disk : Ghosts D} (old new : Archive D disk) (pair : ℕ) 
         ]
       where
         next : generation_shown new ≡ suc machine.generation
-        next = numbered ∙ (ap (λ n. n + 1) was.generation ∙ one_more machine.generation)
+        next = ended.generation ∙ (ap (λ n. n + 1) was.generation ∙ one_more machine.generation)
           where
             one_more : (n : ℕ) → n + 1 ≡ suc n
             one_more n = omega arith
 
-  module _ (halted : IsHalted new) (readings : KeepsReadings old new)
+  module _ (ended : Compacts old new (Some Device))
       (counts : (d : D) (t : ℕ) (c : List ℕ) → t ≤ disk.moment d → disk.may_leave d c →
       disk.left_since d t c)
       (moments : LeavesOnly disk.moment disk.left_since (disk_of old) (disk_of new)
@@ -166,17 +163,16 @@ module _ {D : Type 0} {disk : Ghosts D} (old new : Archive D disk) (pair : ℕ) 
         IsShown new pair now
     shows_still now room generation =
         let same : (left_shown new ≡ now.room) × (generation_shown new ≡ now.generation) = (
-          readings.left_is ∙ (was.room ∙ sym room),
-          readings.generation
+          ended.readings.left_is ∙ (was.room ∙ sym room),
+          ended.readings.generation
               ∙ (was.generation ∙ sym generation),
         ) in
         record { as_left = inl same; exactly = λ what writing. same }
 
-    pub compact_failed : BrokenCallsMeet →
-        Breaks 6 (disk.arms (disk_of old)) (disk.arms (disk_of new)) →
-        CompactsSo new pair machine Halted
-    compact_failed broken breaks =
-        elim (broken 6 (disk.arms (disk_of old)) (disk.arms (disk_of new)) is.goes breaks)
+    pub compact_failed : BrokenCallsMeet → CompactsSo new pair machine Halted
+    compact_failed broken =
+        elim (broken 6 (disk.arms (disk_of old)) (disk.arms (disk_of new)) is.goes
+        ended.device.arms)
         as (λ _. CompactsSo new pair machine Halted) [
           | goes_on goes meets ↦ moves_on
               (after_device (record machine { compacting = true }) Halted
@@ -186,11 +182,11 @@ module _ {D : Type 0} {disk : Ghosts D} (old new : Archive D disk) (pair : ℕ) 
                     meets),
                 shows_still _ refl refl,
               ) refl (record {
-                pair_is = readings.memory.pair ∙ is.pair_is;
-                remembers = readings.memory.archive ∙ is.remembers;
+                pair_is = ended.readings.memory.pair ∙ is.pair_is;
+                remembers = ended.readings.memory.archive ∙ is.remembers;
                 armed = refl;
                 goes = goes;
-                state = inr (record { halted = refl; is_halted = halted });
+                state = inr (record { halted = refl; is_halted = ended.halts refl });
                 leaves = leaves_either _ refl refl refl refl;
               })
           | goes_down down meets ↦ moves_down

@@ -6,16 +6,16 @@ use Rattle.std.proofs.lemmas.Bool.{false≢true, true≢false}
 use Rattle.std.proofs.lemmas.Bool.Decides.{nat_tests}
 use Rattle.std.proofs.lemmas.Option.{none-some}
 use Rattle.std.specs.FinMap.{get, get-empty}
-use Rattle.syn_archive.specs.Archive.{Stands, IsHalted, KeepsBeforeOrAfter, HasRecord}
-use Rattle.syn_archive.specs.Archive.{KeepsReadings, pair_of, shown, disk_of, left_shown}
-use Rattle.syn_archive.specs.Archive.{marks_shown, generation_shown, journal_of}
+use Rattle.syn_archive.specs.Archive.{Stands, IsHalted, KeepsBeforeOrAfter, KeepsReadings, pair_of}
+use Rattle.syn_archive.specs.Archive.{shown, disk_of, left_shown, marks_shown, generation_shown}
+use Rattle.syn_archive.specs.Archive.{journal_of}
 use Rattle.syn_archive.specs.Disks.{DiskKeeps, kept_size}
-use Rattle.syn_archive.specs.Refusals.{MakesIfDevice}
+use Rattle.syn_archive.specs.Refusals.{refusal_of}
+use Rattle.syn_archive.specs.Writes.{Writes as Ended}
 use Rattle.syn_archive.specs.declared.archive.Archive.{Archive}
 use Rattle.syn_archive.specs.declared.error.ArchiveError.{ArchiveError}
 use Rattle.syn_archive.specs.declared.error.ArchiveError.TheVariants as error
 use Rattle.syn_disk.specs.Arms.{is_stopped}
-use Rattle.syn_disk.specs.Calls.{Makes}
 use Rattle.syn_disk.specs.Stops.{LeavesOnly}
 use Rattle.syn_disk.specs.declared.disk.Disk.{Ghosts}
 use Rattle.syn_headline.specs.Coordinator.{archive_layout, writes}
@@ -28,7 +28,7 @@ use Rattle.syn_model.specs.Archive.{kept_refusal, record_causes}
 use Rattle.syn_model.specs.Limits.{greatest}
 use Rattle.syn_model.specs.Mark.{IsMarks}
 use Rattle.syn_model.specs.Path.{Bytes, Path, path_cmp, is_root}
-use Rattle.syn_model.specs.Refusal.{Root, first_cause}
+use Rattle.syn_model.specs.Refusal.{Device, Root, first_cause}
 use Rattle.syn_model.specs.Tree.{absent, IsPart, is_directory, replace, empty_directory}
 use Rattle.syn_recovery.specs.Calls.{MadeCallsMeet, StopsBehind, BrokenCallsMeet}
 use Rattle.syn_refusal.specs.declared.refusal.Refusal.TheVariants as refusal
@@ -44,7 +44,7 @@ use Rattle.syn_keep.specs.inner.Recording as step
 use Rattle.syn_keep.specs.Tries.{IsShown}
 use Rattle.syn_keep.specs.Steps.{KeepsSo, moves_on, moves_down}
 use Rattle.syn_keep.proofs.MachineLemmas.{kept_ok, kept_failed}
-use Rattle.syn_keep.proofs.OutcomeLemmas.{failed}
+use Rattle.syn_archive.proofs.EndLemmas.{same_error}
 use Rattle.syn_keep.proofs.StayLemmas.{same_machine}
 
 -- ---- what is lawful
@@ -94,10 +94,6 @@ device_or_other error.WrongPair = inr (not_device error.WrongPair refl, refl)
 pub full_no_device : error.Full ≢ error.Device
 unfolding is_device
 full_no_device = not_device error.Full refl
-
-pub full_not_halted : (e : ArchiveError) → e ≡ error.Full →
-    failed (Unit {0}) e ≡ failed (Unit {0}) error.Halted → ⊥
-full_not_halted e full halted = cc
 
 pub is_greatest : (n : ℕ) → n + 1 ≡ 2 ^ 64 → nat_le greatest n ≡ true
 is_greatest n e = grind (arith, nat_tests)
@@ -160,48 +156,44 @@ module _ {D : Type 0} {disk : Ghosts D} (old new : Archive D disk) (pair : ℕ) 
     (is : IsMachine old pair machine) where
   -- after a refusal but for the device it is the machine that it was
   pub stays : (e : ArchiveError) → e ≢ error.Device →
-      (e ≡ error.Device) ⊎ (journal_of new ≡ journal_of old) → KeepsReadings old new →
+      (refusal_of e ≡ Device) ⊎ (journal_of new ≡ journal_of old) → KeepsReadings old new →
       IsMachine new pair machine
   stays e other unchanged readings =
       elim unchanged as (λ _. IsMachine new pair machine) [
-        | inl device ↦ absurd (other device)
+        | inl device ↦ absurd (other (same_error e error.Device device))
         | inr same ↦ same_machine old new same readings pair machine is
       ]
 
-  module _ (kept : Kept) (ready : IsReady machine kept) where
-    pub write_fails : (archive_layout pair).is_idle machine.value kept ≡ false →
-        (e : ArchiveError) → (failed (Unit {0}) e ≡ failed (Unit {0}) error.Device → IsHalted new) →
-        KeepsReadings old new → (e ≡ error.Device) ⊎ (journal_of new ≡ journal_of old) → ((d : D)
-        (t : ℕ) (c : List ℕ) → t ≤ disk.moment d → disk.may_leave d c → disk.left_since d t c) →
+  module _ (kept : Kept) (ready : IsReady machine kept)
+      (written_now : (archive_layout pair).is_idle machine.value kept ≡ false) where
+    pub write_fails : (e : ArchiveError) → Ended old new (Some kept) (Some (refusal_of e)) →
+        ((d : D) (t : ℕ) (c : List ℕ) → t ≤ disk.moment d → disk.may_leave d c →
+        disk.left_since d t c) →
         ((before : model.Archive) → Stands old before → LeavesOnly disk.moment disk.left_since
         (disk_of old) (disk_of new) (KeepsBeforeOrAfter old before kept)) → BrokenCallsMeet →
-        MakesIfDevice e 4 (disk.arms (disk_of old)) (disk.arms (disk_of new)) →
         Writes new pair machine kept (ended_by e)
-    write_fails written_now e halts readings unchanged counts moments broken calls =
+    write_fails e ended counts moments broken =
         let was = when_up old pair machine is ready.up in
         elim (device_or_other e) as (λ _. Writes new pair machine kept (ended_by e)) [
           | inl device ↦ subst (λ x. Writes new pair machine kept (ended_by x)) (sym device)
               (step.breaks (kept_failed old new pair machine kept is was written_now
-              (halts (ap (failed (Unit {0})) device)) readings ready.can counts
-              (moments machine.value was.stands) broken
-              (subst (λ x. MakesIfDevice x 4 (disk.arms (disk_of old)) (disk.arms (disk_of new)))
-              device calls)))
+              (subst (λ x. Ended old new (Some kept) (Some (refusal_of x))) device ended) ready.can
+              counts (moments machine.value was.stands) broken))
           | inr other ↦ subst (Writes new pair machine kept) (sym other.1)
-              (step.no_memory (stays e other.0 unchanged readings))
+              (step.no_memory (stays e other.0 ended.unchanged ended.readings))
         ]
 
-    pub write_made : (archive_layout pair).is_idle machine.value kept ≡ false →
-        ((before : model.Archive) → Stands old before → Stands new (after_kept before kept)) →
-        HasRecord old new kept → ((after : model.Archive) → Stands new after → (bytes : Bytes) →
+    pub write_made : Ended old new (Some kept) None → ((before : model.Archive) →
+        Stands old before → Stands new (after_kept before kept)) →
+        ((after : model.Archive) → Stands new after → (bytes : Bytes) →
         disk.may_leave (disk_of new) bytes →
         DiskKeeps (pair_of new) after (left_shown new) (generation_shown new) bytes) →
-        MadeCallsMeet → StopsBehind → Makes 4 (disk.arms (disk_of old)) (disk.arms (disk_of new)) →
-        KeepsSo new pair machine kept (kept ∷ []) Up
-    write_made written_now acknowledged has on_disk made behind makes =
+        MadeCallsMeet → StopsBehind → KeepsSo new pair machine kept (kept ∷ []) Up
+    write_made ended acknowledged on_disk made behind =
         let was = when_up old pair machine is ready.up in
         let stands = acknowledged machine.value was.stands in
-        kept_ok old new pair machine kept is was written_now stands has
-        (on_disk _ stands) made behind makes
+        kept_ok old new pair machine kept is was written_now stands ended (on_disk _ stands) made
+        behind
 
   -- a directory that is recorded already is not written
   module _ (path : Path) (ready : IsReady machine (RecordedDir path)) where

@@ -1,11 +1,11 @@
 -- A call of an archive is what its machine does.
 use Rattle.std.proofs.Common.{◌≡◌, ◌⊎◌, ◌≤◌, ℕ, ◌-◌, false, List, [], ◌∷◌, Some, None, refl, sym}
 use Rattle.std.proofs.Common.{ap, ◌∙◌, subst, inl, inr}
-use Rattle.syn_archive.specs.Archive.{Stands, IsHalted, KeepsBeforeOrAfter, HasRecord}
-use Rattle.syn_archive.specs.Archive.{KeepsReadings, pair_of, disk_of, left_shown, generation_shown}
+use Rattle.syn_archive.specs.Archive.{Stands, KeepsBeforeOrAfter, pair_of, disk_of, left_shown}
+use Rattle.syn_archive.specs.Archive.{generation_shown}
 use Rattle.syn_archive.specs.Disks.{DiskKeeps, kept_size}
+use Rattle.syn_archive.specs.Writes.{Writes}
 use Rattle.syn_archive.specs.declared.archive.Archive.{Archive}
-use Rattle.syn_disk.specs.Calls.{Makes, Breaks}
 use Rattle.syn_disk.specs.Stops.{LeavesOnly}
 use Rattle.syn_disk.specs.declared.disk.Disk.{Ghosts}
 use Rattle.syn_headline.specs.Coordinator.{archive_layout, writes, cut_behind}
@@ -13,6 +13,7 @@ use Rattle.syn_headline.specs.Machine.{Up, Halted, Down, Status, Arms, Meets, un
 use Rattle.syn_headline.specs.Machine.{after_device, cut, IsBefore, written, unwritten}
 use Rattle.syn_model.specs.Path.{Bytes}
 use Rattle.syn_model.specs.Archive.{Kept, CanKeep, after_kept}
+use Rattle.syn_model.specs.Refusal.{Device}
 use Rattle.syn_recovery.specs.Calls.{armed_at, goes_on, goes_down, MadeCallsMeet, StopsBehind}
 use Rattle.syn_recovery.specs.Calls.{BrokenCallsMeet}
 use Rattle.syn_recovery.specs.Machines.{of_archive}
@@ -67,11 +68,12 @@ module _ {D : Type 0} {disk : Ghosts D} (old new : Archive D disk) (pair : ℕ) 
       subst (λ a. Meets a calls status arms failed) is.armed meets
 
   -- it stands with the record
-  module _ (stands : Stands new (after_kept machine.value kept)) (has : HasRecord old new kept)
+  module _ (stands : Stands new (after_kept machine.value kept))
+      (ended : Writes old new (Some kept) None)
       (on_disk : (bytes : Bytes) → disk.may_leave (disk_of new) bytes → DiskKeeps (pair_of new)
       (after_kept machine.value kept) (left_shown new) (generation_shown new) bytes) where
     left_is : left_shown new ≡ machine.room - kept_size kept
-    left_is = has.left_is ∙ ap (λ n. n - kept_size kept) was.room
+    left_is = ended.written.left_is ∙ ap (λ n. n - kept_size kept) was.room
 
     leaves_record : (machine_new : Journal) → machine_new.value ≡ after_kept machine.value kept →
         machine_new.room ≡ machine.room - kept_size kept →
@@ -79,26 +81,25 @@ module _ {D : Type 0} {disk : Ghosts D} (old new : Archive D disk) (pair : ℕ) 
         LeavesMachine disk (disk_of new) pair machine_new
     leaves_record machine_new value room generation bytes left =
         let keeps = subst (λ p. DiskKeeps p (after_kept machine.value kept) (left_shown new)
-        (generation_shown new) bytes) (has.pair ∙ is.pair_is) (on_disk bytes left) in
+        (generation_shown new) bytes) (ended.written.pair ∙ is.pair_is) (on_disk bytes left) in
         may_be pair machine_new (left_shown new) (generation_shown new) bytes
         (subst (λ v. DiskKeeps pair v (left_shown new) (generation_shown new) bytes)
         (sym value) keeps)
-        (left_is ∙ sym room) (has.generation ∙ (was.generation ∙ sym generation))
+        (left_is ∙ sym room) (ended.written.generation ∙ (was.generation ∙ sym generation))
 
     -- its journal shows itself so, and writes nothing more
     shows_record : (machine_new : Journal) → machine_new.room ≡ machine.room - kept_size kept →
         machine_new.generation ≡ machine.generation → machine_new.writing ≡ None →
         IsShown new pair machine_new
     shows_record machine_new room generation idle = record {
-      as_left = inl (left_is ∙ sym room, has.generation ∙ (was.generation ∙ sym generation));
+      as_left = inl
+          (left_is ∙ sym room, ended.written.generation ∙ (was.generation ∙ sym generation));
       exactly = λ what is. absurd (none-some _ (sym idle ∙ is));
     }
 
-    pub kept_ok : MadeCallsMeet → StopsBehind →
-        Makes 4 (disk.arms (disk_of old)) (disk.arms (disk_of new)) →
-        KeepsSo new pair machine kept (kept ∷ []) Up
-    kept_ok made behind makes =
-        elim (made 4 (disk.arms (disk_of old)) (disk.arms (disk_of new)) is.goes makes)
+    pub kept_ok : MadeCallsMeet → StopsBehind → KeepsSo new pair machine kept (kept ∷ []) Up
+    kept_ok made behind =
+        elim (made 4 (disk.arms (disk_of old)) (disk.arms (disk_of new)) is.goes ended.device.arms)
         as (λ _. KeepsSo new pair machine kept (kept ∷ []) Up) [
           | goes_on goes meets ↦ moves_on
               (with_record (archive_layout pair) machine kept
@@ -107,7 +108,7 @@ module _ {D : Type 0} {disk : Ghosts D} (old new : Archive D disk) (pair : ℕ) 
                 shows_record _ refl refl was.idle,
               )
               was.up (record {
-                pair_is = has.pair ∙ is.pair_is;
+                pair_is = ended.written.pair ∙ is.pair_is;
                 remembers = stands.remembers;
                 armed = refl;
                 goes = goes;
@@ -116,7 +117,7 @@ module _ {D : Type 0} {disk : Ghosts D} (old new : Archive D disk) (pair : ℕ) 
                       up = was.up;
                       stands = stands;
                       room = left_is;
-                      generation = has.generation
+                      generation = ended.written.generation
                           ∙ was.generation;
                       idle = was.idle;
                       settled = was.settled;
@@ -125,7 +126,7 @@ module _ {D : Type 0} {disk : Ghosts D} (old new : Archive D disk) (pair : ℕ) 
               })
           | goes_down down meets ↦
               let stop = behind 4 (disk.arms (disk_of old))
-              (disk.arms (disk_of new)) is.goes makes down in
+              (disk.arms (disk_of new)) is.goes ended.device.arms down in
               moves_down (cut (with_record (archive_layout pair) machine kept unarmed)) (
                 cut_behind written_now (subst (λ a. IsBefore 4 a.fail) is.armed stop.1)
                     (ap (λ a. a.stop) (sym is.armed) ∙ stop.0),
@@ -135,8 +136,7 @@ module _ {D : Type 0} {disk : Ghosts D} (old new : Archive D disk) (pair : ℕ) 
         ]
 
   -- the device failed as it was written
-  module _ (halted : IsHalted new) (readings : KeepsReadings old new)
-      (can : CanKeep machine.value kept)
+  module _ (ended : Writes old new (Some kept) (Some Device)) (can : CanKeep machine.value kept)
       (counts : (d : D) (t : ℕ) (c : List ℕ) → t ≤ disk.moment d → disk.may_leave d c →
       disk.left_since d t c)
       (moments : LeavesOnly disk.moment disk.left_since (disk_of old) (disk_of new)
@@ -163,17 +163,16 @@ module _ {D : Type 0} {disk : Ghosts D} (old new : Archive D disk) (pair : ℕ) 
     shows_still machine_new room generation =
         let same : (left_shown new ≡ machine_new.room)
         × (generation_shown new ≡ machine_new.generation) = (
-          readings.left_is
+          ended.readings.left_is
               ∙ (was.room ∙ sym room),
-          readings.generation ∙ (was.generation ∙ sym generation),
+          ended.readings.generation ∙ (was.generation ∙ sym generation),
         ) in
         record { as_left = inl same; exactly = λ what is. same }
 
-    pub kept_failed : BrokenCallsMeet →
-        Breaks 4 (disk.arms (disk_of old)) (disk.arms (disk_of new)) →
-        KeepsSo new pair machine kept [] Halted
-    kept_failed broken breaks =
-        elim (broken 4 (disk.arms (disk_of old)) (disk.arms (disk_of new)) is.goes breaks)
+    pub kept_failed : BrokenCallsMeet → KeepsSo new pair machine kept [] Halted
+    kept_failed broken =
+        elim (broken 4 (disk.arms (disk_of old)) (disk.arms (disk_of new)) is.goes
+        ended.device.arms)
         as (λ _. KeepsSo new pair machine kept [] Halted) [
           | goes_on goes meets ↦ moves_on
               (after_device (record machine { writing = Some kept }) Halted
@@ -181,11 +180,11 @@ module _ {D : Type 0} {disk : Ghosts D} (old new : Archive D disk) (pair : ℕ) 
                 writes _ _ (unwritten Halted _ 1 written_now (inl refl) (armed_old meets)),
                 shows_still _ refl refl,
               ) refl (record {
-                pair_is = readings.memory.pair ∙ is.pair_is;
-                remembers = readings.memory.archive ∙ is.remembers;
+                pair_is = ended.readings.memory.pair ∙ is.pair_is;
+                remembers = ended.readings.memory.archive ∙ is.remembers;
                 armed = refl;
                 goes = goes;
-                state = inr (record { halted = refl; is_halted = halted });
+                state = inr (record { halted = refl; is_halted = ended.halts refl });
                 leaves = leaves_either _ refl refl refl refl;
               })
           | goes_down down meets ↦ moves_down

@@ -93,10 +93,8 @@ fn items_between(
         ≡ plan (option_map which_of preference) (scan_of left.now) (scan_of right.now)
         archive.now) }
 {
-    match Course::new(alloc, left, right, archive, preference) {
-        Ok(course) => Ok(course.items),
-        Err(error) => Err(error.refusal()),
-    }
+    let course = Course::new(alloc, left, right, archive, preference);
+    Ok(course.map_err(|error| error.refusal())?.items)
 }
 
 /// What the side shows, once each of its directories was listed.

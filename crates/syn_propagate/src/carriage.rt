@@ -98,9 +98,6 @@ impl Carriage {
         ensures memory { IfErr result (λ e. e ≡ TransferError.Memory) }
     {
         let _ = self.path.names();
-        match self.path.copy(alloc) {
-            Ok(path) => Ok(path),
-            Err(_) => Err(TransferError::Memory),
-        }
+        self.path.copy(alloc).map_err(|_| TransferError::Memory)
     }
 }

@@ -3,7 +3,8 @@ use Rattle.std.proofs.Common.{◌≡◌, ◌≢◌, ◌≤◌, ◌<◌, ◌^◌,
 use Rattle.std.proofs.Common.{true≢false, not, ◌||◌, if◌then◌else◌, [], ◌++◌, length, map}
 use Rattle.std.proofs.Common.{Option, Some, None, refl, sym, ap, ◌∙◌, subst, inl, inr, arith}
 use Rattle.std.proofs.Common.{append-nil}
-use Rattle.std.specs.Prelude.{All, AllPairs, Contains, IsErrAnd, Result, Ok, Err}
+use Rattle.std.specs.Prelude.{All, AllPairs, Contains, IfNone, IfOk, IfSome, IsErrAnd, MatchResult}
+use Rattle.std.specs.Prelude.{Result, Ok, Err}
 use Rattle.std.proofs.lemmas.List.{length-map}
 use Rattle.std.proofs.lemmas.List.Elements.{Contains-append_left, Contains-push}
 use Rattle.std.proofs.lemmas.List.Elements.{Contains-push_cases}
@@ -28,21 +29,22 @@ use Rattle.syn_session.specs.declared.line.Line.{Line}
 use Rattle.syn_session.specs.declared.session.Asks.{Asks}
 use Rattle.syn_session.specs.declared.session.Session.{Session}
 use Rattle.syn_session.specs.Answering.{IsAnswering, asks_of, exchange_of}
-use Rattle.syn_session.specs.inner.Listing.{KeepsRequests}
-use Rattle.syn_session.specs.Hearing.{EndsHearing, HasHeard, Hears, IsAsking, ScansOn}
+use Rattle.syn_session.specs.inner.Listing.{IsListed, KeepsFound, KeepsRequests, ListsOn}
+use Rattle.syn_session.specs.Hearing.{EndsHearing, HasHeard, Hears, IsAsking, ScansOn, behind}
 use Rattle.syn_refusal.specs.declared.refusal.Refusal.{Refusal as Why}
+use Rattle.syn_refusal.specs.declared.refusal.Refusal.TheVariants.{Memory}
 use Rattle.syn_session.specs.Sessions.{IsSession, IsStage, Tells}
 use Rattle.syn_session.specs.Stages.{AreOfScan, IsBeginningOrListing, IsOfScan, IsScanning}
 use Rattle.syn_session.specs.Stages.{IsToBegin, IsToList, begins, lists, found_on}
 use Rattle.syn_session.specs.Stages.{line_of, outstanding_of, reached_by, requests_on, waiting_of}
 use Rattle.syn_session.proofs.AnswerLemmas.{heard_so, unstable_then}
-use Rattle.syn_session.proofs.HearLemmas.{found_still}
+use Rattle.syn_session.proofs.HearLemmas.{found_still, heard_new, scans_either}
 use Rattle.syn_session.proofs.WaitingLemmas.{alone_is, asked_has, first_is, from_map, in_filter}
 use Rattle.syn_session.proofs.WaitingLemmas.{in_map, its_number, only_in, other_number, out_before}
 use Rattle.syn_session.proofs.WaitingLemmas.{out_still, same_directory, still_in-filter}
 use Rattle.syn_session.proofs.TellingLemmas.{by_sides, list_not_begin, or_false}
 use Rattle.syn_session.proofs.TellingLemmas.{either_nothing, not_across, other_side, tells_nothing}
-use Rattle.syn_session.proofs.TellingLemmas.{scans_further}
+use Rattle.syn_session.proofs.TellingLemmas.{scans_further, tells_heard}
 use Rattle.syn_path.specs.Sides.{which_of}
 use Rattle.syn_path.specs.declared.side.Side.{Side}
 
@@ -499,6 +501,35 @@ pub hears_refused : (session : Session) (running : Running) (side : Which) (numb
 hears_refused session running side number request reply (Ok next) why e ends = absurd e
 hears_refused session running side number request reply (Err is) why e ends =
     subst (λ w. EndsHearing session running (exchange_of side number request reply) w) (sym e) ends
+
+-- what is listed next is what comes of an answer, or that memory is refused for it
+pub hears_next : {E : Type 0} (old new : Session) (running : Running) (side : Which) (number : ℕ)
+    (request : Request) (reply : model.Reply) →
+    let heard = hearing running (exchange_of side number request reply) in
+    fault_of running.taken side request reply ≡ None → HasHeard old heard →
+    BothBegun heard.taken →
+    ((on : Which) → IsFoundIn (found_on old on) on heard.taken) →
+    ((on : Which) → IsToList old on) →
+    ((on : Which) (path : Path) → WaitsFor (line_of old on).scan path →
+    Contains (requests_on (line_of old on)) (ListAt path)) → KeepsFound old new →
+    (went : Result (Option Asks) E) → IfOk went (λ next. IfSome next (ListsOn old new)) →
+    IfOk went (λ next. IfNone next (IsListed old new)) → (result : Result (Option Asks) Why) →
+    MatchResult went (λ next. result ≡ Ok next) (λ _. IsErrAnd result (λ why. why ≡ Memory)) →
+    Hears new running side number request reply result
+hears_next old new running side number request reply fine has both found lines out keeps (Ok next)
+    some none result is =
+    let heard = hearing running (exchange_of side number request reply) in
+    subst (Hears new running side number request reply) (sym is) (
+      fine,
+      heard_new old new heard has both found lines out keeps,
+      scans_either old new heard has both found lines out keeps next some none,
+    )
+hears_next old new running side number request reply fine has both found lines out keeps (Err e)
+    some none result is =
+    let heard = hearing running (exchange_of side number request reply) in
+    hears_refused new running side number request reply result Memory is
+    (behind fine refl (tells_heard new heard
+    (heard_new old new heard has both found lines out keeps)))
 
 pub swapped : {A B : Type 0} → A ⊎ B → B ⊎ A
 swapped (inl a) = inr a

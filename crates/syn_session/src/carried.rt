@@ -65,10 +65,8 @@ pub(crate) fn copy_marks(
     ensures ok { IfOk result (λ marks. or_absent marks ≡ subtree from.now.marks path.now) }
     ensures memory { IfErr result (λ e. e ≡ SessionError.Memory) }
 {
-    match from.tree().copy_at(alloc, path) {
-        Ok(marks) => Ok(marks),
-        Err(_) => Err(SessionError::Memory),
-    }
+    let tree = from.tree();
+    tree.copy_at(alloc, path).map_err(|_| SessionError::Memory)
 }
 
 /// The path once more. Refused 11 where memory is refused.
@@ -76,8 +74,5 @@ pub(crate) fn copy_path(alloc: Global, path: &Path) -> Result<Path, SessionError
     ensures ok { IfOk result (λ copy. copy ≡ path.now) }
     ensures memory { IfErr result (λ e. e ≡ SessionError.Memory) }
 {
-    match path.copy(alloc) {
-        Ok(path) => Ok(path),
-        Err(_) => Err(SessionError::Memory),
-    }
+    path.copy(alloc).map_err(|_| SessionError::Memory)
 }

@@ -73,10 +73,7 @@ impl Session {
                 right: Vec::new(alloc),
             }));
         }
-        match self.scan_on(alloc) {
-            Ok(next) => Ok(next),
-            Err(_) => Err(Refusal::Memory),
-        }
+        self.scan_on(alloc).map_err(|_| Refusal::Memory)
     }
 
     /// Takes it that a side answered the listing.
@@ -98,10 +95,7 @@ impl Session {
         let is_no_directory = is_no_directory(&reply);
         self.take_listing(alloc, from, path, reply)?;
         self.count_unstable(is_no_directory);
-        match self.scan_on(alloc) {
-            Ok(next) => Ok(next),
-            Err(_) => Err(Refusal::Memory),
-        }
+        self.scan_on(alloc).map_err(|_| Refusal::Memory)
     }
 
     /// Whether a request waits on the other side.

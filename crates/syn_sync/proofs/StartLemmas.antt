@@ -8,6 +8,7 @@ use Rattle.syn_archive.specs.declared.error.ArchiveError.TheVariants as archive
 use Rattle.syn_disk.specs.declared.disk.Disk.{Ghosts}
 use Rattle.syn_headline.specs.Coordinator.{Call, CoordinatorMachine, coordinator_kind}
 use Rattle.syn_headline.specs.MachineSteps.{Checkpoints}
+use Rattle.syn_journaled.specs.Endings as endings
 use Rattle.syn_model.specs.Refusal as why
 use Rattle.syn_model.specs.Refusal.{first_cause}
 use Rattle.syn_refusal.specs.Refusals.{cause_of}
@@ -30,17 +31,8 @@ is_start_device session.Memory = inr (λ is. cc)
 is_start_device session.Busy = inr (λ is. cc)
 
 pub is_archive_device : (e : ArchiveError) → (e ≡ archive.Device) ⊎ (e ≢ archive.Device)
-is_archive_device archive.NoParent = inr (λ is. cc)
-is_archive_device archive.Root = inr (λ is. cc)
-is_archive_device archive.Full = inr (λ is. cc)
-is_archive_device archive.JournalFull = inr (λ is. cc)
 is_archive_device archive.Device = inl refl
-is_archive_device archive.Halted = inr (λ is. cc)
-is_archive_device archive.Memory = inr (λ is. cc)
-is_archive_device archive.NoImage = inr (λ is. cc)
-is_archive_device archive.OldVersion = inr (λ is. cc)
-is_archive_device archive.Damaged = inr (λ is. cc)
-is_archive_device archive.WrongPair = inr (λ is. cc)
+is_archive_device _ = inr (λ is. cc)
 
 -- what was done, where something was
 pub on_ok : {X E : Type 0} (P : Type 0) (result : Result X E) → P → OnOk result P
@@ -56,19 +48,10 @@ counted session.Halted a b is counts = cc
 counted session.Memory a b is counts = cc
 counted session.Busy a b is counts = cc
 
-kept_counted : (e : ArchiveError) (a b : ℕ) → e ≡ archive.Device → kept.CountsFailures e a b
-    → a < b
-kept_counted archive.Device a b is counts = counts
-kept_counted archive.NoParent a b is counts = cc
-kept_counted archive.Root a b is counts = cc
-kept_counted archive.Full a b is counts = cc
-kept_counted archive.JournalFull a b is counts = cc
-kept_counted archive.Halted a b is counts = cc
-kept_counted archive.Memory a b is counts = cc
-kept_counted archive.NoImage a b is counts = cc
-kept_counted archive.OldVersion a b is counts = cc
-kept_counted archive.Damaged a b is counts = cc
-kept_counted archive.WrongPair a b is counts = cc
+kept_counted : (e : ArchiveError) (a b : ℕ) → e ≡ archive.Device
+    → endings.CountsFailures (Some (kept.refusal_of e)) a b → a < b
+kept_counted e a b is counts =
+    subst (λ x. endings.CountsFailures (Some (kept.refusal_of x)) a b) is counts
 
 module _ {D : Type 0} {disk : Ghosts D} where
   -- how many device calls of its disk failed
@@ -126,7 +109,7 @@ module _ {D : Type 0} {disk : Ghosts D} where
       (machine : CoordinatorMachine) (e : ArchiveError)
       → (e ≡ archive.Device) ⊎ (e ≢ archive.Device)
       → first_cause (all_causes pair machine) ≡ Some why.JournalFull
-      → kept.CountsFailures e (failures_of old) (failures_of new)
+      → endings.CountsFailures (Some (kept.refusal_of e)) (failures_of old) (failures_of new)
       → (e ≢ archive.Device → first_cause (checkpoint_causes machine) ≡ Some (kept.refusal_of e))
       → Refuses old new pair machine (kept.refusal_of e)
   checkpoint_refused_at old new pair machine e (inl is) full counts refused =
@@ -138,7 +121,7 @@ module _ {D : Type 0} {disk : Ghosts D} where
   pub checkpoint_refused : (old new : Coordinator D disk) (pair : ℕ)
       (machine : CoordinatorMachine) (e : ArchiveError)
       → first_cause (all_causes pair machine) ≡ Some why.JournalFull
-      → kept.CountsFailures e (failures_of old) (failures_of new)
+      → endings.CountsFailures (Some (kept.refusal_of e)) (failures_of old) (failures_of new)
       → (e ≢ archive.Device → first_cause (checkpoint_causes machine) ≡ Some (kept.refusal_of e))
       → Refuses old new pair machine (kept.refusal_of e)
   checkpoint_refused old new pair machine e full counts refused =

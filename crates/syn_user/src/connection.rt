@@ -80,11 +80,10 @@ impl<R: Read, W: Write> UserConnection<R, W> {
         ensures goes { is_open self.new ≡ goes_behind result }
         ensures closed { is_open self.old ≡ false → result ≡ Err UserError.Device }
     {
-        match self.ask(alloc, UserRequest::Edit { user, edit }) {
-            Ok(UserReply::Edited { position }) => Ok(position),
-            Ok(UserReply::Refused(why)) => Err(UserError::Refused(why)),
-            Ok(UserReply::Got { .. }) => unreachable!(),
-            Err(error) => Err(error),
+        match self.ask(alloc, UserRequest::Edit { user, edit })? {
+            UserReply::Edited { position } => Ok(position),
+            UserReply::Refused(why) => Err(UserError::Refused(why)),
+            UserReply::Got { .. } => unreachable!(),
         }
     }
 
@@ -105,11 +104,10 @@ impl<R: Read, W: Write> UserConnection<R, W> {
         let Ok(path) = path.copy(alloc) else {
             return Err(self.give_up());
         };
-        match self.ask(alloc, UserRequest::Get { path }) {
-            Ok(UserReply::Got { found }) => Ok(found),
-            Ok(UserReply::Refused(cause)) => Err(UserError::Refused(cause)),
-            Ok(UserReply::Edited { .. }) => unreachable!(),
-            Err(error) => Err(error),
+        match self.ask(alloc, UserRequest::Get { path })? {
+            UserReply::Got { found } => Ok(found),
+            UserReply::Refused(cause) => Err(UserError::Refused(cause)),
+            UserReply::Edited { .. } => unreachable!(),
         }
     }
 
@@ -162,10 +160,7 @@ impl<R: Read, W: Write> UserConnection<R, W> {
             (line_of R.remaining W.contents self.new) (wished_of asked.now) error) }
         ensures open { is_open self.new ≡ is_open self.old }
     {
-        let body = match body_of(alloc, asked) {
-            Ok(body) => body,
-            Err(error) => return Err(error),
-        };
+        let body = body_of(alloc, asked)?;
         match write_frame(&mut self.writer, &body) {
             Ok(()) => {}
             Err(_) => return Err(UserError::Device),

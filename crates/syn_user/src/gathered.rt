@@ -59,10 +59,9 @@ impl Gathered {
             return Err(UserError::BadMessage);
         }
         self.total = Some(total);
-        match self.bytes.extend_from_slice(bytes) {
-            Ok(()) => Ok(()),
-            Err(_) => Err(UserError::Memory),
-        }
+        self.bytes
+            .extend_from_slice(bytes)
+            .map_err(|_| UserError::Memory)
     }
 
     /// The tree that all of it spells.

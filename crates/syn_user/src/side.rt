@@ -170,10 +170,7 @@ impl<R: Read, W: Write> SideConnection<R, W> {
             (side_line R.remaining W.contents self.new) (request_of request) (reply_of reply)) }
         ensures refused { IfErr result (λ error. is_refusal error ≡ false) }
     {
-        let body = match body_of(alloc, self.next, request) {
-            Ok(body) => body,
-            Err(error) => return Err(error),
-        };
+        let body = body_of(alloc, self.next, request)?;
         match write_frame(&mut self.writer, &body) {
             Ok(()) => {}
             Err(_) => return Err(UserError::Device),
@@ -220,10 +217,7 @@ fn body_of(alloc: Global, number: u32, request: Request) -> Result<Vec<u8>, User
         number,
         request,
     };
-    match encode_request(alloc, &asked) {
-        Ok(body) => Ok(body),
-        Err(_) => Err(UserError::Memory),
-    }
+    encode_request(alloc, &asked).map_err(|_| UserError::Memory)
 }
 
 /// The root, whose path is lawful.
@@ -243,10 +237,7 @@ fn copied(alloc: Global, path: &Path) -> Result<Path, UserError>
     ensures refused { IfErr result (λ error. is_refusal error ≡ false) }
 {
     let _ = path.names();
-    match path.copy(alloc) {
-        Ok(path) => Ok(path),
-        Err(_) => Err(UserError::Memory),
-    }
+    path.copy(alloc).map_err(|_| UserError::Memory)
 }
 
 /// Eight bytes spell a position, and four an offset.

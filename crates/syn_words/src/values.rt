@@ -26,10 +26,7 @@ pub(crate) fn text<'a>(found: &ArgMatches<'a>, value: ValueName) -> Result<&'a s
     ensures nothing { OnErr result
         (first_of (name_of value) (rows_of (found_of found.now)) ≡ None) }
 {
-    match found.get_str(value.as_str()) {
-        Some(text) => Ok(text),
-        None => Err(LineError::Value(value)),
-    }
+    found.get_str(value.as_str()).ok_or(LineError::Value(value))
 }
 
 /// The text that is given for the value, if any is.
@@ -123,8 +120,5 @@ pub(crate) fn mode(text: &str) -> Result<Mode, LineError>
     ensures value { IfErr result (λ error. error ≡ Value ValueName.Mode) }
     ensures nothing { OnErr result ((mode : Bits) → text.now ≢ mode_digits (mode_of mode)) }
 {
-    match Mode::parse(text) {
-        Some(mode) => Ok(mode),
-        None => Err(LineError::Value(ValueName::Mode)),
-    }
+    Mode::parse(text).ok_or(LineError::Value(ValueName::Mode))
 }

@@ -1,10 +1,9 @@
 -- What is to be kept in an archive, and why it is not.
-use Rattle.std.specs.Prelude.{◌≡◌, ◌<◌, ◌≤◌, ◌+◌, ℕ, Bool, true, false, Some, None, length}
-use Rattle.syn_model.specs.Archive.{Archive, Kept, Session, Recorded, RecordedDir, kept_refusal}
-use Rattle.syn_model.specs.MarkSpelling.{kept_spelling}
+use Rattle.std.specs.Prelude.{◌≡◌, ◌+◌, ℕ, Bool, true, false, Some, None}
+use Rattle.syn_model.specs.Archive.{Archive, Kept, Session, Recorded, RecordedDir}
 use Rattle.syn_model.specs.Tree.{is_directory}
 use Rattle.syn_mark.specs.Marks.{or_absent}
-use Rattle.syn_archive.specs.Refusals.{refusal_of}
+use Rattle.syn_archive.specs.Refusals.{keep_refusal, refusal_of}
 use Rattle.syn_archive.specs.declared.error.ArchiveError.{ArchiveError}
 use Rattle.syn_archive.specs.declared.error.ArchiveError.TheVariants.{NoParent, Root, Full}
 use Rattle.syn_archive.specs.declared.error.ArchiveError.TheVariants.{JournalFull, Halted, Memory}
@@ -23,11 +22,12 @@ IsNews archive keeping.Session = Unit {0}
 IsNews archive (keeping.Record path marks) = Unit {0}
 IsNews archive (keeping.Dir path) = is_directory archive.marks path.now ≡ false
 
--- a refusal of the marks
+-- a refusal of the marks, or of the room
 abbrev pub is_inner : ArchiveError → Bool
 is_inner NoParent = true
 is_inner Root = true
 is_inner Full = true
+is_inner JournalFull = true
 is_inner Memory = true
 is_inner _ = false
 
@@ -37,9 +37,7 @@ pub data NotPrepared (halted : Type 0) (room : ℕ) (archive : Archive) (kept : 
     Type 0 where
   not_running : halted → NotPrepared halted room archive kept Halted
   refused : (error : ArchiveError) → ¬ halted →
-      kept_refusal archive kept ≡ Some (refusal_of error) → is_inner error ≡ true →
+      keep_refusal room archive kept ≡ Some (refusal_of error) → is_inner error ≡ true →
       NotPrepared halted room archive kept error
-  no_room : ¬ halted → kept_refusal archive kept ≡ None → room < length (kept_spelling kept) →
-      NotPrepared halted room archive kept JournalFull
-  no_memory : ¬ halted → kept_refusal archive kept ≡ None → length (kept_spelling kept) ≤ room →
+  no_memory : ¬ halted → keep_refusal room archive kept ≡ None →
       NotPrepared halted room archive kept Memory

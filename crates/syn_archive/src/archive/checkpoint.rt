@@ -1,13 +1,12 @@
 //! A checkpoint: all that an archive keeps is written as one image.
 ghost use Rattle.std.specs.Prelude.{◌≡◌, ◌⊎◌, ◌↔◌, ◌+◌, ◌<◌, ◌^◌, length, OnOk, IfErr};
-ghost use Rattle.std.specs.Prelude.{MatchResult, Err};
-ghost use Rattle.syn_disk.specs.Calls.{Makes};
+ghost use Rattle.std.specs.Prelude.{Err};
 ghost use Rattle.syn_disk.specs.Stops.{LeavesOnly};
-ghost use Rattle.syn_journal.specs.Journal as journal;
-ghost use Rattle.syn_journal.specs.Layout.{image_alone, longest_image};
+ghost use Rattle.syn_journal.specs.Layout.{longest_image};
+ghost use Rattle.syn_journaled.specs.Endings.{ended};
 ghost use Rattle.syn_model.specs.Archive.{Archive as KeptArchive};
 ghost use Rattle.syn_model.specs.MarkSpelling.{archive_spelling};
-ghost use Rattle.syn_archive.specs.Refusals.{CountsFailures, MakesIfDevice, IsOfCheckpoint};
+ghost use Rattle.syn_archive.specs.Refusals.{IsOfCheckpoint, refusal_of};
 
 use super::Archive;
 use crate::error::ArchiveError;
@@ -16,9 +15,9 @@ use syn_disk::Disk;
 use syn_model::archive_laws;
 
 impl<D: Disk> Archive<D> {
-    ghost use Rattle.syn_archive.specs.Archive.{pair_of, shown, disk_of, journal_of};
-    ghost use Rattle.syn_archive.specs.Archive.{generation_shown, IsHalted, Stands, SameMemory};
-    ghost use Rattle.syn_archive.specs.Archive.{KeepsReadings, KeepsOrCompacts};
+    ghost use Rattle.syn_archive.specs.Archive.{pair_of, shown, disk_of, generation_shown};
+    ghost use Rattle.syn_archive.specs.Archive.{Stands, KeepsOrCompacts};
+    ghost use Rattle.syn_archive.specs.Writes.{Compacts};
 
     /// Writes the marks and the last session as one image, so that the journal has room again.
     ///
@@ -31,11 +30,6 @@ impl<D: Disk> Archive<D> {
         ensures any_moment { (kept : KeptArchive) → Stands self.old kept
             → LeavesOnly D.moment D.left_since (disk_of self.old) (disk_of self.new)
             (KeepsOrCompacts self.old kept) }
-        ensures seen { (kept : KeptArchive) → Stands self.old kept
-            → KeepsOrCompacts self.old kept (D.seen (disk_of self.new)) }
-        ensures image { OnOk result (journal.Stands (journal_of self.new)
-            (image_alone (archive_spelling (pair_of self.old) (shown self.old)))) }
-
         ensures full { result ≡ Err ArchiveError.Full
             → (generation_shown self.old + 1 ≡ 2 ^ 64) ⊎ (longest_image
             < length (archive_spelling (pair_of self.old) (shown self.old))) }
@@ -43,24 +37,10 @@ impl<D: Disk> Archive<D> {
         // No image of an archive is too long, so that the generation alone is a cause.
         ensures greatest { (kept : KeptArchive) → Stands self.old kept
             → ((result ≡ Err ArchiveError.Full) ↔ (generation_shown self.old + 1 ≡ 2 ^ 64)) }
-        ensures memory { SameMemory self.old self.new }
-        ensures readings { IfErr result (λ _. KeepsReadings self.old self.new) }
         ensures refusals { IfErr result IsOfCheckpoint }
-        ensures halted { (result ≡ Err ArchiveError.Halted) ↔ IsHalted self.old }
-        ensures halts { result ≡ Err ArchiveError.Device → IsHalted self.new }
-        ensures failures { MatchResult result
-            (λ _. D.failures (disk_of self.new) ≡ D.failures (disk_of self.old))
-            (λ e. CountsFailures e (D.failures (disk_of self.old))
-            (D.failures (disk_of self.new))) }
 
         // Six device calls where it succeeds. After 9 the last that was made failed.
-        ensures calls { MatchResult result
-            (λ _. Makes 6 (D.arms (disk_of self.old)) (D.arms (disk_of self.new)))
-            (λ e. MakesIfDevice e 6 (D.arms (disk_of self.old)) (D.arms (disk_of self.new))) }
-        ensures generation { OnOk result
-            (generation_shown self.new ≡ generation_shown self.old + 1) }
-        ensures unchanged { IfErr result
-            (λ e. (e ≡ ArchiveError.Device) ⊎ (journal_of self.new ≡ journal_of self.old)) }
+        ensures machine { Compacts self.old self.new (ended refusal_of result) }
     {
         archive_laws();
         self.machine.checkpoint(alloc)

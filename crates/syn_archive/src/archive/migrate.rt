@@ -1,12 +1,14 @@
 //! A migration: an archive of the first version is written as one image of the second.
-ghost use Rattle.std.specs.Prelude.{◌≡◌, ◌⊎◌, ◌+◌, ◌<◌, ◌^◌, ℕ, IfOk, IfErr, IsErrAnd, MatchResult};
+ghost use Rattle.std.specs.Prelude.{◌≡◌, ◌⊎◌, ◌+◌, ◌<◌, ◌^◌, ℕ, None, Some, IfOk, IfErr, IsErrAnd};
+ghost use Rattle.std.specs.Prelude.{MatchResult};
 ghost use Rattle.syn_archive.specs.Disks.{DiskKeepsIn, DiskStandsIn, IsAtGreatest};
 ghost use Rattle.syn_archive.specs.Disks.{IsMigrateRefusal, IsOldDisk, KeepsOrMigrates};
-ghost use Rattle.syn_archive.specs.Refusals.{AfterReads, CountsFailures};
+ghost use Rattle.syn_archive.specs.Refusals.{refusal_of};
 ghost use Rattle.syn_disk.specs.Calls.{MakesAtLeast};
 ghost use Rattle.syn_disk.specs.Stops.{LeavesOnly, Untouched};
 ghost use Rattle.syn_journal.specs.Journal as journal;
 ghost use Rattle.syn_journal.specs.Layout.{image_alone};
+ghost use Rattle.syn_journaled.specs.Endings.{CountsFailures, ReadsOrBreaks};
 ghost use Rattle.syn_model.specs.Archive.{Archive as KeptArchive};
 ghost use Rattle.syn_model.specs.MarkSpelling.{archive_spelling};
 ghost use Rattle.syn_model.specs.Version.{One, Version};
@@ -80,15 +82,17 @@ impl<D: Disk> Archive<D> {
         ensures untouched { IfErr result (λ refused. (refused.0 ≡ ArchiveError.Device)
             ⊎ Untouched D.seen D.may_leave D.moment D.left_since disk refused.1) }
         ensures failures { MatchResult result
-            (λ archive. D.failures (disk_of archive) ≡ D.failures disk)
-            (λ refused. CountsFailures refused.0 (D.failures disk) (D.failures refused.1)) }
+            (λ archive. CountsFailures None (D.failures disk) (D.failures (disk_of archive)))
+            (λ refused. CountsFailures (Some (refusal_of refused.0)) (D.failures disk)
+            (D.failures refused.1)) }
 
         // A sync and then reads, whose number is not fixed, as an opening makes them. For an
         // archive of the first version they come twice, and then the six device calls of a
         // checkpoint. After 9 the last of them failed.
         ensures calls { MatchResult result
-            (λ archive. MakesAtLeast 1 (D.arms disk) (D.arms (disk_of archive)))
-            (λ refused. AfterReads 1 refused.0 (D.arms disk) (D.arms refused.1)) }
+            (λ archive. ReadsOrBreaks 1 None (D.arms disk) (D.arms (disk_of archive)))
+            (λ refused. ReadsOrBreaks 1 (Some (refusal_of refused.0)) (D.arms disk)
+            (D.arms refused.1)) }
         ensures writes { IsOldDisk (D.seen disk) → IfOk result (λ archive.
             MakesAtLeast 8 (D.arms disk) (D.arms (disk_of archive))) }
     {

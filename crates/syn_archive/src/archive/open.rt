@@ -1,12 +1,11 @@
 //! An opening: an archive finds out what a disk, or its own, stands for.
-ghost use Rattle.std.specs.Prelude.{◌≡◌, ◌≢◌, ◌⊎◌, ◌<◌, ◌^◌, ℕ, true, false, Some, IfOk, IfErr};
-ghost use Rattle.std.specs.Prelude.{IsErrAnd, OnOk, MatchResult};
-ghost use Rattle.syn_disk.specs.Calls.{MakesAtLeast};
-ghost use Rattle.syn_disk.specs.Stops.{Untouched};
+ghost use Rattle.std.specs.Prelude.{◌≡◌, ◌≢◌, ◌⊎◌, ◌<◌, ◌^◌, ℕ, true, false, None, Some, IfOk};
+ghost use Rattle.std.specs.Prelude.{IfErr, IsErrAnd, OnOk, MatchResult};
+ghost use Rattle.syn_journaled.specs.Endings.{Reads, ended};
 ghost use Rattle.syn_model.specs.Archive.{Archive as KeptArchive, Kept, after_kept};
 ghost use Rattle.syn_archive.specs.Disks.{DiskStands, IsOldDisk, IsOpenRefusal};
 ghost use Rattle.syn_archive.specs.Disks.{IsReopenRefusal, IsWanted};
-ghost use Rattle.syn_archive.specs.Refusals.{AfterReads, CountsFailures, refusal_of};
+ghost use Rattle.syn_archive.specs.Refusals.{refusal_of};
 ghost use Rattle.syn_model.specs.Refusal.{Memory};
 
 use super::Archive;
@@ -51,17 +50,10 @@ impl<D: Disk> Archive<D> {
             (refused.0 ≡ ArchiveError.OldVersion) ⊎ ((refused.0 ≡ ArchiveError.Device)
             ⊎ (refused.0 ≡ ArchiveError.Memory))) }
 
-        ensures untouched { MatchResult result
-            (λ archive. Untouched D.seen D.may_leave D.moment D.left_since disk (disk_of archive))
-            (λ refused. Untouched D.seen D.may_leave D.moment D.left_since disk refused.1) }
-        ensures failures { MatchResult result
-            (λ archive. D.failures (disk_of archive) ≡ D.failures disk)
-            (λ refused. CountsFailures refused.0 (D.failures disk) (D.failures refused.1)) }
-
         // A sync and then reads, whose number is not fixed; after 9 the last of them failed.
-        ensures calls { MatchResult result
-            (λ archive. MakesAtLeast 1 (D.arms disk) (D.arms (disk_of archive)))
-            (λ refused. AfterReads 1 refused.0 (D.arms disk) (D.arms refused.1)) }
+        ensures device { MatchResult result
+            (λ archive. Reads D.Disk None disk (disk_of archive))
+            (λ refused. Reads D.Disk (Some (refusal_of refused.0)) disk refused.1) }
     {
         opening_laws();
         match Journaled::open(alloc, disk, pair) {
@@ -108,17 +100,9 @@ impl<D: Disk> Archive<D> {
         ensures unchanged { (kept : KeptArchive) → Stands self.old kept
             → IfErr result (λ e. (e ≡ ArchiveError.Device) ⊎ Stands self.new kept) }
 
-        ensures untouched { Untouched D.seen D.may_leave D.moment D.left_since
-            (disk_of self.old) (disk_of self.new) }
-        ensures failures { MatchResult result
-            (λ _. D.failures (disk_of self.new) ≡ D.failures (disk_of self.old))
-            (λ e. CountsFailures e (D.failures (disk_of self.old))
-            (D.failures (disk_of self.new))) }
-
         // A sync and then reads, whose number is not fixed; after 9 the last of them failed.
-        ensures calls { MatchResult result
-            (λ _. MakesAtLeast 1 (D.arms (disk_of self.old)) (D.arms (disk_of self.new)))
-            (λ e. AfterReads 1 e (D.arms (disk_of self.old)) (D.arms (disk_of self.new))) }
+        ensures device { Reads D.Disk (ended refusal_of result) (disk_of self.old)
+            (disk_of self.new) }
     {
         opening_laws();
         self.machine.reopen(alloc)

@@ -1,7 +1,7 @@
 //! The coordinator's archive as a whole: a checkpoint, another opening, and the arms of its device.
 ghost use Rattle.std.specs.Prelude.{◌≡◌, ◌≢◌, ◌<◌, ◌^◌, [], ℕ, true, false, Err, IfErr, OnOk, IfOk};
 ghost use Rattle.std.specs.Prelude.{MatchResult, None, Option, Some, option_map};
-ghost use Rattle.syn_archive.specs.Refusals.{CountsFailures, refusal_of};
+ghost use Rattle.syn_archive.specs.Refusals.{refusal_of};
 ghost use Rattle.syn_coordinator.specs.Coordinators.{with_arms};
 ghost use Rattle.syn_disk.specs.Armed.{armed};
 ghost use Rattle.syn_disk.specs.Arms.{is_stopped};
@@ -9,6 +9,7 @@ ghost use Rattle.syn_disk.specs.Disk.{SameOutcomes};
 ghost use Rattle.syn_headline.specs.Coordinator.{CoordinatorMachine, coordinator_kind};
 ghost use Rattle.syn_headline.specs.Machine.{Halted, Up};
 ghost use Rattle.syn_headline.specs.MachineSteps.{Checkpoints, Reopens};
+ghost use Rattle.syn_journaled.specs.Endings.{CountsFailures, ended};
 ghost use Rattle.syn_keep.specs.declared.tried.Tried.{Tried};
 ghost use Rattle.syn_model.specs.Refusal.{first_cause};
 ghost use Rattle.syn_recovery.specs.Calls.{armed_at};
@@ -52,10 +53,8 @@ impl<D: Disk> Coordinator<D> {
             → MatchResult result (λ _. first_cause (checkpoint_refusals machine) ≡ None)
             (λ e. e ≡ ArchiveError.Device → first_cause (checkpoint_refusals machine) ≡ None) }
         ensures same { KeepsReadings self.old self.new }
-        ensures failures { MatchResult result
-            (λ _. D.failures (device_of self.new) ≡ D.failures (device_of self.old))
-            (λ e. CountsFailures e (D.failures (device_of self.old))
-            (D.failures (device_of self.new))) }
+        ensures failures { CountsFailures (ended refusal_of result)
+            (D.failures (device_of self.old)) (D.failures (device_of self.new)) }
         ensures halts { HaltsByFailure self.old self.new }
     {
         device_laws();
@@ -106,10 +105,8 @@ impl<D: Disk> Coordinator<D> {
             × (runs self.new ≡ runs self.old)) }
         ensures forgets { OnOk result (is_stopped (D.Disk.arms (device_of self.new)) ≡ false
             → tried_shown self.new ≡ None) }
-        ensures failures { MatchResult result
-            (λ _. D.Disk.failures (device_of self.new) ≡ D.Disk.failures (device_of self.old))
-            (λ e. CountsFailures e (D.Disk.failures (device_of self.old))
-            (D.Disk.failures (device_of self.new))) }
+        ensures failures { CountsFailures (ended refusal_of result)
+            (D.Disk.failures (device_of self.old)) (D.Disk.failures (device_of self.new)) }
     {
         let broke = self.copied_broken(alloc)?;
         device_laws();

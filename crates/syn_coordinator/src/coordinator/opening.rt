@@ -1,9 +1,10 @@
 //! The machine of a coordinator is started again.
-ghost use Rattle.std.specs.Prelude.{◌≡◌, IfErr, IfOk, MatchResult, option_map};
-ghost use Rattle.syn_archive.specs.Refusals.{CountsFailures, refusal_of};
+ghost use Rattle.std.specs.Prelude.{IfErr, IfOk, MatchResult, None, Some, option_map};
+ghost use Rattle.syn_archive.specs.Refusals.{refusal_of};
 ghost use Rattle.syn_coordinator.specs.Coordinators.{device_of};
 ghost use Rattle.syn_coordinator.specs.Openings.{OpensAs, RestsStill, RestsWith};
 ghost use Rattle.syn_headline.specs.Coordinator.{CoordinatorMachine};
+ghost use Rattle.syn_journaled.specs.Endings.{CountsFailures};
 ghost use Rattle.syn_keep.specs.Tries.{listed};
 ghost use Rattle.syn_image.specs.Archives.{kept_of};
 
@@ -37,8 +38,9 @@ impl<D: Disk> Coordinator<D> {
             → IfErr result (λ refused. RestsStill D.arms D.may_leave pair refused.1 refused.2
             machine (refusal_of refused.0)) }
         ensures failures { MatchResult result
-            (λ made. D.failures (device_of made.0) ≡ D.failures disk)
-            (λ refused. CountsFailures refused.0 (D.failures disk) (D.failures refused.1)) }
+            (λ made. CountsFailures None (D.failures disk) (D.failures (device_of made.0)))
+            (λ refused. CountsFailures (Some (refusal_of refused.0)) (D.failures disk)
+            (D.failures refused.1)) }
     {
         device_laws();
         opening_laws();

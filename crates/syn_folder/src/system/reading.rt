@@ -371,7 +371,7 @@ fn name_of(alloc: Global, bytes: &[u8]) -> Result<Option<Name>, FolderError> {
     match Name::parse(alloc, text) {
         Ok(name) => Ok(Some(name)),
         Err(PathError::BadPath) => Ok(None),
-        Err(error) => Err(FolderError::from(error)),
+        Err(error) => Err(error.into()),
     }
 }
 

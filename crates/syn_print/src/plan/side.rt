@@ -69,9 +69,6 @@ impl<R: Read, W: Write> Side for SideConnection<R, W> {
         (side_line R.remaining W.contents new) (ListAt path) reply };
 
     fn list(&mut self, alloc: Global, path: &Path) -> Result<Reply, Refusal> {
-        match SideConnection::list(self, alloc, path) {
-            Ok(reply) => Ok(reply),
-            Err(error) => Err(error.refusal()),
-        }
+        SideConnection::list(self, alloc, path).map_err(|error| error.refusal())
     }
 }

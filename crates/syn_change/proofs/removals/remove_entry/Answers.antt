@@ -1,12 +1,11 @@
-use Rattle.std.proofs.Common.{◌≡◌, ◌∙◌, false, IsSome, refl, sym, ap, is_some}
+use Rattle.std.proofs.Common.{◌≡◌, ◌∙◌, false, IsSome, sym, ap, is_some}
 use Rattle.std.specs.FinMap.{get}
 use Rattle.std.proofs.lemmas.Result.{IfErr-weaker, on_ok_weaker}
 use Rattle.syn_model.specs.Event.{Remove}
 use Rattle.syn_model.specs.Standing.{edit_refusal}
 use Rattle.syn_model.specs.Tree.{absent, replace}
-use Rattle.syn_tree.specs.declared.edit.Edit.TheVariants as planned
 use Rattle.syn_change.specs.Changes.{Removes, can_stay}
-use Rattle.syn_change.proofs.GoingLemmas.{goes_as, goes_nowhere, goes_one}
+use Rattle.syn_change.proofs.GoingLemmas.{goes_as, goes_nowhere}
 use Rattle.syn_change.proofs.RemovalLemmas.{only_memory, removable, removed, stands_below}
 use Rattle.syn_change.proofs.removals.remove_entry.Goals as goal
 
@@ -28,10 +27,10 @@ returns-clause-without c =
     let gone : can_stay (get t path) (get wanted path) ≡ false =
     ap (λ o. can_stay o (get wanted path)) (sym c.in-Some.ensures)
     ∙ (sym c.is_wanted.ensures ∙ c.if-is_wanted.false) in
-    on_ok_weaker c.apply.result
-    (λ made. removed t wanted path c.apply.new.self c.entries.ensures.tree.part.parents
+    on_ok_weaker c.make.result
+    (λ made. removed t wanted path c.make.new.work c.entries.ensures.tree.part.parents
     c.entries-2.ensures.tree.part.parents gone
-    (made ∙ ap (λ p. replace t p absent) c.in_ok-copy-2.ensures.ok)) c.apply.ensures.done
+    (made ∙ ap (λ p. replace t p absent) c.in_ok-copy.ensures.ok)) c.make.ensures.done
 
 pub returns-clause-edits : goal.returns-clause-edits
 returns-clause-edits c =
@@ -44,13 +43,10 @@ returns-clause-edits c =
     ∙ (sym c.is_wanted.ensures ∙ c.if-is_wanted.false) in
     let below = stands_below t wanted path c.entries.ensures.tree c.entries-2.ensures.tree there
     gone in
-    on_ok_weaker c.apply.result
-    (λ made. goes_as (Removes t wanted path) t c.args.edits.now.items c.apply.new.self
-    c.push.new.self.items (Remove path) (refl, there, gone, below.1)
-    (goes_one t c.args.edits.now.items c.apply.new.self c.push.new.self.items (Remove path)
-    (planned.Remove c.in_ok-copy.field-0) (ap Remove c.in_ok-copy.ensures.ok)
-    c.in_ok-push.ensures.items
-    (sym (made ∙ ap (λ p. replace t p absent) c.in_ok-copy-2.ensures.ok)))) c.apply.ensures.done
+    on_ok_weaker c.make.result
+    (λ on. goes_as (Removes t wanted path) t c.args.edits.now.items c.make.new.work
+    c.make.new.edits.items (Remove c.in_ok-copy.field-0)
+    (ap Remove c.in_ok-copy.ensures.ok, there, gone, below.1) on) c.make.ensures.edits
 
 pub returns-clause-memory : goal.returns-clause-memory
 returns-clause-memory c =
@@ -63,7 +59,7 @@ returns-clause-memory c =
     ∙ (sym c.is_wanted.ensures ∙ c.if-is_wanted.false) in
     let below = stands_below t wanted path c.entries.ensures.tree c.entries-2.ensures.tree there
     gone in
-    let allowed = ap (λ p. edit_refusal t (Remove p)) c.in_ok-copy-2.ensures.ok
+    let allowed = ap (λ p. edit_refusal t (Remove p)) c.in_ok-copy.ensures.ok
     ∙ removable t path c.entries.ensures.fits below.0 below.1 there in
-    IfErr-weaker c.apply.result _ _ (λ e refused. only_memory e _ allowed refused)
-    c.apply.ensures.refused
+    IfErr-weaker c.make.result _ _ (λ e refused. only_memory e _ allowed refused)
+    c.make.ensures.cause

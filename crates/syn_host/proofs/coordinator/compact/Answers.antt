@@ -1,4 +1,5 @@
 use Rattle.std.proofs.Common.{◌≡◌, ◌∷◌, [], false, ap, arith, true}
+use Rattle.syn_archive.specs.Refusals.{refusal_of}
 use Rattle.syn_headline.specs.Coordinator.{coordinator_kind}
 use Rattle.syn_headline.specs.MachineSteps.{Checkpoint, Does, is_done, refuses}
 use Rattle.syn_host.proofs.CallLemmas.{checkpoint_call, refused_call}
@@ -19,7 +20,8 @@ returns-then-is_device g c pair machine stands =
     let told : c.is_device.result ≡ true = cc in
     let is = c.is_device.ensures.device told in
     checkpoint_call c.args.coordinator c.checkpoint.new.self pair machine stands
-    c.checkpoint.ensures.halts (never_less c.in-Err.error _ _ c.in-Err.ensures.failures)
+    c.checkpoint.ensures.halts
+    (never_less (refusal_of c.in-Err.error) _ _ c.in-Err.ensures.failures)
     c.settle_compacted-then-is_device.result c.settle_compacted-then-is_device.ensures
     (c.in-Err.ensures.allowed pair machine stands is)
     (c.in-Err.ensures.step pair machine stands is)
@@ -29,7 +31,8 @@ returns-else-is_device g c pair machine stands =
     let told : c.is_device.result ≡ false = cc in
     let refused = c.in-Err.ensures.refused pair machine stands
     (c.is_device.ensures.other told) in
-    refused_call pair machine _ _ (never_less c.in-Err.error _ _ c.in-Err.ensures.failures)
+    refused_call pair machine _ _
+    (never_less (refusal_of c.in-Err.error) _ _ c.in-Err.ensures.failures)
     c.refused.result _ _ (Does (coordinator_kind pair) machine Checkpoint) refused.1
     c.refused.ensures.coordinator c.refused.ensures.outcome
     (ap (λ r. r ∷ []) c.refusal.ensures)

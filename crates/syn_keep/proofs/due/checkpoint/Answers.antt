@@ -1,38 +1,39 @@
 use Rattle.std.proofs.Common.{◌<◌, ◌^◌, ◌∙◌, nat_le, Some, inl, inr, ap, refl, subst, sym}
-use Rattle.syn_archive.specs.Archive.{disk_of}
-use Rattle.syn_archive.specs.Refusals.{MakesIfDevice}
+use Rattle.std.proofs.lemmas.Option.{none-some}
+use Rattle.syn_archive.specs.Refusals.{refusal_of}
+use Rattle.syn_archive.specs.Writes.{Compacts}
 use Rattle.syn_model.specs.Limits.{greatest}
+use Rattle.syn_model.specs.Refusal.{Device, Full}
 use Rattle.syn_keep.specs.inner.Recording.{Checkpoints, ended_by, made, at_greatest, breaks}
 use Rattle.syn_keep.specs.inner.Recording.{no_memory}
 use Rattle.syn_keep.proofs.CheckpointLemmas.{compact_ok, compact_failed}
-use Rattle.syn_keep.proofs.DueLemmas.{device_or_other, full_no_device, full_not_halted, is_greatest}
-use Rattle.syn_keep.proofs.DueLemmas.{not_greatest, stays, when_runs}
-use Rattle.syn_keep.proofs.OutcomeLemmas.{device_not_full, device_not_halted, failed, ok_not_full}
-use Rattle.syn_keep.proofs.OutcomeLemmas.{ok_not_halted}
+use Rattle.syn_keep.proofs.DueLemmas.{device_or_other, full_no_device, is_greatest, not_greatest}
+use Rattle.syn_keep.proofs.DueLemmas.{stays, when_runs}
+use Rattle.syn_keep.proofs.OutcomeLemmas.{device_not_full, failed, not_halted, ok_not_full}
 use Rattle.syn_keep.proofs.due.checkpoint.Goals as goal
 
 pub returns-in-Ok-clause-made : goal.returns-in-Ok-clause-made
 returns-in-Ok-clause-made g c pair machine is =
     let fits = subst (λ n. n < 2 ^ 64) c.generation-generation.ensures c.is_long.ensures in
     let was = when_runs c.args.archive.now pair machine is
-    (λ h. ok_not_halted _ _ refl (c.in-Ok.ensures.halted.1 h)) in
+    (λ h. none-some _ (c.in-Ok.ensures.machine.halted.1 h)) in
     let stands = c.in-Ok.ensures.acknowledged _ was.stands in
     made (not_greatest c.args.archive.now c.checkpoint.new.self pair machine is fits was
     (λ e. ok_not_full _ _ refl ((c.in-Ok.ensures.greatest _ was.stands).1 e)))
-    (compact_ok c.args.archive.now c.checkpoint.new.self pair machine is was c.in-Ok.ensures.memory
-    stands c.in-Ok.ensures.generation c.in-Ok.ensures.image g.met.D.Disk.seen_may_stay
-    (c.keeps_on_disk.ensures _ stands) c.device_laws.ensures.made c.in-Ok.ensures.calls)
+    (compact_ok c.args.archive.now c.checkpoint.new.self pair machine is was
+    c.in-Ok.ensures.machine stands g.met.D.Disk.seen_may_stay (c.keeps_on_disk.ensures _ stands)
+    c.device_laws.ensures.made)
 
 pub returns-in-Err-Full-clause-made : goal.returns-in-Err-Full-clause-made
 returns-in-Err-Full-clause-made g c pair machine is =
     let same = c.in-Err-Full.field-0-is in
-    let was = when_runs c.args.archive.now pair machine is
-    (λ h. full_not_halted c.in-Err-Full.field-0 same (c.in-Err-Full.ensures.halted.1 h)) in
+    let was = when_runs c.args.archive.now pair machine is (λ h. not_halted c.in-Err-Full.field-0
+    Full (ap refusal_of same) (λ is. cc) (c.in-Err-Full.ensures.machine.halted.1 h)) in
     at_greatest (ap (nat_le greatest) (sym was.generation) ∙ is_greatest _
     ((c.in-Err-Full.ensures.greatest _ was.stands).0 (ap (failed (Unit {0})) same)))
     (stays c.args.archive.now c.checkpoint.new.self pair machine is c.in-Err-Full.field-0
-    (λ device. full_no_device (sym same ∙ device)) c.in-Err-Full.ensures.unchanged
-    c.in-Err-Full.ensures.readings)
+    (λ device. full_no_device (sym same ∙ device)) c.in-Err-Full.ensures.machine.unchanged
+    c.in-Err-Full.ensures.machine.readings)
 
 pub returns-in-Err-clause-made : goal.returns-in-Err-clause-made
 returns-in-Err-clause-made g c pair machine is =
@@ -42,19 +43,18 @@ returns-in-Err-clause-made g c pair machine is =
     as (λ _. Checkpoints c.checkpoint.new.self pair machine (Some (ended_by c.in-Err.error))) [
       | inl device ↦
           let fits = subst (λ n. n < 2 ^ 64) c.generation-generation.ensures c.is_long.ensures in
-          let was = when_runs c.args.archive.now pair machine is
-          (λ h. device_not_halted _ _ device (c.in-Err.ensures.halted.1 h)) in
+          let was = when_runs c.args.archive.now pair machine is (λ h. not_halted c.in-Err.error
+          Device (ap refusal_of device) (λ is. cc) (c.in-Err.ensures.machine.halted.1 h)) in
           subst (λ x. Checkpoints c.checkpoint.new.self pair machine (Some (ended_by x)))
           (sym device)
           (breaks (not_greatest c.args.archive.now c.checkpoint.new.self pair machine is fits was
           (λ e. device_not_full _ _ device ((c.in-Err.ensures.greatest _ was.stands).1 e)))
           (compact_failed c.args.archive.now c.checkpoint.new.self pair machine is was
-          (c.in-Err.ensures.halts (ap (failed (Unit {0})) device))
-          c.in-Err.ensures.readings g.met.D.Disk.counts_now
-          (c.in-Err.ensures.any_moment _ was.stands) c.device_laws.ensures.broken
-          (subst (λ x. MakesIfDevice x 6 (g.D.Disk.arms (disk_of c.args.archive.now))
-          (g.D.Disk.arms (disk_of c.checkpoint.new.self))) device c.in-Err.ensures.calls)))
+          (subst (λ x. Compacts c.args.archive.now c.checkpoint.new.self (Some (refusal_of x)))
+          device c.in-Err.ensures.machine) g.met.D.Disk.counts_now
+          (c.in-Err.ensures.any_moment _ was.stands) c.device_laws.ensures.broken))
       | inr other ↦ subst (λ due. Checkpoints c.checkpoint.new.self pair machine (Some due))
           (sym other.1) (no_memory (stays c.args.archive.now c.checkpoint.new.self pair machine is
-          c.in-Err.error other.0 c.in-Err.ensures.unchanged c.in-Err.ensures.readings))
+          c.in-Err.error other.0 c.in-Err.ensures.machine.unchanged
+          c.in-Err.ensures.machine.readings))
     ])

@@ -1,5 +1,8 @@
-use Rattle.std.proofs.Common.{◌≡◌, Bool, true, false, refl, subst, sym, ◌∙◌, [], ◌∷◌}
+use Rattle.std.proofs.Common.{◌≡◌, Bool, true, false, if◌then◌else◌, None, Some, refl, subst, sym}
+use Rattle.std.proofs.Common.{◌∙◌, [], ◌∷◌}
 use Rattle.syn_archive.specs.Archive.{marks_shown}
+use Rattle.syn_archive.specs.Refusals.{refusal_of}
+use Rattle.syn_archive.specs.Writes.{Writes as Ended}
 use Rattle.syn_headline.specs.Machine.{Up}
 use Rattle.syn_model.specs.Archive.{RecordedDir}
 use Rattle.syn_model.specs.Tree.{is_directory}
@@ -12,18 +15,24 @@ pub returns-in-Ok-clause-writes : goal.returns-in-Ok-clause-writes
 returns-in-Ok-clause-writes g c pair machine is ready =
     written (by (is_directory (marks_shown c.args.archive.now) c.args.path.now) refl)
   where
+    ended : (b : Bool) → is_directory (marks_shown c.args.archive.now) c.args.path.now ≡ b →
+        Ended c.args.archive.now c.record_dir.new.self
+        (if b then None else Some (RecordedDir c.args.path.now)) None
+    ended b is = subst (λ x. Ended c.args.archive.now c.record_dir.new.self
+        (if x then None else Some (RecordedDir c.args.path.now)) None) is c.in-Ok.ensures.machine
+
     by : (b : Bool) → is_directory (marks_shown c.args.archive.now) c.args.path.now ≡ b →
         KeepsSo c.record_dir.new.self pair machine (RecordedDir c.args.path.now)
         (RecordedDir c.args.path.now ∷ []) Up
     by true there =
         left_alone c.args.archive.now c.record_dir.new.self pair machine is c.args.path.now ready
-        there (c.in-Ok.ensures.recorded there)
+        there (ended true there).written
     by false none =
         write_made c.args.archive.now c.record_dir.new.self pair machine is
         (RecordedDir c.args.path.now) ready (sym
         (idle_is c.args.archive.now c.record_dir.new.self pair machine is c.args.path.now ready)
-        ∙ none) c.in-Ok.ensures.acknowledged (c.in-Ok.ensures.record none) c.keeps_on_disk.ensures
-        c.device_laws.ensures.made c.device_laws.ensures.behind (c.in-Ok.ensures.made none)
+        ∙ none) (ended false none) c.in-Ok.ensures.acknowledged c.keeps_on_disk.ensures
+        c.device_laws.ensures.made c.device_laws.ensures.behind
 
 pub returns-in-Err-clause-writes : goal.returns-in-Err-clause-writes
 returns-in-Err-clause-writes g c pair machine is ready =
@@ -33,7 +42,8 @@ returns-in-Err-clause-writes g c pair machine is ready =
     (sym c.ending.ensures.ended)
     (write_fails c.args.archive.now c.record_dir.new.self pair machine is
     (RecordedDir c.args.path.now) ready (sym (idle_is c.args.archive.now c.record_dir.new.self
-    pair machine is c.args.path.now ready) ∙ none)
-    c.in-Err.error c.in-Err.ensures.halts c.in-Err.ensures.readings c.in-Err.ensures.unchanged
-    g.met.D.Disk.counts_now c.in-Err.ensures.any_moment c.device_laws.ensures.broken
-    c.in-Err.ensures.calls)
+    pair machine is c.args.path.now ready) ∙ none) c.in-Err.error
+    (subst (λ b. Ended c.args.archive.now c.record_dir.new.self
+    (if b then None else Some (RecordedDir c.args.path.now)) (Some (refusal_of c.in-Err.error)))
+    none c.in-Err.ensures.machine) g.met.D.Disk.counts_now c.in-Err.ensures.any_moment
+    c.device_laws.ensures.broken)

@@ -1,23 +1,21 @@
 use Rattle.std.proofs.Common.{◌≡◌, ◌<◌, ◌≤◌, ◌+◌, ◌∙◌, ℕ, length, true≢false, inl, inr, sym}
 use Rattle.std.proofs.Common.{ap, subst, arith, []}
-use Rattle.std.proofs.lemmas.Option.{none-some}
 use Rattle.syn_journal.specs.Layout.{image_alone, longest_image, IsBeforeOrAfter}
 use Rattle.syn_journaled.specs.Endings.{ended}
-use Rattle.syn_journaled.specs.Journaled.{generation_after}
-use Rattle.syn_journaled.proofs.Results.{if_err_of, on_ok_of}
+use Rattle.syn_journaled.proofs.Results.{on_ok_of}
 use Rattle.syn_model.specs.Limits.{greatest_image}
 use Rattle.syn_model.specs.Version.{current_version}
 use Rattle.syn_model.specs.MarkSpelling.{archive_spelling}
 use Rattle.syn_model.specs.ArchiveImage.{ArchiveStandsFor}
 use Rattle.syn_archive.specs.Archive.{KeepsOrCompacts, generation_shown, left_shown, pair_of, shown}
 use Rattle.syn_archive.specs.Refusals.{refusal_of}
-use Rattle.syn_archive.specs.declared.error.ArchiveError.TheVariants.{Full, Halted}
+use Rattle.syn_archive.specs.declared.error.ArchiveError.TheVariants.{Full}
 use Rattle.syn_archive.specs.inner.Agreements.{agreed_archive}
 use Rattle.syn_archive.proofs.StandLemmas.{image_keeps, left_behind}
 use Rattle.syn_disk.proofs.LeftLemmas.{leaves_weaker, seen_is_left}
 use Rattle.syn_archive.proofs.StandLemmas.{stop_compacts}
-use Rattle.syn_archive.proofs.EndLemmas.{calls_of, err_of, exactly_of, failures_of}
-use Rattle.syn_archive.proofs.EndLemmas.{of_checkpoint, unchanged_of}
+use Rattle.syn_archive.proofs.EndLemmas.{err_of, of_checkpoint}
+use Rattle.syn_archive.proofs.WriteLemmas.{compacts}
 use Rattle.syn_archive.proofs.archive.Archive.checkpoint.Goals as goal
 
 pub returns-clause-acknowledged : goal.returns-clause-acknowledged
@@ -48,16 +46,6 @@ returns-clause-any_moment g c kept stands =
     (left_behind old stands.value stands.runs))
     (c.checkpoint.ensures.journal.any_moment stands.value stands.runs)
 
-pub returns-clause-seen : goal.returns-clause-seen
-returns-clause-seen g c kept stands =
-    seen_is_left g.D.Disk.seen g.D.Disk.may_leave g.D.Disk.moment g.D.Disk.left_since
-    g.met.D.Disk.seen_may_stay g.met.D.Disk.counts_now _ _ (KeepsOrCompacts c.args.self.now kept)
-    (returns-clause-any_moment g c kept stands)
-
-pub returns-clause-image : goal.returns-clause-image
-returns-clause-image g c =
-    on_ok_of refusal_of c.checkpoint.result _ c.checkpoint.ensures.journal.acknowledged
-
 pub returns-clause-full : goal.returns-clause-full
 returns-clause-full g c is = c.checkpoint.ensures.journal.full (ap (ended refusal_of) is)
 
@@ -82,45 +70,14 @@ returns-clause-greatest g c kept stands =
           (λ halted. true≢false (sym halted ∙ stands.runs.running)) last),
     )
 
-pub returns-clause-memory : goal.returns-clause-memory
-returns-clause-memory g c = record {
-  pair = ap (λ a. a.pair) c.checkpoint.ensures.state;
-  archive = ap agreed_archive c.checkpoint.ensures.state;
-}
-
-pub returns-clause-readings : goal.returns-clause-readings
-returns-clause-readings g c =
-    if_err_of refusal_of c.checkpoint.result _ (λ e some. record {
-      memory = returns-clause-memory g c;
-      left_is = c.checkpoint.ensures.journal.left_is (λ none. none-some _ (sym none ∙ some));
-      generation = c.checkpoint.ensures.journal.generation
-          ∙ ap (λ w. generation_after w (generation_shown c.args.self.now)) some;
-    })
-
 pub returns-clause-refusals : goal.returns-clause-refusals
 returns-clause-refusals g c =
     of_checkpoint c.checkpoint.result c.checkpoint.ensures.journal.refusals
 
-pub returns-clause-halted : goal.returns-clause-halted
-returns-clause-halted g c =
-    exactly_of c.checkpoint.result Halted _ c.checkpoint.ensures.journal.halted
-
-pub returns-clause-halts : goal.returns-clause-halts
-returns-clause-halts g c is = c.checkpoint.ensures.journal.halts (ap (ended refusal_of) is)
-
-pub returns-clause-failures : goal.returns-clause-failures
-returns-clause-failures g c =
-    failures_of c.checkpoint.result _ _ c.checkpoint.ensures.journal.device.failures
-
-pub returns-clause-calls : goal.returns-clause-calls
-returns-clause-calls g c =
-    calls_of c.checkpoint.result 6 _ _ c.checkpoint.ensures.journal.device.arms
-
-pub returns-clause-generation : goal.returns-clause-generation
-returns-clause-generation g c =
-    on_ok_of refusal_of c.checkpoint.result _ (λ none. c.checkpoint.ensures.journal.generation
-    ∙ ap (λ w. generation_after w (generation_shown c.args.self.now)) none)
-
-pub returns-clause-unchanged : goal.returns-clause-unchanged
-returns-clause-unchanged g c =
-    unchanged_of c.checkpoint.result _ c.checkpoint.ensures.journal.unchanged
+pub returns-clause-machine : goal.returns-clause-machine
+returns-clause-machine g c =
+    compacts c.args.self.now (record { machine = c.checkpoint.new.self }) _
+    c.checkpoint.ensures.journal c.checkpoint.ensures.state
+    (λ kept stands. seen_is_left g.D.Disk.seen g.D.Disk.may_leave g.D.Disk.moment
+    g.D.Disk.left_since g.met.D.Disk.seen_may_stay g.met.D.Disk.counts_now _ _
+    (KeepsOrCompacts c.args.self.now kept) (returns-clause-any_moment g c kept stands))

@@ -6,7 +6,7 @@ use Rattle.syn_archive.specs.Archive.{disk_of, pair_of}
 use Rattle.syn_archive.specs.declared.error.ArchiveError.TheVariants.{Device}
 use Rattle.syn_archive.specs.inner.Agreements.{agreed_archive}
 use Rattle.syn_journaled.proofs.Results.{from_both, if_err_both, on_ok_both}
-use Rattle.syn_archive.proofs.EndLemmas.{failures_of, reads_of, same_error}
+use Rattle.syn_archive.proofs.EndLemmas.{same_error}
 use Rattle.syn_archive.proofs.MeaningLemmas.{keeps_stands, reopen_refusal, stands_for_each}
 use Rattle.syn_archive.proofs.archive.Archive.reopen.Goals as goal
 
@@ -102,9 +102,3 @@ returns-clause-unchanged g c kept stands =
             (sym (ap (λ a. a.pair) same)) stands.means;
       })
     ])
-
-pub returns-clause-failures : goal.returns-clause-failures
-returns-clause-failures g c = failures_of c.reopen.result _ _ c.reopen.ensures.device.failures
-
-pub returns-clause-calls : goal.returns-clause-calls
-returns-clause-calls g c = reads_of c.reopen.result 1 _ _ c.reopen.ensures.device.arms

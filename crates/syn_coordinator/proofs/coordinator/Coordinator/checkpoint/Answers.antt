@@ -1,12 +1,15 @@
-use Rattle.std.proofs.Common.{◌<◌, ◌^◌, Err, ap, subst, refl, inl, inr}
+use Rattle.std.proofs.Common.{◌<◌, ◌^◌, Some, ap, subst, refl, inl, inr}
+use Rattle.std.proofs.lemmas.Option.{none-some}
 use Rattle.syn_archive.specs.Archive.{disk_of}
-use Rattle.syn_archive.specs.Refusals.{CountsFailures, MakesIfDevice}
+use Rattle.syn_archive.specs.Refusals.{refusal_of}
+use Rattle.syn_archive.specs.Writes.{Compacts}
+use Rattle.syn_journaled.specs.Endings.{CountsFailures}
+use Rattle.syn_model.specs.Refusal.{Device}
 use Rattle.syn_keep.proofs.CheckpointLemmas.{compact_ok, compact_failed}
 use Rattle.syn_coordinator.proofs.RefusedLemmas.{checkpoint_does, refused_for, when_up, up_not_down}
 use Rattle.syn_coordinator.proofs.RefusedLemmas.{halted_not_down, none_stands}
-use Rattle.syn_keep.proofs.OutcomeLemmas.{device_not_halted, ok_not_halted, device_not_full}
-use Rattle.syn_keep.proofs.OutcomeLemmas.{ok_not_full}
-use Rattle.syn_keep.proofs.DueLemmas.{when_up as runs_up}
+use Rattle.syn_keep.proofs.OutcomeLemmas.{device_not_full, not_halted, ok_not_full}
+use Rattle.syn_keep.proofs.DueLemmas.{stays, when_up as runs_up}
 use Rattle.syn_keep.proofs.StayLemmas.{same_machine}
 use Rattle.syn_coordinator.proofs.HaltLemmas.{stands_not_halted, up_not_halted}
 use Rattle.syn_coordinator.proofs.coordinator.Coordinator.checkpoint.Goals as goal
@@ -16,38 +19,35 @@ returns-in-Ok-clause-step g c pair machine stands =
     let is = stands.journal in
     let was = when_up c.args.self.now.archive pair machine is
     (subst (λ n. n < 2 ^ 64) c.generation-generation.ensures c.is_long.ensures)
-    (λ h. ok_not_halted _ _ refl (c.in-Ok.ensures.halted.1 h)) in
+    (λ h. none-some _ (c.in-Ok.ensures.machine.halted.1 h)) in
     checkpoint_does c.args.self.now _ pair machine stands refl was refl _ up_not_down
-    (compact_ok c.args.self.now.archive _ pair machine.journal is was c.in-Ok.ensures.memory
-    (c.in-Ok.ensures.acknowledged _ was.stands) c.in-Ok.ensures.generation c.in-Ok.ensures.image
-    g.met.D.Disk.seen_may_stay (c.keeps_on_disk.ensures _
-    (c.in-Ok.ensures.acknowledged _ was.stands)) c.device_laws.ensures.made c.in-Ok.ensures.calls)
+    (compact_ok c.args.self.now.archive _ pair machine.journal is was c.in-Ok.ensures.machine
+    (c.in-Ok.ensures.acknowledged _ was.stands) g.met.D.Disk.seen_may_stay
+    (c.keeps_on_disk.ensures _ (c.in-Ok.ensures.acknowledged _ was.stands))
+    c.device_laws.ensures.made)
 
 pub returns-in-Err-clause-step : goal.returns-in-Err-clause-step
 returns-in-Err-clause-step g c pair machine stands device =
     let is = stands.journal in
     let was = when_up c.args.self.now.archive pair machine is
     (subst (λ n. n < 2 ^ 64) c.generation-generation.ensures c.is_long.ensures)
-    (λ h. device_not_halted _ _ device (c.in-Err.ensures.halted.1 h)) in
+    (λ h. not_halted c.in-Err.error Device (ap refusal_of device) (λ is. cc)
+    (c.in-Err.ensures.machine.halted.1 h)) in
     checkpoint_does c.args.self.now _ pair machine stands refl was refl _ halted_not_down
-    (compact_failed c.args.self.now.archive _ pair machine.journal is was (c.in-Err.ensures.halts
-    (ap (λ e. Err e) device)) c.in-Err.ensures.readings g.met.D.Disk.counts_now
-    (c.in-Err.ensures.any_moment _ was.stands) c.device_laws.ensures.broken
-    (subst (λ e. MakesIfDevice e 6 (g.D.Disk.arms (disk_of c.args.self.now.archive))
-    (g.D.Disk.arms (disk_of c.checkpoint.new.self))) device c.in-Err.ensures.calls))
+    (compact_failed c.args.self.now.archive _ pair machine.journal is was
+    (subst (λ e. Compacts c.args.self.now.archive c.checkpoint.new.self (Some (refusal_of e)))
+    device c.in-Err.ensures.machine) g.met.D.Disk.counts_now
+    (c.in-Err.ensures.any_moment _ was.stands) c.device_laws.ensures.broken)
 
 pub returns-in-Err-clause-refused : goal.returns-in-Err-clause-refused
 returns-in-Err-clause-refused g c pair machine stands other = (
   refused_for c.args.self.now.archive pair machine stands.journal
       (subst (λ n. n < 2 ^ 64) c.generation-generation.ensures c.is_long.ensures) _ c.in-Err.error
-      c.in-Err.ensures.refusals other c.in-Err.ensures.halted c.in-Err.ensures.greatest,
+      c.in-Err.ensures.refusals other c.in-Err.ensures.machine.halted c.in-Err.ensures.greatest,
   record {
     journal =
-        elim c.in-Err.ensures.unchanged [
-          | inl device ↦ absurd (other device)
-          | inr same ↦ same_machine c.args.self.now.archive c.checkpoint.new.self same
-              c.in-Err.ensures.readings pair machine.journal stands.journal
-        ];
+        stays c.args.self.now.archive c.checkpoint.new.self pair machine.journal stands.journal
+        c.in-Err.error other c.in-Err.ensures.machine.unchanged c.in-Err.ensures.machine.readings;
     running = stands.running;
     quiet = stands.quiet;
     untried = stands.untried;
@@ -59,20 +59,22 @@ pub returns-in-Ok-clause-allowed : goal.returns-in-Ok-clause-allowed
 returns-in-Ok-clause-allowed g c pair machine stands =
     let was = when_up c.args.self.now.archive pair machine stands.journal
     (subst (λ n. n < 2 ^ 64) c.generation-generation.ensures c.is_long.ensures)
-    (λ h. ok_not_halted _ _ refl (c.in-Ok.ensures.halted.1 h)) in
+    (λ h. none-some _ (c.in-Ok.ensures.machine.halted.1 h)) in
     none_stands c.args.self.now.archive pair machine stands.journal
     (subst (λ n. n < 2 ^ 64) c.generation-generation.ensures c.is_long.ensures)
-    (λ h. ok_not_halted _ _ refl (c.in-Ok.ensures.halted.1 h))
+    (λ h. none-some _ (c.in-Ok.ensures.machine.halted.1 h))
     (λ e. ok_not_full _ _ refl ((c.in-Ok.ensures.greatest _ was.stands).1 e))
 
 pub returns-in-Err-clause-allowed : goal.returns-in-Err-clause-allowed
 returns-in-Err-clause-allowed g c pair machine stands device =
     let was = when_up c.args.self.now.archive pair machine stands.journal
     (subst (λ n. n < 2 ^ 64) c.generation-generation.ensures c.is_long.ensures)
-    (λ h. device_not_halted _ _ device (c.in-Err.ensures.halted.1 h)) in
+    (λ h. not_halted c.in-Err.error Device (ap refusal_of device) (λ is. cc)
+    (c.in-Err.ensures.machine.halted.1 h)) in
     none_stands c.args.self.now.archive pair machine stands.journal
     (subst (λ n. n < 2 ^ 64) c.generation-generation.ensures c.is_long.ensures)
-    (λ h. device_not_halted _ _ device (c.in-Err.ensures.halted.1 h))
+    (λ h. not_halted c.in-Err.error Device (ap refusal_of device) (λ is. cc)
+    (c.in-Err.ensures.machine.halted.1 h))
     (λ e. device_not_full _ _ device ((c.in-Err.ensures.greatest _ was.stands).1 e))
 
 pub returns-in-Ok-clause-halts : goal.returns-in-Ok-clause-halts
@@ -83,11 +85,12 @@ returns-in-Ok-clause-halts g c pair machine stands up halted =
 
 pub returns-in-Err-clause-halts : goal.returns-in-Err-clause-halts
 returns-in-Err-clause-halts g c pair machine stands up halted =
-    elim c.in-Err.ensures.unchanged [
-      | inl device ↦ inl (subst (λ e. CountsFailures e
+    elim c.in-Err.ensures.machine.unchanged [
+      | inl device ↦ inl (subst (λ w. CountsFailures (Some w)
           (g.D.Disk.failures (disk_of c.args.self.now.archive))
-          (g.D.Disk.failures (disk_of c.checkpoint.new.self))) device c.in-Err.ensures.failures)
+          (g.D.Disk.failures (disk_of c.checkpoint.new.self))) device
+          c.in-Err.ensures.machine.device.failures)
       | inr same ↦ absurd (up_not_halted c.checkpoint.new.self pair machine.journal
           (same_machine c.args.self.now.archive c.checkpoint.new.self same
-          c.in-Err.ensures.readings pair machine.journal stands.journal) up halted)
+          c.in-Err.ensures.machine.readings pair machine.journal stands.journal) up halted)
     ]

@@ -1,10 +1,12 @@
-use Rattle.std.proofs.Common.{◌∷◌, ◌∙◌, ◌+◌, ◌<◌, [], Err, Ok, Result, ap, inl, inr, subst, sym}
-use Rattle.syn_archive.specs.Refusals.{MakesIfDevice, CountsFailures as Counts}
+use Rattle.std.proofs.Common.{◌∷◌, ◌∙◌, ◌+◌, ◌<◌, [], Err, Ok, Result, Some, ap, inl, inr}
+use Rattle.std.proofs.Common.{subst, sym}
+use Rattle.syn_archive.specs.Refusals.{refusal_of}
+use Rattle.syn_archive.specs.Writes.{Writes}
 use Rattle.syn_headline.specs.Machine.{Halted, Up}
-use Rattle.syn_keep.specs.Machines.{IsMachine}
+use Rattle.syn_journaled.specs.Endings.{CountsFailures as Counts}
 use Rattle.syn_keep.specs.Steps.{KeepsSo}
 use Rattle.syn_coordinator.specs.Coordinators.{Stands}
-use Rattle.syn_keep.proofs.StayLemmas.{same_machine}
+use Rattle.syn_keep.proofs.DueLemmas.{stays as stays_so}
 use Rattle.syn_model.specs.Archive.{Session}
 use Rattle.syn_session.specs.Refusals.{CountsFailures}
 use Rattle.syn_session.specs.declared.error.SessionError.TheVariants as error
@@ -18,8 +20,8 @@ returns-in-Ok-clause-ok g c pair machine stands =
     subst (λ archive. KeepsSo archive pair machine.journal kept (kept ∷ []) Up)
     (sym c.run.ensures.archive)
     (number_kept _ _ pair machine.journal stands.journal c.requires.up c.device_laws.ensures.made
-    c.device_laws.ensures.behind c.in-Ok.field-0 c.in-Ok.ensures.acknowledged
-    c.in-Ok.ensures.record c.keeps_on_disk.ensures c.in-Ok.ensures.calls)
+    c.device_laws.ensures.behind c.in-Ok.ensures.machine c.in-Ok.field-0
+    c.in-Ok.ensures.acknowledged c.keeps_on_disk.ensures)
 
 -- what a result refuses
 abbrev refused : {T E : Type 0} → E → Result T E → E
@@ -33,10 +35,10 @@ returns-in-Err-clause-device g c pair machine stands e =
     subst (λ archive. KeepsSo archive pair machine.journal kept [] Halted)
     (sym c.not_begun.ensures.archive)
     (number_failed _ _ pair machine.journal stands.journal c.requires.up
-    c.device_laws.ensures.broken c.requires.fits (c.in-Err.ensures.halts (ap (λ e. Err e) device))
-    c.in-Err.ensures.readings g.met.D.Disk.counts_now c.in-Err.ensures.any_moment
-    (subst (λ e. MakesIfDevice e 4 (g.D.Disk.arms (disk_of c.args.self.now.archive))
-    (g.D.Disk.arms (disk_of c.next_session.new.self))) device c.in-Err.ensures.calls))
+    c.device_laws.ensures.broken c.requires.fits
+    (subst (λ e. Writes c.args.self.now.archive c.next_session.new.self (Some kept)
+    (Some (refusal_of e))) device c.in-Err.ensures.machine) g.met.D.Disk.counts_now
+    c.in-Err.ensures.any_moment)
 
 pub returns-in-Err-clause-failures : goal.returns-in-Err-clause-failures
 returns-in-Err-clause-failures g c =
@@ -46,11 +48,12 @@ returns-in-Err-clause-failures g c =
     elim c.not_begun.ensures.other [
       | inl device ↦ subst (λ e. CountsFailures e before after) (sym device)
           (subst (λ a. before < g.D.Disk.failures (disk_of a)) (sym archive)
-          (subst (λ e. Counts e before (g.D.Disk.failures (disk_of c.next_session.new.self)))
-          (c.not_begun.ensures.device device).0 c.in-Err.ensures.failures))
+          (subst (λ e. Counts (Some (refusal_of e)) before
+          (g.D.Disk.failures (disk_of c.next_session.new.self)))
+          (c.not_begun.ensures.device device).0 c.in-Err.ensures.machine.device.failures))
       | inr stays ↦ subst (λ e. CountsFailures e before after) (sym stays.0)
           (ap (λ a. g.D.Disk.failures (disk_of a)) archive
-          ∙ counts_none c.in-Err.error _ _ stays.1 c.in-Err.ensures.failures)
+          ∙ counts_none c.in-Err.error _ _ stays.1 c.in-Err.ensures.machine.device.failures)
     ]
 
 pub returns-in-Err-clause-memory : goal.returns-in-Err-clause-memory
@@ -60,12 +63,9 @@ returns-in-Err-clause-memory g c pair machine stands = elim c.not_begun.ensures.
     stays.0,
     subst (λ new. Stands new pair machine) (sym stays.2) (record {
       journal =
-          elim c.in-Err.ensures.unchanged
-          as (λ _. IsMachine c.next_session.new.self pair machine.journal) [
-            | inl device ↦ absurd (stays.1 device)
-            | inr same ↦ same_machine c.args.self.now.archive c.next_session.new.self same
-                c.in-Err.ensures.readings pair machine.journal stands.journal
-          ];
+          stays_so c.args.self.now.archive c.next_session.new.self pair machine.journal
+          stands.journal c.in-Err.error stays.1 c.in-Err.ensures.machine.unchanged
+          c.in-Err.ensures.machine.readings;
       running = stands.running;
       quiet = stands.quiet;
       untried = stands.untried;

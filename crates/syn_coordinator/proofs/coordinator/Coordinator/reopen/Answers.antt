@@ -1,4 +1,4 @@
-use Rattle.std.proofs.Common.{List, subst, refl, sym, inl, inr}
+use Rattle.std.proofs.Common.{List, Some, subst, refl, sym, inl, inr}
 use Rattle.syn_headline.specs.Machine.{Up}
 use Rattle.std.specs.Prelude.{option_map}
 use Rattle.syn_image.specs.Archives.{kept_of}
@@ -8,7 +8,8 @@ use Rattle.syn_model.proofs.ExitLemmas.{if_err_of_exit}
 use Rattle.syn_keep.specs.Steps.{Moves}
 use Rattle.syn_archive.specs.Archive.{disk_of}
 use Rattle.syn_archive.specs.Disks.{IsReopenRefusal}
-use Rattle.syn_archive.specs.Refusals.{AfterReads}
+use Rattle.syn_archive.specs.Refusals.{refusal_of}
+use Rattle.syn_journaled.specs.Endings.{ReadsOrBreaks}
 use Rattle.syn_coordinator.proofs.RefusedLemmas.{reopen_does, not_reopened, halted_not_down}
 use Rattle.syn_coordinator.proofs.RefusedLemmas.{halted_not_up, not_down, error_is}
 use Rattle.syn_coordinator.proofs.ReopenLemmas.{no_memory, reopen_ok, reopen_failed, reopen_stayed}
@@ -22,9 +23,9 @@ returns-in-Ok-clause-ok g c pair machine stands =
     (subst (λ a. Moves a pair
     (λ journal. (kept : List Kept) × Reopened pair machine.journal journal kept) Up)
     (sym c.recovered.ensures.archive) (reopen_ok c.args.self.now.archive c.reopen.new.self pair
-    machine.journal stands.journal c.in-Ok.ensures.pair c.in-Ok.ensures.untouched
+    machine.journal stands.journal c.in-Ok.ensures.pair c.in-Ok.ensures.device.untouched
     g.met.D.Disk.seen_may_stay c.keeps_on_disk-in-Ok.ensures c.in-Ok.ensures.each
-    c.opening_laws.ensures.archives c.device_laws.ensures.reads c.in-Ok.ensures.calls))
+    c.opening_laws.ensures.archives c.device_laws.ensures.reads c.in-Ok.ensures.device.arms))
 
 pub returns-in-Err-clause-device : goal.returns-in-Err-clause-device
 returns-in-Err-clause-device g c pair machine stands is_device =
@@ -32,11 +33,12 @@ returns-in-Err-clause-device g c pair machine stands is_device =
     not_reopened c.args.self.now _ pair machine stands refl refl _ _ _ halted_not_down
     (λ _. halted_not_up) (λ calls arms failures meets. reopen_fails calls arms failures meets)
     (reopen_failed c.args.self.now.archive c.reopen.new.self pair machine.journal stands.journal
-    c.in-Err.ensures.pair c.in-Err.ensures.untouched g.met.D.Disk.seen_may_stay
+    c.in-Err.ensures.pair c.in-Err.ensures.device.untouched g.met.D.Disk.seen_may_stay
     c.keeps_on_disk-in-Err.ensures c.in-Err.ensures.memory
     (c.in-Err.ensures.halts (no_memory _ device)) c.device_laws.ensures.broken
-    (subst (λ e. AfterReads 1 e (g.D.Disk.arms (disk_of c.args.self.now.archive))
-    (g.D.Disk.arms (disk_of c.reopen.new.self))) device c.in-Err.ensures.calls))
+    (subst (λ e. ReadsOrBreaks 1 (Some (refusal_of e))
+    (g.D.Disk.arms (disk_of c.args.self.now.archive)) (g.D.Disk.arms (disk_of c.reopen.new.self)))
+    device c.in-Err.ensures.device.arms))
 
 pub returns-in-Err-clause-memory : goal.returns-in-Err-clause-memory
 returns-in-Err-clause-memory g c pair machine stands other =
@@ -50,13 +52,14 @@ returns-in-Err-clause-memory g c pair machine stands other =
           (not_down c.args.self.now.archive machine.journal is.state) (λ up. up)
           (λ calls arms failures meets. no_memory_to_reopen calls arms failures meets)
           (reopen_stayed c.args.self.now.archive c.reopen.new.self pair machine.journal is
-          c.in-Err.ensures.pair c.in-Err.ensures.untouched g.met.D.Disk.seen_may_stay
+          c.in-Err.ensures.pair c.in-Err.ensures.device.untouched g.met.D.Disk.seen_may_stay
           c.keeps_on_disk-in-Err.ensures c.in-Err.ensures.memory c.in-Err.ensures.halted
           (λ kept was. elim (c.in-Err.ensures.unchanged kept was)
           [ inl device ↦ absurd (other device) | inr stays ↦ stays ]) c.keeps_on_disk.ensures
           c.device_laws.ensures.reads
-          (subst (λ e. AfterReads 1 e (g.D.Disk.arms (disk_of c.args.self.now.archive))
-          (g.D.Disk.arms (disk_of c.reopen.new.self))) memory c.in-Err.ensures.calls)),
+          (subst (λ e. ReadsOrBreaks 1 (Some (refusal_of e))
+          (g.D.Disk.arms (disk_of c.args.self.now.archive))
+          (g.D.Disk.arms (disk_of c.reopen.new.self))) memory c.in-Err.ensures.device.arms)),
     )
 
 pub returns-in_err-broke-clause-memory : goal.returns-in_err-broke-clause-memory

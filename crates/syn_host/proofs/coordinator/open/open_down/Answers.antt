@@ -31,7 +31,7 @@ returns-in-Err g c machine rests =
       counts = counts_by machine.journal.failures still.next.journal.failures _ _
           (refusal_of e ∷ [])
           (opening_counts c.args.pair machine still.next no_call (refusal_of e ∷ []) still.opens)
-          (never_less e _ _ c.in-Err.ensures.failures)
-          (λ nine. archive_failed e _ _ (which_nine (refusal_of e) nine)
+          (never_less (refusal_of e) _ _ c.in-Err.ensures.failures)
+          (λ nine. archive_failed (refusal_of e) _ _ (which_nine (refusal_of e) nine)
           c.in-Err.ensures.failures);
     }

@@ -32,6 +32,6 @@ returns-in-Err g c pair machine stands =
     (λ status. heard status (refusal_of e ∷ []))
     (λ status goes. still_heard status (refusal_of e ∷ []) goes
     ∙ ap (λ r. r ∷ []) (sym c.refusal.ensures))
-    (never_less e _ _ c.in-Err.ensures.failures)
-    (λ nine. archive_failed e _ _ (sym c.refusal.ensures
+    (never_less (refusal_of e) _ _ c.in-Err.ensures.failures)
+    (λ nine. archive_failed (refusal_of e) _ _ (sym c.refusal.ensures
     ∙ which_nine _ nine) c.in-Err.ensures.failures) refused

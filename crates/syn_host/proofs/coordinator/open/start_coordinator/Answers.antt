@@ -11,8 +11,8 @@ pub returns-in-Ok-clause-starts : goal.returns-in-Ok-clause-starts
 returns-in-Ok-clause-starts g c kept can =
     let fits : c.args.pair < 2 ^ 64 = omega arith in
     coordinator_starts g.D.Disk c.args.pair c.args.disk kept fits can c.in-Ok.archive c.new.result
-    c.in-Ok.ensures.untouched c.in-Ok.ensures.each c.keeps_on_disk.ensures
-    g.met.D.Disk.seen_may_stay c.device_laws.ensures.reads c.in-Ok.ensures.calls
+    c.in-Ok.ensures.device.untouched c.in-Ok.ensures.each c.keeps_on_disk.ensures
+    g.met.D.Disk.seen_may_stay c.device_laws.ensures.reads c.in-Ok.ensures.device.arms
     c.new.ensures.stands
 
 pub returns-in-Ok-clause-holds : goal.returns-in-Ok-clause-holds
@@ -25,7 +25,7 @@ returns-in-Ok-clause-holds g c = record {
 pub returns-in-Ok-clause-failures : goal.returns-in-Ok-clause-failures
 returns-in-Ok-clause-failures g c =
     ap (λ archive. g.D.Disk.failures (disk_of archive)) c.new.ensures.archive
-    ∙ c.in-Ok.ensures.failures
+    ∙ c.in-Ok.ensures.device.failures
 
 pub returns-in-Err-clause-cause : goal.returns-in-Err-clause-cause
 returns-in-Err-clause-cause g c = record {
@@ -36,10 +36,10 @@ returns-in-Err-clause-cause g c = record {
 
 pub returns-in-Err-clause-failures : goal.returns-in-Err-clause-failures
 returns-in-Err-clause-failures g c = record {
-  grew = λ device. archive_failed c.in-Err.error _ _ (sym c.refusal.ensures ∙ device)
-      c.in-Err.ensures.failures;
-  same = λ other. archive_did_not c.in-Err.error _ _ (λ device. other (c.refusal.ensures ∙ device))
-      c.in-Err.ensures.failures;
+  grew = λ device. archive_failed (refusal_of c.in-Err.error) _ _ (sym c.refusal.ensures ∙ device)
+      c.in-Err.ensures.device.failures;
+  same = λ other. archive_did_not (refusal_of c.in-Err.error) _ _
+      (λ device. other (c.refusal.ensures ∙ device)) c.in-Err.ensures.device.failures;
 }
 
 pub returns-in-Err-clause-refused : goal.returns-in-Err-clause-refused

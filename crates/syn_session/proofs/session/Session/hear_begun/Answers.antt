@@ -1,16 +1,15 @@
-use Rattle.std.proofs.Common.{◌≡◌, ◌∙◌, [], ap, map, refl, sym, inl}
+use Rattle.std.proofs.Common.{◌≡◌, ◌∙◌, [], ap, map, refl, rules, sym, inl}
 use Rattle.syn_headline.specs.Coordinator.{hearing}
 use Rattle.syn_headline.specs.Network.{Left, Right, Which}
 use Rattle.syn_headline.specs.Side.{Begin, ListAt}
 use Rattle.syn_message.specs.Replies.{reply_of}
 use Rattle.syn_path.specs.Sides.{which_of}
 use Rattle.syn_session.specs.Answering.{asks_of, exchange_of}
-use Rattle.syn_session.specs.Hearing.{at_once, behind}
+use Rattle.syn_session.specs.Hearing.{at_once}
 use Rattle.syn_session.specs.declared.session.Asks.TheVariants.{Listings}
-use Rattle.syn_session.proofs.HearLemmas.{heard_new, scans_either}
 use Rattle.syn_session.proofs.HearingLemmas.{begun_heard, begun_lines, begun_out, both_begun}
-use Rattle.syn_session.proofs.HearingLemmas.{found_begun, hears_refused, tells_before, waits_on}
-use Rattle.syn_session.proofs.TellingLemmas.{tells_heard}
+use Rattle.syn_session.proofs.HearingLemmas.{found_begun, hears_next, hears_refused, tells_before}
+use Rattle.syn_session.proofs.HearingLemmas.{waits_on}
 use Rattle.syn_session.proofs.WaitingLemmas.{none_wait, some_wait}
 use Rattle.syn_session.proofs.session.Session.hear_begun.Goals as goal
 
@@ -44,34 +43,8 @@ returns-then-waits_across c = record {
     nothing Left = ap (map ListAt) c.new.ensures.items
     nothing Right = ap (map ListAt) c.new-then-waits_across.ensures.items
 
-pub returns-in-Ok : goal.returns-in-Ok
-returns-in-Ok c = record {
-  step = λ archive before running number pair is answers scans.
-      let side = which_of c.args.from in
-      let reply = reply_of c.args.reply in
-      let said = c.in_ok-check_begun.ensures running.taken side pair in
-      let silent = none_wait _ (sym c.waits_across.ensures ∙ c.if-waits_across.false) in
-      let heard = hearing running (exchange_of side number (Begin pair) reply) in
-      let has = begun_heard archive before c.args.self.now running side number
-      (Begin pair) reply is answers scans pair said.1 refl said.2 in
-      let both = both_begun archive before c.args.self.now running side number
-      (Begin pair) reply is answers scans pair said.1 refl said.2 silent in
-      let found = found_begun archive before c.args.self.now running side number
-      (Begin pair) reply is answers scans pair said.1 refl said.2 in
-      let lines = begun_lines archive before c.args.self.now running side number
-      (Begin pair) reply is answers scans pair said.1 refl said.2 silent in
-      let out = begun_out archive before c.args.self.now running side number
-      (Begin pair) reply is answers scans pair said.1 refl said.2 silent in (
-        said.0,
-        heard_new c.args.self.now c.scan_on.new.self heard has both found lines out
-            c.in-Ok.ensures.same,
-        scans_either c.args.self.now c.scan_on.new.self heard has both found lines out
-            c.in-Ok.ensures.same c.in-Ok.next c.in-Ok.ensures.some c.in-Ok.ensures.none,
-      );
-}
-
-pub returns-in-Err : goal.returns-in-Err
-returns-in-Err c = record {
+pub returns : goal.returns
+returns c = record {
   step = λ archive before running number pair is answers scans.
       let side = which_of c.args.from in
       let reply = reply_of c.args.reply in
@@ -88,6 +61,7 @@ returns-in-Err c = record {
       (Begin pair) reply is answers scans pair said.1 refl said.2 silent in
       let out = begun_out archive before c.args.self.now running side number
       (Begin pair) reply is answers scans pair said.1 refl said.2 silent in
-      behind said.0 refl (tells_heard c.scan_on.new.self heard (heard_new c.args.self.now
-      c.scan_on.new.self heard has both found lines out c.in-Err.ensures.same));
+      hears_next c.args.self.now c.scan_on.new.self running side number (Begin pair) reply said.0 has
+      both found lines out c.scan_on.ensures.same c.scan_on.result c.scan_on.ensures.some
+      c.scan_on.ensures.none c.map_err.result (search rules);
 }

@@ -1,16 +1,12 @@
-use Rattle.std.proofs.Common.{refl, ap, ◌∙◌}
-use Rattle.syn_headline.specs.Coordinator.{hearing}
+use Rattle.std.proofs.Common.{refl, rules, ap, ◌∙◌}
 use Rattle.syn_headline.specs.Side.{ListAt}
 use Rattle.syn_message.specs.Replies.{reply_of}
 use Rattle.syn_path.specs.Sides.{which_of}
-use Rattle.syn_session.specs.Answering.{exchange_of}
-use Rattle.syn_session.specs.Hearing.{at_once, behind}
+use Rattle.syn_session.specs.Hearing.{at_once}
 use Rattle.std.specs.Prelude.{◌||◌}
-use Rattle.syn_session.proofs.HearLemmas.{heard_new, scans_either}
-use Rattle.syn_session.proofs.HearingLemmas.{found_before, hears_refused, listed_begun}
+use Rattle.syn_session.proofs.HearingLemmas.{found_before, hears_next, hears_refused, listed_begun}
 use Rattle.syn_session.proofs.HearingLemmas.{listed_found, listed_heard, listed_lines, listed_out}
 use Rattle.syn_session.proofs.HearingLemmas.{swapped}
-use Rattle.syn_session.proofs.TellingLemmas.{tells_heard}
 use Rattle.syn_session.proofs.HearingLemmas.{tells_before, waits_for}
 use Rattle.syn_session.proofs.session.Session.hear_listed.Goals as goal
 
@@ -33,8 +29,8 @@ returns-in_err-take_listing c = record {
       c.in_err-take_listing.ensures.unstable keeps.course));
 }
 
-pub returns-in-Ok : goal.returns-in-Ok
-returns-in-Ok c = record {
+pub returns : goal.returns
+returns c = record {
   step = λ archive before running number is answers scans.
       let side = which_of c.args.from in
       let path = c.args.path.now in
@@ -50,7 +46,6 @@ returns-in-Ok c = record {
       let step = c.in_ok-take_listing.ensures.step running.taken number waits before_found in
       let counted = c.count_unstable.ensures.unstable
       ∙ ap (λ b. taken.is_unstable || b) c.is_no_directory-is_no_directory.ensures in
-      let heard = hearing running (exchange_of side number (ListAt path) reply) in
       let taken_out = c.in_ok-take_listing.ensures.out in
       let has = listed_heard archive before now running side number (ListAt path) reply is answers
       scans path refl taken after keeps c.in_ok-take_listing.ensures.unstable counted
@@ -76,58 +71,8 @@ returns-in-Ok c = record {
       scans path refl taken after keeps c.in_ok-take_listing.ensures.unstable counted
       c.count_unstable.ensures.left c.count_unstable.ensures.right
       c.count_unstable.ensures.number c.count_unstable.ensures.preference
-      c.count_unstable.ensures.course step.1 taken_out in (
-        step.0,
-        heard_new after c.scan_on.new.self heard has both found lines out c.in-Ok.ensures.same,
-        scans_either after c.scan_on.new.self heard has both found lines out c.in-Ok.ensures.same
-            c.in-Ok.next c.in-Ok.ensures.some c.in-Ok.ensures.none,
-      );
-}
-
-pub returns-in-Err : goal.returns-in-Err
-returns-in-Err c = record {
-  step = λ archive before running number is answers scans.
-      let side = which_of c.args.from in
-      let path = c.args.path.now in
-      let reply = reply_of c.args.reply in
-      let now = c.args.self.now in
-      let taken = c.take_listing.new.self in
-      let after = c.count_unstable.new.self in
-      let waits = waits_for archive before now running side number
-      (ListAt path) reply is answers scans path refl in
-      let before_found = found_before archive before now running side number
-      (ListAt path) reply is answers scans path refl in
-      let keeps = c.in_ok-take_listing.ensures.keeps in
-      let step = c.in_ok-take_listing.ensures.step running.taken number waits before_found in
-      let counted = c.count_unstable.ensures.unstable
-      ∙ ap (λ b. taken.is_unstable || b) c.is_no_directory-is_no_directory.ensures in
-      let heard = hearing running (exchange_of side number (ListAt path) reply) in
-      let taken_out = c.in_ok-take_listing.ensures.out in
-      let has = listed_heard archive before now running side number (ListAt path) reply is answers
-      scans path refl taken after keeps c.in_ok-take_listing.ensures.unstable counted
-      c.count_unstable.ensures.left c.count_unstable.ensures.right c.count_unstable.ensures.number
-      c.count_unstable.ensures.preference
       c.count_unstable.ensures.course step.1 taken_out in
-      let both = listed_begun archive before now running side number (ListAt path) reply is answers
-      scans path refl taken after keeps c.in_ok-take_listing.ensures.unstable counted
-      c.count_unstable.ensures.left c.count_unstable.ensures.right c.count_unstable.ensures.number
-      c.count_unstable.ensures.preference
-      c.count_unstable.ensures.course step.1 taken_out in
-      let found = listed_found archive before now running side number (ListAt path) reply is answers
-      scans path refl taken after keeps c.in_ok-take_listing.ensures.unstable counted
-      c.count_unstable.ensures.left c.count_unstable.ensures.right c.count_unstable.ensures.number
-      c.count_unstable.ensures.preference
-      c.count_unstable.ensures.course step.1 taken_out in
-      let lines = listed_lines archive before now running side number (ListAt path) reply is answers
-      scans path refl taken after keeps c.in_ok-take_listing.ensures.unstable counted
-      c.count_unstable.ensures.left c.count_unstable.ensures.right c.count_unstable.ensures.number
-      c.count_unstable.ensures.preference
-      c.count_unstable.ensures.course step.1 taken_out in
-      let out = listed_out archive before now running side number (ListAt path) reply is answers
-      scans path refl taken after keeps c.in_ok-take_listing.ensures.unstable counted
-      c.count_unstable.ensures.left c.count_unstable.ensures.right c.count_unstable.ensures.number
-      c.count_unstable.ensures.preference
-      c.count_unstable.ensures.course step.1 taken_out in
-      behind step.0 refl (tells_heard c.scan_on.new.self heard
-      (heard_new after c.scan_on.new.self heard has both found lines out c.in-Err.ensures.same));
+      hears_next after c.scan_on.new.self running side number (ListAt path) reply step.0 has both
+      found lines out c.scan_on.ensures.same c.scan_on.result c.scan_on.ensures.some
+      c.scan_on.ensures.none c.map_err.result (search rules);
 }

@@ -26,10 +26,10 @@ returns-in_default-clause-closed g c =
     λ shut. ap Err (fails_closed (Option Content) (line c.args.self.now) (line c.give_up.new.self)
     wish c.give_up.result shut (c.give_up.ensures wish))
 
-pub returns-in-Ok-Refused-clause-err : goal.returns-in-Ok-Refused-clause-err
-returns-in-Ok-Refused-clause-err g c =
+pub returns-in-Refused-clause-err : goal.returns-in-Refused-clause-err
+returns-in-Refused-clause-err g c =
     let line = line_of g.R.Read.remaining g.W.Write.contents in
-    let why = c.in-Ok-Refused.cause in
-    let told = rw c.in-Ok-Refused.field-0-is at c.in-Ok-Refused.ensures.told in
+    let why = c.in-Refused.cause in
+    let told = rw c.in-Refused.is at c.in_ok-found.ensures.told in
     refused why (subst (λ p. IsTold (line c.args.self.now) (line c.ask.new.self) (Gets p)
     (Refused (cause_of why))) c.in-Ok.ensures.ok told)
