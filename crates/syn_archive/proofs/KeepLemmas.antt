@@ -17,7 +17,7 @@ use Rattle.syn_model.specs.MarkSpelling.{kept_spelling}
 use Rattle.syn_archive.specs.Archive.{IsHalted, Stands, disk_of, room_shown, shown}
 use Rattle.syn_archive.specs.Refusals.{IsOfRecord, IsOutside, keep_refusal, refusal_of}
 use Rattle.syn_archive.specs.Refusals.{room_refusal, to_write}
-use Rattle.syn_archive.specs.Writes.{KeepsWritten, Writes, calls_for}
+use Rattle.syn_archive.specs.Calls.{KeepsWritten, Writes, calls_for}
 use Rattle.syn_archive.specs.inner.Keepings.{IsNews, NotPrepared, is_inner, kept_in, not_running}
 use Rattle.syn_archive.specs.inner.Keepings.{no_memory, refused}
 use Rattle.syn_archive.specs.declared.archive.Archive.{Archive}

@@ -4,6 +4,7 @@ pub mod AlikeLemmas
 pub mod OpeningLemmas
 pub mod MeaningLemmas
 mod MigrateLemmas
+mod CallLemmas
 pub mod EndLemmas
 pub mod KeepLemmas
 pub mod WriteLemmas

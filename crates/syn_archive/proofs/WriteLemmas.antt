@@ -22,7 +22,7 @@ use Rattle.syn_archive.specs.Archive.{HasRecord, KeepsBeforeOrAfter, KeepsReadin
 use Rattle.syn_archive.specs.Archive.{IsHalted, generation_shown, journal_of, left_shown, pair_of}
 use Rattle.syn_archive.specs.Archive.{KeepsOrCompacts, SameMemory, room_shown, shown}
 use Rattle.syn_archive.specs.Refusals.{IsOfRecord, IsOutside, refusal_of}
-use Rattle.syn_archive.specs.Writes.{Compacts, Writes}
+use Rattle.syn_archive.specs.Calls.{Compacts, Writes}
 use Rattle.syn_archive.specs.inner.Agreements.{after_update, agreed_archive}
 use Rattle.syn_archive.specs.inner.Openings.{Keeps}
 use Rattle.syn_archive.specs.declared.agreed.Update.{Update}

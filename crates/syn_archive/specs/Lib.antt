@@ -1,5 +1,5 @@
 pub mod Archive
 pub mod Disks
 pub mod Refusals
-pub mod Writes
+pub mod Calls
 pub mod inner

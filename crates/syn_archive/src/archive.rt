@@ -53,7 +53,7 @@ impl<D: Disk> Archive<D> {
     ghost use Rattle.syn_archive.specs.Archive.{disk_of, journal_of, room_shown, generation_shown};
     ghost use Rattle.syn_archive.specs.Archive.{left_shown, IsHalted, Stands, SameMemory};
     ghost use Rattle.syn_archive.specs.Archive.{KeepsBeforeOrAfter};
-    ghost use Rattle.syn_archive.specs.Writes.{Writes};
+    ghost use Rattle.syn_archive.specs.Calls.{Writes};
 
     /// Formats the disk as an archive of the pair, whose root is an empty directory, with no
     /// session.

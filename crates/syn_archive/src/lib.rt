@@ -35,7 +35,7 @@
 //!   halted. Where a call was refused 9, it leaves the archive before that call, or with what was
 //!   being kept (`before_or_after`, of what `seen` says). A disk that stands for no archive of its
 //!   pair is 19. After 9 it is halted (`halts`), and after any other refusal it is as it was
-//!   (`memory`, `halted`, `unchanged`).
+//!   (`memory`, `halted`, `unchanged`). How it ended is one fact, too (`machine`: `Reopens`).
 //! - `migrate` reads an archive of the first version with what was kept since its image, and writes
 //!   it as one image of the second (`migrated`, `image`). Whatever stop comes, the disk has the one
 //!   or the other (`any_moment`). It is refused as `open` is, but for 20 and 26, and 7 exactly at
@@ -46,7 +46,7 @@
 //!   `failures`). `arm` and `is_cut` are the disk's.
 //! - After Ok a call of those that keep leaves as many bytes less as its record takes, and after
 //!   any refusal as many as were there (`written`, `readings`). After a reopening that is refused,
-//!   room and generation are as they were, or they are those of its disk (`readings` of `reopen`).
+//!   room and generation are as they were, or they are those of its disk (`readings` of `Reopens`).
 //!   An archive that stood for what it kept has them as they were (`room`), and so has one that was
 //!   halted (`remembers`).
 #![tactic(auto)]

@@ -5,7 +5,7 @@ use Rattle.syn_archive.specs.Archive.{Stands as ArchiveStands, IsHalted, KeepsBe
 use Rattle.syn_archive.specs.Archive.{disk_of, pair_of, session_shown, left_shown, generation_shown}
 use Rattle.syn_archive.specs.Disks.{DiskKeeps}
 use Rattle.syn_archive.specs.Refusals.{refusal_of}
-use Rattle.syn_archive.specs.Writes.{Writes}
+use Rattle.syn_archive.specs.Calls.{Writes}
 use Rattle.syn_archive.specs.declared.archive.Archive.{Archive}
 use Rattle.syn_archive.specs.declared.error.ArchiveError.{ArchiveError}
 use Rattle.syn_archive.specs.declared.error.ArchiveError.TheVariants as error

@@ -4,7 +4,7 @@ use Rattle.std.proofs.Common.{subst, inl, inr, Some, None, arith}
 use Rattle.syn_archive.specs.Archive.{Stands, KeepsOrCompacts, pair_of, disk_of, left_shown}
 use Rattle.syn_archive.specs.Archive.{generation_shown}
 use Rattle.syn_archive.specs.Disks.{DiskKeeps, DiskCompacted}
-use Rattle.syn_archive.specs.Writes.{Compacts}
+use Rattle.syn_archive.specs.Calls.{Compacts}
 use Rattle.syn_archive.specs.declared.archive.Archive.{Archive}
 use Rattle.syn_disk.specs.Stops.{LeavesOnly}
 use Rattle.syn_disk.specs.declared.disk.Disk.{Ghosts}

@@ -11,7 +11,7 @@ use Rattle.syn_archive.specs.Archive.{shown, disk_of, left_shown, marks_shown, g
 use Rattle.syn_archive.specs.Archive.{journal_of}
 use Rattle.syn_archive.specs.Disks.{DiskKeeps, kept_size}
 use Rattle.syn_archive.specs.Refusals.{refusal_of}
-use Rattle.syn_archive.specs.Writes.{Writes as Ended}
+use Rattle.syn_archive.specs.Calls.{Writes as Ended}
 use Rattle.syn_archive.specs.declared.archive.Archive.{Archive}
 use Rattle.syn_archive.specs.declared.error.ArchiveError.{ArchiveError}
 use Rattle.syn_archive.specs.declared.error.ArchiveError.TheVariants as error

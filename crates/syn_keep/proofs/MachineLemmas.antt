@@ -4,7 +4,7 @@ use Rattle.std.proofs.Common.{ap, ◌∙◌, subst, inl, inr}
 use Rattle.syn_archive.specs.Archive.{Stands, KeepsBeforeOrAfter, pair_of, disk_of, left_shown}
 use Rattle.syn_archive.specs.Archive.{generation_shown}
 use Rattle.syn_archive.specs.Disks.{DiskKeeps, kept_size}
-use Rattle.syn_archive.specs.Writes.{Writes}
+use Rattle.syn_archive.specs.Calls.{Writes}
 use Rattle.syn_archive.specs.declared.archive.Archive.{Archive}
 use Rattle.syn_disk.specs.Stops.{LeavesOnly}
 use Rattle.syn_disk.specs.declared.disk.Disk.{Ghosts}

@@ -17,7 +17,7 @@ use syn_model::archive_laws;
 impl<D: Disk> Archive<D> {
     ghost use Rattle.syn_archive.specs.Archive.{pair_of, shown, disk_of, generation_shown};
     ghost use Rattle.syn_archive.specs.Archive.{Stands, KeepsOrCompacts};
-    ghost use Rattle.syn_archive.specs.Writes.{Compacts};
+    ghost use Rattle.syn_archive.specs.Calls.{Compacts};
 
     /// Writes the marks and the last session as one image, so that the journal has room again.
     ///

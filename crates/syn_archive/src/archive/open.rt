@@ -6,7 +6,6 @@ ghost use Rattle.syn_model.specs.Archive.{Archive as KeptArchive, Kept, after_ke
 ghost use Rattle.syn_archive.specs.Disks.{DiskStands, IsOldDisk, IsOpenRefusal};
 ghost use Rattle.syn_archive.specs.Disks.{IsReopenRefusal, IsWanted};
 ghost use Rattle.syn_archive.specs.Refusals.{refusal_of};
-ghost use Rattle.syn_model.specs.Refusal.{Memory};
 
 use super::Archive;
 use crate::error::ArchiveError;
@@ -17,8 +16,8 @@ use syn_journaled::Journaled;
 
 impl<D: Disk> Archive<D> {
     ghost use Rattle.syn_archive.specs.Archive.{pair_of, shown, disk_of};
-    ghost use Rattle.syn_archive.specs.Archive.{IsHalted, Stands, SameMemory, KeepsReadings};
-    ghost use Rattle.syn_archive.specs.Archive.{KeepsBeforeOrAfter, ShowsDisk};
+    ghost use Rattle.syn_archive.specs.Archive.{Stands, KeepsBeforeOrAfter};
+    ghost use Rattle.syn_archive.specs.Calls.{Reopens};
 
     /// Opens what the disk holds.
     ///
@@ -75,7 +74,6 @@ impl<D: Disk> Archive<D> {
         ensures each { OnOk result ((kept : KeptArchive)
             → DiskStands (pair_of self.new) (D.seen (disk_of self.old)) kept
             → Stands self.new kept) }
-        ensures pair { pair_of self.new ≡ pair_of self.old }
 
         // Where a call was refused 9, it leaves the archive before the call, or that with what was
         // being kept.
@@ -86,23 +84,11 @@ impl<D: Disk> Archive<D> {
         // Each refusal has its cause.
         ensures refusals { IfErr result (λ e.
             IsReopenRefusal e (pair_of self.old) (D.seen (disk_of self.old))) }
-        ensures halts { IfErr result (λ e. refusal_of e ≢ Memory → IsHalted self.new) }
-
-        // What stays after a refusal.
-        ensures memory { IfErr result (λ _. SameMemory self.old self.new) }
-        ensures readings { IfErr result (λ _. KeepsReadings self.old self.new
-            ⊎ ShowsDisk self.new) }
-        ensures room { (kept : KeptArchive) → Stands self.old kept
-            → IfErr result (λ _. KeepsReadings self.old self.new) }
-        ensures halted { IfErr result (λ _. IsHalted self.old → IsHalted self.new) }
-        ensures remembers { IsHalted self.old
-            → IfErr result (λ _. KeepsReadings self.old self.new) }
         ensures unchanged { (kept : KeptArchive) → Stands self.old kept
             → IfErr result (λ e. (e ≡ ArchiveError.Device) ⊎ Stands self.new kept) }
 
         // A sync and then reads, whose number is not fixed; after 9 the last of them failed.
-        ensures device { Reads D.Disk (ended refusal_of result) (disk_of self.old)
-            (disk_of self.new) }
+        ensures machine { Reopens self.old self.new (ended refusal_of result) }
     {
         opening_laws();
         self.machine.reopen(alloc)

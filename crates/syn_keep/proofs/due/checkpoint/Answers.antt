@@ -1,7 +1,7 @@
 use Rattle.std.proofs.Common.{◌<◌, ◌^◌, ◌∙◌, nat_le, Some, inl, inr, ap, refl, subst, sym}
 use Rattle.std.proofs.lemmas.Option.{none-some}
 use Rattle.syn_archive.specs.Refusals.{refusal_of}
-use Rattle.syn_archive.specs.Writes.{Compacts}
+use Rattle.syn_archive.specs.Calls.{Compacts}
 use Rattle.syn_model.specs.Limits.{greatest}
 use Rattle.syn_model.specs.Refusal.{Device, Full}
 use Rattle.syn_keep.specs.inner.Recording.{Checkpoints, ended_by, made, at_greatest, breaks}

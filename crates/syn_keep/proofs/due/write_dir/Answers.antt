@@ -2,7 +2,7 @@ use Rattle.std.proofs.Common.{◌≡◌, Bool, true, false, if◌then◌else◌,
 use Rattle.std.proofs.Common.{◌∙◌, [], ◌∷◌}
 use Rattle.syn_archive.specs.Archive.{marks_shown}
 use Rattle.syn_archive.specs.Refusals.{refusal_of}
-use Rattle.syn_archive.specs.Writes.{Writes as Ended}
+use Rattle.syn_archive.specs.Calls.{Writes as Ended}
 use Rattle.syn_headline.specs.Machine.{Up}
 use Rattle.syn_model.specs.Archive.{RecordedDir}
 use Rattle.syn_model.specs.Tree.{is_directory}

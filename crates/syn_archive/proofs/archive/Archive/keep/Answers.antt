@@ -5,7 +5,7 @@ use Rattle.syn_journaled.proofs.Results.{ok_part, on_ok_of}
 use Rattle.syn_model.proofs.ExitLemmas.{exit_is, if_err_of_exit, is_err_of_exit, on_ok_of_exit}
 use Rattle.syn_archive.specs.Archive.{KeepsBeforeOrAfter, room_shown, session_shown, shown}
 use Rattle.syn_archive.specs.Refusals.{refusal_of}
-use Rattle.syn_archive.specs.Writes.{Writes}
+use Rattle.syn_archive.specs.Calls.{Writes}
 use Rattle.syn_archive.specs.inner.Keepings.{kept_in}
 use Rattle.syn_archive.proofs.StandLemmas.{keeps_now, not_written}
 use Rattle.syn_disk.proofs.LeftLemmas.{seen_is_left}

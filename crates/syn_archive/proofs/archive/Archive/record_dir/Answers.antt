@@ -3,7 +3,7 @@ use Rattle.std.proofs.Common.{true≢false}
 use Rattle.syn_model.specs.Archive.{RecordedDir}
 use Rattle.syn_model.specs.Tree.{is_directory}
 use Rattle.syn_archive.specs.Archive.{marks_shown}
-use Rattle.syn_archive.specs.Writes.{Writes}
+use Rattle.syn_archive.specs.Calls.{Writes}
 use Rattle.syn_archive.proofs.KeepLemmas.{nothing_to_write}
 use Rattle.syn_archive.proofs.archive.Archive.record_dir.Goals as goal
 

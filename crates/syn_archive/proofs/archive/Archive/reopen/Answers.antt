@@ -5,7 +5,8 @@ use Rattle.syn_model.specs.ArchiveImage.{ArchiveStandsFor}
 use Rattle.syn_archive.specs.Archive.{disk_of, pair_of}
 use Rattle.syn_archive.specs.declared.error.ArchiveError.TheVariants.{Device}
 use Rattle.syn_archive.specs.inner.Agreements.{agreed_archive}
-use Rattle.syn_journaled.proofs.Results.{from_both, if_err_both, on_ok_both}
+use Rattle.syn_journaled.proofs.Results.{if_err_both, on_ok_both}
+use Rattle.syn_archive.proofs.CallLemmas.{reopens}
 use Rattle.syn_archive.proofs.EndLemmas.{same_error}
 use Rattle.syn_archive.proofs.MeaningLemmas.{keeps_stands, reopen_refusal, stands_for_each}
 use Rattle.syn_archive.proofs.archive.Archive.reopen.Goals as goal
@@ -24,11 +25,6 @@ returns-clause-each g c =
     (g.D.Disk.seen (disk_of c.args.self.now)) _ kept opened opened.fits d).1)
     c.reopen.ensures.opened
 
-pub returns-clause-pair : goal.returns-clause-pair
-returns-clause-pair g c =
-    from_both c.reopen.result c.reopen.ensures.follows
-    (IfErr-weaker c.reopen.result _ _ (λ e same. ap (λ a. a.pair) same) c.reopen.ensures.state)
-
 pub returns-clause-before_or_after : goal.returns-clause-before_or_after
 returns-clause-before_or_after g c kept what (inl d) =
     on_ok_both c.reopen.result c.reopen.ensures.opened c.reopen.ensures.follows
@@ -46,46 +42,6 @@ returns-clause-refusals g c =
     IfErr-weaker c.reopen.result _ _ (λ e refused. reopen_refusal e c.args.self.now.machine.state
     (g.D.Disk.seen (disk_of c.args.self.now)) refused) c.reopen.ensures.refused
 
-pub returns-clause-memory : goal.returns-clause-memory
-returns-clause-memory g c =
-    IfErr-weaker c.reopen.result _ _
-    (λ e same. record { pair = ap (λ a. a.pair) same; archive = ap agreed_archive same })
-    c.reopen.ensures.state
-
-pub returns-clause-readings : goal.returns-clause-readings
-returns-clause-readings g c =
-    if_err_both c.reopen.result (returns-clause-memory g c) c.reopen.ensures.readings
-    (λ e memory readings. elim readings [
-      | inl keeps ↦ inl (record {
-        memory = memory;
-        left_is = keeps.left_is;
-        generation = keeps.generation;
-      })
-      | inr shows ↦ inr (record {
-        value = shows.value;
-        journal = shows.journal;
-        left_is = shows.left_is;
-      })
-    ])
-
-pub returns-clause-room : goal.returns-clause-room
-returns-clause-room g c kept stands =
-    if_err_both c.reopen.result (returns-clause-memory g c)
-    (c.reopen.ensures.room stands.value stands.runs) (λ e memory keeps. record {
-      memory = memory;
-      left_is = keeps.left_is;
-      generation = keeps.generation;
-    })
-
-pub returns-clause-remembers : goal.returns-clause-remembers
-returns-clause-remembers g c halted =
-    if_err_both c.reopen.result (returns-clause-memory g c) (c.reopen.ensures.remembers halted)
-    (λ e memory keeps. record {
-      memory = memory;
-      left_is = keeps.left_is;
-      generation = keeps.generation;
-    })
-
 pub returns-clause-unchanged : goal.returns-clause-unchanged
 returns-clause-unchanged g c kept stands =
     let old = c.args.self.now in
@@ -102,3 +58,9 @@ returns-clause-unchanged g c kept stands =
             (sym (ap (λ a. a.pair) same)) stands.means;
       })
     ])
+
+pub returns-clause-machine : goal.returns-clause-machine
+returns-clause-machine g c =
+    let told = c.reopen.ensures in
+    reopens c.args.self.now _ c.reopen.result told.follows told.state told.halted told.halts
+    told.readings told.room told.remembers told.device

@@ -2,7 +2,7 @@ use Rattle.std.proofs.Common.{◌<◌, ◌^◌, Some, ap, subst, refl, inl, inr}
 use Rattle.std.proofs.lemmas.Option.{none-some}
 use Rattle.syn_archive.specs.Archive.{disk_of}
 use Rattle.syn_archive.specs.Refusals.{refusal_of}
-use Rattle.syn_archive.specs.Writes.{Compacts}
+use Rattle.syn_archive.specs.Calls.{Compacts}
 use Rattle.syn_journaled.specs.Endings.{CountsFailures}
 use Rattle.syn_model.specs.Refusal.{Device}
 use Rattle.syn_keep.proofs.CheckpointLemmas.{compact_ok, compact_failed}

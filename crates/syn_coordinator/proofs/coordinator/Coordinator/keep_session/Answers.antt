@@ -1,7 +1,7 @@
 use Rattle.std.proofs.Common.{◌∷◌, ◌∙◌, ◌+◌, ◌<◌, [], Err, Ok, Result, Some, ap, inl, inr}
 use Rattle.std.proofs.Common.{subst, sym}
 use Rattle.syn_archive.specs.Refusals.{refusal_of}
-use Rattle.syn_archive.specs.Writes.{Writes}
+use Rattle.syn_archive.specs.Calls.{Writes}
 use Rattle.syn_headline.specs.Machine.{Halted, Up}
 use Rattle.syn_journaled.specs.Endings.{CountsFailures as Counts}
 use Rattle.syn_keep.specs.Steps.{KeepsSo}

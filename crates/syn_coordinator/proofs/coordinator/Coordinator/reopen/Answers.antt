@@ -23,9 +23,10 @@ returns-in-Ok-clause-ok g c pair machine stands =
     (subst (λ a. Moves a pair
     (λ journal. (kept : List Kept) × Reopened pair machine.journal journal kept) Up)
     (sym c.recovered.ensures.archive) (reopen_ok c.args.self.now.archive c.reopen.new.self pair
-    machine.journal stands.journal c.in-Ok.ensures.pair c.in-Ok.ensures.device.untouched
+    machine.journal stands.journal c.in-Ok.ensures.machine.pair
+    c.in-Ok.ensures.machine.device.untouched
     g.met.D.Disk.seen_may_stay c.keeps_on_disk-in-Ok.ensures c.in-Ok.ensures.each
-    c.opening_laws.ensures.archives c.device_laws.ensures.reads c.in-Ok.ensures.device.arms))
+    c.opening_laws.ensures.archives c.device_laws.ensures.reads c.in-Ok.ensures.machine.device.arms))
 
 pub returns-in-Err-clause-device : goal.returns-in-Err-clause-device
 returns-in-Err-clause-device g c pair machine stands is_device =
@@ -33,12 +34,12 @@ returns-in-Err-clause-device g c pair machine stands is_device =
     not_reopened c.args.self.now _ pair machine stands refl refl _ _ _ halted_not_down
     (λ _. halted_not_up) (λ calls arms failures meets. reopen_fails calls arms failures meets)
     (reopen_failed c.args.self.now.archive c.reopen.new.self pair machine.journal stands.journal
-    c.in-Err.ensures.pair c.in-Err.ensures.device.untouched g.met.D.Disk.seen_may_stay
-    c.keeps_on_disk-in-Err.ensures c.in-Err.ensures.memory
-    (c.in-Err.ensures.halts (no_memory _ device)) c.device_laws.ensures.broken
+    c.in-Err.ensures.machine.pair c.in-Err.ensures.machine.device.untouched g.met.D.Disk.seen_may_stay
+    c.keeps_on_disk-in-Err.ensures c.in-Err.ensures.machine.memory
+    (c.in-Err.ensures.machine.halts (no_memory _ device)) c.device_laws.ensures.broken
     (subst (λ e. ReadsOrBreaks 1 (Some (refusal_of e))
     (g.D.Disk.arms (disk_of c.args.self.now.archive)) (g.D.Disk.arms (disk_of c.reopen.new.self)))
-    device c.in-Err.ensures.device.arms))
+    device c.in-Err.ensures.machine.device.arms))
 
 pub returns-in-Err-clause-memory : goal.returns-in-Err-clause-memory
 returns-in-Err-clause-memory g c pair machine stands other =
@@ -52,14 +53,14 @@ returns-in-Err-clause-memory g c pair machine stands other =
           (not_down c.args.self.now.archive machine.journal is.state) (λ up. up)
           (λ calls arms failures meets. no_memory_to_reopen calls arms failures meets)
           (reopen_stayed c.args.self.now.archive c.reopen.new.self pair machine.journal is
-          c.in-Err.ensures.pair c.in-Err.ensures.device.untouched g.met.D.Disk.seen_may_stay
-          c.keeps_on_disk-in-Err.ensures c.in-Err.ensures.memory c.in-Err.ensures.halted
+          c.in-Err.ensures.machine.pair c.in-Err.ensures.machine.device.untouched g.met.D.Disk.seen_may_stay
+          c.keeps_on_disk-in-Err.ensures c.in-Err.ensures.machine.memory c.in-Err.ensures.machine.halted
           (λ kept was. elim (c.in-Err.ensures.unchanged kept was)
           [ inl device ↦ absurd (other device) | inr stays ↦ stays ]) c.keeps_on_disk.ensures
           c.device_laws.ensures.reads
           (subst (λ e. ReadsOrBreaks 1 (Some (refusal_of e))
           (g.D.Disk.arms (disk_of c.args.self.now.archive))
-          (g.D.Disk.arms (disk_of c.reopen.new.self))) memory c.in-Err.ensures.device.arms)),
+          (g.D.Disk.arms (disk_of c.reopen.new.self))) memory c.in-Err.ensures.machine.device.arms)),
     )
 
 pub returns-in_err-broke-clause-memory : goal.returns-in_err-broke-clause-memory

@@ -1,16 +1,17 @@
--- How a call that writes an archive ended, and what it left.
-use Rattle.std.specs.Prelude.{◌≡◌, ◌⊎◌, ◌↔◌, ◌+◌, ℕ, List, Option, Some, None, IfNone, IfSome}
+-- What a call makes of an archive, as it ended.
+use Rattle.std.specs.Prelude.{◌≡◌, ◌≢◌, ◌⊎◌, ◌↔◌, ◌+◌, ℕ, List, Option, Some, None}
+use Rattle.std.specs.Prelude.{IfNone, IfSome}
 use Rattle.syn_disk.specs.declared.disk.Disk.{Ghosts}
 use Rattle.syn_journal.specs.Journal as journal
 use Rattle.syn_journal.specs.Layout.{image_alone}
-use Rattle.syn_journaled.specs.Endings.{Spends}
+use Rattle.syn_journaled.specs.Endings.{Reads, Spends}
 use Rattle.syn_model.specs.Archive as model
 use Rattle.syn_model.specs.Archive.{Kept}
 use Rattle.syn_model.specs.MarkSpelling.{archive_spelling}
-use Rattle.syn_model.specs.Refusal.{Refusal, Device, Halted}
+use Rattle.syn_model.specs.Refusal.{Refusal, Device, Halted, Memory}
 use Rattle.syn_archive.specs.Archive.{HasRecord, IsHalted, KeepsBeforeOrAfter, KeepsOrCompacts}
-use Rattle.syn_archive.specs.Archive.{KeepsReadings, SameMemory, Stands, disk_of, generation_shown}
-use Rattle.syn_archive.specs.Archive.{journal_of, left_shown, pair_of, shown}
+use Rattle.syn_archive.specs.Archive.{KeepsReadings, SameMemory, ShowsDisk, Stands, disk_of}
+use Rattle.syn_archive.specs.Archive.{generation_shown, journal_of, left_shown, pair_of, shown}
 use Rattle.syn_archive.specs.Disks.{DiskKeeps}
 use Rattle.syn_archive.specs.declared.archive.Archive.{Archive}
 
@@ -40,9 +41,10 @@ pub record Writes {D : Type 0} {disk : Ghosts D} (old new : Archive D disk) (wha
   pub written : IfNone why (IsWritten old new what)
   -- and this is what a refusal leaves
   pub halted : (why ≡ Some Halted) ↔ IsHalted old
-  pub halts : IfSome why (λ w. w ≡ Device → IsHalted new)
+  pub halts : IfSome why (λ refusal. refusal ≡ Device → IsHalted new)
   pub readings : IfSome why (λ _. KeepsReadings old new)
-  pub unchanged : IfSome why (λ w. (w ≡ Device) ⊎ (journal_of new ≡ journal_of old))
+  pub unchanged : IfSome why
+      (λ refusal. (refusal ≡ Device) ⊎ (journal_of new ≡ journal_of old))
   pub device : Spends disk (calls_for what) why (disk_of old) (disk_of new)
 
 -- The image was written alone, or not, as the call ended
@@ -56,7 +58,21 @@ pub record Compacts {D : Type 0} {disk : Ghosts D} (old new : Archive D disk)
   pub memory : SameMemory old new
   -- and this is what a refusal leaves
   pub halted : (why ≡ Some Halted) ↔ IsHalted old
-  pub halts : IfSome why (λ w. w ≡ Device → IsHalted new)
+  pub halts : IfSome why (λ refusal. refusal ≡ Device → IsHalted new)
   pub readings : IfSome why (λ _. KeepsReadings old new)
-  pub unchanged : IfSome why (λ w. (w ≡ Device) ⊎ (journal_of new ≡ journal_of old))
+  pub unchanged : IfSome why
+      (λ refusal. (refusal ≡ Device) ⊎ (journal_of new ≡ journal_of old))
   pub device : Spends disk 6 why (disk_of old) (disk_of new)
+
+-- The archive shows what its disk has, or not, as the call ended
+pub record Reopens {D : Type 0} {disk : Ghosts D} (old new : Archive D disk)
+    (why : Option Refusal) : Type 0 where
+  pub pair : pair_of new ≡ pair_of old
+  -- and this is what a refusal leaves
+  pub halted : IfSome why (λ _. IsHalted old → IsHalted new)
+  pub halts : IfSome why (λ refusal. refusal ≢ Memory → IsHalted new)
+  pub memory : IfSome why (λ _. SameMemory old new)
+  pub readings : IfSome why (λ _. KeepsReadings old new ⊎ ShowsDisk new)
+  pub room : (kept : model.Archive) → Stands old kept → IfSome why (λ _. KeepsReadings old new)
+  pub remembers : IsHalted old → IfSome why (λ _. KeepsReadings old new)
+  pub device : Reads disk why (disk_of old) (disk_of new)
