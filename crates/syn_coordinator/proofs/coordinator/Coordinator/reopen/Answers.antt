@@ -26,7 +26,8 @@ returns-in-Ok-clause-ok g c pair machine stands =
     machine.journal stands.journal c.in-Ok.ensures.machine.pair
     c.in-Ok.ensures.machine.device.untouched
     g.met.D.Disk.seen_may_stay c.keeps_on_disk-in-Ok.ensures c.in-Ok.ensures.each
-    c.opening_laws.ensures.archives c.device_laws.ensures.reads c.in-Ok.ensures.machine.device.arms))
+    c.opening_laws.ensures.archives c.device_laws.ensures.reads
+    c.in-Ok.ensures.machine.device.arms))
 
 pub returns-in-Err-clause-device : goal.returns-in-Err-clause-device
 returns-in-Err-clause-device g c pair machine stands is_device =
