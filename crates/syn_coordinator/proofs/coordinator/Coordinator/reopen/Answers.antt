@@ -32,19 +32,20 @@ returns-in-Ok-clause-ok g c pair machine stands =
 pub returns-in-Err-clause-device : goal.returns-in-Err-clause-device
 returns-in-Err-clause-device g c pair machine stands is_device =
     let device = error_is c.in-Err.error _ is_device in
+    let made = c.in-Err.ensures.machine in
     not_reopened c.args.self.now _ pair machine stands refl refl _ _ _ halted_not_down
     (λ _. halted_not_up) (λ calls arms failures meets. reopen_fails calls arms failures meets)
     (reopen_failed c.args.self.now.archive c.reopen.new.self pair machine.journal stands.journal
-    c.in-Err.ensures.machine.pair c.in-Err.ensures.machine.device.untouched g.met.D.Disk.seen_may_stay
-    c.keeps_on_disk-in-Err.ensures c.in-Err.ensures.machine.memory
-    (c.in-Err.ensures.machine.halts (no_memory _ device)) c.device_laws.ensures.broken
+    made.pair made.device.untouched g.met.D.Disk.seen_may_stay c.keeps_on_disk-in-Err.ensures
+    made.memory (made.halts (no_memory _ device)) c.device_laws.ensures.broken
     (subst (λ e. ReadsOrBreaks 1 (Some (refusal_of e))
     (g.D.Disk.arms (disk_of c.args.self.now.archive)) (g.D.Disk.arms (disk_of c.reopen.new.self)))
-    device c.in-Err.ensures.machine.device.arms))
+    device made.device.arms))
 
 pub returns-in-Err-clause-memory : goal.returns-in-Err-clause-memory
 returns-in-Err-clause-memory g c pair machine stands other =
     let is = stands.journal in
+    let made = c.in-Err.ensures.machine in
     let why = subst (λ p. IsReopenRefusal c.in-Err.error p
     (g.D.Disk.seen (disk_of c.args.self.now.archive))) is.pair_is c.in-Err.ensures.refusals in
     let memory = only_memory pair machine.journal (g.D.Disk.seen (disk_of c.args.self.now.archive))
@@ -54,14 +55,14 @@ returns-in-Err-clause-memory g c pair machine stands other =
           (not_down c.args.self.now.archive machine.journal is.state) (λ up. up)
           (λ calls arms failures meets. no_memory_to_reopen calls arms failures meets)
           (reopen_stayed c.args.self.now.archive c.reopen.new.self pair machine.journal is
-          c.in-Err.ensures.machine.pair c.in-Err.ensures.machine.device.untouched g.met.D.Disk.seen_may_stay
-          c.keeps_on_disk-in-Err.ensures c.in-Err.ensures.machine.memory c.in-Err.ensures.machine.halted
+          made.pair made.device.untouched g.met.D.Disk.seen_may_stay
+          c.keeps_on_disk-in-Err.ensures made.memory made.halted
           (λ kept was. elim (c.in-Err.ensures.unchanged kept was)
           [ inl device ↦ absurd (other device) | inr stays ↦ stays ]) c.keeps_on_disk.ensures
           c.device_laws.ensures.reads
           (subst (λ e. ReadsOrBreaks 1 (Some (refusal_of e))
           (g.D.Disk.arms (disk_of c.args.self.now.archive))
-          (g.D.Disk.arms (disk_of c.reopen.new.self))) memory c.in-Err.ensures.machine.device.arms)),
+          (g.D.Disk.arms (disk_of c.reopen.new.self))) memory made.device.arms)),
     )
 
 pub returns-in_err-broke-clause-memory : goal.returns-in_err-broke-clause-memory
