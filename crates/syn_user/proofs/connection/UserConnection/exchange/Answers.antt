@@ -21,8 +21,8 @@ returns-in-Err-clause-breaks g c =
     let new = g.W.Write.contents c.write_frame.new.writer in
     unsent Device (
       subst IsBody c.in_ok-body.ensures.body c.in_ok-body.ensures.framed,
-      subst (λ b. AppendsSome old new (frame_of b)) (c.deref.ensures.value ∙ c.in_ok-body.ensures.body)
-          c.in-Err.ensures.beginning,
+      subst (λ b. AppendsSome old new (frame_of b))
+          (c.deref.ensures.value ∙ c.in_ok-body.ensures.body) c.in-Err.ensures.beginning,
     ) (refl, refl)
 
 pub returns-clause-told : goal.returns-clause-told

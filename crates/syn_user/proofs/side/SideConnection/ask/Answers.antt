@@ -13,6 +13,6 @@ returns-clause-replied g c =
     let written = g.W.Write.contents c.write_frame.new.writer in
     replied_so (line c.args.self.now) (line c.hear.new.self) (request_of c.args.request) written
     c.in_ok-body.ensures.lawful
-    (subst (λ b. Appends old written (frame_of b)) (c.deref.ensures.value ∙ c.in_ok-body.ensures.body)
-    c.in-Ok.ensures.written)
+    (subst (λ b. Appends old written (frame_of b))
+    (c.deref.ensures.value ∙ c.in_ok-body.ensures.body) c.in-Ok.ensures.written)
     (ap g.W.Write.contents c.hear.ensures.silent) c.hear.result c.hear.ensures.heard
