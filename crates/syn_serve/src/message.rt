@@ -74,16 +74,10 @@ pub fn decode_any_request(alloc: Global, body: &[u8]) -> Result<Option<AnyReques
     ensures { IfOk result (λ read. IsWholeReading IsLawfulMessage message_spelling body.now
         (option_map message_of read)) }
 {
-    match decode_request(alloc, body) {
-        Ok(Some(asked)) => return Ok(Some(AnyRequest::Session(asked))),
-        Ok(None) => {}
-        Err(error) => return Err(error),
+    if let Some(asked) = decode_request(alloc, body)? {
+        return Ok(Some(AnyRequest::Session(asked)));
     }
-    match decode_user_request(alloc, body) {
-        Ok(Some(asked)) => Ok(Some(AnyRequest::User(asked))),
-        Ok(None) => Ok(None),
-        Err(error) => Err(error),
-    }
+    Ok(decode_user_request(alloc, body)?.map(AnyRequest::User))
 }
 
 /// The body of the reply.

@@ -5,14 +5,9 @@ ghost use Rattle.syn_message.specs.Listings.{AreRising, IsEntry, IsListing, entr
 ghost use Rattle.syn_message.specs.Replies.{IsFetchedBytes, IsLawfulReply, reply_of};
 
 use syn_mark::{Mark, is_mark};
-use syn_message::Reply;
+use syn_message::{LONGEST_PIECE, Reply};
 use syn_path::Name;
-
-/// The most names of a directory.
-const MOST_ENTRIES: usize = 256;
-
-/// The most bytes of a piece.
-const MOST_BYTES: usize = 32768;
+use syn_tree::MOST_CHILDREN;
 
 /// Whether it is a reply that can be sent: a directory has not too many names, and in their order,
 /// and a piece not too many bytes.
@@ -50,7 +45,7 @@ fn is_short(number: u32) -> bool
 fn is_piece(bytes: &[u8]) -> bool
     ensures { IsTrue result ↔ IsFetchedBytes bytes.now }
 {
-    bytes.len() <= MOST_BYTES
+    bytes.len() <= LONGEST_PIECE
 }
 
 /// As many entries as a directory may have, their names strictly rising.
@@ -58,7 +53,7 @@ fn is_listing(entries: &[(Name, Mark)]) -> bool
     ensures { IsTrue result ↔ IsListing (entries_of entries.now) }
 {
     are_entries(entries);
-    entries.len() <= MOST_ENTRIES && are_rising(entries)
+    entries.len() <= MOST_CHILDREN && are_rising(entries)
 }
 
 /// Each has a lawful name and mark, by its type.

@@ -15,9 +15,10 @@ impl<D: SimulatedDisk> Running<D> {
         ensures { (model : ModelWorld) → IsRunning self model
             → StaysSo model (Fail Coordinator call) result }
     {
-        let mut world = self;
-        world.coordinator = world.coordinator.fail(call);
-        world
+        Running {
+            coordinator: self.coordinator.fail(call),
+            ..self
+        }
     }
 
     /// So many device calls of the coordinator are still made, and its machine stops after the
@@ -26,9 +27,10 @@ impl<D: SimulatedDisk> Running<D> {
         ensures { (model : ModelWorld) → IsRunning self model
             → StaysSo model (Stop Coordinator calls) result }
     {
-        let mut world = self;
-        world.coordinator = world.coordinator.stop(calls);
-        world
+        Running {
+            coordinator: self.coordinator.stop(calls),
+            ..self
+        }
     }
 
     /// The coordinator makes a checkpoint.

@@ -108,16 +108,15 @@ impl<D: SimulatedDisk> Running<D> {
         ensures { (model : ModelWorld) → IsRunning self model
             → StaysSo model (Fail (At (which_of side)) call) result }
     {
-        let mut world = self;
         match side {
-            Side::Left => {
-                world.left = world.left.fail(call);
-                world
-            }
-            Side::Right => {
-                world.right = world.right.fail(call);
-                world
-            }
+            Side::Left => Running {
+                left: self.left.fail(call),
+                ..self
+            },
+            Side::Right => Running {
+                right: self.right.fail(call),
+                ..self
+            },
         }
     }
 
@@ -127,16 +126,15 @@ impl<D: SimulatedDisk> Running<D> {
         ensures { (model : ModelWorld) → IsRunning self model
             → StaysSo model (Stop (At (which_of side)) calls) result }
     {
-        let mut world = self;
         match side {
-            Side::Left => {
-                world.left = world.left.stop(calls);
-                world
-            }
-            Side::Right => {
-                world.right = world.right.stop(calls);
-                world
-            }
+            Side::Left => Running {
+                left: self.left.stop(calls),
+                ..self
+            },
+            Side::Right => Running {
+                right: self.right.stop(calls),
+                ..self
+            },
         }
     }
 
