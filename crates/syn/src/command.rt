@@ -60,13 +60,14 @@ where
         each: asked.is_verbose,
         counts: is_terminal,
     };
-    let answer = answer_of(
+    let answer = carry_out(
         rt,
         alloc,
         &asked.line,
         telling,
         told,
         files,
+        &DisksInFiles(files),
         input,
         output,
         errors,
@@ -119,33 +120,6 @@ fn telling_of(is_verbose: bool, is_terminal: bool) -> Telling {
         (true, false) => Telling::Items,
         (true, true) => Telling::ItemsAndCounts,
     }
-}
-
-/// Carries out the line on files and the disks in them, and answers what it came to.
-fn answer_of<H, F, I, O, E>(
-    rt: &H,
-    alloc: Global,
-    line: &Line<'_>,
-    telling: Telling,
-    told: EditsTold,
-    files: &F,
-    input: &mut I,
-    output: &mut O,
-    errors: &mut E,
-) -> Result<Outcome, Failure>
-where
-    H: Net<Listener = TcpListener, Stream = TcpStream> + Threads + Wait + Clock + Eprint,
-    H: Copy + Sync,
-    F: Files,
-    F::File: HostFile + Send,
-    I: Read,
-    O: Write,
-    E: Write,
-{
-    let disks = DisksInFiles(files);
-    carry_out(
-        rt, alloc, line, telling, told, files, &disks, input, output, errors,
-    )
 }
 
 /// Carries out the line, and answers what it came to. The disks may be any.

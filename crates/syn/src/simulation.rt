@@ -146,7 +146,7 @@ where
 fn failure_of(error: SimulateError) -> Failure {
     match error {
         SimulateError::Script(number) => Failure::Line(number),
-        SimulateError::Refused(why) => Failure::Refused(CommandError::Machine(why)),
+        SimulateError::Refused(why) => Failure::Refused(CommandError::Refused(why)),
         SimulateError::Memory => Failure::Refused(CommandError::Memory),
     }
 }

@@ -10,8 +10,8 @@ use Rattle.syn_user.specs.Refusals.{refusal_of as of_user}
 use Rattle.syn_folder.specs.Refusals.{refusal_of as of_folder}
 use Rattle.syn_command.specs.declared.error.CommandError.{CommandError}
 use Rattle.syn_command.specs.declared.error.CommandError.TheVariants.{Path, Open, Replica, Archive}
-use Rattle.syn_command.specs.declared.error.CommandError.TheVariants.{Machine, Device, Longer}
-use Rattle.syn_command.specs.declared.error.CommandError.TheVariants.{Memory, Network, User, Folder}
+use Rattle.syn_command.specs.declared.error.CommandError.TheVariants.{Refused, Device, Longer}
+use Rattle.syn_command.specs.declared.error.CommandError.TheVariants.{Memory, User, Folder}
 
 -- it is that of what refused
 abbrev pub refusal_of : CommandError → Refusal
@@ -19,8 +19,7 @@ refusal_of (Path error) = of_path error
 refusal_of (Open error) = of_disk error
 refusal_of (Replica error) = of_replica error
 refusal_of (Archive error) = of_archive error
-refusal_of (Machine refusal) = cause_of refusal
-refusal_of (Network refusal) = cause_of refusal
+refusal_of (Refused refusal) = cause_of refusal
 refusal_of (User error) = of_user error
 refusal_of (Folder error) = of_folder error
 refusal_of (Device error) = why.Device

@@ -27,10 +27,8 @@ pub enum CommandError {
     Replica(ReplicaError),
     /// The archive refuses the call, or the disk has no archive.
     Archive(ArchiveError),
-    /// A machine of a simulation is refused this.
-    Machine(Refusal),
-    /// A server, a session or a served replica is refused this.
-    Network(Refusal),
+    /// A session, a server or a simulated machine is refused this, or nothing is at the path.
+    Refused(Refusal),
     /// The server refuses what a user asks, or the connection to it failed.
     User(UserError),
     /// A folder cannot be read or written, or not as it is asked.
@@ -54,7 +52,7 @@ impl CommandError {
             CommandError::Open(error) => error.refusal(),
             CommandError::Replica(error) => error.refusal(),
             CommandError::Archive(error) => error.refusal(),
-            CommandError::Machine(refusal) | CommandError::Network(refusal) => *refusal,
+            CommandError::Refused(refusal) => *refusal,
             CommandError::User(error) => error.refusal(),
             CommandError::Folder(error) => error.refusal(),
             CommandError::Device(_) | CommandError::Longer => Refusal::Device,
@@ -76,6 +74,16 @@ impl fmt::Display for CommandError {
 
     fn fmt<W: fmt::Write>(&self, f: &mut fmt::Formatter<W>) -> fmt::Result {
         write!(f, "{}", self.refusal())
+    }
+}
+
+impl From<Refusal> for CommandError {
+    ghost use Rattle.syn_command.specs.declared.error.CommandError.TheVariants.{Refused};
+
+    ghost from_gives = { λ refusal e. e ≡ Refused refusal };
+
+    fn from(refusal: Refusal) -> CommandError {
+        CommandError::Refused(refusal)
     }
 }
 

@@ -68,10 +68,7 @@ pub fn import_folder<D: Disk, F: Folder, E: Write>(
         → OnOk result (Stands replica.new history) }
     ensures refused { IfErr result (λ e. IsOfFolder e → replica.new ≡ replica.old) }
 {
-    let part = match part_of(alloc, folder, is_skipping, replica.tree(), path, errors) {
-        Ok(part) => part,
-        Err(error) => return Err(CommandError::Folder(error)),
-    };
+    let part = part_of(alloc, folder, is_skipping, replica.tree(), path, errors)?;
     import_part(alloc, replica, user, path, &part, told, errors)
 }
 
@@ -290,7 +287,7 @@ fn next_position(last: u64, made: u64) -> Result<u64, CommandError>
     if last < made && made - last == 1 {
         Ok(made)
     } else {
-        Err(CommandError::Network(Refusal::Touched))
+        Err(CommandError::Refused(Refusal::Touched))
     }
 }
 

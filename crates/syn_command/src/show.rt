@@ -57,6 +57,6 @@ pub fn show_path<W: Write>(
     match tree.get(path) {
         Some(Found::File(_, bytes)) => Ok(output.write_all(bytes)?),
         Some(Found::Dir) => Ok(show_below(alloc, tree, path, output)?),
-        None => Err(CommandError::Network(Refusal::Absent)),
+        None => Err(CommandError::Refused(Refusal::Absent)),
     }
 }

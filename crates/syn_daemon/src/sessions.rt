@@ -222,10 +222,8 @@ fn open_port<H: Net<Listener = TcpListener, Stream = TcpStream>>(
     let Ok(address) = listener.local_addr() else {
         return Err(Refusal::Device);
     };
-    match reach(rt, address) {
-        Ok(stream) => Ok((listener, stream)),
-        Err(why) => Err(why),
-    }
+    let stream = reach(rt, address)?;
+    Ok((listener, stream))
 }
 
 /// Whether both connections are to one server. One that is reached by two addresses is not seen.
@@ -244,12 +242,8 @@ fn reach<H: Net<Listener = TcpListener, Stream = TcpStream>, A: ToSocketAddrs>(
 ) -> Result<TcpStream, Refusal>
     ensures { IfErr result (λ why. cause_of why ≡ Device) }
 {
-    match TcpStream::connect(rt, address) {
-        Ok(stream) => {
-            let _ = stream.set_nodelay(true);
-            let _ = stream.set_read_timeout(Some(Duration::from_secs(MOST_SECONDS.into())));
-            Ok(stream)
-        }
-        Err(_) => Err(Refusal::Device),
-    }
+    let stream = TcpStream::connect(rt, address).map_err(|_| Refusal::Device)?;
+    let _ = stream.set_nodelay(true);
+    let _ = stream.set_read_timeout(Some(Duration::from_secs(MOST_SECONDS.into())));
+    Ok(stream)
 }

@@ -53,10 +53,8 @@ pub fn print_numbers<N: NamedDisks, O: Write>(
 /// generation is the greatest.
 pub fn migrate<N: NamedDisks>(alloc: Global, disks: &N, name: &str) -> Result<(), CommandError> {
     let locked = disks.lock(name, Access::Write)?;
-    match migrate_image(alloc, locked.into_disk(alloc)?) {
-        Ok(_) => Ok(()),
-        Err((error, _)) => Err(error),
-    }
+    migrate_image(alloc, locked.into_disk(alloc)?).map_err(|(error, _)| error)?;
+    Ok(())
 }
 
 /// Prints the last events of the replica of that name, so many lines at most, the newest first.

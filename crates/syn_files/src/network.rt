@@ -1,6 +1,7 @@
 //! What goes over the network: a server, and a user of a served replica.
 
 use crate::named::{NamedDisks, replica_in};
+use crate::sessions::shared;
 use log::{LevelFilter, Logged};
 use std::alloc::Global;
 use std::io::{Read, Write};
@@ -41,10 +42,8 @@ where
     N: NamedDisks,
 {
     let replica = replica_in(alloc, disks, name)?;
-    match SharedReplica::new(alloc, replica) {
-        Ok(shared) => serve_shared(rt, alloc, &shared, address, connections),
-        Err(_) => Err(CommandError::Memory),
-    }
+    let shared = shared(alloc, replica)?;
+    serve_shared(rt, alloc, &shared, address, connections)
 }
 
 /// Serves the replica at the address.
@@ -62,10 +61,8 @@ where
 {
     let listener = TcpListener::bind(rt, address)?;
     let logged = Logged::new(*rt, LevelFilter::Info, Plain(*rt));
-    match serve(&logged, alloc, shared, &listener, connections, &OpenGates) {
-        Ok(()) => Ok(()),
-        Err(why) => Err(CommandError::Network(why)),
-    }
+    serve(&logged, alloc, shared, &listener, connections, &OpenGates)?;
+    Ok(())
 }
 
 /// Asks the server at the address for the line's edit, and answers the new position.
@@ -133,7 +130,7 @@ pub fn show_path_served<H: Net<Stream = TcpStream>, O: Write>(
             let (_, tree) = tree_over(alloc, &stream)?;
             show_path(alloc, &tree, path, output)
         }
-        None => Err(CommandError::Network(Refusal::Absent)),
+        None => Err(CommandError::Refused(Refusal::Absent)),
     }
 }
 

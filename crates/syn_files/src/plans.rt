@@ -94,10 +94,7 @@ fn print_planned<O: Write>(
     archive: &MarkTree,
     output: &mut O,
 ) -> Result<Outcome, CommandError> {
-    let planned = match planned {
-        Ok(planned) => planned,
-        Err(why) => return Err(CommandError::Network(why)),
-    };
+    let planned = planned?;
     let (on_left, on_right) = (planned.left.found().tree(), planned.right.found().tree());
     show_plan(alloc, &planned.items, on_left, on_right, archive, output)?;
     let conflicts = counts_of(&planned.items).conflicts;

@@ -226,22 +226,17 @@ where
 }
 
 /// The replica under a lock. Refused 11 where memory is refused.
-fn shared<D: Disk + Drop>(
+pub(crate) fn shared<D: Disk + Drop>(
     alloc: Global,
     replica: Replica<D>,
 ) -> Result<SharedReplica<D>, CommandError> {
-    match SharedReplica::new(alloc, replica) {
-        Ok(shared) => Ok(shared),
-        Err(_) => Err(CommandError::Memory),
-    }
+    SharedReplica::new(alloc, replica).map_err(|_| CommandError::Memory)
 }
 
 /// The report of the session that ended last. Each that ended has one.
 fn reported<D: Disk>(coordinator: &Coordinator<D>) -> Result<&Report, CommandError> {
-    match coordinator.report() {
-        Some(report) => Ok(report),
-        None => Err(CommandError::Network(Refusal::NoAnswer)),
-    }
+    let report = coordinator.report();
+    report.ok_or(CommandError::Refused(Refusal::NoAnswer))
 }
 
 /// Prints the report of a session that went so, and answers what it came to.
@@ -252,9 +247,7 @@ fn print_session<D: Disk, V: Told, O: Write>(
     watch: &mut V,
     output: &mut O,
 ) -> Result<Outcome, CommandError> {
-    if let Err(why) = went {
-        return Err(CommandError::Network(why));
-    }
+    went?;
     let report = reported(coordinator)?;
     watch.ended(report);
     show_report(alloc, report, output)?;

@@ -10,7 +10,7 @@ pub returns-clause-part : goal.returns-clause-part
 returns-clause-part g c history stands none =
     let path = c.args.path.now in
     let tree = g.F.Folder.tree c.args.folder.now in
-    let whole = c.in-Ok.ensures.part
+    let whole = c.in_ok-part.ensures.part
     ∙ ap (skipped (directory_at c.tree.result.now path) tree) none in
     subst (λ t. OnOk c.import_part.result
     (subtree (tree_shown c.import_part.new.replica) path ≡ t)) whole
@@ -22,7 +22,7 @@ returns-clause-any_moment g c history stands =
     let path = c.args.path.now in
     let tree = g.F.Folder.tree c.args.folder.now in
     let strangers = g.F.Folder.strangers c.args.folder.now in
-    let whole = c.in-Ok.ensures.part
+    let whole = c.in_ok-part.ensures.part
     ∙ ap (λ (t : Tree). skipped (directory_at t path) tree strangers) c.tree.ensures in
     subst (λ t. LeavesOnly g.D.Disk.moment g.D.Disk.left_since (disk_of old)
     (disk_of c.import_part.new.replica) (LeavesImport (pair_of old) history c.args.user path t))
