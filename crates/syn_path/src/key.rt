@@ -16,7 +16,7 @@ ghost use Rattle.syn_path.specs.Keys.{filled, names_of, IsSpelling};
 use crate::error::PathError;
 use crate::name::Name;
 use crate::path::{Path, parse_names, pieces_of};
-use std::alloc::Global;
+use std::alloc::{AllocError, Global};
 use std::cmp::Ordering;
 use std::marker::Model;
 use std::str;
@@ -111,18 +111,24 @@ impl Key {
         }
     }
 
-    /// The path. Refused 11 where memory is refused, and for no other cause.
-    pub fn to_path(&self, alloc: Global) -> Result<Path, PathError>
-        ensures ok { IfOk result (λ path. path ≡ self.now) }
-        ensures memory { IfErr result (λ e. e ≡ PathError.BadPath → ⊥) }
+    /// The path. Refused where memory is refused.
+    pub fn to_path(&self, alloc: Global) -> Result<Path, AllocError>
+        ensures { IfOk result (λ path. path ≡ self.now) }
     {
         let Ok(text) = str::from_utf8(self.spelled()) else {
-            return Err(PathError::BadPath);
+            unreachable!()
         };
         let mut pieces = pieces_of(alloc, text, '\0')?;
         let _ = pieces.pop();
-        let names = parse_names(alloc, pieces.as_slice())?;
-        Path::from_names(names)
+        let names = match parse_names(alloc, pieces.as_slice()) {
+            Ok(names) => names,
+            Err(PathError::Memory) => return Err(AllocError),
+            Err(PathError::BadPath) => unreachable!(),
+        };
+        let Ok(path) = Path::from_names(names) else {
+            unreachable!()
+        };
+        Ok(path)
     }
 
     /// The key of the path without its last name; of the root, that of the root.

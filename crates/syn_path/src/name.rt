@@ -3,7 +3,7 @@ ghost use Rattle.std.specs.Prelude.{◌≡◌, ◌↔◌, IfOk, IfErr, IsTrue};
 ghost use Rattle.syn_model.specs.Path.{IsName};
 
 use crate::error::PathError;
-use std::alloc::Global;
+use std::alloc::{AllocError, Global};
 use std::marker::Model;
 use std::str;
 
@@ -62,10 +62,9 @@ impl Name {
         self.text.as_str()
     }
 
-    /// An equal name of its own. Refused 11 where memory is refused, and for no other cause.
-    pub fn copy(&self, alloc: Global) -> Result<Name, PathError>
-        ensures ok { IfOk result (λ name. name ≡ self.now) }
-        ensures memory { IfErr result (λ e. e ≡ PathError.BadPath → ⊥) }
+    /// An equal name of its own. Refused where memory is refused.
+    pub fn copy(&self, alloc: Global) -> Result<Name, AllocError>
+        ensures { IfOk result (λ name. name ≡ self.now) }
     {
         let text = String::from_str(alloc, self.text.as_str())?;
         Ok(Name { text })

@@ -126,12 +126,11 @@ impl Path {
         Ok(Path { names })
     }
 
-    /// The path without its last name; none for the root. Refused 11 where memory is refused.
-    pub fn parent(&self, alloc: Global) -> Result<Option<Path>, PathError>
+    /// The path without its last name; none for the root. Refused where memory is refused.
+    pub fn parent(&self, alloc: Global) -> Result<Option<Path>, AllocError>
         ensures root { IfOk result (λ parent. IfNone parent (self.now ≡ [])) }
         ensures below { IfOk result (λ parent. IfSome parent
             (λ path. (name : _) × (path ++ name ∷ [] ≡ self.now))) }
-        ensures memory { IfErr result (λ e. e ≡ PathError.BadPath → ⊥) }
     {
         match self.names.as_slice() {
             [] => Ok(None),
@@ -157,10 +156,9 @@ impl Path {
         self.is_prefix(other) || other.is_prefix(self)
     }
 
-    /// An equal path of its own. Refused 11 where memory is refused, and for no other cause.
-    pub fn copy(&self, alloc: Global) -> Result<Path, PathError>
-        ensures ok { IfOk result (λ path. path ≡ self.now) }
-        ensures memory { IfErr result (λ e. e ≡ PathError.BadPath → ⊥) }
+    /// An equal path of its own. Refused where memory is refused.
+    pub fn copy(&self, alloc: Global) -> Result<Path, AllocError>
+        ensures { IfOk result (λ path. path ≡ self.now) }
     {
         let names = copy_names(alloc, self.names.as_slice(), 0)?;
         Ok(Path { names })
@@ -192,10 +190,9 @@ pub(crate) fn parse_names(alloc: Global, pieces: &[&str]) -> Result<Vec<Name>, P
 }
 
 /// Equal names of their own, with room for more.
-fn copy_names(alloc: Global, source: &[Name], more: usize) -> Result<Vec<Name>, PathError>
+fn copy_names(alloc: Global, source: &[Name], more: usize) -> Result<Vec<Name>, AllocError>
     requires { length source.now + more < 100 }
-    ensures ok { IfOk result (λ names. names.items ≡ source.now) }
-    ensures memory { IfErr result (λ e. e ≡ PathError.BadPath → ⊥) }
+    ensures { IfOk result (λ names. names.items ≡ source.now) }
 {
     let mut names = Vec::with_capacity(alloc, source.len() + more)?;
     for name in source {
