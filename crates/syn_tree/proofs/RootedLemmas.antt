@@ -1,6 +1,6 @@
 -- A tree is what stands at its root and the pairs below that, and so is each part of it.
 use Rattle.std.proofs.Common.{◌≡◌, ◌≤◌, ◌+◌, not, [], ◌∷◌, ◌++◌, filter, refl, sym, ap, ap₂, ◌∙◌}
-use Rattle.std.proofs.Common.{subst, Some, Less, is_lt, true≢false, append-nil, arith}
+use Rattle.std.proofs.Common.{subst, Some, is_lt, true≢false, append-nil, arith}
 use Rattle.std.specs.Ordering.{eq_by_cmp}
 use Rattle.std.specs.FinMap.{find, entries, get, get-entries}
 use Rattle.std.proofs.lemmas.List.Filters.{sum_by-filter_both}
@@ -10,13 +10,13 @@ use Rattle.syn_model.specs.Path.{Name, Path, path_cmp, root}
 use Rattle.syn_model.specs.Tree.{Tree, Content, subtree}
 use Rattle.syn_model.specs.Limits.{content_spelling_length, last_name_spelling_length}
 use Rattle.syn_model.specs.Limits.{tree_spelling_length}
-use Rattle.syn_model.proofs.PathLemmas.{path_itself, path_total}
+use Rattle.syn_model.proofs.PathLemmas.{path_itself}
 use Rattle.syn_model.proofs.TreeLemmas.{get-subtree}
 use Rattle.syn_placed.specs.Pairs.{Pairs, is_below, under, within, spelling_length}
 use Rattle.syn_placed.specs.Pairs.{pair_spelling_length}
 use Rattle.syn_placed.proofs.BelowLemmas.{without_first}
 use Rattle.syn_placed.proofs.FindLemmas.{after_more, find_after}
-use Rattle.syn_placed.proofs.RisingLemmas.{Rising, After, each-map}
+use Rattle.syn_placed.proofs.RisingLemmas.{Rising, After}
 use Rattle.syn_placed.proofs.TreeLemmas.{rising-entries, within-taken, entries-subtree}
 
 -- a tree is what stands at its root, and the parts at its names

@@ -2,9 +2,8 @@
 ghost use Rattle.std.specs.Prelude.{◌≡◌, IfErr, IfOk};
 ghost use Rattle.syn_tree.specs.Edits.{edit_of};
 
-use crate::error::TreeError;
 use crate::mode::Mode;
-use std::alloc::Global;
+use std::alloc::{AllocError, Global};
 use syn_path::Path;
 
 /// A change that a user makes at one path of a tree.
@@ -21,30 +20,18 @@ pub enum Edit {
 }
 
 impl Edit {
-    /// An equal one of its own. Refused 11 where memory is refused.
-    pub fn copy(&self, alloc: Global) -> Result<Edit, TreeError>
-        ensures ok { IfOk result (λ copy. edit_of copy ≡ edit_of self.now) }
-        ensures memory { IfErr result (λ e. e ≡ TreeError.Memory) }
+    /// An equal one of its own. Refused where memory is refused.
+    pub fn copy(&self, alloc: Global) -> Result<Edit, AllocError>
+        ensures { IfOk result (λ copy. edit_of copy ≡ edit_of self.now) }
     {
         match self {
             Edit::Put(path, bytes) => {
-                let path = copied(alloc, path)?;
+                let path = path.copy(alloc)?;
                 Ok(Edit::Put(path, Vec::from_slice(alloc, bytes)?))
             }
-            Edit::MakeDir(path) => Ok(Edit::MakeDir(copied(alloc, path)?)),
-            Edit::Remove(path) => Ok(Edit::Remove(copied(alloc, path)?)),
-            Edit::Chmod(path, mode) => Ok(Edit::Chmod(copied(alloc, path)?, *mode)),
+            Edit::MakeDir(path) => Ok(Edit::MakeDir(path.copy(alloc)?)),
+            Edit::Remove(path) => Ok(Edit::Remove(path.copy(alloc)?)),
+            Edit::Chmod(path, mode) => Ok(Edit::Chmod(path.copy(alloc)?, *mode)),
         }
-    }
-}
-
-/// An equal path of its own. Refused 11 where memory is refused.
-fn copied(alloc: Global, path: &Path) -> Result<Path, TreeError>
-    ensures ok { IfOk result (λ copy. copy ≡ path.now) }
-    ensures memory { IfErr result (λ e. e ≡ TreeError.Memory) }
-{
-    match path.copy(alloc) {
-        Ok(copy) => Ok(copy),
-        Err(_) => Err(TreeError::Memory),
     }
 }

@@ -16,7 +16,7 @@ use crate::error::TreeError;
 use crate::lawful::{are_contents, is_path};
 use crate::measures::{LONGEST_FILE, MOST_CHILDREN};
 use crate::pair::Pair;
-use std::alloc::Global;
+use std::alloc::{AllocError, Global};
 use std::marker::Model;
 use syn_path::{Key, Path};
 use syn_placed::Standing;
@@ -85,10 +85,9 @@ impl Entries {
         Some(Entries { list })
     }
 
-    /// Equal entries of their own. Refused 11 where memory is refused.
-    pub fn copy(&self, alloc: Global) -> Result<Entries, TreeError>
-        ensures ok { IfOk result (λ copy. copy ≡ self.now) }
-        ensures memory { IfErr result (λ e. e ≡ TreeError.Memory) }
+    /// Equal entries of their own. Refused where memory is refused.
+    pub fn copy(&self, alloc: Global) -> Result<Entries, AllocError>
+        ensures { IfOk result (λ copy. copy ≡ self.now) }
     {
         let list = copies(alloc, &self.list)?;
         Ok(Entries { list })
@@ -132,10 +131,9 @@ impl Entries {
     }
 }
 
-/// Equal entries of their own. Refused 11 where memory is refused.
-fn copies(alloc: Global, list: &[Entry]) -> Result<Vec<Entry>, TreeError>
-    ensures ok { IfOk result (λ copies. copies.items ≡ list.now) }
-    ensures memory { IfErr result (λ e. e ≡ TreeError.Memory) }
+/// Equal entries of their own. Refused where memory is refused.
+fn copies(alloc: Global, list: &[Entry]) -> Result<Vec<Entry>, AllocError>
+    ensures { IfOk result (λ copies. copies.items ≡ list.now) }
 {
     let mut copies = Vec::with_capacity(alloc, list.len())?;
     for entry in list {

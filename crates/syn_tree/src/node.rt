@@ -6,10 +6,9 @@ ghost use Rattle.syn_tree.specs.Lists.{FitsNowhere};
 ghost use Rattle.syn_tree.specs.Nodes.{node_tree};
 
 use crate::entries::Entries;
-use crate::error::TreeError;
 use crate::measures::LONGEST_FILE;
 use crate::mode::Mode;
-use std::alloc::Global;
+use std::alloc::{AllocError, Global};
 
 /// What can stand at a path: a file, or a directory with what is below it.
 #[derive(Debug, Drop)]
@@ -21,10 +20,9 @@ pub enum Node {
 }
 
 impl Node {
-    /// An equal one of its own. Refused 11 where memory is refused.
-    pub fn copy(&self, alloc: Global) -> Result<Node, TreeError>
-        ensures ok { IfOk result (λ copy. node_tree copy ≡ node_tree self.now) }
-        ensures memory { IfErr result (λ e. e ≡ TreeError.Memory) }
+    /// An equal one of its own. Refused where memory is refused.
+    pub fn copy(&self, alloc: Global) -> Result<Node, AllocError>
+        ensures { IfOk result (λ copy. node_tree copy ≡ node_tree self.now) }
     {
         match self {
             Node::File(mode, bytes) => Ok(Node::File(*mode, Vec::from_slice(alloc, bytes)?)),

@@ -43,10 +43,7 @@ impl<'a> Pair<'a> {
     pub fn path(&self, alloc: Global) -> Result<Path, AllocError>
         ensures { IfOk result (λ path. path ≡ self.now.0) }
     {
-        match self.entry.key().to_path(alloc) {
-            Ok(path) => Ok(path),
-            Err(_) => Err(AllocError),
-        }
+        self.entry.key().to_path(alloc)
     }
 
     /// The bytes of the last name; none for the root.

@@ -11,7 +11,7 @@ use crate::content::Found;
 use crate::entry::{Entry, found_at};
 use crate::error::TreeError;
 use crate::lawful::is_path;
-use std::alloc::Global;
+use std::alloc::{AllocError, Global};
 use syn_path::{Key, Name};
 use syn_placed::Standing;
 
@@ -40,11 +40,10 @@ pub(crate) fn push_under(
     Ok(())
 }
 
-/// The entries below the path, each without the path before its own. Refused 11 where memory is
-/// refused, and for no other cause.
-pub fn below(alloc: Global, list: &[Entry], at: &Key) -> Result<Vec<Entry>, TreeError>
-    ensures ok { IfOk result (λ copies. copies.items ≡ stripped at.now list.now) }
-    ensures memory { IfErr result (λ e. e ≡ TreeError.Memory) }
+/// The entries below the path, each without the path before its own. Refused where memory is
+/// refused.
+pub fn below(alloc: Global, list: &[Entry], at: &Key) -> Result<Vec<Entry>, AllocError>
+    ensures { IfOk result (λ copies. copies.items ≡ stripped at.now list.now) }
 {
     let mut copies = Vec::new(alloc);
     for entry in list {
@@ -59,10 +58,9 @@ fn push_below(
     copies: &mut Vec<Entry>,
     at: &Key,
     entry: &Entry,
-) -> Result<(), TreeError>
-    ensures ok { OnOk result (copies.new.items ≡ copies.old.items
+) -> Result<(), AllocError>
+    ensures { OnOk result (copies.new.items ≡ copies.old.items
         ++ stripped at.now (entry.now ∷ [])) }
-    ensures memory { IfErr result (λ e. e ≡ TreeError.Memory) }
 {
     let Some(key) = entry.key().below(at) else {
         return Ok(());
@@ -108,13 +106,12 @@ fn child_name<'a>(above: &Key, key: &'a Key) -> Option<&'a [u8]>
     }
 }
 
-/// The names, each with whether it is a directory. Refused 11 where memory is refused.
+/// The names, each with whether it is a directory. Refused where memory is refused.
 pub fn kinds(
     alloc: Global,
     children: Vec<(Name, Found<'_>)>,
-) -> Result<Vec<(Name, bool)>, TreeError>
-    ensures ok { IfOk result (λ names. names.items ≡ kinds_of (contents_at children.entry.items)) }
-    ensures memory { IfErr result (λ e. e ≡ TreeError.Memory) }
+) -> Result<Vec<(Name, bool)>, AllocError>
+    ensures { IfOk result (λ names. names.items ≡ kinds_of (contents_at children.entry.items)) }
 {
     let mut names = Vec::with_capacity(alloc, children.len())?;
     for (name, found) in children {

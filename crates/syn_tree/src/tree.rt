@@ -32,7 +32,7 @@ use crate::mode::Mode;
 use crate::node::Node;
 use crate::parts::{below, children, kinds};
 use crate::placing::placed;
-use std::alloc::Global;
+use std::alloc::{AllocError, Global};
 use std::marker::Model;
 use syn_path::{Key, Name, Path};
 use syn_placed::ranges::{count_children, is_directory, part_at, replace_part};
@@ -280,13 +280,12 @@ impl Tree {
             ↔ (is_directory self.now path.now ≡ false) }
         ensures refusals { IfErr result (λ e. (e ≡ TreeError.Absent) ⊎ (e ≡ TreeError.Memory)) }
     {
-        kinds(alloc, self.children(alloc, path)?)
+        Ok(kinds(alloc, self.children(alloc, path)?)?)
     }
 
-    /// What is at and below the path; none where nothing is. Refused 11 where memory is refused.
-    pub fn subtree(&self, alloc: Global, path: &Path) -> Result<Option<Node>, TreeError>
-        ensures ok { IfOk result (λ node. part_of node ≡ subtree self.now path.now) }
-        ensures memory { IfErr result (λ e. e ≡ TreeError.Memory) }
+    /// What is at and below the path; none where nothing is. Refused where memory is refused.
+    pub fn subtree(&self, alloc: Global, path: &Path) -> Result<Option<Node>, AllocError>
+        ensures { IfOk result (λ node. part_of node ≡ subtree self.now path.now) }
     {
         match self.get(path) {
             None => Ok(None),

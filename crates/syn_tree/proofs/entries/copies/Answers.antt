@@ -16,8 +16,8 @@ loop-entry-preserved c =
     ∙ sym (take_more list i c.entry-item.result c.loop-entry-test.true
     ∙ ap (λ x. take i list ++ x ∷ []) (sym c.entry-item.is)))
 
-pub returns-clause-ok : goal.returns-clause-ok
-returns-clause-ok c =
+pub returns : goal.returns
+returns c =
     let list = c.args.list.now in
     let ended : c.loop-entry.entry-index ≡ length list =
     omega (arith, c.loop-entry-test.false, c.loop-entry.auto.entry-index-end) in
