@@ -6,7 +6,6 @@ ghost use Rattle.syn_history.specs.Refusals.{refusal_of};
 
 use std::alloc::AllocError;
 use std::fmt;
-use syn_path::PathError;
 use syn_refusal::Refusal;
 use thiserror::Error;
 
@@ -47,17 +46,6 @@ impl fmt::Display for HistoryError {
 
     fn fmt<W: fmt::Write>(&self, f: &mut fmt::Formatter<W>) -> fmt::Result {
         write!(f, "{}", self.refusal())
-    }
-}
-
-/// A path is copied here, and never made, so that memory is the only cause.
-impl From<PathError> for HistoryError {
-    ghost use Rattle.syn_history.specs.declared.error.HistoryError.TheVariants.{Memory};
-
-    ghost from_gives = { λ _ e. e ≡ Memory };
-
-    fn from(_error: PathError) -> HistoryError {
-        HistoryError::Memory
     }
 }
 

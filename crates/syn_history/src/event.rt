@@ -6,7 +6,7 @@ ghost use Rattle.syn_tree.specs.Nodes.{part_of};
 
 use crate::error::HistoryError;
 use crate::token::Token;
-use std::alloc::Global;
+use std::alloc::{AllocError, Global};
 use syn_path::Path;
 use syn_tree::{Edit, Node, TreeError};
 
@@ -33,16 +33,15 @@ pub enum Event {
 }
 
 impl Event {
-    /// An equal one of its own. Refused 11 where memory is refused.
-    pub fn copy(&self, alloc: Global) -> Result<Event, HistoryError>
-        ensures ok { IfOk result (λ copy. event_of copy ≡ event_of self.now) }
-        ensures memory { IfErr result (λ e. e ≡ HistoryError.Memory) }
+    /// An equal one of its own. Refused where memory is refused.
+    pub fn copy(&self, alloc: Global) -> Result<Event, AllocError>
+        ensures { IfOk result (λ copy. event_of copy ≡ event_of self.now) }
     {
         match self {
-            Event::Edited { user, edit } => match edit.copy(alloc) {
-                Ok(edit) => Ok(Event::Edited { user: *user, edit }),
-                Err(_) => Err(HistoryError::Memory),
-            },
+            Event::Edited { user, edit } => {
+                let edit = edit.copy(alloc)?;
+                Ok(Event::Edited { user: *user, edit })
+            }
             Event::Began { session } => Ok(Event::Began { session: *session }),
             Event::Replaced {
                 token,
@@ -51,24 +50,21 @@ impl Event {
                 new,
             } => {
                 let path = path.copy(alloc)?;
-                match copy_part(alloc, new) {
-                    Ok(new) => Ok(Event::Replaced {
-                        token: *token,
-                        path,
-                        since: *since,
-                        new,
-                    }),
-                    Err(_) => Err(HistoryError::Memory),
-                }
+                let new = copy_part(alloc, new)?;
+                Ok(Event::Replaced {
+                    token: *token,
+                    path,
+                    since: *since,
+                    new,
+                })
             }
         }
     }
 }
 
-/// An equal part of its own, or nothing. Refused 11 where memory is refused.
-fn copy_part(alloc: Global, part: &Option<Node>) -> Result<Option<Node>, TreeError>
-    ensures ok { IfOk result (λ copy. part_of copy ≡ part_of part.now) }
-    ensures memory { IfErr result (λ e. e ≡ TreeError.Memory) }
+/// An equal part of its own, or nothing. Refused where memory is refused.
+fn copy_part(alloc: Global, part: &Option<Node>) -> Result<Option<Node>, AllocError>
+    ensures { IfOk result (λ copy. part_of copy ≡ part_of part.now) }
 {
     match part {
         Some(node) => Ok(Some(node.copy(alloc)?)),

@@ -3,7 +3,7 @@ ghost use Rattle.std.specs.Prelude.{◌≡◌, IfOk, IfErr};
 ghost use Rattle.std.specs.Option.{ForSome};
 
 use crate::error::HistoryError;
-use std::alloc::Global;
+use std::alloc::{AllocError, Global};
 use std::marker::Model;
 use syn_path::Path;
 use syn_placed::Slot;
@@ -27,10 +27,9 @@ impl Model for Place {
 }
 
 impl Place {
-    /// The path, with a slot if that is wanted. Refused 11 where memory is refused.
-    pub fn of(alloc: Global, path: &Path, has_slot: bool) -> Result<Place, HistoryError>
-        ensures path { IfOk result (λ place. place ≡ path.now) }
-        ensures memory { IfErr result (λ e. e ≡ HistoryError.Memory) }
+    /// The path, with a slot if that is wanted. Refused where memory is refused.
+    pub fn of(alloc: Global, path: &Path, has_slot: bool) -> Result<Place, AllocError>
+        ensures { IfOk result (λ place. place ≡ path.now) }
     {
         let own = path.copy(alloc)?;
         if !has_slot {

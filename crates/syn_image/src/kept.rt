@@ -7,11 +7,11 @@ ghost use Rattle.syn_mark.specs.Marks.{or_absent};
 ghost use Rattle.syn_wire.specs.Versions.{version_of};
 ghost use Rattle.syn_image.specs.Archives.{kept_of};
 
-use std::alloc::Global;
+use std::alloc::{AllocError, Global};
 use syn_mark::MarkTree;
 use syn_path::Path;
 use syn_wire::{
-    Version, WireError, copied, optional_marks_length, path_length, write_marks,
+    Version, WireError, optional_marks_length, path_length, write_marks,
     write_optional_marks, write_path, write_u64,
 };
 
@@ -33,33 +33,30 @@ pub enum Kept {
 }
 
 impl Kept {
-    /// The same, on its own. Refused 11 where memory is refused.
-    pub fn copy(&self, alloc: Global) -> Result<Kept, WireError>
+    /// The same, on its own. Refused where memory is refused.
+    pub fn copy(&self, alloc: Global) -> Result<Kept, AllocError>
         ensures { IfOk result (λ copy. kept_of copy ≡ kept_of self.now) }
     {
         match self {
             Kept::Session(session) => Ok(Kept::Session(*session)),
             Kept::Record(path, marks) => {
                 let marks = copied_marks(alloc, marks.as_ref())?;
-                Ok(Kept::Record(copied(alloc, path)?, marks))
+                Ok(Kept::Record(path.copy(alloc)?, marks))
             }
-            Kept::Dir(path) => Ok(Kept::Dir(copied(alloc, path)?)),
+            Kept::Dir(path) => Ok(Kept::Dir(path.copy(alloc)?)),
         }
     }
 }
 
 // Equal marks of their own, or none.
-fn copied_marks(alloc: Global, marks: Option<&MarkTree>) -> Result<Option<MarkTree>, WireError>
+fn copied_marks(alloc: Global, marks: Option<&MarkTree>) -> Result<Option<MarkTree>, AllocError>
     ensures { IfOk result (λ copy. or_absent copy
         ≡ or_absent (option_map (λ there. there.now) marks.entry)) }
 {
     let Some(there) = marks else {
         return Ok(None);
     };
-    match there.copy(alloc) {
-        Ok(copy) => Ok(Some(copy)),
-        Err(_) => Err(WireError::Memory),
-    }
+    Ok(Some(there.copy(alloc)?))
 }
 
 /// What the image of an archive holds.

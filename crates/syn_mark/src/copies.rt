@@ -6,16 +6,14 @@ ghost use Rattle.syn_model.specs.Limits.{fits_path};
 ghost use Rattle.syn_placed.specs.Pairs.{under};
 ghost use Rattle.syn_tree.specs.Lists.{stripped};
 
-use std::alloc::Global;
+use std::alloc::{AllocError, Global};
 use syn_path::{Name, Path, PathError};
 use syn_placed::{Placed, Standing};
 use syn_tree::TreeError;
 
-/// Equal names, put after those that are there. Refused 11 where memory is refused, and for no
-/// other cause.
-fn push_names(alloc: Global, names: &mut Vec<Name>, source: &[Name]) -> Result<(), PathError>
-    ensures ok { OnOk result (names.new.items ≡ names.old.items ++ source.now) }
-    ensures memory { IfErr result (λ e. e ≡ PathError.BadPath → ⊥) }
+/// Equal names, put after those that are there. Refused where memory is refused.
+fn push_names(alloc: Global, names: &mut Vec<Name>, source: &[Name]) -> Result<(), AllocError>
+    ensures { OnOk result (names.new.items ≡ names.old.items ++ source.now) }
 {
     for name in source {
         names.push(name.copy(alloc)?)?;
@@ -59,15 +57,14 @@ pub(crate) fn push_under<C: Standing>(
     Ok(())
 }
 
-/// The entries below the path, each without the path before its own. Refused 11 where memory is
-/// refused, and for no other cause.
+/// The entries below the path, each without the path before its own. Refused where memory is
+/// refused.
 pub(crate) fn below<C: Standing>(
     alloc: Global,
     list: &[Placed<C>],
     at: &Path,
-) -> Result<Vec<Placed<C>>, TreeError>
-    ensures ok { IfOk result (λ copies. copies.items ≡ stripped at.now list.now) }
-    ensures memory { IfErr result (λ e. e ≡ TreeError.Memory) }
+) -> Result<Vec<Placed<C>>, AllocError>
+    ensures { IfOk result (λ copies. copies.items ≡ stripped at.now list.now) }
 {
     let mut copies = Vec::new(alloc);
     for entry in list {
@@ -82,10 +79,9 @@ fn push_below<C: Standing>(
     copies: &mut Vec<Placed<C>>,
     at: &Path,
     entry: &Placed<C>,
-) -> Result<(), TreeError>
-    ensures ok { OnOk result (copies.new.items ≡ copies.old.items
+) -> Result<(), AllocError>
+    ensures { OnOk result (copies.new.items ≡ copies.old.items
         ++ stripped at.now (entry.now ∷ [])) }
-    ensures memory { IfErr result (λ e. e ≡ TreeError.Memory) }
 {
     if !at.is_prefix(entry.path()) {
         return Ok(());
@@ -94,7 +90,11 @@ fn push_below<C: Standing>(
     if rest.is_empty() {
         return Ok(());
     }
-    let path = joined(alloc, &[], rest)?;
+    let mut names = Vec::new(alloc);
+    push_names(alloc, &mut names, rest)?;
+    let Ok(path) = Path::from_names(names) else {
+        unreachable!()
+    };
     let content = entry.standing().copy(alloc)?;
     copies.push(Placed::new(path, content))?;
     Ok(())

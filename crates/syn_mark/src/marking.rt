@@ -10,7 +10,7 @@ ghost use Rattle.syn_mark.specs.inner.Placings.{marked};
 
 use crate::mark::Mark;
 use crate::tree::{MOST_NODES, MarkEntry, MarkTree};
-use std::alloc::Global;
+use std::alloc::{AllocError, Global};
 use syn_path::Path;
 use syn_tree::{Cursor, Entries, Found, Node, Pair, TreeError};
 
@@ -24,7 +24,7 @@ pub fn mark_of(alloc: Global, node: &Node) -> Result<MarkTree, TreeError>
         × (most_nodes < len (node_tree node.now))) }
 {
     match node {
-        Node::File(mode, bytes) => MarkTree::of_mark(alloc, Mark::of_file(*mode, bytes)),
+        Node::File(mode, bytes) => Ok(MarkTree::of_mark(alloc, Mark::of_file(*mode, bytes))?),
         Node::Dir(entries) => mark_of_directory(alloc, entries),
     }
 }
@@ -45,10 +45,13 @@ fn mark_of_directory(alloc: Global, entries: &Entries) -> Result<MarkTree, TreeE
     Ok(MarkTree::from_marks(list))
 }
 
-/// Puts the mark of each pair after those that are there. Refused 11 where memory is refused.
-fn push_marks(alloc: Global, list: &mut Vec<MarkEntry>, source: Cursor<'_>) -> Result<(), TreeError>
-    ensures ok { OnOk result (list.new.items ≡ list.old.items ++ marked source.entry) }
-    ensures memory { IfErr result (λ e. e ≡ TreeError.Memory) }
+/// Puts the mark of each pair after those that are there. Refused where memory is refused.
+fn push_marks(
+    alloc: Global,
+    list: &mut Vec<MarkEntry>,
+    source: Cursor<'_>,
+) -> Result<(), AllocError>
+    ensures { OnOk result (list.new.items ≡ list.old.items ++ marked source.entry) }
 {
     for pair in source {
         list.push(marked(alloc, &pair)?)?;
@@ -56,10 +59,9 @@ fn push_marks(alloc: Global, list: &mut Vec<MarkEntry>, source: Cursor<'_>) -> R
     Ok(())
 }
 
-/// The mark of what stands at the pair's path. Refused 11 where memory is refused.
-fn marked(alloc: Global, pair: &Pair<'_>) -> Result<MarkEntry, TreeError>
-    ensures ok { IfOk result (λ made. made ≡ (pair.now.0, mark_of pair.now.1)) }
-    ensures memory { IfErr result (λ e. e ≡ TreeError.Memory) }
+/// The mark of what stands at the pair's path. Refused where memory is refused.
+fn marked(alloc: Global, pair: &Pair<'_>) -> Result<MarkEntry, AllocError>
+    ensures { IfOk result (λ made. made ≡ (pair.now.0, mark_of pair.now.1)) }
 {
     let mark = mark_found(&pair.found());
     Ok(MarkEntry::new(pair.path(alloc)?, mark))

@@ -15,7 +15,7 @@ use crate::copies::{below, push_under};
 use crate::lawful::is_entry;
 use crate::mark::Mark;
 use crate::tree::{MarkEntry, MarkTree};
-use std::alloc::Global;
+use std::alloc::{AllocError, Global};
 use syn_path::{Name, Path};
 use syn_placed::Standing;
 use syn_placed::list::{entry_at, is_directory, parent_names};
@@ -76,16 +76,15 @@ fn fits_below(at: &Path, path: &Path) -> bool
 }
 
 /// The mark alone, and after it the entries below the path, each without the path before its own.
-/// Refused 11 where memory is refused.
+/// Refused where memory is refused.
 pub(crate) fn copy_part(
     alloc: Global,
     mark: Mark,
     part: &[MarkEntry],
     at: &Path,
-) -> Result<Vec<MarkEntry>, TreeError>
-    ensures ok { IfOk result (λ copies. copies.items
+) -> Result<Vec<MarkEntry>, AllocError>
+    ensures { IfOk result (λ copies. copies.items
         ≡ (root, content_of mark) ∷ stripped at.now part.now) }
-    ensures memory { IfErr result (λ e. e ≡ TreeError.Memory) }
 {
     let mut list = Vec::with_capacity(alloc, 1)?;
     list.push(MarkEntry::new(Path::root(alloc), mark))?;

@@ -20,7 +20,7 @@ use crate::lawful::{is_entry, is_mark, is_path};
 use crate::mark::Mark;
 use crate::placing::{all_fit_below, all_placed, copy_part, is_root, placed, stands_directory};
 use crate::same::same_entries;
-use std::alloc::Global;
+use std::alloc::{AllocError, Global};
 use std::marker::Model;
 use syn_path::Path;
 use syn_placed::list::{
@@ -59,10 +59,9 @@ impl Model for MarkTree {
 }
 
 impl MarkTree {
-    /// The mark of a file or of an empty directory, alone. Refused 11 where memory is refused.
-    pub fn of_mark(alloc: Global, mark: Mark) -> Result<MarkTree, TreeError>
-        ensures ok { IfOk result (λ marks. marks ≡ at_root (content_of mark)) }
-        ensures memory { IfErr result (λ e. e ≡ TreeError.Memory) }
+    /// The mark of a file or of an empty directory, alone. Refused where memory is refused.
+    pub fn of_mark(alloc: Global, mark: Mark) -> Result<MarkTree, AllocError>
+        ensures { IfOk result (λ marks. marks ≡ at_root (content_of mark)) }
     {
         is_mark(mark);
         let mut list = Vec::with_capacity(alloc, 1)?;
@@ -179,21 +178,19 @@ impl MarkTree {
         }
     }
 
-    /// The same marks, on their own. Refused 11 where memory is refused.
-    pub fn copy(&self, alloc: Global) -> Result<MarkTree, TreeError>
-        ensures ok { IfOk result (λ marks. marks ≡ self.now) }
-        ensures memory { IfErr result (λ e. e ≡ TreeError.Memory) }
+    /// The same marks, on their own. Refused where memory is refused.
+    pub fn copy(&self, alloc: Global) -> Result<MarkTree, AllocError>
+        ensures { IfOk result (λ marks. marks ≡ self.now) }
     {
         let list = copy_part(alloc, self.root(), &self.list, &Path::root(alloc))?;
         Ok(MarkTree { list })
     }
 
-    /// The marks at and below the path, on their own; none where nothing is. Refused 11 where
-    /// memory is refused.
-    pub fn copy_at(&self, alloc: Global, path: &Path) -> Result<Option<MarkTree>, TreeError>
+    /// The marks at and below the path, on their own; none where nothing is. Refused where memory
+    /// is refused for what is there.
+    pub fn copy_at(&self, alloc: Global, path: &Path) -> Result<Option<MarkTree>, AllocError>
         ensures ok { IfOk result (λ marks. or_absent marks ≡ subtree self.now path.now) }
-        ensures memory { IfErr result (λ e. (e ≡ TreeError.Memory)
-            × (get self.now path.now ≢ None)) }
+        ensures refused { IfErr result (λ _. get self.now path.now ≢ None) }
     {
         let part = part_at(&self.list, path.names());
         let Some(mark) = self.get(path) else {

@@ -7,7 +7,7 @@ use crate::copies::copy_entries;
 use crate::head::write_head;
 use crate::kind::{BEGUN, DONE, LISTED, NOT_DIR, PIECE, REFUSED, STAGED};
 use crate::listing::write_entries;
-use std::alloc::Global;
+use std::alloc::{AllocError, Global};
 use syn_mark::Mark;
 use syn_path::Name;
 use syn_refusal::Refusal;
@@ -58,8 +58,8 @@ impl Reply {
         }
     }
 
-    /// An equal reply of its own. Refused 11 where memory is refused.
-    pub fn copy(&self, alloc: Global) -> Result<Reply, WireError>
+    /// An equal reply of its own. Refused where memory is refused.
+    pub fn copy(&self, alloc: Global) -> Result<Reply, AllocError>
         ensures { IfOk result (λ copy. reply_of copy ≡ reply_of self.now) }
     {
         match self {

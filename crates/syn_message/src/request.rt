@@ -7,7 +7,7 @@ ghost use Rattle.syn_message.specs.Requests.{fields_spelling, kind_of, request_o
 use crate::copies::copy_path;
 use crate::head::write_head;
 use crate::kind::{BEGIN, FETCH, LIST, REPLACE, STAGE};
-use std::alloc::Global;
+use std::alloc::{AllocError, Global};
 use syn_path::Path;
 use syn_wire::{WireError, write_file, write_path, write_u32, write_u64};
 
@@ -59,14 +59,14 @@ impl Request {
         }
     }
 
-    /// An equal request of its own, which is sent once more. Refused 11 where memory is refused.
-    pub fn copy(&self, alloc: Global) -> Result<Request, WireError>
+    /// An equal request of its own, which is sent once more. Refused where memory is refused.
+    pub fn copy(&self, alloc: Global) -> Result<Request, AllocError>
         ensures { IfOk result (λ copy. request_of copy ≡ request_of self.now) }
     {
         match self {
             Request::Begin { pair } => Ok(Request::Begin { pair: *pair }),
             Request::List { path } => {
-                let path = copy_path(alloc, path)?;
+                let path = path.copy(alloc)?;
                 Ok(Request::List { path })
             }
             Request::Fetch {
@@ -74,7 +74,7 @@ impl Request {
                 since,
                 offset,
             } => {
-                let path = copy_path(alloc, path)?;
+                let path = path.copy(alloc)?;
                 Ok(Request::Fetch {
                     path,
                     since: *since,
@@ -99,7 +99,7 @@ impl Request {
                 since,
                 length,
             } => {
-                let path = copy_path(alloc, path)?;
+                let path = path.copy(alloc)?;
                 Ok(Request::Replace {
                     item: *item,
                     path,

@@ -5,7 +5,7 @@ ghost use Rattle.syn_model.specs.Path.{path_cmp};
 ghost use Rattle.syn_placed.specs.Pairs.{rooted, AreRising, pair_spelling_length, spelling_length};
 ghost use Rattle.syn_tree.specs.Contents.{found_content};
 
-use std::alloc::Global;
+use std::alloc::{AllocError, Global};
 use syn_path::Name;
 use syn_placed::list::entry_at;
 use syn_placed::{Placed, Standing};
@@ -15,10 +15,12 @@ use syn_tree::{Content, Found, TreeError};
 /// An entry of a plain tree: a path with a file or a directory.
 pub(crate) type Entry = Placed<Content>;
 
-/// The entries with the paths of their keys. Refused 11 where memory is refused.
-pub(crate) fn with_paths(alloc: Global, list: Vec<syn_tree::Entry>) -> Result<Vec<Entry>, TreeError>
-    ensures ok { IfOk result (λ entries. entries.items ≡ list.items) }
-    ensures memory { IfErr result (λ e. e ≡ TreeError.Memory) }
+/// The entries with the paths of their keys. Refused where memory is refused.
+pub(crate) fn with_paths(
+    alloc: Global,
+    list: Vec<syn_tree::Entry>,
+) -> Result<Vec<Entry>, AllocError>
+    ensures { IfOk result (λ entries. entries.items ≡ list.items) }
 {
     let mut entries = Vec::with_capacity(alloc, list.len())?;
     for entry in list {
@@ -29,10 +31,9 @@ pub(crate) fn with_paths(alloc: Global, list: Vec<syn_tree::Entry>) -> Result<Ve
     Ok(entries)
 }
 
-/// Equal entries with the keys of their paths. Refused 11 where memory is refused.
-pub(crate) fn with_keys(alloc: Global, list: &[Entry]) -> Result<Vec<syn_tree::Entry>, TreeError>
-    ensures ok { IfOk result (λ entries. entries.items ≡ list.now) }
-    ensures memory { IfErr result (λ e. e ≡ TreeError.Memory) }
+/// Equal entries with the keys of their paths. Refused where memory is refused.
+pub(crate) fn with_keys(alloc: Global, list: &[Entry]) -> Result<Vec<syn_tree::Entry>, AllocError>
+    ensures { IfOk result (λ entries. entries.items ≡ list.now) }
 {
     let mut entries = Vec::with_capacity(alloc, list.len())?;
     for entry in list {

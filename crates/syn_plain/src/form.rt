@@ -13,7 +13,7 @@ ghost use Rattle.syn_tree.specs.Nodes.{part_of};
 ghost use Rattle.syn_tree.specs.Refusals.{refusal_of, refusal_in};
 
 use crate::plain::PlainTree;
-use std::alloc::Global;
+use std::alloc::{AllocError, Global};
 use syn_path::{Name, Path};
 use syn_tree::{Edit, Found, Node, Tree, TreeError};
 
@@ -42,10 +42,9 @@ pub trait TreeForm: Drop + Sized {
         ensures absent { (result ≡ Err TreeError.Absent)
             ↔ (is_directory (tree self.now) path.now ≡ false) };
 
-    /// What is at and below the path; none where nothing is. Refused 11 where memory is refused.
-    fn subtree(&self, alloc: Global, path: &Path) -> Result<Option<Node>, TreeError>
-        ensures ok { IfOk result (λ node. part_of node ≡ subtree (tree self.now) path.now) }
-        ensures memory { IfErr result (λ e. e ≡ TreeError.Memory) };
+    /// What is at and below the path; none where nothing is. Refused where memory is refused.
+    fn subtree(&self, alloc: Global, path: &Path) -> Result<Option<Node>, AllocError>
+        ensures { IfOk result (λ node. part_of node ≡ subtree (tree self.now) path.now) };
 
     /// Why the edit is refused, with no change and no memory taken.
     fn check(&self, edit: &Edit) -> Result<(), TreeError>
@@ -95,7 +94,7 @@ impl TreeForm for Tree {
         self.list(alloc, path)
     }
 
-    fn subtree(&self, alloc: Global, path: &Path) -> Result<Option<Node>, TreeError> {
+    fn subtree(&self, alloc: Global, path: &Path) -> Result<Option<Node>, AllocError> {
         self.subtree(alloc, path)
     }
 
@@ -131,7 +130,7 @@ impl TreeForm for PlainTree {
         self.list(alloc, path)
     }
 
-    fn subtree(&self, alloc: Global, path: &Path) -> Result<Option<Node>, TreeError> {
+    fn subtree(&self, alloc: Global, path: &Path) -> Result<Option<Node>, AllocError> {
         self.subtree(alloc, path)
     }
 

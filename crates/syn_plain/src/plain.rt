@@ -17,7 +17,7 @@ ghost use Rattle.syn_tree.specs.Nodes.{part_of};
 ghost use Rattle.syn_tree.specs.Refusals.{refusal_of, refusal_in};
 
 use crate::entries::{Entry, find, spelled, with_keys, with_paths};
-use std::alloc::Global;
+use std::alloc::{AllocError, Global};
 use std::marker::Model;
 use syn_path::{Name, Path};
 use syn_placed::list::{count_children, is_directory, parent_names, part_at, replace_part};
@@ -176,16 +176,15 @@ impl PlainTree {
         match self.get(path) {
             Some(Found::Dir) => {
                 let part = with_keys(alloc, part_at(&self.list, path.names()))?;
-                kinds(alloc, children(alloc, &part, &path.key())?)
+                Ok(kinds(alloc, children(alloc, &part, &path.key())?)?)
             }
             _ => Err(TreeError::Absent),
         }
     }
 
-    /// What is at and below the path; none where nothing is. Refused 11 where memory is refused.
-    pub fn subtree(&self, alloc: Global, path: &Path) -> Result<Option<Node>, TreeError>
-        ensures ok { IfOk result (λ node. part_of node ≡ subtree self.now path.now) }
-        ensures memory { IfErr result (λ e. e ≡ TreeError.Memory) }
+    /// What is at and below the path; none where nothing is. Refused where memory is refused.
+    pub fn subtree(&self, alloc: Global, path: &Path) -> Result<Option<Node>, AllocError>
+        ensures { IfOk result (λ node. part_of node ≡ subtree self.now path.now) }
     {
         match self.get(path) {
             None => Ok(None),

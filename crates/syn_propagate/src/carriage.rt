@@ -7,7 +7,7 @@ ghost use Rattle.syn_model.specs.Path.{IsPath};
 use crate::error::TransferError;
 use crate::lawful::{are_bytes, is_number, is_position};
 use crate::next::Next;
-use std::alloc::Global;
+use std::alloc::{AllocError, Global};
 use syn_message::{Request, Side};
 use syn_path::Path;
 
@@ -91,13 +91,12 @@ impl Carriage {
         Ok(Next::Ask(self.source.other(), request))
     }
 
-    /// The path once more. Refused 11 where memory is refused.
-    fn copy_path(&self, alloc: Global) -> Result<Path, TransferError>
+    /// The path once more, which is lawful. Refused where memory is refused.
+    fn copy_path(&self, alloc: Global) -> Result<Path, AllocError>
         ensures ok { IfOk result (λ path. path ≡ self.now.path) }
         ensures lawful { IsPath self.now.path }
-        ensures memory { IfErr result (λ e. e ≡ TransferError.Memory) }
     {
         let _ = self.path.names();
-        self.path.copy(alloc).map_err(|_| TransferError::Memory)
+        self.path.copy(alloc)
     }
 }

@@ -4,6 +4,7 @@ ghost use Rattle.syn_model.specs.Refusal.{number, name_of};
 ghost use Rattle.syn_refusal.specs.Refusals.{cause_of};
 ghost use Rattle.syn_propagate.specs.Refusals.{refusal_of};
 
+use std::alloc::AllocError;
 use std::fmt;
 use syn_refusal::Refusal;
 use thiserror::Error;
@@ -42,5 +43,15 @@ impl fmt::Display for TransferError {
 
     fn fmt<W: fmt::Write>(&self, f: &mut fmt::Formatter<W>) -> fmt::Result {
         write!(f, "{}", self.refusal())
+    }
+}
+
+impl From<AllocError> for TransferError {
+    ghost use Rattle.syn_propagate.specs.declared.error.TransferError.TheVariants.{Memory};
+
+    ghost from_gives = { λ _ e. e ≡ Memory };
+
+    fn from(_error: AllocError) -> TransferError {
+        TransferError::Memory
     }
 }

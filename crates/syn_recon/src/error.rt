@@ -7,7 +7,6 @@ ghost use Rattle.syn_recon.specs.Refusals.{refusal_of};
 use std::alloc::{AllocError, AllocFailed};
 use std::fmt;
 use syn_dirty::DirtyError;
-use syn_path::PathError;
 use syn_refusal::Refusal;
 use thiserror::Error;
 
@@ -55,17 +54,6 @@ impl From<DirtyError> for PlanError {
         match error {
             DirtyError::Memory => PlanError::Memory,
         }
-    }
-}
-
-/// The copy of a path is refused for lack of memory alone.
-impl From<PathError> for PlanError {
-    ghost use Rattle.syn_recon.specs.declared.error.PlanError.TheVariants.{Memory};
-
-    ghost from_gives = { λ _ e. e ≡ Memory };
-
-    fn from(_error: PathError) -> PlanError {
-        PlanError::Memory
     }
 }
 

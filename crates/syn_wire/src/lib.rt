@@ -62,7 +62,6 @@ pub use event::{decode_event, edit_length, encode_edit, encode_event, read_token
 pub use mark_reading::{decode_mark_tree, decode_marks};
 pub use marks::{encode_marks, optional_marks_length, write_marks, write_optional_marks};
 pub use number::{read_u16, read_u32, read_u64, write_u16, write_u32, write_u64};
-pub use part_reading::copied;
 pub use path::{decode_path, encode_path, path_length, write_path};
 pub use piece::{encode_piece, part_length};
 pub use tree::{encode_node, encode_tree, write_node, write_tree};

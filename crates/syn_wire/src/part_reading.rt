@@ -91,7 +91,7 @@ fn read_directory_at<'a, C: Readable>(
     let Some((count, below)) = read_u16(fields) else {
         return Ok(None);
     };
-    let above = copied(alloc, &path)?;
+    let above = path.copy(alloc)?;
     list.push(Placed::new(path, C::directory()))?;
     read_parts(alloc, version, list, &above, count, below)
 }
@@ -132,15 +132,5 @@ fn read_child<'a>(
         Ok(path) => Ok(Some((path, rest))),
         Err(PathError::BadPath) => Ok(None),
         Err(PathError::Memory) => Err(WireError::Memory),
-    }
-}
-
-/// An equal path of its own. Refused 11 where memory is refused.
-pub fn copied(alloc: Global, path: &Path) -> Result<Path, WireError>
-    ensures { IfOk result (λ copy. copy ≡ path.now) }
-{
-    match path.copy(alloc) {
-        Ok(copy) => Ok(copy),
-        Err(_) => Err(WireError::Memory),
     }
 }

@@ -8,5 +8,5 @@ pub returns-clause-edits : goal.returns-clause-edits
 returns-clause-edits c =
     on_ok_weaker c.apply.result
     (λ done. goes_one c.args.work.now c.args.edits.now.items c.apply.new.self c.push.new.self.items
-    (edit_of c.args.edit) c.in_ok-copy.field-0 c.in_ok-copy.ensures.ok c.in_ok-push.ensures.items
+    (edit_of c.args.edit) c.in_ok-copy.field-0 c.in_ok-copy.ensures c.in_ok-push.ensures.items
     (sym done)) c.apply.ensures.done

@@ -17,7 +17,7 @@ returns-then-has_bytes-clause-edits c =
 pub returns-clause-there : goal.returns-clause-there
 returns-clause-there c =
     let t = c.args.work.now in
-    let same = ap₂ Put c.in_ok-copy.ensures.ok c.in_ok-from_slice.ensures.items in
+    let same = ap₂ Put c.in_ok-copy.ensures c.in_ok-from_slice.ensures.items in
     let P : Edit → Type 0 = λ e. edit_refusal t e ≡ None in
     let above = c.entries.ensures.tree.part.parents in
     both_ok c.make.result
@@ -30,7 +30,7 @@ returns-clause-there c =
 pub returns-clause-mode : goal.returns-clause-mode
 returns-clause-mode c =
     let t = c.args.work.now in
-    let same = ap₂ Put c.in_ok-copy.ensures.ok c.in_ok-from_slice.ensures.items in
+    let same = ap₂ Put c.in_ok-copy.ensures c.in_ok-from_slice.ensures.items in
     let P : Edit → Type 0 = λ e. edit_refusal t e ≡ None in
     both_ok c.make.result
     (λ made allowed. ap put_mode (put_placed t c.args.path.now c.args.bytes.now c.make.new.work
@@ -40,7 +40,7 @@ returns-clause-mode c =
 pub returns-clause-elsewhere : goal.returns-clause-elsewhere
 returns-clause-elsewhere c =
     let t = c.args.work.now in
-    let same = ap₂ Put c.in_ok-copy.ensures.ok c.in_ok-from_slice.ensures.items in
+    let same = ap₂ Put c.in_ok-copy.ensures c.in_ok-from_slice.ensures.items in
     let P : Edit → Type 0 = λ e. edit_refusal t e ≡ None in
     both_ok c.make.result
     (λ made allowed. (put_placed t c.args.path.now c.args.bytes.now c.make.new.work
@@ -50,7 +50,7 @@ returns-clause-elsewhere c =
 pub returns-clause-edits : goal.returns-clause-edits
 returns-clause-edits c =
     let t = c.args.work.now in
-    let same = ap₂ Put c.in_ok-copy.ensures.ok c.in_ok-from_slice.ensures.items in
+    let same = ap₂ Put c.in_ok-copy.ensures c.in_ok-from_slice.ensures.items in
     let put = Put c.in_ok-copy.field-0 c.in_ok-from_slice.field-0.items in
     on_ok_weaker c.make.result
     (λ on. goes_as (PutsBytes t c.args.path.now c.args.bytes.now) t c.args.edits.now.items
@@ -61,7 +61,7 @@ returns-clause-edits c =
 pub returns-clause-refused : goal.returns-clause-refused
 returns-clause-refused c =
     let t = c.args.work.now in
-    let same = ap₂ Put c.in_ok-copy.ensures.ok c.in_ok-from_slice.ensures.items in
+    let same = ap₂ Put c.in_ok-copy.ensures c.in_ok-from_slice.ensures.items in
     let put = Put c.in_ok-copy.field-0 c.in_ok-from_slice.field-0.items in
     refused_as (PutsBytes t c.args.path.now c.args.bytes.now) t c.make.result put
     (same, λ there. true≢false (sym (c.has_bytes.ensures.1 there) ∙ c.if-has_bytes.false))

@@ -19,7 +19,7 @@ returns-in-Some-Dir-clause-refused c =
     let entries = c.in-Some-Dir.entries in
     let whole : entries ≡ subtree tree path =
     sym (ap part_of (c.in-Some-Dir.is ∙ ap (λ n. Some n) c.in-Some-Dir.field-0-is))
-    ∙ c.in_ok-entries.ensures.ok in
+    ∙ c.in_ok-entries.ensures in
     let fits : fits_replica entries ≡ true =
     ap (λ (t : Tree). fits_replica t) whole ∙ part_fits tree path c.entries.ensures.fits
     (sym (ap (λ (t : Tree). fits_part t) whole) ∙ c.iter.ensures.part)
@@ -35,7 +35,7 @@ returns-in-Some-File-clause-refused c =
     let bytes = c.in-Some-File.field-0-1.items in
     let whole : file_with mode bytes ≡ subtree tree path =
     sym (ap part_of (c.in-Some-File.is ∙ ap (λ n. Some n) c.in-Some-File.field-0-is))
-    ∙ c.in_ok-entries.ensures.ok in
+    ∙ c.in_ok-entries.ensures in
     inr (
       refl,
       root_of tree path (file_with mode bytes) whole
@@ -47,5 +47,5 @@ returns-clause-refused c =
     let tree = c.args.tree.now in
     let path = c.args.path.now in
     let whole : absent ≡ subtree tree path =
-    sym (ap part_of c.in-None.is) ∙ c.in_ok-entries.ensures.ok in
+    sym (ap part_of c.in-None.is) ∙ c.in_ok-entries.ensures in
     inr (refl, root_of tree path absent whole ∙ ap is_directory_content (get-empty path_cmp root))

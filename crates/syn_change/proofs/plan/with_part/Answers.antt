@@ -31,7 +31,7 @@ returns-clause-whole c =
     let part = c.args.part.now in
     let at = c.args.path.now in
     let same : part_of c.in_ok-part.part ≡ part =
-    c.in_ok-part.ensures.ok ∙ (ap (subtree part) c.root.ensures ∙ subtree-root part) in
+    c.in_ok-part.ensures ∙ (ap (subtree part) c.root.ensures ∙ subtree-root part) in
     c.in_ok-replace.ensures.done
     ∙ (ap (λ t. replace t at (part_of c.in_ok-part.part)) c.in_ok-whole.ensures.ok
     ∙ ap (replace tree at) same)
@@ -49,7 +49,7 @@ returns-in_err-replace-clause-refused c =
     let part = c.args.part.now in
     let at = c.args.path.now in
     let same : part_of c.in_ok-part.part ≡ part =
-    c.in_ok-part.ensures.ok ∙ (ap (subtree part) c.root.ensures ∙ subtree-root part) in
+    c.in_ok-part.ensures ∙ (ap (subtree part) c.root.ensures ∙ subtree-root part) in
     let below : is_root at ≡ false =
     ap is_root (sym c.names.ensures.names)
     ∙ named c.names.result.now (sym c.is_empty.ensures ∙ c.if-is_empty.false) in

@@ -30,7 +30,7 @@ returns-clause-without c =
     on_ok_weaker c.make.result
     (λ made. removed t wanted path c.make.new.work c.entries.ensures.tree.part.parents
     c.entries-2.ensures.tree.part.parents gone
-    (made ∙ ap (λ p. replace t p absent) c.in_ok-copy.ensures.ok)) c.make.ensures.done
+    (made ∙ ap (λ p. replace t p absent) c.in_ok-copy.ensures)) c.make.ensures.done
 
 pub returns-clause-edits : goal.returns-clause-edits
 returns-clause-edits c =
@@ -46,7 +46,7 @@ returns-clause-edits c =
     on_ok_weaker c.make.result
     (λ on. goes_as (Removes t wanted path) t c.args.edits.now.items c.make.new.work
     c.make.new.edits.items (Remove c.in_ok-copy.field-0)
-    (ap Remove c.in_ok-copy.ensures.ok, there, gone, below.1) on) c.make.ensures.edits
+    (ap Remove c.in_ok-copy.ensures, there, gone, below.1) on) c.make.ensures.edits
 
 pub returns-clause-memory : goal.returns-clause-memory
 returns-clause-memory c =
@@ -59,7 +59,7 @@ returns-clause-memory c =
     ∙ (sym c.is_wanted.ensures ∙ c.if-is_wanted.false) in
     let below = stands_below t wanted path c.entries.ensures.tree c.entries-2.ensures.tree there
     gone in
-    let allowed = ap (λ p. edit_refusal t (Remove p)) c.in_ok-copy.ensures.ok
+    let allowed = ap (λ p. edit_refusal t (Remove p)) c.in_ok-copy.ensures
     ∙ removable t path c.entries.ensures.fits below.0 below.1 there in
     IfErr-weaker c.make.result _ _ (λ e refused. only_memory e _ allowed refused)
     c.make.ensures.cause

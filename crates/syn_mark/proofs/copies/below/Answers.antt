@@ -10,13 +10,13 @@ loop-entry-init g c = c.new-copies.ensures.items
 pub loop-entry-preserved : goal.loop-entry-preserved
 loop-entry-preserved g c =
     let at = c.args.at.now in
-    c.in_ok-push_below.ensures.ok
+    c.in_ok-push_below.ensures
     ∙ (ap (λ xs. xs ++ stripped at (c.entry-item.result ∷ [])) c.loop-entry.invariant
     ∙ sym (strip_more at c.args.list.now c.loop-entry.entry-index c.entry-item.result
     c.loop-entry-test.true c.entry-item.is))
 
-pub returns-clause-ok : goal.returns-clause-ok
-returns-clause-ok g c =
+pub returns : goal.returns
+returns g c =
     let ended : c.loop-entry.entry-index ≡ length c.args.list.now =
     omega (arith, c.loop-entry-test.false, c.loop-entry.auto.entry-index-end) in
     c.loop-entry.invariant ∙ ap (stripped c.args.at.now)

@@ -13,12 +13,12 @@ loop-name-preserved c =
     let read =
     take_more c.args.source.now c.loop-name.name-index c.name-item.result c.loop-name-test.true in
     c.in_ok-push.ensures.items
-    ∙ (ap₂ (λ xs x. xs ++ x ∷ []) c.loop-name.invariant (c.in_ok-copy.ensures.ok ∙ c.name-item.is)
+    ∙ (ap₂ (λ xs x. xs ++ x ∷ []) c.loop-name.invariant (c.in_ok-copy.ensures ∙ c.name-item.is)
     ∙ (append_assoc old (take c.loop-name.name-index c.args.source.now) _
     ∙ ap (λ xs. old ++ xs) (sym read)))
 
-pub returns-clause-ok : goal.returns-clause-ok
-returns-clause-ok c =
+pub returns : goal.returns
+returns c =
     let ended : c.loop-name.name-index ≡ length c.args.source.now =
     omega (arith, c.loop-name-test.false, c.loop-name.auto.name-index-end) in
     c.loop-name.invariant ∙ ap (λ xs. c.args.names.now.items ++ xs)

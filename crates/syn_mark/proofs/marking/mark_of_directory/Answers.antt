@@ -25,7 +25,7 @@ marks_are : (c : goal.In_ok-push_marks) →
 marks_are c =
     let first = c.in_ok-push.ensures.items ∙ ap₂ (λ xs x. xs ++ x ∷ []) c.in_ok-list.ensures.items
     (c.new.ensures ∙ ap (λ (p : Path). (p, Directory)) c.root.ensures) in
-    c.in_ok-push_marks.ensures.ok ∙ (ap (λ xs. xs ++ marked c.iter-below.result) first
+    c.in_ok-push_marks.ensures ∙ (ap (λ xs. xs ++ marked c.iter-below.result) first
     ∙ (ap marked c.iter-below.ensures.all ∙ sym (entries-mark c.args.entries.now)))
 
 pub from_marks-requires : goal.from_marks-requires

@@ -15,6 +15,6 @@ loop-entry-preserved c =
           c.in_ok-push.ensures.items
           ∙ ap₂ (λ xs y. xs ++ y ∷ []) c.loop-entry.invariant.pushed
           (c.new.ensures ∙ ap₂ (λ (p : Path) (d : Content). (p, d))
-          (c.in_ok-path.ensures.ok ∙ c.key.ensures)
+          (c.in_ok-path.ensures ∙ c.key.ensures)
           (c.in_ok-content.ensures ∙ c.standing.ensures));
     }

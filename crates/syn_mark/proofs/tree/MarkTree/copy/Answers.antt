@@ -17,7 +17,7 @@ invariant_of-result c =
     let ds = c.self.inside.list.items in
     let all = sym (entries_of ds c.self.invariant) ∙ ap entries c.self.view_is in
     let items : c.in_ok-list.list.items ≡ entries t =
-    c.in_ok-list.ensures.ok ∙ (ap₂ (λ p es. (root, content_of c.root.result) ∷ stripped p es)
+    c.in_ok-list.ensures ∙ (ap₂ (λ p es. (root, content_of c.root.result) ∷ stripped p es)
     c.root-2.ensures (c.deref.ensures.value ∙ all)
     ∙ (stripped_part t root (content_of c.root.result) c.root.ensures ∙ ap entries (whole_part t)))
     in
@@ -25,13 +25,13 @@ invariant_of-result c =
     ∙ c.self.invariant.present) (subst IsMarks c.self.view_is c.self.invariant.marks)
     (ap fits_archive (sym c.self.view_is) ∙ c.self.invariant.fits)
 
-pub returns-clause-ok : goal.returns-clause-ok
-returns-clause-ok c =
+pub returns : goal.returns
+returns c =
     let t = c.args.self.now in
     let ds = c.self.inside.list.items in
     let all = sym (entries_of ds c.self.invariant) ∙ ap entries c.self.view_is in
     let items : c.in_ok-list.list.items ≡ entries t =
-    c.in_ok-list.ensures.ok ∙ (ap₂ (λ p es. (root, content_of c.root.result) ∷ stripped p es)
+    c.in_ok-list.ensures ∙ (ap₂ (λ p es. (root, content_of c.root.result) ∷ stripped p es)
     c.root-2.ensures (c.deref.ensures.value ∙ all)
     ∙ (stripped_part t root (content_of c.root.result) c.root.ensures ∙ ap entries (whole_part t)))
     in

@@ -33,7 +33,7 @@ copied c =
     ∙ ap (option_map (λ m. content_of m)) c.in-Some.is in
     let all : ds ≡ entries t = sym (entries_of ds c.self.invariant) ∙ ap entries c.self.view_is in
     let part = c.part_at-part.ensures ∙ ap₂ within c.names.ensures.names c.deref.ensures.value in
-    c.in_ok-list.ensures.ok ∙ (ap (λ es. (root, mark) ∷ es) (ap (stripped at) part
+    c.in_ok-list.ensures ∙ (ap (λ es. (root, mark) ∷ es) (ap (stripped at) part
     ∙ (stripped-within at ds ∙ ap (stripped at) all)) ∙ stripped_part t at mark here)
 
 pub invariant_of-result : goal.invariant_of-result

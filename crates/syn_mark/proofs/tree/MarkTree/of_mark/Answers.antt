@@ -15,8 +15,8 @@ invariant_of-result c =
     are_marks (at_root mark) c.push.new.self.items (items ∙ one_entries mark) (one_present mark)
     (one_marks mark c.is_mark.ensures) (one_fits mark)
 
-pub returns-clause-ok : goal.returns-clause-ok
-returns-clause-ok c =
+pub returns : goal.returns
+returns c =
     let mark = content_of c.args.mark in
     let items : c.push.new.self.items ≡ (root, mark) ∷ [] = c.in_ok-push.ensures.items
     ∙ ap₂ (λ xs x. xs ++ x ∷ []) c.in_ok-list.ensures.items

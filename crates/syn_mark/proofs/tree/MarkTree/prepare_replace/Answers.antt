@@ -33,13 +33,13 @@ placed-requires c =
 pub placed-requires-2 : goal.placed-requires-2
 placed-requires-2 c =
     spaced_of c.args.path.now c.in_ok-at.at (or_absent c.args.new) c.in_ok-added.added.items
-    c.in_ok-space.space.items c.in_ok-at.ensures.ok c.is_path.ensures c.placed.ensures.marks
+    c.in_ok-space.space.items c.in_ok-at.ensures c.is_path.ensures c.placed.ensures.marks
     c.in_ok-added.ensures.ok c.in_ok-space.ensures.items
 
 pub returns-clause-new : goal.returns-clause-new
 returns-clause-new c =
     c.placed-2.ensures.new
-    ∙ (ap (λ p. taken_from p c.in_ok-added.added.items) c.in_ok-at.ensures.ok ∙ taken_is
+    ∙ (ap (λ p. taken_from p c.in_ok-added.added.items) c.in_ok-at.ensures ∙ taken_is
     c.args.path.now (or_absent c.args.new) c.in_ok-added.added.items c.in_ok-added.ensures.ok)
 
 pub returns-clause-ready : goal.returns-clause-ready
@@ -52,7 +52,7 @@ returns-clause-ready c =
     let allowed : replace_refusal t at u ≡ None = ap (replace_refusal t at) (sym same)
     ∙ (sym c.check_replace.ensures ∙ ap refusal_in c.in_ok-check_replace.was) in
     let new = returns-clause-new c in
-    let place = c.placed-2.ensures.at ∙ c.in_ok-at.ensures.ok in
+    let place = c.placed-2.ensures.at ∙ c.in_ok-at.ensures in
     let parts = allowed_parts t at u allowed in
     let ds = c.self.inside.list.items in
     let all = sym (entries_of ds c.self.invariant) ∙ ap entries c.self.view_is in

@@ -8,22 +8,16 @@ use Rattle.syn_tree.proofs.WithinLemmas.{contents-within}
 use Rattle.syn_tree.proofs.ListingLemmas.{children-entries}
 use Rattle.syn_plain.proofs.plain.PlainTree.list.Goals as goal
 
--- what holds of the value holds of one that is equal
-carried : {X E : Type 0} (P Q : X → Type 0) (r : Result X E) → ((x : X) → P x → Q x) → IfOk r P →
-    IfOk r Q
-carried P Q (Ok x) f h = f x h
-carried P Q (Err e) f h = h
-
-pub returns-in_ok-children-in-Some-Dir-clause-names :
-    goal.returns-in_ok-children-in-Some-Dir-clause-names
-returns-in_ok-children-in-Some-Dir-clause-names c =
+pub returns-in_ok-kinds-in-Some-Dir-clause-names :
+    goal.returns-in_ok-kinds-in-Some-Dir-clause-names
+returns-in_ok-kinds-in-Some-Dir-clause-names c =
     let t = c.args.self.now in
     let p = c.args.path.now in
     let ds = c.self.inside.list.items in
     let whole = ap entries (sym c.self.view_is) ∙ entries-with ds c.self.invariant.rising in
-    let part = c.deref-in-Some-Dir.ensures.value ∙ (c.in_ok-part-in-Some-Dir.ensures.ok
+    let part = c.deref-in-Some-Dir.ensures.value ∙ (c.in_ok-part-in-Some-Dir.ensures
     ∙ (c.part_at.ensures ∙ ap₂ within c.names.ensures.names c.deref.ensures.value)) in
     let same = ap₂ child_contents c.key.ensures part
     ∙ (contents-within p ds ∙ sym (children-entries t p ds whole)) in
-    carried _ _ c.kinds.result (λ names h. h ∙ ap kinds_of (c.in_ok-children-in-Some-Dir.ensures.ok
-    ∙ same)) c.kinds.ensures.ok
+    c.in_ok-kinds-in-Some-Dir.ensures
+    ∙ ap kinds_of (c.in_ok-children-in-Some-Dir.ensures.ok ∙ same)

@@ -56,7 +56,7 @@ put-requires-clause-placed c =
     let at = c.args.path.now in
     let u = part_of c.args.new in
     let size = c.in-Some.ensures.some.0 ∙ ap spelling_length c.deref.ensures.value in
-    subst (λ xs. ArePlaced at xs c.in-Some.size) (sym c.in_ok-entries.ensures.ok)
+    subst (λ xs. ArePlaced at xs c.in-Some.size) (sym c.in_ok-entries.ensures)
     (placeable_placed at at u c.in_ok-added.added.items c.in-Some.size
     (subst (λ p. IsPlaceable p u c.in_ok-added.added.items) c.key.ensures
     c.in_ok-added.ensures.ok) refl size)
@@ -73,7 +73,7 @@ put-requires-clause-fits c =
     omega (arith, c.len.ensures, c.in_ok-added.added.ok) in
     let fits = sym (c.fits.ensures u (placeable_measured at u c.in_ok-added.added.items
     c.len.result c.in-Some.size placeable count size)) ∙ c.if-not-fits.false in
-    ap (λ w. fits_replica (replace t at w)) (ap (taken_from at) c.in_ok-entries.ensures.ok
+    ap (λ w. fits_replica (replace t at w)) (ap (taken_from at) c.in_ok-entries.ensures
     ∙ placeable_new at at u c.in_ok-added.added.items placeable refl) ∙ fits
 
 pub returns-clause-done : goal.returns-clause-done
@@ -82,7 +82,7 @@ returns-clause-done c =
     let u = part_of c.args.new in
     let placeable = subst (λ p. IsPlaceable p u c.in_ok-added.added.items) c.key.ensures
     c.in_ok-added.ensures.ok in
-    c.put.ensures ∙ ap (replace c.args.self.now at) (ap (taken_from at) c.in_ok-entries.ensures.ok
+    c.put.ensures ∙ ap (replace c.args.self.now at) (ap (taken_from at) c.in_ok-entries.ensures
     ∙ placeable_new at at u c.in_ok-added.added.items placeable refl)
 
 pub returns-clause-allowed : goal.returns-clause-allowed

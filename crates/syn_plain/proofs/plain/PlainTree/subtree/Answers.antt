@@ -35,23 +35,23 @@ lawful-requires c =
     let dir : get t c.args.path.now ≡ Some Directory = sym c.get.ensures
     ∙ (ap (option_map (λ found. found_content found)) c.in-Some-Dir.is
     ∙ ap (λ f. Some (found_content f)) c.in-Some-Dir.field-0-is) in
-    let part = c.deref-in-Some-Dir.ensures.value ∙ (c.in_ok-part-in-Some-Dir.ensures.ok
+    let part = c.deref-in-Some-Dir.ensures.value ∙ (c.in_ok-part-in-Some-Dir.ensures
     ∙ (c.part_at.ensures ∙ ap₂ within c.names.ensures.names c.deref.ensures.value)) in
     stripped_lawful t c.args.path.now ds c.in_ok-list-in-Some-Dir.list.items all
     (subst IsTree c.self.view_is c.self.invariant.tree) limits.0 limits.1 dir
-    (c.in_ok-list-in-Some-Dir.ensures.ok ∙ (ap₂ stripped c.key.ensures part
+    (c.in_ok-list-in-Some-Dir.ensures ∙ (ap₂ stripped c.key.ensures part
     ∙ stripped-within c.args.path.now ds))
 
-pub returns-in-None-clause-ok : goal.returns-in-None-clause-ok
-returns-in-None-clause-ok c =
+pub returns-in-None : goal.returns-in-None
+returns-in-None c =
     let t = c.args.self.now in
     let none : get t c.args.path.now ≡ None = sym c.get.ensures
     ∙ ap (option_map (λ found. found_content found)) c.in-None.is in
     subtree_none t c.args.path.now
     (subst IsTree c.self.view_is c.self.invariant.tree).part.parents none
 
-pub returns-in_ok-bytes-in-Some-File-clause-ok : goal.returns-in_ok-bytes-in-Some-File-clause-ok
-returns-in_ok-bytes-in-Some-File-clause-ok c =
+pub returns-in_ok-bytes-in-Some-File : goal.returns-in_ok-bytes-in-Some-File
+returns-in_ok-bytes-in-Some-File c =
     let t = c.args.self.now in
     let bytes = c.in-Some-File.bytes.now in
     let mode = mode_of c.in-Some-File.mode in
@@ -61,17 +61,17 @@ returns-in_ok-bytes-in-Some-File-clause-ok c =
     ap (file_with mode) c.in_ok-bytes-in-Some-File.ensures.items ∙ subtree_file t c.args.path.now
     (contents_with mode bytes) (subst IsTree c.self.view_is c.self.invariant.tree).part.parents here
 
-pub returns-in_ok-list-in-Some-Dir-clause-ok : goal.returns-in_ok-list-in-Some-Dir-clause-ok
-returns-in_ok-list-in-Some-Dir-clause-ok c =
+pub returns-in_ok-list-in-Some-Dir : goal.returns-in_ok-list-in-Some-Dir
+returns-in_ok-list-in-Some-Dir c =
     let t = c.args.self.now in
     let ds = c.self.inside.list.items in
     let all = ap entries (sym c.self.view_is) ∙ entries-with ds c.self.invariant.rising in
     let dir : get t c.args.path.now ≡ Some Directory = sym c.get.ensures
     ∙ (ap (option_map (λ found. found_content found)) c.in-Some-Dir.is
     ∙ ap (λ f. Some (found_content f)) c.in-Some-Dir.field-0-is) in
-    let part = c.deref-in-Some-Dir.ensures.value ∙ (c.in_ok-part-in-Some-Dir.ensures.ok
+    let part = c.deref-in-Some-Dir.ensures.value ∙ (c.in_ok-part-in-Some-Dir.ensures
     ∙ (c.part_at.ensures ∙ ap₂ within c.names.ensures.names c.deref.ensures.value)) in
     let copies = c.in_ok-list-in-Some-Dir.list.items in
     c.lawful.ensures ∙ whole_tree (subtree t c.args.path.now) copies
-    (stripped_entries t c.args.path.now ds copies all dir (c.in_ok-list-in-Some-Dir.ensures.ok
+    (stripped_entries t c.args.path.now ds copies all dir (c.in_ok-list-in-Some-Dir.ensures
     ∙ (ap₂ stripped c.key.ensures part ∙ stripped-within c.args.path.now ds)))

@@ -9,7 +9,7 @@ invariant_of-result c =
     let found : Found =
     record { marks = c.in_ok-marks.marks; listed = c.new.result; not_dirs = c.new-2.result } in
     let same : found ≡ nothing_found = λ i. record {
-      marks = c.in_ok-marks.ensures.ok i;
+      marks = c.in_ok-marks.ensures i;
       listed = c.new.ensures i;
       not_dirs = c.new-2.ensures i;
     } in

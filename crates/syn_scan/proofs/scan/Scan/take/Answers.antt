@@ -28,7 +28,7 @@ invariant_of-self-then-is_empty c =
     let marks : u ≡ replace old.marks p u =
     sym (ap (λ q. replace old.marks q u) at_root ∙ replace-root old.marks u) in
     let listed = c.in_ok-insert.ensures.ok
-    ∙ ap (λ q. insert old.listed q c.args.position) c.in_ok-copy.ensures.ok in
+    ∙ ap (λ q. insert old.listed q c.args.position) c.in_ok-copy.ensures in
     let same =
     taken_is old p c.args.position u u c.insert.new.self old.not_dirs marks listed refl in
     subst IsFound (sym same) (listing_is_found old p c.args.position u c.self.invariant
@@ -49,7 +49,7 @@ returns-then-is_empty-clause-ok c =
     let marks : u ≡ replace old.marks p u =
     sym (ap (λ q. replace old.marks q u) at_root ∙ replace-root old.marks u) in
     let listed = c.in_ok-insert.ensures.ok
-    ∙ ap (λ q. insert old.listed q c.args.position) c.in_ok-copy.ensures.ok in
+    ∙ ap (λ q. insert old.listed q c.args.position) c.in_ok-copy.ensures in
     taken_is old p c.args.position u u c.insert.new.self old.not_dirs marks listed refl
     ∙ ap (λ f. with_tree f p c.args.position u) c.self.view_is
 
@@ -102,7 +102,7 @@ invariant_of-self-2 c =
     let marks : c.make.new.self ≡ replace old.marks p u = c.make.ensures
     ∙ ap₂ (replace old.marks) c.in_ok-change.ensures.at c.in_ok-change.ensures.new in
     let listed = c.in_ok-insert-2.ensures.ok
-    ∙ ap (λ q. insert old.listed q c.args.position) c.in_ok-copy-2.ensures.ok in
+    ∙ ap (λ q. insert old.listed q c.args.position) c.in_ok-copy-2.ensures in
     let same = taken_is old p c.args.position u c.make.new.self c.insert-2.new.self old.not_dirs
     marks listed refl in
     subst IsFound (sym same) (listing_is_found old p c.args.position u c.self.invariant

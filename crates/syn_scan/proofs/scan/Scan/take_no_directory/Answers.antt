@@ -19,7 +19,7 @@ invariant_of-self-2 c =
     } in
     let p = c.args.path.now in
     let not_dirs = c.in_ok-insert.ensures.ok
-    ∙ ap (λ q. insert c.self.inside.not_dirs q c.args.position) c.in_ok-copy.ensures.ok in
+    ∙ ap (λ q. insert c.self.inside.not_dirs q c.args.position) c.in_ok-copy.ensures in
     let same : new ≡ with_no_directory old p c.args.position = λ i. record {
       marks =
           c.self.inside.marks;

@@ -44,7 +44,7 @@ first c =
     c.deref.ensures.value (c.first_open-at.ensures.open e l) in
     first_is found out n e c.in_ok-path.path none l is
     (ap (is_next_entry found out) is ∙ is_next_here)
-    (c.in_ok-path.ensures.ok ∙ c.path.ensures)
+    (c.in_ok-path.ensures ∙ c.path.ensures)
 
 pub invariant_of-self-2 : goal.invariant_of-self-2
 invariant_of-self-2 c =
@@ -57,7 +57,7 @@ invariant_of-self-2 c =
     record {
       out_open = subst (All (λ q. is_open found q ≡ true)) (sym c.in_ok-push.ensures.items)
           (All-push (λ q. is_open found q ≡ true) out c.in_ok-copy.field-0
-          c.self.invariant.out_open (ap (is_open found) c.in_ok-copy.ensures.ok ∙ one.opened));
+          c.self.invariant.out_open (ap (is_open found) c.in_ok-copy.ensures ∙ one.opened));
       none_next = subst (λ ps. NoneNext found ps (entries found.marks) n)
           (sym c.in_ok-push.ensures.items)
           (passed_then_out found out c.in_ok-copy.field-0 n none);
