@@ -4,7 +4,6 @@ ghost use Rattle.syn_headline.specs.Side.{IsLawfulBody};
 ghost use Rattle.syn_message.specs.Requests.{IsLawfulAsking, asking_of, asking_spelling};
 ghost use Rattle.syn_message.specs.Requests.{fields_spelling, kind_of, request_of};
 
-use crate::copies::copy_path;
 use crate::head::write_head;
 use crate::kind::{BEGIN, FETCH, LIST, REPLACE, STAGE};
 use std::alloc::{AllocError, Global};
