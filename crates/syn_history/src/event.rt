@@ -1,14 +1,13 @@
 //! The events of a replica's history.
 
-ghost use Rattle.std.specs.Prelude.{◌≡◌, IfErr, IfOk};
+ghost use Rattle.std.specs.Prelude.{◌≡◌, IfOk};
 ghost use Rattle.syn_history.specs.Events.{event_of};
 ghost use Rattle.syn_tree.specs.Nodes.{part_of};
 
-use crate::error::HistoryError;
 use crate::token::Token;
 use std::alloc::{AllocError, Global};
 use syn_path::Path;
-use syn_tree::{Edit, Node, TreeError};
+use syn_tree::{Edit, Node};
 
 /// What changes a replica. The event at position k takes its history from k to k + 1 events.
 #[derive(Debug, Drop)]

@@ -1,8 +1,7 @@
 //! A path that an event changes, with the memory that a trail takes for it.
-ghost use Rattle.std.specs.Prelude.{◌≡◌, IfOk, IfErr};
+ghost use Rattle.std.specs.Prelude.{◌≡◌, IfOk};
 ghost use Rattle.std.specs.Option.{ForSome};
 
-use crate::error::HistoryError;
 use std::alloc::{AllocError, Global};
 use std::marker::Model;
 use syn_path::Path;

@@ -11,8 +11,8 @@ use std::alloc::{AllocError, Global};
 use syn_mark::MarkTree;
 use syn_path::Path;
 use syn_wire::{
-    Version, WireError, optional_marks_length, path_length, write_marks,
-    write_optional_marks, write_path, write_u64,
+    Version, WireError, optional_marks_length, path_length, write_marks, write_optional_marks,
+    write_path, write_u64,
 };
 
 pub(crate) const SESSION: u8 = 1;

@@ -2,7 +2,6 @@
 use Rattle.std.proofs.Common.{◌≡◌, ◌<◌, ◌^◌, ◌++◌, [], length, ap, ap₂, arith, refl, Option, Some}
 use Rattle.std.proofs.Common.{None}
 use Rattle.std.specs.Int.{to_be_bytes, w64}
-use Rattle.syn_model.specs.Path.{Bytes}
 use Rattle.syn_model.specs.Contents.{Contents}
 use Rattle.syn_model.specs.Tree.{Content, Directory, File}
 use Rattle.syn_model.specs.Version.{Two}

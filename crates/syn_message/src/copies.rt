@@ -4,7 +4,6 @@ ghost use Rattle.std.specs.Prelude.{◌≡◌, IfOk};
 use std::alloc::{AllocError, Global};
 use syn_mark::Mark;
 use syn_path::{Name, Path};
-use syn_wire::WireError;
 
 /// Equal entries. Refused where memory is refused.
 pub(crate) fn copy_entries(

@@ -1,5 +1,5 @@
 //! The entries of a plain tree: paths, each with a file or a directory.
-ghost use Rattle.std.specs.Prelude.{◌≡◌, ◌≤◌, ◌<◌, ◌+◌, ◌^◌, IfOk, IfErr, option_map};
+ghost use Rattle.std.specs.Prelude.{◌≡◌, ◌≤◌, ◌<◌, ◌+◌, ◌^◌, IfOk, option_map};
 ghost use Rattle.std.specs.FinMap.{find};
 ghost use Rattle.syn_model.specs.Path.{path_cmp};
 ghost use Rattle.syn_placed.specs.Pairs.{rooted, AreRising, pair_spelling_length, spelling_length};
@@ -10,7 +10,7 @@ use syn_path::Name;
 use syn_placed::list::entry_at;
 use syn_placed::{Placed, Standing};
 use syn_tree::measures::{found_spelled, name_spelled};
-use syn_tree::{Content, Found, TreeError};
+use syn_tree::{Content, Found};
 
 /// An entry of a plain tree: a path with a file or a directory.
 pub(crate) type Entry = Placed<Content>;

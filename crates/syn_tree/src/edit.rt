@@ -1,5 +1,5 @@
 //! The edits that a user may make. `Tree` says what each does, and why it is refused.
-ghost use Rattle.std.specs.Prelude.{◌≡◌, IfErr, IfOk};
+ghost use Rattle.std.specs.Prelude.{◌≡◌, IfOk};
 ghost use Rattle.syn_tree.specs.Edits.{edit_of};
 
 use crate::mode::Mode;

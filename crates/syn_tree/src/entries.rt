@@ -1,6 +1,6 @@
 //! What stands below a directory, lawful by its type but for the limits of a whole tree. A reader
 //! checks here what it has read.
-ghost use Rattle.std.specs.Prelude.{◌≡◌, true, length, IfErr, IfOk, IfSome, IfNone, IsTrue};
+ghost use Rattle.std.specs.Prelude.{◌≡◌, true, length, IfOk, IfSome, IfNone, IsTrue};
 ghost use Rattle.std.specs.FinMap.{entries};
 ghost use Rattle.syn_model.specs.Tree.{IsTree, empty_directory};
 ghost use Rattle.syn_model.specs.Limits.{children, fits_part, fits_paths, fits_content};
@@ -12,7 +12,6 @@ ghost use Rattle.syn_tree.specs.Entries.{AreEntries, has_few, stands_in, IsLawfu
 use crate::content::Found;
 use crate::cursor::Cursor;
 use crate::entry::{Entry, found_at};
-use crate::error::TreeError;
 use crate::lawful::{are_contents, is_path};
 use crate::measures::{LONGEST_FILE, MOST_CHILDREN};
 use crate::pair::Pair;

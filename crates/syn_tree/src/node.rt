@@ -1,5 +1,5 @@
 //! A part of a tree by itself, as a replacement puts it. Unlike a whole tree it may be a file.
-ghost use Rattle.std.specs.Prelude.{◌≡◌, true, false, IfErr, IfOk};
+ghost use Rattle.std.specs.Prelude.{◌≡◌, true, false, IfOk};
 ghost use Rattle.syn_model.specs.Limits.{fits_part, fits_paths};
 ghost use Rattle.syn_model.specs.Path.{Path};
 ghost use Rattle.syn_tree.specs.Lists.{FitsNowhere};
