@@ -119,20 +119,20 @@ is_up pair replica agent machine is = record {
 pub written_is_of : WrittenIsOf
 written_is_of pair machine event bytes writing (inl before) =
     kept pair machine machine.value machine.room machine.generation bytes before refl refl refl
-written_is_of pair machine event bytes writing (inr behind) =
-    kept_more pair machine machine.value event machine.room machine.generation bytes behind refl
+written_is_of pair machine event bytes writing (inr onward) =
+    kept_more pair machine machine.value event machine.room machine.generation bytes onward refl
     refl refl writing
 
 pub compacted_is_of : CompactedIsOf
 compacted_is_of pair machine bytes compacting (inl before) =
     kept pair machine machine.value machine.room machine.generation bytes before refl refl refl
-compacted_is_of pair machine bytes compacting (inr behind) = record {
+compacted_is_of pair machine bytes compacting (inr onward) = record {
   value = image_alone (image_spelling pair (standing_of machine.value));
   generation = machine.generation + 1;
-  journal = behind.journal;
+  journal = onward.journal;
   means = compacted (record {
     compacting = compacting;
-    stands = behind.stands;
+    stands = onward.stands;
     alone = refl;
     numbered = let k : suc machine.generation ≡ machine.generation + 1 = omega arith in k;
   });
@@ -301,10 +301,10 @@ module _ {D : Type 0} {disk : Ghosts D} (pair : ℕ) (old new : Replica D disk) 
         (writing_it event status arms failed) value (left_shown old) (generation_shown old) bytes
         (subst (λ p. DiskKeeps p value (left_shown old) (generation_shown old) bytes) is.pair_is
         before) refl (is.room up) (is.generation up)
-    either event status failed arms bytes (inr behind) = kept_more pair
+    either event status failed arms bytes (inr onward) = kept_more pair
         (writing_it event status arms failed) value event (left_shown old) (generation_shown old)
         bytes (subst (λ p. DiskKeeps p (value ++ event ∷ []) (left_shown old - event_size event)
-        (generation_shown old) bytes) is.pair_is behind) refl (is.room up) (is.generation up) refl
+        (generation_shown old) bytes) is.pair_is onward) refl (is.room up) (is.generation up) refl
 
     broke : (served : Served) (event : Event) → Stands old value
         → Serves (pair_of old) (room_for old) (side_of value agent) session request served

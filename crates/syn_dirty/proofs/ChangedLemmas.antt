@@ -92,10 +92,10 @@ begins_touched p (row ∷ rows) a up =
     off true b h = absurd (true≢false h)
     off false b h = refl
 
-find_behind : (p : Path) (rows : Rows) → AfterRow p rows → find path_cmp p rows ≡ None
-find_behind p [] a = refl
-find_behind p (row ∷ rows) a =
-    ap (λ o. cond (is_eq o) (Some row.1) (find path_cmp p rows)) a.0 ∙ find_behind p rows a.1
+find_after : (p : Path) (rows : Rows) → AfterRow p rows → find path_cmp p rows ≡ None
+find_after p [] a = refl
+find_after p (row ∷ rows) a =
+    ap (λ o. cond (is_eq o) (Some row.1) (find path_cmp p rows)) a.0 ∙ find_after p rows a.1
 
 pub found_later : (p q : Path) (rows : Rows) → AfterRow p rows →
     is_some (find path_cmp q rows) ≡ true → path_cmp p q ≡ Less
@@ -128,7 +128,7 @@ itself p row rows same at up rest there b e =
     ∙ (elim b as (λ c. is_among (if c then row.0 ∷ changed rows else changed rows) p ≡ c) [
       | true ↦ ap (λ c. c || is_among (changed rows) p) same
       | false ↦ rest ∙ ap (λ o. is_some o && touched rows p)
-          (find_behind p rows (subst (λ w. AfterRow w rows) (sym at) up.0))
+          (find_after p rows (subst (λ w. AfterRow w rows) (sym at) up.0))
     ] ∙ sym right)
 
 another : (p : Path) (row : Row) (rows : Rows) → eq_by_cmp path_cmp p row.0 ≡ false → (b : Bool) →

@@ -42,14 +42,14 @@ rising_alone : (es : Pairs) → Rising es → RisingRows (map alone es)
 rising_alone [] h = tt
 rising_alone (e ∷ es) h = (after_alone e.0 es h.0, rising_alone es h.1)
 
-after_among : (q : Path) (l : Pair) (behind : Pairs → Rows) →
-    ((rs : Pairs) → After q rs → AfterRow q (behind rs)) → path_cmp q l.0 ≡ Less → (rs : Pairs) →
-    After q rs → AfterRow q (among l behind rs)
-after_among q l behind h less [] a = (less, h [] tt)
-after_among q l behind h less (r ∷ rs) a =
-    let rest = after_among q l behind h less rs a.1 in
-    elim (path_cmp l.0 r.0) as (λ o. AfterRow q (by_order o (alone l ∷ behind (r ∷ rs))
-    ((l.0, not (is_same_content l.1 r.1)) ∷ behind rs) (alone r ∷ among l behind rs))) [
+after_among : (q : Path) (l : Pair) (later : Pairs → Rows) →
+    ((rs : Pairs) → After q rs → AfterRow q (later rs)) → path_cmp q l.0 ≡ Less → (rs : Pairs) →
+    After q rs → AfterRow q (among l later rs)
+after_among q l later h less [] a = (less, h [] tt)
+after_among q l later h less (r ∷ rs) a =
+    let rest = after_among q l later h less rs a.1 in
+    elim (path_cmp l.0 r.0) as (λ o. AfterRow q (by_order o (alone l ∷ later (r ∷ rs))
+    ((l.0, not (is_same_content l.1 r.1)) ∷ later rs) (alone r ∷ among l later rs))) [
       | Less ↦ (less, h (r ∷ rs) a)
       | Equal ↦ (less, h rs a.1)
       | Greater ↦ (a.0, rest)
@@ -60,16 +60,16 @@ after_compared q [] rs h k = after_alone q rs k
 after_compared q (l ∷ ls) rs h k =
     after_among q l (compared ls) (λ rs a. after_compared q ls rs h.1 a) h.0 rs k
 
-rising_among : (l : Pair) (ls : Pairs) (behind : Pairs → Rows) →
-    ((rs : Pairs) → Rising rs → RisingRows (behind rs)) →
-    ((q : Path) (rs : Pairs) → After q ls → After q rs → AfterRow q (behind rs)) →
-    After l.0 ls → (rs : Pairs) → Rising rs → RisingRows (among l behind rs)
-rising_among l ls behind up after a [] h = (after l.0 [] a tt, up [] tt)
-rising_among l ls behind up after a (r ∷ rs) h =
-    let rest = rising_among l ls behind up after a rs h.1 in
+rising_among : (l : Pair) (ls : Pairs) (later : Pairs → Rows) →
+    ((rs : Pairs) → Rising rs → RisingRows (later rs)) →
+    ((q : Path) (rs : Pairs) → After q ls → After q rs → AfterRow q (later rs)) →
+    After l.0 ls → (rs : Pairs) → Rising rs → RisingRows (among l later rs)
+rising_among l ls later up after a [] h = (after l.0 [] a tt, up [] tt)
+rising_among l ls later up after a (r ∷ rs) h =
+    let rest = rising_among l ls later up after a rs h.1 in
     elim (path_cmp l.0 r.0)
-    as (λ o. path_cmp l.0 r.0 ≡ o → RisingRows (by_order o (alone l ∷ behind (r ∷ rs))
-    ((l.0, not (is_same_content l.1 r.1)) ∷ behind rs) (alone r ∷ among l behind rs))) [
+    as (λ o. path_cmp l.0 r.0 ≡ o → RisingRows (by_order o (alone l ∷ later (r ∷ rs))
+    ((l.0, not (is_same_content l.1 r.1)) ∷ later rs) (alone r ∷ among l later rs))) [
       | Less ↦ λ e. (after l.0 (r ∷ rs) a (e, after_more l.0 r.0 rs e h.0), up (r ∷ rs) h)
       | Equal ↦ λ e. (
         after l.0 rs a
@@ -78,7 +78,7 @@ rising_among l ls behind up after a (r ∷ rs) h =
       )
       | Greater ↦ λ e.
           let less = turned l.0 r.0 e in (
-            after_among r.0 l behind
+            after_among r.0 l later
                 (λ others k. after r.0 others (after_more r.0 l.0 ls less a) k) less rs h.0,
             rest,
           )
@@ -111,23 +111,23 @@ right_alone : (o : Option Content) → combined o None ≡ option_map (λ _. tru
 right_alone None = refl
 right_alone (Some a) = refl
 
-find_among : (q : Path) (l : Pair) (ls : Pairs) (behind : Pairs → Rows) → ((rs : Pairs) →
-    Rising rs → find path_cmp q (behind rs) ≡ combined (find path_cmp q ls) (find path_cmp q rs)) →
+find_among : (q : Path) (l : Pair) (ls : Pairs) (later : Pairs → Rows) → ((rs : Pairs) →
+    Rising rs → find path_cmp q (later rs) ≡ combined (find path_cmp q ls) (find path_cmp q rs)) →
     After l.0 ls → (rs : Pairs) → Rising rs →
-    find path_cmp q (among l behind rs) ≡ combined (find path_cmp q (l ∷ ls)) (find path_cmp q rs)
-find_among q l ls behind ih a [] h =
+    find path_cmp q (among l later rs) ≡ combined (find path_cmp q (l ∷ ls)) (find path_cmp q rs)
+find_among q l ls later ih a [] h =
     let rest = ih [] tt in
-    elim (eq_by_cmp path_cmp q l.0) as (λ b. cond b (Some true) (find path_cmp q (behind []))
+    elim (eq_by_cmp path_cmp q l.0) as (λ b. cond b (Some true) (find path_cmp q (later []))
     ≡ combined (cond b (Some l.1) (find path_cmp q ls)) None) [ true ↦ refl | false ↦ rest ]
-find_among q l ls behind ih a (r ∷ rs) h =
-    let rest = find_among q l ls behind ih a rs h.1 in
+find_among q l ls later ih a (r ∷ rs) h =
+    let rest = find_among q l ls later ih a rs h.1 in
     let left : Option Content = find path_cmp q ls in
     elim (path_cmp l.0 r.0)
-    as (λ o. path_cmp l.0 r.0 ≡ o → find path_cmp q (by_order o (alone l ∷ behind (r ∷ rs))
-    ((l.0, not (is_same_content l.1 r.1)) ∷ behind rs) (alone r ∷ among l behind rs))
+    as (λ o. path_cmp l.0 r.0 ≡ o → find path_cmp q (by_order o (alone l ∷ later (r ∷ rs))
+    ((l.0, not (is_same_content l.1 r.1)) ∷ later rs) (alone r ∷ among l later rs))
     ≡ combined (find path_cmp q (l ∷ ls)) (find path_cmp q (r ∷ rs))) [
       | Less ↦ λ e. elim (eq_by_cmp path_cmp q l.0) as (λ b. eq_by_cmp path_cmp q l.0 ≡ b →
-          cond b (Some true) (find path_cmp q (behind (r ∷ rs)))
+          cond b (Some true) (find path_cmp q (later (r ∷ rs)))
           ≡ combined (cond b (Some l.1) (find path_cmp q ls)) (find path_cmp q (r ∷ rs))) [
             | true ↦ λ same.
                 let at : q ≡ l.0 = same_path q l.0 same in
@@ -138,7 +138,7 @@ find_among q l ls behind ih a (r ∷ rs) h =
       | Equal ↦ λ e.
           let at : l.0 ≡ r.0 = same_path l.0 r.0 (ap is_eq e) in
           elim (eq_by_cmp path_cmp q l.0) as (λ b. eq_by_cmp path_cmp q l.0 ≡ b →
-          cond b (Some (not (is_same_content l.1 r.1))) (find path_cmp q (behind rs))
+          cond b (Some (not (is_same_content l.1 r.1))) (find path_cmp q (later rs))
           ≡ combined (cond b (Some l.1) (find path_cmp q ls)) (find path_cmp q (r ∷ rs))) [
             | true ↦ λ same. sym (ap (λ b. combined (Some l.1)
                 (cond b (Some r.1) (find path_cmp q rs)))
@@ -150,7 +150,7 @@ find_among q l ls behind ih a (r ∷ rs) h =
       | Greater ↦ λ e.
           let less = turned l.0 r.0 e in
           elim (eq_by_cmp path_cmp q r.0) as (λ b. eq_by_cmp path_cmp q r.0 ≡ b →
-          cond b (Some true) (find path_cmp q (among l behind rs))
+          cond b (Some true) (find path_cmp q (among l later rs))
           ≡ combined (find path_cmp q (l ∷ ls)) (cond b (Some r.1) (find path_cmp q rs))) [
             | true ↦ λ same.
                 let at : q ≡ r.0 = same_path q r.0 same in

@@ -6,7 +6,7 @@ use Rattle.std.proofs.lemmas.Bool.{cases_lt}
 use Rattle.syn_disk.specs.Disk.{overwritten}
 use Rattle.syn_disk.specs.Written.{is_written}
 use Rattle.syn_disk.proofs.Overwritten.{length-overwritten, overwritten-below, overwritten-in}
-use Rattle.syn_disk.proofs.Overwritten.{overwritten-behind}
+use Rattle.syn_disk.proofs.Overwritten.{overwritten-after}
 
 module _ (written : List Bool) (at n : ℕ) (within : at + n ≤ length written) (value : Bool) where
   abbrev marked : List Bool
@@ -22,7 +22,7 @@ module _ (written : List Bool) (at n : ℕ) (within : at + n ≤ length written)
       is_written marked i ≡ is_written written i
   marked-outside i (inl less) = overwritten-below written at (replicate n value) fits i false less
   marked-outside i (inr past) =
-      overwritten-behind written at (replicate n value) fits i false
+      overwritten-after written at (replicate n value) fits i false
       (omega (arith, length-replicate n value))
 
   pub marked-inside : (i : ℕ) → at ≤ i → i < at + n → is_written marked i ≡ value

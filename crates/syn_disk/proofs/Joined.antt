@@ -9,7 +9,7 @@ use Rattle.syn_disk.specs.Disk.{overwritten}
 use Rattle.syn_disk.specs.Written.{is_written}
 use Rattle.syn_disk.proofs.Flags.{place}
 use Rattle.syn_disk.proofs.Overwritten.{length-overwritten, overwritten-below, overwritten-in}
-use Rattle.syn_disk.proofs.Overwritten.{overwritten-behind}
+use Rattle.syn_disk.proofs.Overwritten.{overwritten-after}
 
 pub none_joined : (low high : List Bool) → ((i : ℕ) → is_written low i ≡ false) →
     ((i : ℕ) → is_written high i ≡ false) → (i : ℕ) → is_written (low ++ high) i ≡ false
@@ -55,7 +55,7 @@ module _ {X : Type 0} (d : X) (low high : List X) (h at : ℕ) (items : List X)
   outside : (i : ℕ) → (i < at) ⊎ (at + length items ≤ i) →
       get_or (overwritten (low ++ high) at items) i d ≡ get_or (low ++ high) i d
   outside i (inl less) = overwritten-below (low ++ high) at items in_both i d less
-  outside i (inr past) = overwritten-behind (low ++ high) at items in_both i d past
+  outside i (inr past) = overwritten-after (low ++ high) at items in_both i d past
 
   inside : (i : ℕ) → at ≤ i → i < at + length items →
       get_or (overwritten (low ++ high) at items) i d ≡ get_or items (i - at) d
@@ -74,7 +74,7 @@ module _ {X : Type 0} (d : X) (low high : List X) (h at : ℕ) (items : List X)
       kept : (i < at) ⊎ (at + length items ≤ i) → get_or new_low i d ≡ get_or low i d
       kept (inl before) = overwritten-below low (min at h) first in_low i d (omega arith)
       kept (inr past) =
-          overwritten-behind low (min at h) first in_low i d (omega (arith, first_size))
+          overwritten-after low (min at h) first in_low i d (omega (arith, first_size))
 
       written : at ≤ i → i < at + length items → get_or new_low i d ≡ get_or items (i - at) d
       written after before =
@@ -93,7 +93,7 @@ module _ {X : Type 0} (d : X) (low high : List X) (h at : ℕ) (items : List X)
       kept : (i < at) ⊎ (at + length items ≤ i) → get_or new_high (i - h) d ≡ get_or high (i - h) d
       kept (inl before) = overwritten-below high (at - h) second in_high (i - h) d (omega arith)
       kept (inr past) =
-          overwritten-behind high (at - h) second in_high (i - h) d (omega (arith, second_size))
+          overwritten-after high (at - h) second in_high (i - h) d (omega (arith, second_size))
 
       written : at ≤ i → i < at + length items → get_or new_high (i - h) d ≡ get_or items (i - at) d
       written after before =

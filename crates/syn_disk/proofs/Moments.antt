@@ -9,7 +9,7 @@ use Rattle.syn_disk.specs.Disk.{overwritten, Torn, Only, Elapses}
 use Rattle.syn_disk.specs.Moments.{MayLeave, LeftSince}
 use Rattle.syn_disk.specs.declared.disk.TheConstants.{DISK_SIZE}
 use Rattle.syn_disk.proofs.Overwritten.{length-overwritten, overwritten-below, overwritten-in}
-use Rattle.syn_disk.proofs.Overwritten.{overwritten-behind}
+use Rattle.syn_disk.proofs.Overwritten.{overwritten-after}
 use Rattle.syn_disk.proofs.Flags.{place}
 
 -- After a write that marks no more than its range, a stop leaves what it might have left before,
@@ -34,12 +34,12 @@ module _ (content bytes : List ℕ) (at : ℕ) (size : length content ≡ DISK_S
 
   outside : (i : ℕ) → (i < at) ⊎ (at + length bytes ≤ i) → get_or earlier i 0 ≡ get_or c i 0
   outside i (inl less) = overwritten-below c at between in_c i 0 less
-  outside i (inr past) = overwritten-behind c at between in_c i 0 (omega (arith, long))
+  outside i (inr past) = overwritten-after c at between in_c i 0 (omega (arith, long))
 
   unchanged : (i : ℕ) → (i < at) ⊎ (at + length bytes ≤ i) →
       get_or (overwritten content at bytes) i 0 ≡ get_or content i 0
   unchanged i (inl less) = overwritten-below content at bytes fits i 0 less
-  unchanged i (inr past) = overwritten-behind content at bytes fits i 0 past
+  unchanged i (inr past) = overwritten-after content at bytes fits i 0 past
 
   inside : (i : ℕ) → at ≤ i → i < at + length bytes → get_or earlier i 0 ≡ get_or content i 0
   unfolding between
@@ -64,7 +64,7 @@ module _ (content bytes : List ℕ) (at : ℕ) (size : length content ≡ DISK_S
         record {
           size = sym same_size;
           before = λ i less. sym (outside i (inl less));
-          behind = λ i past. sym (outside i (inr past));
+          after = λ i past. sym (outside i (inr past));
         },
       )
 

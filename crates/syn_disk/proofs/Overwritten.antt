@@ -33,9 +33,9 @@ module _ {X : Type 0} (old : List X) (at : ℕ) (items : List X)
       ∙ ap (λ k. get_or (items ++ drop (at + length items) old) k d) n
       ∙ get_or_append_left items _ d i within
 
-  pub overwritten-behind : (i : ℕ) (d : X) → at + length items ≤ i →
+  pub overwritten-after : (i : ℕ) (d : X) → at + length items ≤ i →
       get_or (overwritten old at items) i d ≡ get_or old i d
-  overwritten-behind i d behind =
+  overwritten-after i d after =
       let n : at + length items + (i - at - length items) ≡ i = omega arith in
       get_or-append_right (take at old) _ at i d front (omega arith)
       ∙ get_or-append_right items _ (length items) (i - at) d refl (omega arith)

@@ -10,7 +10,7 @@ use Rattle.syn_disk.specs.inner.Memory.{Tracks}
 use Rattle.syn_disk.specs.Written.{is_written, IsHull}
 use Rattle.syn_disk.proofs.Flags.{place, length-marked, marked-outside, marked-inside}
 use Rattle.syn_disk.proofs.Overwritten.{length-overwritten, overwritten-below, overwritten-in}
-use Rattle.syn_disk.proofs.Overwritten.{overwritten-behind}
+use Rattle.syn_disk.proofs.Overwritten.{overwritten-after}
 
 -- A copy that is the original where nothing was written is the original, once the hull is copied.
 module _ (copy original : List ℕ) (written : List Bool) (from to : ℕ)
@@ -33,7 +33,7 @@ module _ (copy original : List ℕ) (written : List Bool) (from to : ℕ)
       get_or (overwritten copy from (slice_range original from to)) i 0 ≡ get_or original i 0
   each i = elim (place from to i) [
     | inl (inl less) ↦ overwritten-below copy from _ fits i 0 less ∙ same i (hull.below i less)
-    | inl (inr past) ↦ overwritten-behind copy from _ fits i 0 (omega (arith, part_size))
+    | inl (inr past) ↦ overwritten-after copy from _ fits i 0 (omega (arith, part_size))
         ∙ same i (hull.above i past)
     | inr inside ↦ within i inside.0 inside.1
   ]
@@ -73,7 +73,7 @@ module _ (content synced : List ℕ) (written : List Bool) (size : ℕ)
       unchanged : (j : ℕ) → (j < at) ⊎ (at + length bytes ≤ j) →
           get_or (overwritten content at bytes) j 0 ≡ get_or content j 0
       unchanged j (inl less) = overwritten-below content at bytes fits j 0 less
-      unchanged j (inr past) = overwritten-behind content at bytes fits j 0 past
+      unchanged j (inr past) = overwritten-after content at bytes fits j 0 past
 
   pub tracks_write : Tracks (overwritten content at bytes) synced marked size
   tracks_write =

@@ -10,7 +10,7 @@ overwritten old at bytes = take at old ++ (bytes ++ drop (at + length bytes) old
 pub record Torn (at n : ℕ) (old new : List ℕ) : Type 0 where
   pub size : length new ≡ length old
   pub before : (i : ℕ) → i < at → slice_index new i ≡ slice_index old i
-  pub behind : (i : ℕ) → at + n ≤ i → slice_index new i ≡ slice_index old i
+  pub after : (i : ℕ) → at + n ≤ i → slice_index new i ≡ slice_index old i
 
 -- each content that a stop may leave now is one that it might have left before, after this step
 abbrev pub Follows : (List ℕ → List ℕ → Type 0) → (List ℕ → Type 0) → (List ℕ → Type 0) → Type 0

@@ -9,7 +9,7 @@ use Rattle.syn_disk.specs.declared.disk.TheConstants.{DISK_SIZE}
 use Rattle.syn_file.specs.declared.file.image.Image.{Image}
 use Rattle.syn_file.proofs.Extents.{is_in_some-push, outside}
 use Rattle.syn_disk.proofs.Moments.{left_before_write}
-use Rattle.syn_disk.proofs.Overwritten.{length-overwritten, overwritten-below, overwritten-behind}
+use Rattle.syn_disk.proofs.Overwritten.{length-overwritten, overwritten-below, overwritten-after}
 
 in_bytes : (image : Image) (at : ℕ) (bytes : List ℕ) → at + length bytes ≤ DISK_SIZE →
     at + length bytes ≤ length (bytes_of image)
@@ -22,8 +22,8 @@ torn_overwritten image at bytes fits = record {
   size = length-overwritten (bytes_of image) at bytes (in_bytes image at bytes fits);
   before =
       λ i less. overwritten-below (bytes_of image) at bytes (in_bytes image at bytes fits) i 0 less;
-  behind =
-      λ i past. overwritten-behind (bytes_of image) at bytes
+  after =
+      λ i past. overwritten-after (bytes_of image) at bytes
       (in_bytes image at bytes fits) i 0 past;
 }
 

@@ -17,7 +17,7 @@ use Rattle.syn_headline.specs.Network.{Which, Left, Right, Message}
 use Rattle.syn_headline.specs.Acknowledged.{Stores, history_of, stores_after}
 use Rattle.syn_headline.specs.Coordinator.{CoordinatorMachine, Call, Walk, Exchange, Running}
 use Rattle.syn_headline.specs.Coordinator.{archive_layout, past, refusing, making_room, Keeps}
-use Rattle.syn_headline.specs.Coordinator.{writes, cut_behind, Takes, CoordinatorTakes}
+use Rattle.syn_headline.specs.Coordinator.{writes, cut_after, Takes, CoordinatorTakes}
 use Rattle.syn_headline.specs.Coordinator.{CoordinatorStarts, CoordinatorTicks, Advances, start_of}
 use Rattle.syn_headline.specs.Coordinator.{start_causes, coordinator_kind}
 use Rattle.syn_headline.specs.Coordinator as fine
@@ -49,7 +49,7 @@ keeps_value : (pair : ℕ) (old new : Journaled Archive Kept) (what : Kept) (kep
 keeps_value pair old _ what _ (writes _ _ (idle is)) = refl
 keeps_value pair old _ what _ (writes _ _ (written arms is meets)) = refl
 keeps_value pair old _ what _ (writes _ _ (unwritten status arms failed is down meets)) = refl
-keeps_value pair old _ what _ (cut_behind is fail stop) = refl
+keeps_value pair old _ what _ (cut_after is fail stop) = refl
 
 compacts_value : {V W : Type 0} (layout : Layout V W) (old new : Journaled V W) →
     Compacts layout old new → new.value ≡ old.value

@@ -9,7 +9,8 @@ use Rattle.std.proofs.lemmas.Option.{none-some, same_Some}
 use Rattle.syn_headline.specs.Side.{Request, Reply}
 use Rattle.syn_headline.specs.Network.{Which, Left, Right, Message, Answers}
 use Rattle.syn_headline.specs.Coordinator.{Outstanding, Running, Exchange, asked_in, asked_of}
-use Rattle.syn_headline.specs.Coordinator.{asked_count, asking, hearing, numbered, without, behind}
+use Rattle.syn_headline.specs.Coordinator.{asked_count, asking, hearing, numbered, without}
+use Rattle.syn_headline.specs.Coordinator.{after_taking}
 use Rattle.syn_headline.specs.Coordinator.{CoordinatorMachine, Call, CoordinatorTakes, Takes, takes}
 use Rattle.syn_headline.specs.Coordinator.{ignores, ends_at_once, stops, ends, goes_on}
 use Rattle.syn_headline.specs.World.{World, Delivers, to_coordinator}
@@ -112,7 +113,8 @@ module _ (old : World) (running : Running) (from : Which) (number : ℕ) (reques
   taken_so pair machine _ _
       (goes_on plan logged walk kept left right fault has advances rests stays past asks) = (
         refl,
-        asked_no_more from refl (behind running taken plan walk kept) left right refl refl refl,
+        asked_no_more from refl (after_taking running taken plan walk kept) left right refl refl
+            refl,
       )
 
 pub take_expected : TakesExpected

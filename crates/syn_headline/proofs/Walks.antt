@@ -24,7 +24,7 @@ use Rattle.syn_headline.specs.Planning.{Planned, WritesTo}
 use Rattle.syn_headline.specs.Report.{is_kept, is_record_of}
 use Rattle.syn_headline.specs.Coordinator.{Exchange, Walk, past, refusing, making_room}
 use Rattle.syn_headline.specs.Coordinator.{archive_layout, IsDue, done, same, directory, Keeps}
-use Rattle.syn_headline.specs.Coordinator.{writes, cut_behind, Advances, stands, conflicts}
+use Rattle.syn_headline.specs.Coordinator.{writes, cut_after, Advances, stands, conflicts}
 use Rattle.syn_headline.specs.Coordinator.{side_refuses, archive_refuses, no_checkpoint}
 use Rattle.syn_headline.specs.Coordinator.{checkpoints, checkpoint_breaks, keeps, record_breaks}
 use Rattle.syn_headline.specs.Picture.{AllCanKeep}
@@ -76,7 +76,7 @@ writes_left pair old _ what _ P up none can p
       whole = λ e. absurd (not_up status down (e ∙ up));
       up = λ e. absurd (not_up status down e);
     }
-writes_left pair old _ what _ P up none can p (cut_behind is fail stop) =
+writes_left pair old _ what _ P up none can p (cut_after is fail stop) =
     record {
       value = refl;
       can = (can, tt);
@@ -121,7 +121,7 @@ kept_both pair old _ what _ (writes _ _ (idle is)) up = (refl, refl)
 kept_both pair old _ what _ (writes _ _ (written arms is meets)) up = (refl, refl)
 kept_both pair old _ what _ (writes _ _ (unwritten status arms failed is down meets)) up =
     absurd (not_up status down up)
-kept_both pair old _ what _ (cut_behind is fail stop) up = (refl, refl)
+kept_both pair old _ what _ (cut_after is fail stop) up = (refl, refl)
 
 module _ (pair : ℕ) (plan : List Planned) (taken : Exchange) where
   -- what a call leaves of the archive's journal
@@ -327,7 +327,7 @@ keeps_due pair old _ what _ P p (writes _ _ (written arms is meets)) =
     All-cons P what [] p (All-nil P)
 keeps_due pair old _ what _ P p (writes _ _ (unwritten status arms failed is broken meets)) =
     All-nil P
-keeps_due pair old _ what _ P p (cut_behind is fail stop) = All-cons P what [] p (All-nil P)
+keeps_due pair old _ what _ P p (cut_after is fail stop) = All-cons P what [] p (All-nil P)
 
 -- what is kept is of items of the plan
 pub advances_due : (pair : ℕ) (plan : List Planned) (taken : Exchange) (walk later : Walk)

@@ -97,7 +97,7 @@ pub data Keeps (pair : ℕ) (journal : Journaled Archive Kept)
   writes : (new : Journaled Archive Kept) (acknowledged : List Kept) →
       Writes (archive_layout pair) journal kept new acknowledged →
       Keeps pair journal kept new acknowledged
-  cut_behind : is_recorded journal.value kept ≡ false → IsBefore 4 journal.arms.fail →
+  cut_after : is_recorded journal.value kept ≡ false → IsBefore 4 journal.arms.fail →
       journal.arms.stop ≡ 4 →
       Keeps pair journal kept (cut (with_record (archive_layout pair) journal kept unarmed))
       (kept ∷ [])
@@ -261,8 +261,8 @@ GoesThrough pair machine running taken plan kept walk =
     Advances pair (option_map_or (λ plan. plan) plan []) taken (start_of machine running) kept walk
 
 -- and the session is so after it
-abbrev pub behind : Running → Exchange → Option (List Planned) → Walk → List Kept → Running
-behind running taken plan walk kept = advanced (hearing running taken) plan walk kept
+abbrev pub after_taking : Running → Exchange → Option (List Planned) → Walk → List Kept → Running
+after_taking running taken plan walk kept = advanced (hearing running taken) plan walk kept
 
 -- how an answer is taken: it ends the session at once, or for lack of memory; or the call goes
 -- through the plan, and then the machine is down, or the session ends, or it goes on, past an item
@@ -284,11 +284,12 @@ pub data Takes (pair : ℕ) (machine : CoordinatorMachine) (running : Running) (
       fault_of running.taken taken.side taken.request taken.reply ≡ None →
       HasPlan machine.journal.value (hearing running taken) plan logged →
       GoesThrough pair machine running taken plan kept walk →
-      EndsFor pair (behind running taken plan walk kept) taken machine.journal.status walk why →
+      EndsFor pair (after_taking running taken plan walk kept) taken machine.journal.status walk
+      why →
       Takes pair machine running taken (record { journal = walk.journal; running = None })
       (record no_call {
         kept = kept;
-        reports = report_of (behind running taken plan walk kept) why ∷ [];
+        reports = report_of (after_taking running taken plan walk kept) why ∷ [];
         logged = logged;
       })
   goes_on : (plan : Option (List Planned)) (logged : Log) (walk : Walk) (kept : List Kept)
@@ -298,15 +299,15 @@ pub data Takes (pair : ℕ) (machine : CoordinatorMachine) (running : Running) (
       GoesThrough pair machine running taken plan kept walk →
       walk.made_room ≡ false → walk.journal.status ≡ machine.journal.status →
       (is_last taken.reply ≡ true → walk.cursor ≢ running.cursor) →
-      AsksNext walk.journal.value (behind running taken plan walk kept) left right →
+      AsksNext walk.journal.value (after_taking running taken plan walk kept) left right →
       Takes pair machine running taken
       (record {
         journal = walk.journal;
-        running = Some (asking (behind running taken plan walk kept) left right);
+        running = Some (asking (after_taking running taken plan walk kept) left right);
       })
       (record no_call {
         kept = kept;
-        messages = sent_now (behind running taken plan walk kept) left right;
+        messages = sent_now (after_taking running taken plan walk kept) left right;
         logged = logged;
       })
 

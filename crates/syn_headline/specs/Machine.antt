@@ -65,8 +65,8 @@ record_size payload = 5 + length payload
 
 -- the bytes of a half of the disk but for the image, what stands before it
 -- (a gate, a generation, its length) and a gate after it
-abbrev pub room_behind : Bytes → ℕ
-room_behind image = half_size - (14 + length image)
+abbrev pub room_after : Bytes → ℕ
+room_after image = half_size - (14 + length image)
 
 -- the record need not be written, or fits into what the journal has left
 abbrev pub has_room : {V W : Type 0} → Layout V W → Journaled V W → W → Bool
@@ -93,7 +93,7 @@ with_record layout machine kept arms = record machine {
 -- the image alone stands in the journal, with the next generation
 abbrev pub with_image : {V W : Type 0} → Layout V W → Journaled V W → Arms → Journaled V W
 with_image layout machine arms = record machine {
-  room = room_behind (layout.image machine.value);
+  room = room_after (layout.image machine.value);
   generation = suc machine.generation;
   arms = arms;
 }
@@ -132,7 +132,7 @@ pub data Compacts {V W : Type 0} (layout : Layout V W) (machine : Journaled V W)
 abbrev pub IsAsLeft : {V W : Type 0} → Layout V W → Journaled V W → ℕ → ℕ → Type 0
 IsAsLeft layout machine room generation =
     ((room ≡ machine.room) × (generation ≡ machine.generation))
-    ⊎ ((machine.compacting ≡ true) × (room ≡ room_behind (layout.image machine.value))
+    ⊎ ((machine.compacting ≡ true) × (room ≡ room_after (layout.image machine.value))
     × (generation ≡ suc machine.generation))
 
 -- what an opening leaves of a machine, beside its value

@@ -56,13 +56,13 @@ last_token_tells (Some v) (Some w) r s hv hw e =
     (ap (λ t. Some t) same.0, same.1)
 
 -- the kind of a token has the token after it
-pub no_token_behind : (bytes fields : Bytes) → bytes ≡ 1 ∷ fields →
+pub no_token_after : (bytes fields : Bytes) → bytes ≡ 1 ∷ fields →
     IsReading IsLawfulToken token_spelling fields None →
     IsReading IsLastToken last_token_spelling bytes None
-no_token_behind bytes fields is none None rest begins =
+no_token_after bytes fields is none None rest begins =
     let k = heads 1 0 _ _ (sym is ∙ begins.spelled) in
     absurd (omega (arith, k))
-no_token_behind bytes fields is none (Some token) rest begins =
+no_token_after bytes fields is none (Some token) rest begins =
     none token rest
     (record { lawful = begins.lawful; spelled = ap rest_of (sym is ∙ begins.spelled) })
 
@@ -299,17 +299,17 @@ past_lawful pair s h sound = (
 pub no_past : (version : Version) (bytes fields : Bytes) → fields ≡ drop 5 bytes →
     IsReading IsPast past_spelling fields None →
     IsReading (IsImage version) (spelled_image version) bytes None
-no_past version bytes fields behind none value rest begins =
+no_past version bytes fields later none value rest begins =
     none (past_value value.0 (past_in value.1)) (spelling_in version value.1.tree ++ rest)
     (record {
       lawful = past_lawful value.0 value.1 begins.lawful.0 begins.lawful.1;
-      spelled = behind
+      spelled = later
           ∙ ap (drop 5) (begins.spelled ∙ image_row version value.0 value.1 rest);
     })
 
 -- what was read of the past is that of each image that the bytes begin with
 module _ (version : Version) (bytes fields after : Bytes) (past : PastValue)
-    (behind : fields ≡ drop 5 bytes)
+    (later : fields ≡ drop 5 bytes)
     (found : BeginsWith IsPast past_spelling fields past after)
     (value : ℕ × Standing) (rest : Bytes)
     (begins : BeginsWith (IsImage version) (spelled_image version) bytes value rest) where
@@ -320,7 +320,7 @@ module _ (version : Version) (bytes fields after : Bytes) (past : PastValue)
       (spelling_in version value.1.tree ++ rest)
       found.lawful (past_lawful value.0 value.1 begins.lawful.0 begins.lawful.1)
       (sym found.spelled
-      ∙ (behind ∙ ap (drop 5) (begins.spelled ∙ image_row version value.0 value.1 rest)))
+      ∙ (later ∙ ap (drop 5) (begins.spelled ∙ image_row version value.0 value.1 rest)))
 
   pub no_tree : IsReading (IsImageTree version) (spelling_in version) after None → ⊥
   no_tree none =
@@ -353,7 +353,7 @@ pub image_found : (version : Version) (bytes fields after rest : Bytes) (pair : 
     BeginsWith IsPast past_spelling fields (past_value pair past) after →
     BeginsWith (IsImageTree version) (spelling_in version) after tree rest → IsLawful past →
     BeginsWith (IsImage version) (spelled_image version) bytes (pair, standing_with tree past) rest
-image_found version bytes fields after rest pair past tree front behind found read lawful = record {
+image_found version bytes fields after rest pair past tree front later found read lawful = record {
   lawful = (
     found.lawful.0.0.0.0,
     standing_in version (standing_with tree past) read.lawful
@@ -362,7 +362,7 @@ image_found version bytes fields after rest pair past tree front behind found re
   spelled =
       sym (take-append-drop 5 bytes)
       ∙ (ap₂ (λ a b. a ++ b)
-      ((bytes_eq-Decides (take 5 bytes) (replica_front version)).0 front) (sym behind
+      ((bytes_eq-Decides (take 5 bytes) (replica_front version)).0 front) (sym later
       ∙ (found.spelled ∙ ap (λ xs. past_spelling (past_value pair past) ++ xs) read.spelled))
       ∙ sym (image_row version pair (standing_with tree past) rest));
 }
@@ -400,8 +400,8 @@ images_tell trees version v w r s hv hw e =
 
 -- ---- what is written
 
-pub one_behind : (old mid new a b : Bytes) → mid ≡ old ++ a → new ≡ mid ++ b → new ≡ old ++ (a ++ b)
-one_behind old mid new a b first second = second ∙ (ap (λ x. x ++ b) first ∙ append_assoc old a b)
+pub one_after : (old mid new a b : Bytes) → mid ≡ old ++ a → new ≡ mid ++ b → new ≡ old ++ (a ++ b)
+one_after old mid new a b first second = second ∙ (ap (λ x. x ++ b) first ∙ append_assoc old a b)
 
 -- one touch more
 pub touch_more : (touches : List Touch) (i : ℕ) (x : Touch) (out old new : Bytes) →
@@ -409,7 +409,7 @@ pub touch_more : (touches : List Touch) (i : ℕ) (x : Touch) (out old new : Byt
     old ≡ out ++ each_spelling (take i touches) → new ≡ old ++ touch_spelling x →
     new ≡ out ++ each_spelling (take (i + 1) touches)
 touch_more touches i x out old new l is so_far added =
-    one_behind out old new (each_spelling (take i touches)) (touch_spelling x) so_far added
+    one_after out old new (each_spelling (take i touches)) (touch_spelling x) so_far added
     ∙ ap (λ b. out ++ b) (sym more)
   where
     more : each_spelling (take (i + 1) touches) ≡ each_spelling (take i touches) ++ touch_spelling x

@@ -107,7 +107,7 @@ archives_tell marks version v w r s hv hw e =
     )
 
 -- after the front stand two numbers and marks whose root is a directory
-module _ (version : Version) (bytes fields : Bytes) (behind : fields ≡ drop 5 bytes)
+module _ (version : Version) (bytes fields : Bytes) (later : fields ≡ drop 5 bytes)
     (value : ℕ × Archive) (rest : Bytes)
     (begins : BeginsWith (IsSpelledArchive version) (spelled_archive version) bytes value rest)
   where
@@ -115,7 +115,7 @@ module _ (version : Version) (bytes fields : Bytes) (behind : fields ≡ drop 5 
         (mark_spelling_in version value.1.marks ++ rest)
     numbers_there = record {
       lawful = (begins.lawful.0, small value.1.last_session begins.lawful.1.session);
-      spelled = behind ∙ ap (drop 5) (begins.spelled ∙ archive_row version value.0 value.1 rest);
+      spelled = later ∙ ap (drop 5) (begins.spelled ∙ archive_row version value.0 value.1 rest);
     }
 
     pub no_numbers : IsReading AreTwo two_spelling fields None → ⊥

@@ -6,7 +6,7 @@ use Rattle.syn_journal.specs.declared.half.Half.{Half}
 use Rattle.syn_journal.specs.Layout.{half_size, open_gate, start_of, Value, with_payload}
 use Rattle.syn_journal.specs.Layout.{IsBeforeOrAfter}
 use Rattle.syn_journal.specs.inner.Whole.{IsWhole}
-use Rattle.syn_journal.proofs.Whole.{behind_gate, still_closed, now_open, long}
+use Rattle.syn_journal.proofs.Whole.{after_gate, still_closed, now_open, long}
 use Rattle.syn_journal.proofs.Meanings.{has}
 
 module _ (disk : List ℕ) (half : Half) (generation gate : ℕ) (value : Value)
@@ -17,7 +17,7 @@ module _ (disk : List ℕ) (half : Half) (generation gate : ℕ) (value : Value)
       IsBeforeOrAfter value generation (with_payload value payload) generation after
   before_or_after after (inl torn) =
       inl (has after half generation gate value
-      (behind_gate disk half generation gate value whole (length body) after
+      (after_gate disk half generation gate value whole (length body) after
       (omega (arith, long disk half generation gate value whole payload body spells fits)) torn))
   before_or_after after (inr torn) =
       elim (cases_eq (get_or after (start_of half + gate) 0) open_gate) [

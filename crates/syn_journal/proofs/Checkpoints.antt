@@ -20,7 +20,7 @@ use Rattle.syn_journal.proofs.Formats.{other_generation, this_gate, this_generat
 use Rattle.syn_journal.proofs.Formats.{torn_final, open_final}
 use Rattle.syn_journal.proofs.Commits.{untouched}
 use Rattle.syn_journal.proofs.Meanings.{has, within_disk}
-use Rattle.syn_journal.proofs.Parts.{overwritten-in, overwritten-behind, torn_by}
+use Rattle.syn_journal.proofs.Parts.{overwritten-in, overwritten-after, torn_by}
 use Rattle.syn_journal.proofs.Whole.{SameHeader, apart, same_current, still_whole}
 
 pub twice : (half : Half) → other_half (other_half half) ≡ half
@@ -113,10 +113,10 @@ module _ (disk : List ℕ) (half : Half) (generation gate : ℕ) (value : Value)
   closing : (was : Bool) → is_open disk half ≡ was →
       Torn (start_of half) (if was then 1 else 0) disk after →
       (is_open after half ≡ false) ⊎ SameHeader disk after half
-  closing false is torn = inr (λ i from to. torn.behind i (omega (arith, from)))
+  closing false is torn = inr (λ i from to. torn.after i (omega (arith, from)))
   closing true is torn = elim (cases_eq (get_or after (start_of half) 0) open_gate) [
     | inl opened ↦ inr (λ i from to. elim (cases_lt (start_of half) i) [
-      | inl past ↦ torn.behind i (omega (arith, past))
+      | inl past ↦ torn.after i (omega (arith, past))
       | inr until ↦
           let here : i ≡ start_of half = omega (arith, from, until) in
           ap (λ k. get_or after k 0) here ∙ opened ∙ sym (eqb-true _ _ is)
@@ -131,7 +131,7 @@ module _ (disk : List ℕ) (half : Half) (generation gate : ℕ) (value : Value)
       let was = is_open disk half in
       let inside : (i : ℕ) → start_of (other_half half) ≤ i →
       i < start_of (other_half half) + half_size → get_or after i 0 ≡ get_or disk i 0 =
-      λ i from to. ⊎_elim (λ less. torn.before i less) (λ past. torn.behind i past)
+      λ i from to. ⊎_elim (λ less. torn.before i less) (λ past. torn.after i past)
       (apart half (start_of half) (if was then 1 else 0) i (omega arith)
       (omega (arith, at_most_one was)) from to) in
       ⊎_elim (stays_by_closed disk half generation gate value whole after torn.size inside)
@@ -188,7 +188,7 @@ module _ (start : List ℕ) (half : Half) (was : Bool) (bytes : List ℕ)
         ∙ overwritten-in start (start_of half) (0 ∷ []) (fits true) 0 (omega arith))
     closes false was_closed =
         ap (λ byte. byte == open_gate)
-        (overwritten-behind start (start_of half) [] (fits false) (start_of half) (omega arith))
+        (overwritten-after start (start_of half) [] (fits false) (start_of half) (omega arith))
         ∙ was_closed
 
     pub seen_closed : is_open (overwritten start (start_of half) bytes) half ≡ false
@@ -219,7 +219,7 @@ module _ (disk : List ℕ) (half : Half) (generation gate : ℕ) (value : Value)
   staged : (after : List ℕ) → Torn (start_of half + 1) (length body) disk after →
       IsWhole after (other_half half) generation gate value
   staged after torn = stays_by_closed disk half generation gate value next.whole after torn.size
-      (λ i from to. ⊎_elim (λ less. torn.before i less) (λ past. torn.behind i past) (apart half
+      (λ i from to. ⊎_elim (λ less. torn.before i less) (λ past. torn.after i past) (apart half
       (start_of half + 1) (length body) i (omega arith) (omega (arith, size, next.fits)) from to))
       (ap (λ byte. byte == open_gate) (torn.before (start_of half) (omega arith)) ∙ closed)
 

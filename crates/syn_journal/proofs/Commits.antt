@@ -4,7 +4,7 @@ use Rattle.syn_disk.specs.Disk.{Torn, Follows, Only, overwritten}
 use Rattle.syn_journal.specs.inner.Commit.{IsStagedOrOpened}
 
 pub untouched : (at n : ℕ) (c : List ℕ) → Torn at n c c
-untouched at n c = record { size = refl; before = λ i less. refl; behind = λ i past. refl }
+untouched at n c = record { size = refl; before = λ i less. refl; after = λ i past. refl }
 
 module _ (start : List ℕ) (gate : ℕ) (body : List ℕ) where
   pub at_first : (old : List ℕ → Type 0) → Only start old → (c : List ℕ) → old c →

@@ -17,7 +17,7 @@ use Rattle.syn_journal.specs.Layout.{spelled}
 use Rattle.syn_journal.specs.inner.Whole.{IsWhole}
 use Rattle.syn_journal.proofs.Meanings.{within_disk}
 use Rattle.syn_journal.proofs.Parts.{part_is, next_part, length-overwritten, overwritten-in}
-use Rattle.syn_journal.proofs.Parts.{overwritten-below, overwritten-behind, torn_by}
+use Rattle.syn_journal.proofs.Parts.{overwritten-below, overwritten-after, torn_by}
 use Rattle.syn_journal.proofs.Whole.{SameHeader, apart, same_gate, same_generation}
 
 module _ (start : List ℕ) (half : Half) (image body word : List ℕ) (size : length start ≡ DISK_SIZE)
@@ -79,21 +79,21 @@ module _ (start : List ℕ) (half : Half) (image body word : List ℕ) (size : l
     below i less =
         torn.before i less ∙ overwritten-below start (base + 1) body fits_body i (omega arith)
 
-    behind : (i : ℕ) → base + (14 + length image) ≤ i → get_or final i 0 ≡ get_or start i 0
-    behind i past =
-        torn.behind i (omega arith)
-        ∙ overwritten-behind start (base + 1) body fits_body i (omega (arith, long))
+    later : (i : ℕ) → base + (14 + length image) ≤ i → get_or final i 0 ≡ get_or start i 0
+    later i past =
+        torn.after i (omega arith)
+        ∙ overwritten-after start (base + 1) body fits_body i (omega (arith, long))
 
     -- the other half stays
     elsewhere : (i : ℕ) → start_of (other_half half) ≤ i →
         i < start_of (other_half half) + half_size → get_or final i 0 ≡ get_or start i 0
     elsewhere i from to =
-        ⊎_elim (λ less. below i less) (λ past. behind i past)
+        ⊎_elim (λ less. below i less) (λ past. later i past)
         (apart half base (14 + length image) i (omega arith) (omega arith) from to)
 
     in_body : (k : ℕ) → k < length body → get_or final (base + 1 + k) 0 ≡ get_or body k 0
     in_body k less =
-        torn.behind (base + 1 + k) (omega arith)
+        torn.after (base + 1 + k) (omega arith)
         ∙ overwritten-in start (base + 1) body fits_body k less
 
     module _ (gate_opened : get_or final base 0 ≡ open_gate) where
@@ -261,5 +261,5 @@ second_gate start body size short =
     let long : length with_body ≡ length start = length-overwritten start 1 body fits in
     let gate : 0 + 1 ≤ length with_body = omega (arith, long, size) in
     ap (λ byte. byte == open_gate)
-    (overwritten-behind with_body 0 (open_gate ∷ []) gate half_size (omega arith)
-    ∙ overwritten-behind start 1 body fits half_size (omega (arith, short)))
+    (overwritten-after with_body 0 (open_gate ∷ []) gate half_size (omega arith)
+    ∙ overwritten-after start 1 body fits half_size (omega (arith, short)))

@@ -53,9 +53,9 @@ value_from : (disk : List ℕ) (half : Half) (size : ℕ) (image : List ℕ) (pa
 unfolding value_at
 value_from disk half size image payloads is fits image_is records_are =
     let test : leb size longest_image ≡ true = grind (arith, nat_tests) in
-    let P : ℕ → Type 0 = λ k. (let behind = bytes_from disk half (13 + k) in
+    let P : ℕ → Type 0 = λ k. (let after = bytes_from disk half (13 + k) in
     if leb k longest_image then with_image (take k (drop (start_of half + 13) disk))
-    (records (length behind) behind) else Err damaged)
+    (records (length after) after) else Err damaged)
     ≡ Ok (record { image = image; payloads = payloads }) in
     let at_size : P size = rw (test, image_is, records_are) refl in
     subst P (sym is) at_size
@@ -71,8 +71,8 @@ module _ (disk : List ℕ) (half : Half) (generation gate : ℕ) (value : Value)
   abbrev recs : List ℕ
   recs = records_of value.payloads
 
-  behind : List ℕ
-  behind = get_or disk (base + gate) 0 ∷ drop (base + gate + 1) disk
+  after : List ℕ
+  after = get_or disk (base + gate) 0 ∷ drop (base + gate + 1) disk
 
   room : base + half_size ≤ length disk
   room = within_disk half (length disk) whole.size
@@ -90,24 +90,24 @@ module _ (disk : List ℕ) (half : Half) (generation gate : ℕ) (value : Value)
         length-append value.image recs,
       )
 
-  parts : drop (base + 9) disk ≡ word ++ (value.image ++ (recs ++ behind))
-  unfolding behind spelled
+  parts : drop (base + 9) disk ≡ word ++ (value.image ++ (recs ++ after))
+  unfolding after spelled
   parts =
       let there : base + 9 + (gate - 9) ≡ base + gate = omega (arith, sizes) in
-      let last : drop (gate - 9) (drop (base + 9) disk) ≡ behind =
+      let last : drop (gate - 9) (drop (base + 9) disk) ≡ after =
       drop-drop (gate - 9) (base + 9) disk ∙ ap (λ k. drop k disk) there
       ∙ drop_more disk (base + gate) 0 (omega (arith, room, whole.within)) in
       sym (take-append-drop (gate - 9) (drop (base + 9) disk))
       ∙ ap (λ (l : List ℕ). l ++ drop (gate - 9) (drop (base + 9) disk)) whole.front
       ∙ ap (λ (l : List ℕ). spelled value.image value.payloads ++ l) last
-      ∙ regroup word value.image recs behind
+      ∙ regroup word value.image recs after
 
   then_length : (take 4 (drop (base + 9) disk) ≡ word)
-      × (drop (base + 13) disk ≡ value.image ++ (recs ++ behind))
+      × (drop (base + 13) disk ≡ value.image ++ (recs ++ after))
   then_length = next_part disk (base + 9) 4 (base + 13) word _ parts refl (omega arith)
 
   then_image : (take (length value.image) (drop (base + 13) disk) ≡ value.image)
-      × (drop (base + (13 + length value.image)) disk ≡ recs ++ behind)
+      × (drop (base + (13 + length value.image)) disk ≡ recs ++ after)
   then_image =
       next_part disk (base + 13) (length value.image)
       (base + (13 + length value.image)) value.image _ then_length.1 refl (omega arith)
@@ -120,7 +120,7 @@ module _ (disk : List ℕ) (half : Half) (generation gate : ℕ) (value : Value)
 
   part_is : bytes_from disk half (13 + length value.image) ≡ recs ++ get_or disk (base + gate) 0
       ∷ take (half_size - gate - 1) (drop (base + gate + 1) disk)
-  unfolding behind
+  unfolding after
   part_is = ap (λ (l : List ℕ). take (half_size - (13 + length value.image)) l) then_image.1
       ∙ take_over recs (get_or disk (base + gate) 0) (drop (base + gate + 1) disk)
       (half_size - (13 + length value.image)) (half_size - gate - 1)

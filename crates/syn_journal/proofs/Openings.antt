@@ -49,11 +49,11 @@ pub with_gate : (disk : List ℕ) (at : ℕ) (payload : List ℕ) →
     get_or disk at 0 ≡ open_gate → at < length disk →
     take (4 + length payload) (drop (at + 1) disk) ≡ to_be_bytes w32 (length payload) ++ payload →
     take (5 + length payload) (drop at disk) ≡ record_of payload
-with_gate disk at payload opened within behind =
+with_gate disk at payload opened within later =
     let more : 5 + length payload ≡ suc (4 + length payload) = omega arith in
     ap (λ (l : List ℕ). take (5 + length payload) l) (drop_more disk at 0 within)
     ∙ ap (λ k. take k (get_or disk at 0 ∷ drop (at + 1) disk)) more
-    ∙ (λ i. opened i ∷ behind i)
+    ∙ (λ i. opened i ∷ later i)
 
 pub image_too_long : (disk : List ℕ) (half : Half) → longest_image < image_length_at disk half →
     value_at disk half ≡ Err damaged
@@ -67,9 +67,9 @@ pub records_damaged : (disk : List ℕ) (half : Half) (n : ℕ) → image_length
     value_at disk half ≡ Err damaged
 unfolding value_at
 records_damaged disk half n is none =
-    let P : ℕ → Type 0 = λ k. (let behind = bytes_from disk half (13 + k) in
+    let P : ℕ → Type 0 = λ k. (let later = bytes_from disk half (13 + k) in
     if leb k longest_image then with_image (take k (drop (start_of half + 13) disk))
-    (records (length behind) behind) else Err damaged) ≡ Err damaged in
+    (records (length later) later) else Err damaged) ≡ Err damaged in
     let at_n : P n = rw none (either (leb n longest_image)) in
     subst P (sym is) at_n
   where
@@ -138,9 +138,9 @@ module _ (disk : List ℕ) (half : Half) (first gate : ℕ)
           within_disk half (length disk) size,
         )
 
-    behind : bytes_from disk half gate ≡ open_gate ∷ rest
+    later : bytes_from disk half gate ≡ open_gate ∷ rest
     unfolding rest
-    behind =
+    later =
         let more : half_size - gate ≡ suc (half_size - gate - 1) = omega arith in
         ap (λ (l : List ℕ). take (half_size - gate) l) (drop_more disk (start_of half + gate) 0
         (omega (arith, within_disk half (length disk) size)))
@@ -157,7 +157,7 @@ module _ (disk : List ℕ) (half : Half) (first gate : ℕ)
         ∙ ap (λ (l : List ℕ). l
         ++ take (half_size - gate) (drop (start_of half + first + (gate - first)) disk)) so_far
         ∙ ap (λ (l : List ℕ). records_of payloads ++ l)
-        (ap (λ k. take (half_size - gate) (drop k disk)) there ∙ behind)
+        (ap (λ k. take (half_size - gate) (drop k disk)) there ∙ later)
 
     too_long : length rest ≤ 4 + from_be_bytes w32 (take 4 rest)
     unfolding rest

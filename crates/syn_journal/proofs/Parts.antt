@@ -86,9 +86,9 @@ module _ (old : List ℕ) (at : ℕ) (bytes : List ℕ) (fits : at + length byte
       ∙ ap (λ k. get_or (bytes ++ drop (at + length bytes) old) k 0) n
       ∙ get_or_append_left bytes _ 0 i within
 
-  pub overwritten-behind : (i : ℕ) → at + length bytes ≤ i →
+  pub overwritten-after : (i : ℕ) → at + length bytes ≤ i →
       get_or (overwritten old at bytes) i 0 ≡ get_or old i 0
-  overwritten-behind i behind =
+  overwritten-after i later =
       let n : at + length bytes + (i - at - length bytes) ≡ i = omega arith in
       get_or-append_right (take at old) _ at i 0 front (omega arith)
       ∙ get_or-append_right bytes _ (length bytes) (i - at) 0 refl (omega arith)
@@ -120,5 +120,5 @@ torn_by old at bytes fits =
     record {
       size = length-overwritten old at bytes fits;
       before = overwritten-below old at bytes fits;
-      behind = overwritten-behind old at bytes fits;
+      after = overwritten-after old at bytes fits;
     }

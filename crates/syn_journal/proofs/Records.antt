@@ -34,12 +34,12 @@ one_record fuel word payload rest four reads some =
     ap (λ (l : List ℕ). take (length payload) (drop 4 l)) split
     ∙ ap (λ (l : List ℕ). take (length payload) l) (drop_at word (payload ++ rest) 4 four)
     ∙ take_at payload rest (length payload) refl in
-    let behind : drop (4 + length payload) ((word ++ payload) ++ rest) ≡ rest =
+    let after : drop (4 + length payload) ((word ++ payload) ++ rest) ≡ rest =
     drop_at (word ++ payload) rest (4 + length payload)
     (omega (arith, four, length-append word payload)) in
     one_step fuel ((word ++ payload) ++ rest) (length payload) size
     (omega (arith, four, some, length-append (word ++ payload) rest, length-append word payload))
-    ∙ (λ i. and_before (first i) (records fuel (behind i)))
+    ∙ (λ i. and_before (first i) (records fuel (after i)))
 
 -- up to a closed gate
 pub records_read : (payloads : List (List ℕ)) (fuel gate : ℕ) (rest : List ℕ) → gate ≢ open_gate →

@@ -14,7 +14,7 @@ use Rattle.syn_journal.specs.Layout.{spelled, with_payload}
 use Rattle.syn_journal.specs.inner.Whole.{IsWhole}
 use Rattle.syn_journal.proofs.Meanings.{within_disk, sizes}
 use Rattle.syn_journal.proofs.Parts.{same_part, part_is, part_add, length-overwritten}
-use Rattle.syn_journal.proofs.Parts.{overwritten-below, overwritten-in, overwritten-behind, torn_by}
+use Rattle.syn_journal.proofs.Parts.{overwritten-below, overwritten-in, overwritten-after, torn_by}
 use Rattle.syn_journal.proofs.Records.{records_of-push}
 
 spelled-push : (image : List ℕ) (payloads : List (List ℕ)) (payload : List ℕ) →
@@ -103,10 +103,10 @@ module _ (disk : List ℕ) (half : Half) (generation gate : ℕ) (value : Value)
       (λ i from to. inside i from (omega (arith, nine, to))) outside ∙ whole.is_current) closed
 
   -- any bytes after the closed gate
-  pub behind_gate : (n : ℕ) (after : List ℕ) → gate + 1 + n ≤ half_size →
+  pub after_gate : (n : ℕ) (after : List ℕ) → gate + 1 + n ≤ half_size →
       Torn (base + gate + 1) n disk after → IsWhole after half generation gate value
-  behind_gate n after fits torn = kept after torn.size (λ i from to. torn.before i (omega arith))
-      (λ i from to. ⊎_elim (λ less. torn.before i less) (λ past. torn.behind i past)
+  after_gate n after fits torn = kept after torn.size (λ i from to. torn.before i (omega arith))
+      (λ i from to. ⊎_elim (λ less. torn.before i less) (λ past. torn.after i past)
       (apart half (base + gate + 1) n i (omega arith) (omega arith) from (omega (arith, to))))
       (λ opened. whole.closed (sym (torn.before (base + gate) (omega arith)) ∙ opened))
 
@@ -136,13 +136,13 @@ module _ (disk : List ℕ) (half : Half) (generation gate : ℕ) (value : Value)
 
       in_body : (i : ℕ) → i < length body → get_or after (base + gate + 1 + i) 0 ≡ get_or body i 0
       in_body i less =
-          torn.behind (base + gate + 1 + i) (omega arith)
+          torn.after (base + gate + 1 + i) (omega arith)
           ∙ overwritten-in disk (base + gate + 1) body in_disk i less
 
       past_body : (i : ℕ) → base + gate + 1 + length body ≤ i → get_or after i 0 ≡ get_or disk i 0
       past_body i past =
-          torn.behind i (omega arith)
-          ∙ overwritten-behind disk (base + gate + 1) body in_disk i past
+          torn.after i (omega arith)
+          ∙ overwritten-after disk (base + gate + 1) body in_disk i past
 
       outside : SameHeader disk after (other_half half)
       outside i from to =

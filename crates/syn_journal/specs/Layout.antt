@@ -88,9 +88,9 @@ with_image image (Some payloads) = Ok (record { image = image; payloads = payloa
 unfoldable pub value_at : List ℕ → Half → Result Value Fault
 value_at disk half =
     let n = image_length_at disk half in
-    let behind = bytes_from disk half (IMAGE_AT + n) in
+    let later = bytes_from disk half (IMAGE_AT + n) in
     if nat_le n longest_image
-    then with_image (take n (drop (start_of half + IMAGE_AT) disk)) (records (length behind) behind)
+    then with_image (take n (drop (start_of half + IMAGE_AT) disk)) (records (length later) later)
     else Err damaged
 
 abbrev pub value_in : List ℕ → Result Half Fault → Result Value Fault

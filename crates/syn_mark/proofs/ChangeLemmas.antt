@@ -20,7 +20,7 @@ use Rattle.syn_model.specs.Limits.{fits_archive, fits_path, fits_paths}
 use Rattle.syn_model.specs.Refusal.{Refusal, Root, NoParent, Full, first_cause}
 use Rattle.syn_model.specs.Standing.{place_causes}
 use Rattle.syn_model.proofs.TreeLemmas.{same_tree, get-subtree, get-replace, replace-is_part}
-use Rattle.syn_placed.specs.Pairs.{Pairs, within, before, behind, under}
+use Rattle.syn_placed.specs.Pairs.{Pairs, within, before, beyond, under}
 use Rattle.syn_tree.specs.Change.{taken_from}
 use Rattle.syn_placed.proofs.RisingLemmas.{replaced, three_parts, counted}
 use Rattle.syn_placed.proofs.TreeLemmas.{entries-replace, entries-absent, rising-entries}
@@ -55,15 +55,15 @@ paths_replaced : (t : Tree) (at : Path) (us : Pairs) → fits_paths t ≡ true �
 paths_replaced t at us h =
     let f = λ (pair : Pair). fits_path pair.0 in
     let es = entries t in
-    let whole = sym (list_all-append f (before at es) (within at es ++ behind at es))
+    let whole = sym (list_all-append f (before at es) (within at es ++ beyond at es))
     ∙ (ap (list_all f) (sym (three_parts at es (rising-entries t))) ∙ h) in
     let first = and_parts (paths_fit (before at es))
-    (paths_fit (within at es ++ behind at es)) whole in
-    let last = (and_parts (paths_fit (within at es)) (paths_fit (behind at es))
-    (sym (list_all-append f (within at es) (behind at es)) ∙ first.1)).1 in
-    list_all-append f (before at es) (under at us ++ behind at es)
-    ∙ (true_and (paths_fit (before at es)) (paths_fit (under at us ++ behind at es)) first.0
-    ∙ (list_all-append f (under at us) (behind at es)
+    (paths_fit (within at es ++ beyond at es)) whole in
+    let last = (and_parts (paths_fit (within at es)) (paths_fit (beyond at es))
+    (sym (list_all-append f (within at es) (beyond at es)) ∙ first.1)).1 in
+    list_all-append f (before at es) (under at us ++ beyond at es)
+    ∙ (true_and (paths_fit (before at es)) (paths_fit (under at us ++ beyond at es)) first.0
+    ∙ (list_all-append f (under at us) (beyond at es)
     ∙ (ap (λ b. paths_fit (under at us) && b) last ∙ and_true (paths_fit (under at us)))))
 
 pub fits_replaced : (t : Tree) (at : Path) (u : Tree) (count : ℕ) → fits_archive t ≡ true →
@@ -153,11 +153,11 @@ module _ (t : Tree) (change : Replacement) (ds added : Pairs) (same : ds ≡ ent
     (present : is_present t root ≡ true) (marks : IsMarks t)
     (ready : IsPreparedFor t change) (placed : ArePlaced change.at change.new added) where
   abbrev pub Made : Pairs → Type 0
-  Made items = items ≡ before change.at ds ++ (added ++ behind change.at ds)
+  Made items = items ≡ before change.at ds ++ (added ++ beyond change.at ds)
 
   pub made_entries : (items : Pairs) → Made items → items ≡ entries (after_change t change)
   made_entries items is =
-      is ∙ (ap₂ (λ es us. before change.at es ++ (us ++ behind change.at es)) same placed.placed
+      is ∙ (ap₂ (λ es us. before change.at es ++ (us ++ beyond change.at es)) same placed.placed
       ∙ sym (entries-replace t change.at change.new))
 
   pub made_marks : (items : Pairs) → Made items → AreMarks items
@@ -171,7 +171,7 @@ module _ (t : Tree) (change : Replacement) (ds added : Pairs) (same : ds ≡ ent
       (replaced_marks t change.at change.new part marks placed.marks) ready.fits
 
   -- there is room for it
-  pub made_room : length (before change.at ds) + length (behind change.at ds) + length added
+  pub made_room : length (before change.at ds) + length (beyond change.at ds) + length added
       ≤ change.room
   made_room =
       let count = counted change.at (entries t) (rising-entries t) in
@@ -184,7 +184,7 @@ module _ (t : Tree) (change : Replacement) (ds added : Pairs) (same : ds ≡ ent
         length_under change.at (entries change.new),
         count,
         ap (λ es. length (before change.at es)) same,
-        ap (λ es. length (behind change.at es)) same,
+        ap (λ es. length (beyond change.at es)) same,
       )
 
 -- ---- what is allowed
@@ -314,8 +314,8 @@ put_part_fits there below t at u fits =
     let es = entries t in
     let us = entries u in
     let number = leb-true (len (replace t at u)) 4096 both.0 in
-    let parts = length-append (before at es) (under at us ++ behind at es) in
-    let rest = length-append (under at us) (behind at es) in
+    let parts = length-append (before at es) (under at us ++ beyond at es) in
+    let rest = length-append (under at us) (beyond at es) in
     let small : len u ≤ 4096 = omega (
       arith,
       number,

@@ -2,7 +2,7 @@
 use Rattle.std.proofs.Common.{◌≡◌, ◌≢◌, ◌++◌, ◌∙◌, ◌<◌, ◌^◌, ℕ, None, ap, append_assoc, sym}
 use Rattle.std.specs.Int.{to_be_bytes, w32, w64}
 use Rattle.syn_model.specs.Path.{Bytes}
-use Rattle.syn_message.proofs.WholeLemmas.{behind, behind_first, first_of, rest_of}
+use Rattle.syn_message.proofs.WholeLemmas.{after_kind, after_first, first_of, rest_of}
 use Rattle.syn_message.specs.Bodies.{body_spelling}
 use Rattle.syn_message.specs.inner.Heads.{head_spelling}
 use Rattle.syn_wire.specs.Laws.{NoU32BeginsAnother, NoU64BeginsAnother}
@@ -10,7 +10,7 @@ use Rattle.syn_wire.specs.Reads.{IsReading}
 
 -- a body has a front after its kind
 pub no_head : (IsLawful : ℕ × ℕ → Type 0) (body : Bytes)
-    → IsReading IsLawful head_spelling (behind body) None
+    → IsReading IsLawful head_spelling (after_kind body) None
     → (kind session number : ℕ) (fields : Bytes) → IsLawful (session, number)
     → body ≢ body_spelling kind session number fields
 no_head IsLawful body none kind session number fields lawful is =
@@ -18,7 +18,7 @@ no_head IsLawful body none kind session number fields lawful is =
     let second = to_be_bytes w32 number in
     none (session, number) fields (record {
       lawful = lawful;
-      spelled = ap behind is ∙ (behind_first kind (first ++ (second ++ fields))
+      spelled = ap after_kind is ∙ (after_first kind (first ++ (second ++ fields))
           ∙ sym (append_assoc first second fields));
     })
 

@@ -7,11 +7,11 @@ use Rattle.syn_message.specs.Bodies.{IsWholeReading}
 use Rattle.syn_wire.specs.Reads.{BeginsWith, IsReading, NoneBeginsAnother}
 
 -- what stands after the first byte
-abbrev pub behind : Bytes → Bytes
-behind body = take (length body - 1) (drop 1 body)
+abbrev pub after_kind : Bytes → Bytes
+after_kind body = take (length body - 1) (drop 1 body)
 
-pub behind_first : (kind : ℕ) (rest : Bytes) → behind (kind ∷ rest) ≡ rest
-behind_first kind rest =
+pub after_first : (kind : ℕ) (rest : Bytes) → after_kind (kind ∷ rest) ≡ rest
+after_first kind rest =
     let one : length (kind ∷ rest) - 1 ≡ length rest = omega arith in
     ap (λ n. take n rest) one ∙ take-length rest
 

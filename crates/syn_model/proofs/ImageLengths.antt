@@ -46,12 +46,12 @@ images_fit pair standing is =
     let token = token_takes standing.token in
     let touches = touches_take standing.floor standing.position standing.touches is.touches in
     let count = is.count in
-    let behind = length-append (flat_map touch_spelling standing.touches)
+    let after = length-append (flat_map touch_spelling standing.touches)
     (spelling standing.tree) in
     let counted : Bytes = to_be_bytes w16 (length standing.touches)
     ++ (flat_map touch_spelling standing.touches ++ spelling standing.tree) in
     let whole = length-append (last_token_spelling standing.token) counted in
-    omega (arith, fits, tree, token, touches, count, behind, whole)
+    omega (arith, fits, tree, token, touches, count, after, whole)
 
 pub history_images_fit : HistoryImagesFit
 history_images_fit pair history h =

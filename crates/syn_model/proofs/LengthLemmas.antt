@@ -404,15 +404,15 @@ not_itself p q less =
     equal_not_less Equal e = refl
     equal_not_less Greater e = refl
 
-found_behind : (p : Path) (c : Content) (xs all : List Pair) → T (below_all path_cmp p xs) →
+found_after : (p : Path) (c : Content) (xs all : List Pair) → T (below_all path_cmp p xs) →
     AllByRecursion (λ e. find path_cmp e.0 all ≡ Some e.1) xs →
     AllByRecursion (λ e. find path_cmp e.0 ((p, c) ∷ all) ≡ Some e.1) xs
-found_behind p c [] all h found = tt
-found_behind p c (x ∷ xs) all h found =
+found_after p c [] all h found = tt
+found_after p c (x ∷ xs) all h found =
     let both = parts (is_lt (path_cmp p x.0)) (below_all path_cmp p xs) h in (
       ap (λ b. cond b (Some c) (find path_cmp x.0 all)) (not_itself p x.0
           (is_true (is_lt (path_cmp p x.0)) both.0)) ∙ found.0,
-      found_behind p c xs all both.1 found.1,
+      found_after p c xs all both.1 found.1,
     )
 
 pairs_found : (es : List Pair) → T (is_sorted path_cmp es) →
@@ -421,7 +421,7 @@ pairs_found [] h = tt
 pairs_found (e ∷ es) h =
     let both = parts (below_all path_cmp e.0 es) (is_sorted path_cmp es) h in (
       ap (λ b. cond b (Some e.1) (find path_cmp e.0 es)) (path_itself e.0),
-      found_behind e.0 e.1 es es both.0 (pairs_found es both.1),
+      found_after e.0 e.1 es es both.0 (pairs_found es both.1),
     )
 
 total_same : {X : Type 0} (most : ℕ) (xs : List X) → total (λ x. most) xs ≡ most * length xs

@@ -21,9 +21,9 @@ longer at p less = by_test (is_prefix p at) refl
     by_test false is = refl
 
 -- what is at or below a path, and not at it, stands after it
-behind_place : (at p : Path) → is_prefix at p ≡ true → eq_by_cmp path_cmp p at ≡ false →
+after_place : (at p : Path) → is_prefix at p ≡ true → eq_by_cmp path_cmp p at ≡ false →
     path_cmp at p ≡ Less
-behind_place at p inside other = by_rest (strip_prefix at p) refl inside
+after_place at p inside other = by_rest (strip_prefix at p) refl inside
   where
     by_rest : (o : Option Path) → strip_prefix at p ≡ o → is_some o ≡ true → path_cmp at p ≡ Less
     by_rest None is k = absurd (true≢false (sym k))
@@ -56,7 +56,7 @@ below-within at (e ∷ es) =
 later : (at : Path) (first x : Pair) → is_within at first ≡ true → path_cmp first.0 x.0 ≡ Less →
     is_within at x ≡ true → path_cmp at x.0 ≡ Less
 later at first x top less inside =
-    behind_place at x.0 inside (not_same (eq_by_cmp path_cmp x.0 at) refl)
+    after_place at x.0 inside (not_same (eq_by_cmp path_cmp x.0 at) refl)
   where
     not_same : (b : Bool) → eq_by_cmp path_cmp x.0 at ≡ b → b ≡ false
     not_same true is =
@@ -94,7 +94,7 @@ with_first at es first rest h is other =
     let inside = subst (Each (is_within at)) is (each-filter (is_within at) es) in
     let all : Each (is_below at) (first ∷ rest) = (
       below_of at first inside.0
-          (behind_place at first.0 inside.0 other),
+          (after_place at first.0 inside.0 other),
       rest_below at first rest rising inside,
     ) in
     sym (sym (below-within at es)

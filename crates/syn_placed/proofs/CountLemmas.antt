@@ -12,10 +12,10 @@ use Rattle.syn_model.specs.Tree.{Tree, Content, Pair, subtree, is_present}
 use Rattle.syn_model.specs.Limits.{only_name, children}
 use Rattle.syn_model.proofs.PathLemmas.{name_itself, strip_prefix-is, parent-append}
 use Rattle.syn_model.proofs.TreeLemmas.{get-subtree}
-use Rattle.syn_placed.specs.Pairs.{Pairs, is_within, before, within, behind, under, is_child}
+use Rattle.syn_placed.specs.Pairs.{Pairs, is_within, before, within, beyond, under, is_child}
 use Rattle.syn_placed.proofs.OrderLemmas.{under_prefix}
 use Rattle.syn_placed.proofs.RisingLemmas.{NoneOf, Rising, After, each-map, replaced, three_parts}
-use Rattle.syn_placed.proofs.RisingLemmas.{before_out, behind_out}
+use Rattle.syn_placed.proofs.RisingLemmas.{before_out, after_out}
 use Rattle.syn_placed.proofs.TreeLemmas.{taken, within-taken, rising-taken, entries-subtree}
 use Rattle.syn_placed.proofs.TreeLemmas.{rising-entries}
 
@@ -163,24 +163,24 @@ present_taken t at =
 
 -- the children of a path beside the place, before and after
 pub kids-beside : (t : Tree) (at p : Path) → is_prefix at p ≡ false → kids p (entries t) ≡ kids p
-    (before at (entries t)) + (top_of (is_present t at) p at + kids p (behind at (entries t)))
+    (before at (entries t)) + (top_of (is_present t at) p at + kids p (beyond at (entries t)))
 kids-beside t at p out =
     let es = entries t in
     ap (kids p) (three_parts at es (rising-entries t))
-    ∙ (kids-append p (before at es) (within at es ++ behind at es)
-    ∙ ap (λ n. kids p (before at es) + n) (kids-append p (within at es) (behind at es)
-    ∙ ap (λ n. n + kids p (behind at es))
+    ∙ (kids-append p (before at es) (within at es ++ beyond at es)
+    ∙ ap (λ n. kids p (before at es) + n) (kids-append p (within at es) (beyond at es)
+    ∙ ap (λ n. n + kids p (beyond at es))
     (ap (kids p) (within-taken at es) ∙ (kids-placed at p (taken at es) out
     (rising-taken at es (rising-entries t)) ∙ ap (λ b. top_of b p at) (present_taken t at)))))
 
 pub kids-after : (t : Tree) (at p : Path) (u : Tree) → is_prefix at p ≡ false →
     kids p (replaced at (entries t) (entries u)) ≡ kids p (before at (entries t))
-    + (top_of (is_present u root) p at + kids p (behind at (entries t)))
+    + (top_of (is_present u root) p at + kids p (beyond at (entries t)))
 kids-after t at p u out =
     let es = entries t in
-    kids-append p (before at es) (under at (entries u) ++ behind at es)
-    ∙ ap (λ n. kids p (before at es) + n) (kids-append p (under at (entries u)) (behind at es)
-    ∙ ap (λ n. n + kids p (behind at es)) (kids-placed at p (entries u) out (rising-entries u)
+    kids-append p (before at es) (under at (entries u) ++ beyond at es)
+    ∙ ap (λ n. kids p (before at es) + n) (kids-append p (under at (entries u)) (beyond at es)
+    ∙ ap (λ n. n + kids p (beyond at es)) (kids-placed at p (entries u) out (rising-entries u)
     ∙ ap (λ o. top_of (is_some o) p at) (sym (get-entries u root))))
 
 -- and those of a path at or below it
@@ -188,11 +188,11 @@ pub kids-inside : (t : Tree) (at q : Path) (u : Tree) →
     kids (at ++ q) (replaced at (entries t) (entries u)) ≡ kids q (entries u)
 kids-inside t at q u =
     let es = entries t in
-    kids-append (at ++ q) (before at es) (under at (entries u) ++ behind at es)
+    kids-append (at ++ q) (before at es) (under at (entries u) ++ beyond at es)
     ∙ (ap₂ (λ m n. m + n) (kids-outside at q (before at es) (before_out at es))
-    (kids-append (at ++ q) (under at (entries u)) (behind at es)
+    (kids-append (at ++ q) (under at (entries u)) (beyond at es)
     ∙ ap₂ (λ m n. m + n) (kids-under at q (entries u))
-    (kids-outside at q (behind at es) (behind_out at es)))
+    (kids-outside at q (beyond at es) (after_out at es)))
     ∙ plus_zero (kids q (entries u)))
   where
     plus_zero : (n : ℕ) → 0 + (n + 0) ≡ n

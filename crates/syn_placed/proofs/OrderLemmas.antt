@@ -94,18 +94,18 @@ before_under a at (n ∷ q) h =
     path_total.trans a at (at ++ n ∷ q) (less_of (path_cmp a at) h) (first_of_all at n q)
 
 -- what stands after a place stands after all below it
-pub under_behind : (at q c : Path) → is_lt (path_cmp c at) ≡ false → is_prefix at c ≡ false →
+pub under_after : (at q c : Path) → is_lt (path_cmp c at) ≡ false → is_prefix at c ≡ false →
     path_cmp (at ++ q) c ≡ Less
-under_behind [] q c low out = absurd (true≢false out)
-under_behind (n ∷ at) q [] low out = absurd (true≢false low)
-under_behind (n ∷ at) q (x ∷ c) low out =
+under_after [] q c low out = absurd (true≢false out)
+under_after (n ∷ at) q [] low out = absurd (true≢false low)
+under_after (n ∷ at) q (x ∷ c) low out =
     elim (name_cmp x n) as (λ o. name_cmp x n ≡ o →
     is_lt (ordering_then o (path_cmp c at)) ≡ false → path_cmp (n ∷ (at ++ q)) (x ∷ c) ≡ Less) [
       | Less ↦ λ e l. absurd (true≢false l)
       | Equal ↦ λ e l.
           let same : x ≡ n = same_name x n (ap is_eq e) in
           ap (λ y. path_cmp (n ∷ (at ++ q)) (y ∷ c)) same ∙ (step n (at ++ q) c
-          ∙ under_behind at q c l
+          ∙ under_after at q c l
           (sym (prefix_step n at c) ∙ (ap (λ y. is_prefix (n ∷ at) (y ∷ c)) (sym same) ∙ out)))
       | Greater ↦ λ e l. then_less (name_cmp n x) (path_cmp (at ++ q) c)
           (name_total.antisymm n x ∙ ap ordering_reverse e)

@@ -13,10 +13,10 @@ use Rattle.std.proofs.lemmas.List.Elements.{filter-append}
 use Rattle.syn_model.specs.Path.{Path, path_cmp, is_prefix}
 use Rattle.syn_model.specs.Tree.{Pair}
 use Rattle.syn_model.proofs.PathLemmas.{path_total}
-use Rattle.syn_placed.specs.Pairs.{Pairs, AreRising, is_before, is_within, is_behind, before}
-use Rattle.syn_placed.specs.Pairs.{within, behind, under}
+use Rattle.syn_placed.specs.Pairs.{Pairs, AreRising, is_before, is_within, is_beyond, before}
+use Rattle.syn_placed.specs.Pairs.{within, beyond, under}
 use Rattle.syn_placed.proofs.OrderLemmas.{less_of, not_before, before_more, between, before_under}
-use Rattle.syn_placed.proofs.OrderLemmas.{under_behind, under_order}
+use Rattle.syn_placed.proofs.OrderLemmas.{under_after, under_order}
 
 -- each of the pairs passes a test
 abbrev pub Each : {X : Type 0} → (X → Bool) → List X → Type 0
@@ -148,30 +148,30 @@ none_within at p es h low out =
 
 -- the three parts, in order, are the whole
 pub three_parts : (at : Path) (es : Pairs) → Rising es →
-    es ≡ before at es ++ (within at es ++ behind at es)
+    es ≡ before at es ++ (within at es ++ beyond at es)
 three_parts at [] h = refl
 three_parts at (e ∷ es) h =
     let rest = three_parts at es h.1 in
     elim (is_before at e)
     as (λ b. is_before at e ≡ b → e ∷ es ≡ cond b (e ∷ before at es) (before at es)
-    ++ (within at (e ∷ es) ++ cond (not (b || is_within at e)) (e ∷ behind at es) (behind at es))) [
+    ++ (within at (e ∷ es) ++ cond (not (b || is_within at e)) (e ∷ beyond at es) (beyond at es))) [
       | true ↦ λ is.
           let out : is_within at e ≡ false = inside (is_within at e) refl is in
           ap (λ xs. e ∷ xs) rest ∙ sym (ap (λ b. (e ∷ before at es)
-          ++ (cond b (e ∷ within at es) (within at es) ++ behind at es)) out)
+          ++ (cond b (e ∷ within at es) (within at es) ++ beyond at es)) out)
       | false ↦ λ never.
           let none : before at es ≡ [] =
           filter-drops (is_before at) es (none_before at e.0 es h.0 never) in
           elim (is_within at e) as (λ b. is_within at e ≡ b → e ∷ es ≡ before at es ++ (cond b
-          (e ∷ within at es) (within at es) ++ cond (not b) (e ∷ behind at es) (behind at es))) [
+          (e ∷ within at es) (within at es) ++ cond (not b) (e ∷ beyond at es) (beyond at es))) [
             | true ↦ λ _. ap (λ xs. e ∷ xs)
-                (rest ∙ ap (λ xs. xs ++ (within at es ++ behind at es)) none)
-                ∙ sym (ap (λ xs. xs ++ ((e ∷ within at es) ++ behind at es)) none)
+                (rest ∙ ap (λ xs. xs ++ (within at es ++ beyond at es)) none)
+                ∙ sym (ap (λ xs. xs ++ ((e ∷ within at es) ++ beyond at es)) none)
             | false ↦ λ out.
                 let no_more : within at es ≡ [] =
                 filter-drops (is_within at) es (none_within at e.0 es h.0 never out) in
-                ap (λ xs. e ∷ xs) (rest ∙ ap₂ (λ xs ys. xs ++ (ys ++ behind at es)) none no_more)
-                ∙ sym (ap₂ (λ xs ys. xs ++ (ys ++ e ∷ behind at es)) none no_more)
+                ap (λ xs. e ∷ xs) (rest ∙ ap₂ (λ xs ys. xs ++ (ys ++ beyond at es)) none no_more)
+                ∙ sym (ap₂ (λ xs ys. xs ++ (ys ++ e ∷ beyond at es)) none no_more)
           ] refl
     ] refl
   where
@@ -194,31 +194,31 @@ neither true b h = absurd (true≢false (sym h))
 neither false true h = absurd (true≢false (sym h))
 neither false false h = (refl, refl)
 
-pub behind_parts : (at : Path) (es : Pairs) →
-    AllByRecursion (λ e. (is_before at e ≡ false) × (is_within at e ≡ false)) (behind at es)
-behind_parts at es =
-    each-map (λ e. is_behind at e ≡ true) (λ e. (is_before at e ≡ false) × (is_within at e ≡ false))
-    (λ e h. neither (is_before at e) (is_within at e) h) (behind at es)
-    (each-filter (is_behind at) es)
+pub after_parts : (at : Path) (es : Pairs) →
+    AllByRecursion (λ e. (is_before at e ≡ false) × (is_within at e ≡ false)) (beyond at es)
+after_parts at es =
+    each-map (λ e. is_beyond at e ≡ true) (λ e. (is_before at e ≡ false) × (is_within at e ≡ false))
+    (λ e h. neither (is_before at e) (is_within at e) h) (beyond at es)
+    (each-filter (is_beyond at) es)
 
-pub behind_out : (at : Path) (es : Pairs) → NoneOf (is_within at) (behind at es)
-behind_out at es =
+pub after_out : (at : Path) (es : Pairs) → NoneOf (is_within at) (beyond at es)
+after_out at es =
     each-map (λ e. (is_before at e ≡ false) × (is_within at e ≡ false))
-    (λ e. is_within at e ≡ false) (λ e h. h.1) (behind at es) (behind_parts at es)
+    (λ e. is_within at e ≡ false) (λ e h. h.1) (beyond at es) (after_parts at es)
 
 -- without what is at and below the place
 pub outside : (at : Path) (es : Pairs) → Rising es →
-    filter (λ e. not (is_within at e)) es ≡ before at es ++ behind at es
+    filter (λ e. not (is_within at e)) es ≡ before at es ++ beyond at es
 outside at es h =
     let others : Pair → Bool = λ e. not (is_within at e) in
     ap (filter others) (three_parts at es h)
-    ∙ (filter-append others (before at es) (within at es ++ behind at es)
+    ∙ (filter-append others (before at es) (within at es ++ beyond at es)
     ∙ ap₂ (λ xs ys. xs ++ ys)
     (filter-keeps others (before at es) (turned (before at es) (before_out at es)))
-    (filter-append others (within at es) (behind at es)
+    (filter-append others (within at es) (beyond at es)
     ∙ ap₂ (λ xs ys. xs ++ ys)
     (filter-drops others (within at es) (dropped (within at es) (each-filter (is_within at) es)))
-    (filter-keeps others (behind at es) (turned (behind at es) (behind_out at es)))))
+    (filter-keeps others (beyond at es) (turned (beyond at es) (after_out at es)))))
   where
     turned : (xs : Pairs) → NoneOf (is_within at) xs → Each (λ e. not (is_within at e)) xs
     turned xs k =
@@ -232,54 +232,54 @@ outside at es h =
 
 -- what takes the place of the part at and below a path
 abbrev pub replaced : Path → Pairs → Pairs → Pairs
-replaced at es us = before at es ++ (under at us ++ behind at es)
+replaced at es us = before at es ++ (under at us ++ beyond at es)
 
-after_all : (at q : Path) (es : Pairs) → After (at ++ q) (behind at es)
+after_all : (at q : Path) (es : Pairs) → After (at ++ q) (beyond at es)
 after_all at q es =
     each-map (λ e. (is_before at e ≡ false) × (is_within at e ≡ false)) (λ e. path_cmp (at ++ q) e.0
-    ≡ Less) (λ e h. under_behind at q e.0 h.0 h.1) (behind at es) (behind_parts at es)
+    ≡ Less) (λ e h. under_after at q e.0 h.0 h.1) (beyond at es) (after_parts at es)
 
-under_before_behind : (at : Path) (us es : Pairs) →
-    AllByRecursion (λ x. After x.0 (behind at es)) (under at us)
-under_before_behind at [] es = tt
-under_before_behind at (u ∷ us) es = (after_all at u.0 es, under_before_behind at us es)
+under_before_after : (at : Path) (us es : Pairs) →
+    AllByRecursion (λ x. After x.0 (beyond at es)) (under at us)
+under_before_after at [] es = tt
+under_before_after at (u ∷ us) es = (after_all at u.0 es, under_before_after at us es)
 
 before_all_under : (at a : Path) (us : Pairs) → is_lt (path_cmp a at) ≡ true → After a (under at us)
 before_all_under at a [] h = tt
 before_all_under at a (u ∷ us) h = (before_under a at u.0 h, before_all_under at a us h)
 
-before_all_behind : (at a : Path) (es : Pairs) → is_lt (path_cmp a at) ≡ true →
-    After a (behind at es)
-before_all_behind at a es h =
+before_all_after : (at a : Path) (es : Pairs) → is_lt (path_cmp a at) ≡ true →
+    After a (beyond at es)
+before_all_after at a es h =
     each-map (λ e. path_cmp (at ++ []) e.0 ≡ Less) (λ e. path_cmp a e.0 ≡ Less)
-    (λ e k. path_total.trans a (at ++ []) e.0 (before_under a at [] h) k) (behind at es)
+    (λ e k. path_total.trans a (at ++ []) e.0 (before_under a at [] h) k) (beyond at es)
     (after_all at [] es)
 
 pub rising-replaced : (at : Path) (es us : Pairs) → Rising es → Rising us →
     Rising (replaced at es us)
 rising-replaced at es us h k =
-    rising-append (before at es) (under at us ++ behind at es) (rising-filter (is_before at) es h)
-    (rising-append (under at us) (behind at es) (rising-under at us k)
-    (rising-filter (is_behind at) es h) (under_before_behind at us es))
-    (each-map (λ e. is_before at e ≡ true) (λ e. After e.0 (under at us ++ behind at es))
-    (λ e x. each-append (λ f. path_cmp e.0 f.0 ≡ Less) (under at us) (behind at es)
-    (before_all_under at e.0 us x) (before_all_behind at e.0 es x)) (before at es)
+    rising-append (before at es) (under at us ++ beyond at es) (rising-filter (is_before at) es h)
+    (rising-append (under at us) (beyond at es) (rising-under at us k)
+    (rising-filter (is_beyond at) es h) (under_before_after at us es))
+    (each-map (λ e. is_before at e ≡ true) (λ e. After e.0 (under at us ++ beyond at es))
+    (λ e x. each-append (λ f. path_cmp e.0 f.0 ≡ Less) (under at us) (beyond at es)
+    (before_all_under at e.0 us x) (before_all_after at e.0 es x)) (before at es)
     (each-filter (is_before at) es))
 
 -- none of those in the part or after it stands before the place
-pub none_after : (at : Path) (es : Pairs) → NoneOf (is_before at) (within at es ++ behind at es)
-none_after at es = each-append (λ e. is_before at e ≡ false) (within at es) (behind at es)
+pub none_after : (at : Path) (es : Pairs) → NoneOf (is_before at) (within at es ++ beyond at es)
+none_after at es = each-append (λ e. is_before at e ≡ false) (within at es) (beyond at es)
     (each-map (λ e. is_within at e ≡ true) (λ e. is_before at e ≡ false)
     (λ e h. not_before at e.0 h) (within at es) (each-filter (is_within at) es))
     (each-map (λ e. (is_before at e ≡ false) × (is_within at e ≡ false))
-    (λ e. is_before at e ≡ false) (λ e h. h.0) (behind at es) (behind_parts at es))
+    (λ e. is_before at e ≡ false) (λ e h. h.0) (beyond at es) (after_parts at es))
 
 -- what is left after those before the place
 pub after_before : (at : Path) (es : Pairs) → Rising es →
-    drop (length (before at es)) es ≡ within at es ++ behind at es
+    drop (length (before at es)) es ≡ within at es ++ beyond at es
 after_before at es h =
     ap (drop (length (before at es))) (three_parts at es h)
-    ∙ drop-append_seam (before at es) (within at es ++ behind at es)
+    ∙ drop-append_seam (before at es) (within at es ++ beyond at es)
 
 pub few_before : (at : Path) (es : Pairs) → length (before at es) ≤ length es
 few_before at es =
@@ -291,10 +291,10 @@ pub taken_within : (at : Path) (es : Pairs) → Rising es →
     take (length (within at es)) (drop (length (before at es)) es) ≡ within at es
 taken_within at es h =
     ap (take (length (within at es))) (after_before at es h)
-    ∙ take-append_seam (within at es) (behind at es)
+    ∙ take-append_seam (within at es) (beyond at es)
 
 pub counted : (at : Path) (es : Pairs) → Rising es →
-    length es ≡ length (before at es) + (length (within at es) + length (behind at es))
+    length es ≡ length (before at es) + (length (within at es) + length (beyond at es))
 counted at es h =
-    ap length (three_parts at es h) ∙ (length-append (before at es) (within at es ++ behind at es)
-    ∙ ap (λ n. length (before at es) + n) (length-append (within at es) (behind at es)))
+    ap length (three_parts at es h) ∙ (length-append (before at es) (within at es ++ beyond at es)
+    ∙ ap (λ n. length (before at es) + n) (length-append (within at es) (beyond at es)))

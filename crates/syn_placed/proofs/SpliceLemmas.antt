@@ -4,20 +4,20 @@ use Rattle.std.proofs.Common.{sym, ap, ap₂, ◌∙◌, append_assoc, arith, ta
 use Rattle.std.proofs.Common.{length-take-le}
 use Rattle.std.proofs.Math.Seq.{take-append_seam, drop-append_seam, take-append-le, drop-append-le}
 use Rattle.syn_model.specs.Path.{Path}
-use Rattle.syn_placed.specs.Pairs.{Pairs, before, within, behind}
+use Rattle.syn_placed.specs.Pairs.{Pairs, before, within, beyond}
 use Rattle.syn_placed.proofs.RisingLemmas.{Rising, three_parts}
 
 pub front_is : (at : Path) (es : Pairs) → Rising es → take (length (before at es)) es ≡ before at es
 front_is at es h =
     ap (take (length (before at es))) (three_parts at es h)
-    ∙ take-append_seam (before at es) (within at es ++ behind at es)
+    ∙ take-append_seam (before at es) (within at es ++ beyond at es)
 
 pub back_is : (at : Path) (es : Pairs) → Rising es →
-    drop (length (before at es) + length (within at es)) es ≡ behind at es
+    drop (length (before at es) + length (within at es)) es ≡ beyond at es
 back_is at es h =
     ap₂ drop (sym (length-append (before at es) (within at es)))
-    (three_parts at es h ∙ sym (append_assoc (before at es) (within at es) (behind at es)))
-    ∙ drop-append_seam (before at es ++ within at es) (behind at es)
+    (three_parts at es h ∙ sym (append_assoc (before at es) (within at es) (beyond at es)))
+    ∙ drop-append_seam (before at es ++ within at es) (beyond at es)
 
 -- ---- runs that are put in and taken out by turning the rest
 

@@ -17,7 +17,7 @@ use Rattle.syn_model.proofs.PathLemmas.{path_total, path_exact, eq-under, strip_
 use Rattle.syn_model.proofs.PathLemmas.{strip_prefix-is}
 use Rattle.syn_model.proofs.TreeLemmas.{same_tree, get-subtree, get-replace}
 use Rattle.syn_model.proofs.HistoryLemmas.{get-at_root}
-use Rattle.syn_placed.specs.Pairs.{Pairs, AreRising, rooted, tree_with, before, within, behind}
+use Rattle.syn_placed.specs.Pairs.{Pairs, AreRising, rooted, tree_with, before, within, beyond}
 use Rattle.syn_placed.specs.Pairs.{under}
 use Rattle.syn_placed.proofs.OrderLemmas.{not_before, under_order}
 use Rattle.syn_placed.proofs.RisingLemmas.{Rising, After, rising_of, are_rising, sorted, sorted_of}
@@ -80,9 +80,9 @@ or_none (Some x) = refl
 find-replaced : (at q : Path) (es us : Pairs) → find path_cmp q (replaced at es us)
     ≡ option_map_or (λ r. find path_cmp r us) (strip_prefix at q) (find path_cmp q es)
 find-replaced at q es us =
-    find-append q (before at es) (under at us ++ behind at es)
+    find-append q (before at es) (under at us ++ beyond at es)
     ∙ (ap₂ option_or (find-where (λ p. is_lt (path_cmp p at)) q es)
-    (find-append q (under at us) (behind at es) ∙ ap₂ option_or (find-under at q us)
+    (find-append q (under at us) (beyond at es) ∙ ap₂ option_or (find-under at q us)
     (find-where (λ p. not (is_lt (path_cmp p at) || is_prefix at p)) q es))
     ∙ by_place (strip_prefix at q) refl)
   where

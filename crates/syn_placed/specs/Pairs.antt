@@ -29,8 +29,8 @@ is_before at pair = is_lt (path_cmp pair.0 at)
 abbrev pub is_within : Path → Pair → Bool
 is_within at pair = is_prefix at pair.0
 
-abbrev pub is_behind : Path → Pair → Bool
-is_behind at pair = not (is_before at pair || is_within at pair)
+abbrev pub is_beyond : Path → Pair → Bool
+is_beyond at pair = not (is_before at pair || is_within at pair)
 
 -- it stands below the path, and not at it
 abbrev pub is_below : Path → Pair → Bool
@@ -42,8 +42,8 @@ before at pairs = filter (is_before at) pairs
 abbrev pub within : Path → Pairs → Pairs
 within at pairs = filter (is_within at) pairs
 
-abbrev pub behind : Path → Pairs → Pairs
-behind at pairs = filter (is_behind at) pairs
+abbrev pub beyond : Path → Pairs → Pairs
+beyond at pairs = filter (is_beyond at) pairs
 
 -- each pair with the path put before its own
 abbrev pub under : Path → Pairs → Pairs

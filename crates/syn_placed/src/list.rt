@@ -6,7 +6,7 @@ ghost use Rattle.std.specs.FinMap.{find};
 ghost use Rattle.syn_model.specs.Path.{path_cmp, parent};
 ghost use Rattle.syn_model.specs.Tree.{is_directory_content};
 ghost use Rattle.syn_placed.specs.Pairs.{rooted, AreRising, is_before, is_within, before, within};
-ghost use Rattle.syn_placed.specs.Pairs.{behind, is_below, is_child};
+ghost use Rattle.syn_placed.specs.Pairs.{beyond, is_below, is_child};
 
 use crate::placed::{Placed, Standing};
 use crate::runs::{replace_run, run_of};
@@ -169,9 +169,9 @@ pub fn count_children_at<C: Standing>(list: &[Placed<C>], at: &Path) -> usize
 pub fn replace_part<C: Standing>(list: &mut Vec<Placed<C>>, at: &Path, added: Vec<Placed<C>>)
     requires rising { AreRising list.old.items }
     requires room { length (before at.now list.old.items) + length
-        (behind at.now list.old.items) + vec_len added ≤ vec_capacity list.old }
+        (beyond at.now list.old.items) + vec_len added ≤ vec_capacity list.old }
     ensures items { list.new.items ≡ before at.now list.old.items
-        ++ (added.items ++ behind at.now list.old.items) }
+        ++ (added.items ++ beyond at.now list.old.items) }
     ensures room { vec_capacity list.old ≤ vec_capacity list.new }
 {
     let (start, count) = place_of(list, at.names());

@@ -12,10 +12,10 @@ use Rattle.syn_propagate.specs.declared.next.Next.{Next}
 use Rattle.syn_propagate.specs.declared.next.Next.TheVariants.{Ask, Done, Refused}
 
 -- where it asks for something, that is so
-pub goes_on_behind : (c : Carriage) (request : Request) (answer : Reply)
+pub goes_on_after : (c : Carriage) (request : Request) (answer : Reply)
     (result : Result Next TransferError) → is_last (reply_of answer) ≡ false →
     IfOk result IsAsking → IfOk result (EndsBy c request (reply_of answer))
-goes_on_behind c request answer (Ok (Ask side asked)) on asking = on
-goes_on_behind c request answer (Ok Done) on asking = absurd asking
-goes_on_behind c request answer (Ok (Refused why)) on asking = absurd asking
-goes_on_behind c request answer (Err e) on asking = tt
+goes_on_after c request answer (Ok (Ask side asked)) on asking = on
+goes_on_after c request answer (Ok Done) on asking = absurd asking
+goes_on_after c request answer (Ok (Refused why)) on asking = absurd asking
+goes_on_after c request answer (Err e) on asking = tt

@@ -74,6 +74,8 @@ impl Transfer {
         ensures starts { (taken : Exchanges) → reply ≡ None → IsReady self.old
             → IsFresh (carriage_of self.old) taken
             → MatchResult result (FollowsAny self.new taken) (λ e. e ≡ TransferError.Memory) }
+        ensures asks { reply ≡ None → IsReady self.old
+            → MatchResult result IsAsking (λ e. e ≡ TransferError.Memory) }
 
         // An answer is refused exactly where it ends its session, or else what it says follows.
         ensures goes_on { (taken : Exchanges) (to : Which) (request : Asked) (number : ℕ)
@@ -143,6 +145,8 @@ impl Transfer {
         ensures starts { (taken : Exchanges) → IsReady self.old
             → IsFresh (carriage_of self.old) taken
             → MatchResult result (FollowsAny self.new taken) (λ e. e ≡ TransferError.Memory) }
+        ensures asks { IsReady self.old
+            → MatchResult result IsAsking (λ e. e ≡ TransferError.Memory) }
         ensures misfit { IsOver self.old ⊎ IsWaiting self.old
             → result ≡ Err TransferError.BadMessage }
         ensures over { MatchResult result (IsOverUnlessAsking self.new)

@@ -49,14 +49,14 @@ rising_right : (es : List Path) → Rising es → RisingRows (map on_right es)
 rising_right [] h = tt
 rising_right (e ∷ es) h = (after_right e es h.0, rising_right es h.1)
 
-after_among : (q l : Path) (behind : List Path → Rows) →
-    ((rs : List Path) → After q rs → AfterRow q (behind rs)) →
-    path_cmp q l ≡ Less → (rs : List Path) → After q rs → AfterRow q (among l behind rs)
-after_among q l behind h less [] a = (less, h [] tt)
-after_among q l behind h less (r ∷ rs) a =
-    let rest = after_among q l behind h less rs a.1 in
-    elim (path_cmp l r) as (λ o. AfterRow q (by_order o (on_left l ∷ behind (r ∷ rs))
-    (on_both l ∷ behind rs) (on_right r ∷ among l behind rs))) [
+after_among : (q l : Path) (later : List Path → Rows) →
+    ((rs : List Path) → After q rs → AfterRow q (later rs)) →
+    path_cmp q l ≡ Less → (rs : List Path) → After q rs → AfterRow q (among l later rs)
+after_among q l later h less [] a = (less, h [] tt)
+after_among q l later h less (r ∷ rs) a =
+    let rest = after_among q l later h less rs a.1 in
+    elim (path_cmp l r) as (λ o. AfterRow q (by_order o (on_left l ∷ later (r ∷ rs))
+    (on_both l ∷ later rs) (on_right r ∷ among l later rs))) [
       | Less ↦ (less, h (r ∷ rs) a)
       | Equal ↦ (less, h rs a.1)
       | Greater ↦ (a.0, rest)
@@ -67,21 +67,21 @@ after_merged q [] rs h k = after_right q rs k
 after_merged q (l ∷ ls) rs h k =
     after_among q l (merged ls) (λ rs a. after_merged q ls rs h.1 a) h.0 rs k
 
-rising_among : (l : Path) (ls : List Path) (behind : List Path → Rows) →
-    ((rs : List Path) → Rising rs → RisingRows (behind rs)) →
-    ((q : Path) (rs : List Path) → After q ls → After q rs → AfterRow q (behind rs)) →
-    After l ls → (rs : List Path) → Rising rs → RisingRows (among l behind rs)
-rising_among l ls behind up after a [] h = (after l [] a tt, up [] tt)
-rising_among l ls behind up after a (r ∷ rs) h =
-    let rest = rising_among l ls behind up after a rs h.1 in
+rising_among : (l : Path) (ls : List Path) (later : List Path → Rows) →
+    ((rs : List Path) → Rising rs → RisingRows (later rs)) →
+    ((q : Path) (rs : List Path) → After q ls → After q rs → AfterRow q (later rs)) →
+    After l ls → (rs : List Path) → Rising rs → RisingRows (among l later rs)
+rising_among l ls later up after a [] h = (after l [] a tt, up [] tt)
+rising_among l ls later up after a (r ∷ rs) h =
+    let rest = rising_among l ls later up after a rs h.1 in
     elim (path_cmp l r) as (λ o. path_cmp l r ≡ o → RisingRows (by_order o
-    (on_left l ∷ behind (r ∷ rs)) (on_both l ∷ behind rs) (on_right r ∷ among l behind rs))) [
+    (on_left l ∷ later (r ∷ rs)) (on_both l ∷ later rs) (on_right r ∷ among l later rs))) [
       | Less ↦ λ e. (after l (r ∷ rs) a (e, after_more l r rs e h.0), up (r ∷ rs) h)
       | Equal ↦ λ e.
           (after l rs a (subst (λ p. After p rs) (sym (same_path l r (ap is_eq e))) h.0), up rs h.1)
       | Greater ↦ λ e.
           let less = turned l r e in (
-            after_among r l behind
+            after_among r l later
                 (λ others k. after r others (after_more r l ls less a) k) less rs h.0,
             rest,
           )
@@ -120,19 +120,19 @@ or_twice : (a b c : Bool) → (a || (b || c)) ≡ ((a || b) || (a || c))
 or_twice true b c = refl
 or_twice false b c = refl
 
-among_both : (q l : Path) (ls : List Path) (behind : List Path → Rows) → ((rs : List Path) →
-    is_among (paths_in (behind rs)) q ≡ (is_among ls q || is_among rs q)) → (rs : List Path) →
-    is_among (paths_in (among l behind rs)) q ≡ (is_among (l ∷ ls) q || is_among rs q)
-among_both q l ls behind ih [] =
+among_both : (q l : Path) (ls : List Path) (later : List Path → Rows) → ((rs : List Path) →
+    is_among (paths_in (later rs)) q ≡ (is_among ls q || is_among rs q)) → (rs : List Path) →
+    is_among (paths_in (among l later rs)) q ≡ (is_among (l ∷ ls) q || is_among rs q)
+among_both q l ls later ih [] =
     ap (λ b. eq_by_cmp path_cmp q l || b) (ih [])
     ∙ or_assoc (eq_by_cmp path_cmp q l) (is_among ls q) false
-among_both q l ls behind ih (r ∷ rs) =
-    let rest = among_both q l ls behind ih rs in
+among_both q l ls later ih (r ∷ rs) =
+    let rest = among_both q l ls later ih rs in
     let a : Bool = eq_by_cmp path_cmp q l in
     let b : Bool = eq_by_cmp path_cmp q r in
     elim (path_cmp l r) as (λ o. path_cmp l r ≡ o →
-    is_among (paths_in (by_order o (on_left l ∷ behind (r ∷ rs)) (on_both l ∷ behind rs)
-    (on_right r ∷ among l behind rs))) q ≡ ((a || is_among ls q) || (b || is_among rs q))) [
+    is_among (paths_in (by_order o (on_left l ∷ later (r ∷ rs)) (on_both l ∷ later rs)
+    (on_right r ∷ among l later rs))) q ≡ ((a || is_among ls q) || (b || is_among rs q))) [
       | Less ↦ λ _. ap (λ c. a || c) (ih (r ∷ rs)) ∙ or_assoc a (is_among ls q) (b || is_among rs q)
       | Equal ↦ λ e.
           let at : l ≡ r = same_path l r (ap is_eq e) in
@@ -225,16 +225,16 @@ right_flags L R (r ∷ rs) up h =
 or_left : (a b : Bool) → a ≡ true → (a || b) ≡ true
 or_left a b h = ap (λ c. c || b) h
 
-among_flags : (L R : List Path) (l : Path) (ls : List Path) (behind : List Path → Rows) →
-    ((rs : List Path) → Rising rs → Agree L R ls rs → Flags L R (behind rs)) → After l ls →
-    (rs : List Path) → Rising rs → Agree L R (l ∷ ls) rs → Flags L R (among l behind rs)
-among_flags L R l ls behind ih a [] up h =
+among_flags : (L R : List Path) (l : Path) (ls : List Path) (later : List Path → Rows) →
+    ((rs : List Path) → Rising rs → Agree L R ls rs → Flags L R (later rs)) → After l ls →
+    (rs : List Path) → Rising rs → Agree L R (l ∷ ls) rs → Flags L R (among l later rs)
+among_flags L R l ls later ih a [] up h =
     let both = h l (or_left (is_among (l ∷ ls) l) false (itself_among l ls)) in
     ((sym (both.0 ∙ itself_among l ls), sym both.1), ih [] tt (agree_left L R l ls [] a tt h))
-among_flags L R l ls behind ih a (r ∷ rs) up h =
-    let rest = among_flags L R l ls behind ih a rs up.1 in
+among_flags L R l ls later ih a (r ∷ rs) up h =
+    let rest = among_flags L R l ls later ih a rs up.1 in
     elim (path_cmp l r) as (λ o. path_cmp l r ≡ o → Flags L R (by_order o
-    (on_left l ∷ behind (r ∷ rs)) (on_both l ∷ behind rs) (on_right r ∷ among l behind rs))) [
+    (on_left l ∷ later (r ∷ rs)) (on_both l ∷ later rs) (on_right r ∷ among l later rs))) [
       | Less ↦ λ e.
           let both =
           h l (or_left (is_among (l ∷ ls) l) (is_among (r ∷ rs) l) (itself_among l ls)) in

@@ -14,10 +14,10 @@ use Rattle.syn_model.specs.Tree.{Pair}
 use Rattle.syn_model.proofs.PathLemmas.{path_total, path_exact, same_name, same_path}
 use Rattle.syn_model.proofs.DirtyLemmas.{prefix_chain}
 use Rattle.syn_model.proofs.PlanOrder.{siblings, apart_below, not_longer, prefix-append}
-use Rattle.syn_placed.specs.Pairs.{Pairs, is_before, is_within, before, within, behind}
+use Rattle.syn_placed.specs.Pairs.{Pairs, is_before, is_within, before, within, beyond}
 use Rattle.syn_placed.proofs.OrderLemmas.{not_before, under_order}
 use Rattle.syn_placed.proofs.RisingLemmas.{Rising, After, Each, each-map, each-filter, filter-drops}
-use Rattle.syn_placed.proofs.RisingLemmas.{three_parts, rising-filter, behind_parts}
+use Rattle.syn_placed.proofs.RisingLemmas.{three_parts, rising-filter, after_parts}
 
 -- names in byte order, each once
 abbrev pub RisingNames : List Name → Type 0
@@ -149,24 +149,24 @@ by_names p (m ∷ ms) es sorted up h =
     let c = child p m in
     let front : before c es ≡ [] = filter-drops (is_before c) es (each-map (BelowOne p (m ∷ ms))
     (λ e. is_before c e ≡ false) (none_before_first p m ms sorted.0) es h) in
-    let whole : es ≡ within c es ++ behind c es = three_parts c es up
-    ∙ ap (λ xs. xs ++ (within c es ++ behind c es)) front in
-    let later : AllByRecursion (BelowOne p ms) (behind c es) =
+    let whole : es ≡ within c es ++ beyond c es = three_parts c es up
+    ∙ ap (λ xs. xs ++ (within c es ++ beyond c es)) front in
+    let later : AllByRecursion (BelowOne p ms) (beyond c es) =
     both-each (BelowOne p (m ∷ ms)) (λ e. (is_before c e ≡ false) × (is_within c e ≡ false))
-    (BelowOne p ms) (λ e b o. at_later p m ms e b o.1) (behind c es)
-    (every-filter (BelowOne p (m ∷ ms)) _ es h) (behind_parts c es) in
-    let rest = by_names p ms (behind c es) sorted.1 (rising-filter _ es up) later in
+    (BelowOne p ms) (λ e b o. at_later p m ms e b o.1) (beyond c es)
+    (every-filter (BelowOne p (m ∷ ms)) _ es h) (after_parts c es) in
+    let rest = by_names p ms (beyond c es) sorted.1 (rising-filter _ es up) later in
     whole ∙ ap (λ xs. within c es ++ xs)
-    (rest ∙ flat_map-same (λ n. within (child p n) (behind c es)) (λ n. within (child p n) es) ms
-    (each-map (λ n. name_cmp m n ≡ Less) (λ n. within (child p n) (behind c es)
+    (rest ∙ flat_map-same (λ n. within (child p n) (beyond c es)) (λ n. within (child p n) es) ms
+    (each-map (λ n. name_cmp m n ≡ Less) (λ n. within (child p n) (beyond c es)
     ≡ within (child p n) es) (λ n less. sym (apart n less whole)) ms sorted.0))
   where
-    apart : (n : Name) → name_cmp m n ≡ Less → es ≡ within (child p m) es ++ behind (child p m) es →
-        within (child p n) es ≡ within (child p n) (behind (child p m) es)
+    apart : (n : Name) → name_cmp m n ≡ Less → es ≡ within (child p m) es ++ beyond (child p m) es →
+        within (child p n) es ≡ within (child p n) (beyond (child p m) es)
     apart n less whole =
         ap (within (child p n)) whole
-        ∙ (filter-append (is_within (child p n)) (within (child p m) es) (behind (child p m) es)
-        ∙ ap (λ xs. xs ++ within (child p n) (behind (child p m) es))
+        ∙ (filter-append (is_within (child p n)) (within (child p m) es) (beyond (child p m) es)
+        ∙ ap (λ xs. xs ++ within (child p n) (beyond (child p m) es))
         (filter-drops (is_within (child p n)) (within (child p m) es)
         (each-map (λ e. is_within (child p m) e ≡ true) (λ e. is_within (child p n) e ≡ false)
         (one_name p m n less) (within (child p m) es) (each-filter (is_within (child p m)) es))))

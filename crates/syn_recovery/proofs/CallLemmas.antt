@@ -11,7 +11,7 @@ use Rattle.syn_disk.specs.Calls.{Makes}
 use Rattle.syn_headline.specs.Machine.{Up, Halted, IsBefore, after_calls, Meets, all_made}
 use Rattle.syn_headline.specs.Machine.{one_fails, one_stops}
 use Rattle.syn_recovery.specs.Calls.{armed_at, CallsMeet, goes_on, goes_down, MadeCallsMeet}
-use Rattle.syn_recovery.specs.Calls.{StopsBehind, BrokenCallsMeet, MadeReadsMeet}
+use Rattle.syn_recovery.specs.Calls.{StopsAfter, BrokenCallsMeet, MadeReadsMeet}
 
 -- a stop comes so many calls later: never, or it is still to come, or with the last of these calls
 abbrev fewer : ℕ → Option ℕ → Option ℕ
@@ -135,10 +135,10 @@ module _ (old new : DiskArms) (open_ : is_stopped old ≡ false) where
       was is a.failure less) (all_made a.not_failed (subst (IsBefore calls) (sym was) before)))
 
   -- the stop came after the last of them
-  goes_down_behind : (calls : ℕ) → old.stop ≡ Some calls → calls ≢ 0 → IsBefore calls old.failure →
+  goes_down_after : (calls : ℕ) → old.stop ≡ Some calls → calls ≢ 0 → IsBefore calls old.failure →
       is_stopped new ≡ true → CallsMeet old new calls Up 0
-  goes_down_behind zero at some before down = absurd (some refl)
-  goes_down_behind (suc made) at some before down =
+  goes_down_after zero at some before down = absurd (some refl)
+  goes_down_after (suc made) at some before down =
       let both = not_before made old.failure before in
       goes_down down (one_stops made (omega arith) both.0 (stop_of old.stop (suc made) at))
 
@@ -151,7 +151,7 @@ module _ (old new : DiskArms) (open_ : is_stopped old ≡ false) where
           let is : n ≡ calls = grind (arith, nat_tests) in
           let open_n = not_zero n (sym (ap is_zero at) ∙ open_) in
           let now = a.stop ∙ ap (fewer calls) at in
-          goes_down_behind calls (at ∙ ap (λ k. Some k) is) (λ none. open_n (is ∙ none))
+          goes_down_after calls (at ∙ ap (λ k. Some k) is) (λ none. open_n (is ∙ none))
           a.not_failed (ap is_zero now ∙ is_none (n - calls) (omega (arith, is)))
       with_stop n at false other =
           let differs : n ≢ calls = λ e. grind (arith, nat_tests) in
@@ -246,8 +246,8 @@ pub made_calls_meet : MadeCallsMeet
 made_calls_meet calls old new running m =
     all_meet old new running calls (makes_after calls old new m)
 
-pub stops_behind : StopsBehind
-stops_behind calls old new running m down = by old.stop refl
+pub stops_after : StopsAfter
+stops_after calls old new running m down = by old.stop refl
   where
     by : (o : Option ℕ) → old.stop ≡ o →
         ((armed_at old).stop ≡ calls) × IsBefore calls (armed_at old).fail

@@ -1,14 +1,14 @@
 -- What the bytes of a disk have, and how long they may be a machine's.
 use Rattle.std.proofs.Common.{◌≡◌, ◌-◌, ◌+◌, ℕ, Result, Ok, Err, length, sym, ap, ◌∙◌, arith}
-use Rattle.syn_headline.specs.Machine.{Arms, Journaled, Status, after_device, room_behind}
+use Rattle.syn_headline.specs.Machine.{Arms, Journaled, Status, after_device, room_after}
 use Rattle.syn_journal.specs.Layout.{HasJournal, Value, bytes_left, generation_at, image_alone}
 use Rattle.syn_journal.specs.declared.half.Half.{Half}
 use Rattle.syn_model.specs.Path.{Bytes}
 use Rattle.syn_recovery.specs.Meaning.{Keeping, MayBeOf, MayMean, as_kept, compacted, with_record}
 
 -- an image alone leaves what stands after it
-pub behind_image : (image : Bytes) → bytes_left (image_alone image) ≡ room_behind image
-behind_image image = less (length image)
+pub after_image : (image : Bytes) → bytes_left (image_alone image) ≡ room_after image
+after_image image = less (length image)
   where
     less : (n : ℕ) → 4194304 - 1 - (13 + n + 0) ≡ 4194304 - (14 + n)
     less n = omega arith

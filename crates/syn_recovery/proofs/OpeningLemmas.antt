@@ -2,12 +2,12 @@
 use Rattle.std.proofs.Common.{◌≡◌, ℕ, suc, ◌-◌, [], ◌∷◌, sym, ap, ◌∙◌, refl, inl, inr, arith}
 use Rattle.syn_model.specs.Path.{Bytes}
 use Rattle.syn_journal.specs.Layout.{Value, image_alone, bytes_left}
-use Rattle.syn_headline.specs.Machine.{Journaled, Arms, opened, recovered, Meets, room_behind}
+use Rattle.syn_headline.specs.Machine.{Journaled, Arms, opened, recovered, Meets, room_after}
 use Rattle.syn_headline.specs.Machine.{reopened, with_record as and_record, Up}
 use Rattle.syn_recovery.specs.Meaning.{Keeping, MayMean, as_kept, with_record, compacted, OpensTo}
 
 -- after an image alone stands no record
-alone_room : (image : Bytes) → room_behind image ≡ bytes_left (image_alone image)
+alone_room : (image : Bytes) → room_after image ≡ bytes_left (image_alone image)
 alone_room image = omega arith
 
 module _ {V W : Type 0} (keeping : Keeping V W) (machine : Journaled V W) (calls : ℕ) (arms : Arms)
@@ -36,10 +36,10 @@ module _ {V W : Type 0} (keeping : Keeping V W) (machine : Journaled V W) (calls
   opens_to (compacted means) =
       let image = keeping.layout.image machine.value in
       record {
-        new = reopened machine (room_behind image) (suc machine.generation) arms;
+        new = reopened machine (room_after image) (suc machine.generation) arms;
         added = [];
         opens =
-            opened (room_behind image) (suc machine.generation) arms made
+            opened (room_after image) (suc machine.generation) arms made
             (inr (means.compacting, refl, refl));
         opened = record { up = refl; idle = refl; settled = refl };
         armed = refl;

@@ -25,8 +25,8 @@ MadeCallsMeet = (calls : ℕ) (old new : DiskArms) → is_stopped old ≡ false 
 
 -- where such a call succeeds and the machine went down, the stop was armed after its last device
 -- call
-abbrev pub StopsBehind : Type 0
-StopsBehind = (calls : ℕ) (old new : DiskArms) → is_stopped old ≡ false → Makes calls old new →
+abbrev pub StopsAfter : Type 0
+StopsAfter = (calls : ℕ) (old new : DiskArms) → is_stopped old ≡ false → Makes calls old new →
     is_stopped new ≡ true →
     ((armed_at old).stop ≡ calls) × IsBefore calls (armed_at old).fail
 

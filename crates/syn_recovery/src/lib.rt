@@ -24,7 +24,7 @@
 //!   and the generation.
 #![tactic(auto)]
 
-ghost use Rattle.syn_recovery.specs.Calls.{MadeCallsMeet, StopsBehind, BrokenCallsMeet};
+ghost use Rattle.syn_recovery.specs.Calls.{MadeCallsMeet, StopsAfter, BrokenCallsMeet};
 ghost use Rattle.syn_recovery.specs.Calls.{MadeReadsMeet};
 ghost use Rattle.syn_recovery.specs.Machines.{SidesOpen, ArchivesOpen, SideImagesFit};
 ghost use Rattle.syn_recovery.specs.Machines.{ArchiveImagesFit};
@@ -33,7 +33,7 @@ ghost use Rattle.syn_recovery.specs.Headline.{DisksAreStart, Headline};
 /// The device calls that a journal's contract counts are what the world says that a machine met.
 pub fn device_laws()
     ensures made { MadeCallsMeet }
-    ensures behind { StopsBehind }
+    ensures after { StopsAfter }
     ensures broken { BrokenCallsMeet }
     ensures reads { MadeReadsMeet }
 {}

@@ -18,7 +18,7 @@ use Rattle.syn_model.specs.Path.{Path, Name, path_cmp, name_cmp, root, child}
 use Rattle.syn_model.specs.Tree.{Content, Pair, Directory, replace}
 use Rattle.syn_model.specs.Limits.{children, fits_archive, fits_path, fits_paths}
 use Rattle.syn_model.proofs.PathLemmas.{path_total, path_itself}
-use Rattle.syn_placed.specs.Pairs.{Pairs, before, behind, under}
+use Rattle.syn_placed.specs.Pairs.{Pairs, before, beyond, under}
 use Rattle.syn_placed.proofs.RisingLemmas.{three_parts, rising_of}
 use Rattle.syn_placed.proofs.TreeLemmas.{rising-entries, entries-replace, get-rising}
 use Rattle.syn_mark.specs.Marks.{AreMarks}
@@ -97,7 +97,7 @@ module _ (found : Found) (p : Path) (es : Listing) (f : IsFound found) (o : is_o
   front = before p (entries found.marks)
 
   abbrev back : Pairs
-  back = behind p (entries found.marks)
+  back = beyond p (entries found.marks)
 
   shows_nothing : ShowsNothing found.marks p
   shows_nothing n = f.nothing_below p n (opened found p o).not_listed
@@ -206,7 +206,7 @@ pub passed_then : (found : Found) (out : List Path) (p : Path) (es : Listing) (k
     (entries (replace found.marks p (directory_with es))) n
 passed_then found out p es k n f o rising few none =
     passed_after_listing found out p k n (directory_with es) (before p (entries found.marks))
-    (behind p (entries found.marks)) (under p (named es) ++ behind p (entries found.marks))
+    (beyond p (entries found.marks)) (under p (named es) ++ beyond p (entries found.marks))
     (p ++ [], Directory)
     (old_list found p es f o rising) (new_list found p es f o rising) few none
 

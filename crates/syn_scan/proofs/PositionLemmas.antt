@@ -25,29 +25,29 @@ abbrev pub later : Path → Answers → Answers
 later path list = filter (λ entry. not (is_earlier path entry)) list
 
 -- after a path
-abbrev pub Behind : Path → Answers → Type 0
-Behind path list = AllByRecursion (λ e. path_cmp path e.0 ≡ Less) list
+abbrev pub After : Path → Answers → Type 0
+After path list = AllByRecursion (λ e. path_cmp path e.0 ≡ Less) list
 
 abbrev pub Rising : Answers → Type 0
 Rising [] = Unit {0}
-Rising (e ∷ es) = Behind e.0 es × Rising es
+Rising (e ∷ es) = After e.0 es × Rising es
 
 less_of : (o : Ordering) → is_lt o ≡ true → o ≡ Less
 less_of Less h = refl
 less_of Equal h = absurd (true≢false (sym h))
 less_of Greater h = absurd (true≢false (sym h))
 
-behind_of : (path : Path) (es : Answers) → below_all path_cmp path es ≡ true → Behind path es
-behind_of path [] h = tt
-behind_of path (e ∷ es) h =
+after_of : (path : Path) (es : Answers) → below_all path_cmp path es ≡ true → After path es
+after_of path [] h = tt
+after_of path (e ∷ es) h =
     let both = and_parts (is_lt (path_cmp path e.0)) (below_all path_cmp path es) h in
-    (less_of (path_cmp path e.0) both.0, behind_of path es both.1)
+    (less_of (path_cmp path e.0) both.0, after_of path es both.1)
 
 pub rising_of : (es : Answers) → AreSorted es → Rising es
 rising_of [] h = tt
 rising_of (e ∷ es) h =
     let both = and_parts (below_all path_cmp e.0 es) (is_sorted path_cmp es) h in
-    (behind_of e.0 es both.0, rising_of es both.1)
+    (after_of e.0 es both.0, rising_of es both.1)
 
 pub holds : (b : Bool) → b ≡ true → T b
 holds b h = subst T (sym h) tt
@@ -56,15 +56,15 @@ pub holds_of : (b : Bool) → T b → b ≡ true
 holds_of true h = refl
 holds_of false h = absurd h
 
-behind_more : (q p : Path) (es : Answers) → path_cmp q p ≡ Less → Behind p es → Behind q es
-behind_more q p [] less h = tt
-behind_more q p (e ∷ es) less h = (path_total.trans q p e.0 less h.0, behind_more q p es less h.1)
+after_more : (q p : Path) (es : Answers) → path_cmp q p ≡ Less → After p es → After q es
+after_more q p [] less h = tt
+after_more q p (e ∷ es) less h = (path_total.trans q p e.0 less h.0, after_more q p es less h.1)
 
 -- what is after a path is not before it
 late : (q p : Path) → path_cmp q p ≡ Less → is_lt (path_cmp p q) ≡ false
 late q p h = ap is_lt (path_total.antisymm p q ∙ ap ordering_reverse h)
 
-none_earlier : (q : Path) (es : Answers) → Behind q es → (earlier q es ≡ []) × (later q es ≡ es)
+none_earlier : (q : Path) (es : Answers) → After q es → (earlier q es ≡ []) × (later q es ≡ es)
 none_earlier q [] h = (refl, refl)
 none_earlier q (e ∷ es) h =
     let rest = none_earlier q es h.1 in
@@ -73,12 +73,12 @@ none_earlier q (e ∷ es) h =
       ap (λ b. cond (not b) (e ∷ later q es) (later q es)) not_it ∙ ap (λ xs. e ∷ xs) rest.1,
     )
 
-same_or_behind : (q : Path) (e : Path × ℕ) (es : Answers) → Behind e.0 es →
-    is_lt (path_cmp e.0 q) ≡ false → (o : Ordering) → path_cmp q e.0 ≡ o → Behind q es
-same_or_behind q e es h low Less is = behind_more q e.0 es is h
-same_or_behind q e es h low Equal is =
-    subst (λ p. Behind p es) (sym (same_path q e.0 (ap is_eq is))) h
-same_or_behind q e es h low Greater is =
+same_or_after : (q : Path) (e : Path × ℕ) (es : Answers) → After e.0 es →
+    is_lt (path_cmp e.0 q) ≡ false → (o : Ordering) → path_cmp q e.0 ≡ o → After q es
+same_or_after q e es h low Less is = after_more q e.0 es is h
+same_or_after q e es h low Equal is =
+    subst (λ p. After p es) (sym (same_path q e.0 (ap is_eq is))) h
+same_or_after q e es h low Greater is =
     absurd (true≢false (sym (ap is_lt (path_total.antisymm e.0 q ∙ ap ordering_reverse is)) ∙ low))
 
 -- the pairs before a path, and the others, are the whole in order
@@ -90,7 +90,7 @@ two_parts q (e ∷ es) h =
     ≡ cond b (e ∷ earlier q es) (earlier q es) ++ cond (not b) (e ∷ later q es) (later q es)) [
       | true ↦ λ _. ap (λ xs. e ∷ xs) rest
       | false ↦ λ low.
-          let none = none_earlier q es (same_or_behind q e es h.0 low (path_cmp q e.0) refl) in
+          let none = none_earlier q es (same_or_after q e es h.0 low (path_cmp q e.0) refl) in
           sym (ap₂ (λ xs ys. xs ++ e ∷ ys) none.0 none.1)
     ] refl
 
@@ -122,26 +122,26 @@ find_late q (e ∷ es) =
       | false ↦ λ _. ap (cond (eq_by_cmp path_cmp q e.0) (Some e.1)) (find_late q es)
     ] refl
 
-find_behind : (q : Path) (es : Answers) → Behind q es → find path_cmp q es ≡ None
-find_behind q [] h = refl
-find_behind q (e ∷ es) h =
-    ap (λ o. cond (is_eq o) (Some e.1) (find path_cmp q es)) h.0 ∙ find_behind q es h.1
+find_after : (q : Path) (es : Answers) → After q es → find path_cmp q es ≡ None
+find_after q [] h = refl
+find_after q (e ∷ es) h =
+    ap (λ o. cond (is_eq o) (Some e.1) (find path_cmp q es)) h.0 ∙ find_after q es h.1
 
-behind_later : (q p : Path) (es : Answers) → Behind p es → Behind p (later q es)
-behind_later q p [] k = tt
-behind_later q p (x ∷ es) k =
-    elim (is_earlier q x) as (λ b. Behind p (cond (not b) (x ∷ later q es) (later q es)))
-    [ true ↦ behind_later q p es k.1 | false ↦ (k.0, behind_later q p es k.1) ]
+after_later : (q p : Path) (es : Answers) → After p es → After p (later q es)
+after_later q p [] k = tt
+after_later q p (x ∷ es) k =
+    elim (is_earlier q x) as (λ b. After p (cond (not b) (x ∷ later q es) (later q es)))
+    [ true ↦ after_later q p es k.1 | false ↦ (k.0, after_later q p es k.1) ]
 
 rising_later : (q : Path) (es : Answers) → Rising es → Rising (later q es)
 rising_later q [] h = tt
 rising_later q (e ∷ es) h =
     elim (is_earlier q e) as (λ b. Rising (cond (not b) (e ∷ later q es) (later q es)))
-    [ true ↦ rising_later q es h.1 | false ↦ (behind_later q e.0 es h.0, rising_later q es h.1) ]
+    [ true ↦ rising_later q es h.1 | false ↦ (after_later q e.0 es h.0, rising_later q es h.1) ]
 
 after : (q : Path) (x : Path × ℕ) (rest : Answers) → Rising (x ∷ rest) → is_earlier q x ≡ false →
-    eq_by_cmp path_cmp x.0 q ≡ false → (o : Ordering) → path_cmp q x.0 ≡ o → Behind q (x ∷ rest)
-after q x rest up low other Less is = (is, behind_more q x.0 rest is up.0)
+    eq_by_cmp path_cmp x.0 q ≡ false → (o : Ordering) → path_cmp q x.0 ≡ o → After q (x ∷ rest)
+after q x rest up low other Less is = (is, after_more q x.0 rest is up.0)
 after q x rest up low other Equal is =
     absurd (true≢false (sym (path_itself q)
     ∙ (ap (λ p. eq_by_cmp path_cmp p q) (same_path q x.0 (ap is_eq is)) ∙ other)))
@@ -172,7 +172,7 @@ placed q v (e ∷ xs) up miss =
     elim (path_cmp q e.0) as (λ o. path_cmp q e.0 ≡ o →
     put path_cmp q v (e ∷ xs) ≡ earlier q (e ∷ xs) ++ (q, v) ∷ later q (e ∷ xs)) [
       | Less ↦ λ is.
-          let none = none_earlier q (e ∷ xs) (is, behind_more q e.0 xs is up.0) in
+          let none = none_earlier q (e ∷ xs) (is, after_more q e.0 xs is up.0) in
           ap (λ o. by_order o ((q, v) ∷ e ∷ xs) ((e.0, v) ∷ xs) (e ∷ put path_cmp q v xs)) is
           ∙ sym (ap₂ (λ ys zs. ys ++ (q, v) ∷ zs) none.0 none.1)
       | Equal ↦ λ is. absurd
@@ -220,7 +220,7 @@ module _ (q : Path) (es : Answers) (at : ℕ) (sorted : AreSorted es)
       let low : is_earlier q x ≡ false =
       (subst (AllByRecursion (λ e. is_earlier q e ≡ false)) f.1 (each_later q es)).0 in
       sym (got ∙ (ap (find path_cmp q) f.1
-      ∙ find_behind q (x ∷ f.0) (after q x f.0 up low other (path_cmp q x.0) refl)))
+      ∙ find_after q (x ∷ f.0) (after q x f.0 up low other (path_cmp q x.0) refl)))
 
   pub past_end : length es ≤ at → None ≡ get (positions_with es) q
   past_end l =

@@ -18,7 +18,7 @@ use Rattle.syn_model.proofs.DirectoryLemmas.{absent_below}
 use Rattle.syn_model.proofs.QuietLemmas.{get-children}
 use Rattle.syn_model.proofs.SubtreeLemmas.{subtree_children}
 use Rattle.syn_model.proofs.HistoryLemmas.{get-at_root}
-use Rattle.syn_placed.specs.Pairs.{Pairs, is_child, before, behind, under}
+use Rattle.syn_placed.specs.Pairs.{Pairs, is_child, before, beyond, under}
 use Rattle.syn_placed.specs.Pairs as pairs
 use Rattle.syn_placed.proofs.RisingLemmas.{three_parts}
 use Rattle.syn_placed.proofs.TreeLemmas.{rising-entries, entries-replace, entries-subtree}
@@ -133,7 +133,7 @@ pub shows_others : (t : Tree) (p : Path) (es : List (Name × Content)) (q : Path
 shows_others t p es q parents here nothing rising other =
     let f = child_of q in
     let front = before p (entries t) in
-    let back = behind p (entries t) in
+    let back = beyond p (entries t) in
     let one : Pair = (p ++ [], Directory) in
     let new = ap (filter_map f) (entries-replace t p (directory_with es)
     ∙ ap (λ us. front ++ (under p us ++ back)) (listing_entries es rising)) in

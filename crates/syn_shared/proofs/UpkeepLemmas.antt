@@ -9,7 +9,7 @@ use Rattle.syn_disk.specs.Stops.{LeavesOnly, Untouched}
 use Rattle.syn_disk.specs.declared.disk.Disk.{Ghosts}
 use Rattle.syn_headline.specs.Machine.{Status, Up, Halted, Down, Arms, Journaled, unarmed}
 use Rattle.syn_headline.specs.Machine.{with_image, after_device, compacted, not_compacted}
-use Rattle.syn_headline.specs.Machine.{room_behind}
+use Rattle.syn_headline.specs.Machine.{room_after}
 use Rattle.syn_headline.specs.SideMachine.{SideMachine, side_layout, with_journal, staging_after}
 use Rattle.syn_headline.specs.MachineSteps.{full_generation}
 use Rattle.syn_journal.specs.Journal as journal
@@ -33,7 +33,7 @@ use Rattle.syn_replica.specs.declared.replica.Replica.{Replica}
 use Rattle.syn_shared.proofs.EventLemmas.{met}
 use Rattle.syn_shared.specs.Machines.{Says, IsMade, CompactsSide, compacts, ReopensSide, opens}
 use Rattle.syn_shared.specs.Machines.{stops_within, fails, has_no_memory}
-use Rattle.syn_recovery.proofs.DiskLemmas.{behind_image, may_be_still, one_generation, one_value}
+use Rattle.syn_recovery.proofs.DiskLemmas.{after_image, may_be_still, one_generation, one_value}
 
 one_more : (n : ℕ) → suc n ≡ n + 1
 one_more n = omega arith
@@ -93,8 +93,8 @@ module _ {D : Type 0} {disk : Ghosts D} (pair : ℕ) (found left : Replica D dis
               let same : image_spelling (pair_of found) (standing_shown found) ≡ image =
               ap₂ (λ p s. image_spelling p s) is.pair_is stands.remembers.standing in
               let gate = alone.gate ∙ ap (λ i. 13 + length i + 0) same in
-              let left_is : left_shown left ≡ room_behind image = ap (λ n. 4194304 - 1 - n) gate
-              ∙ behind_image image in
+              let left_is : left_shown left ≡ room_after image = ap (λ n. 4194304 - 1 - n) gate
+              ∙ after_image image in
               compacts (Ok tt) after_it allowed
               (compacted arms (met pair found left agent machine is meets))
               (subst (λ s. Says s tt (Ok tt)) (sym up) refl)

@@ -17,11 +17,11 @@ use Rattle.syn_model.specs.Limits.{children, fits_content, fits_path, fits_part,
 use Rattle.syn_model.specs.Limits.{fits_replica, greatest_spelling, tree_spelling_length}
 use Rattle.syn_model.proofs.PathLemmas.{same_path}
 use Rattle.syn_model.proofs.TreeLemmas.{beside}
-use Rattle.syn_placed.specs.Pairs.{Pairs, is_within, before, within, behind, under, is_child}
+use Rattle.syn_placed.specs.Pairs.{Pairs, is_within, before, within, beyond, under, is_child}
 use Rattle.syn_placed.specs.Pairs.{spelling_length}
 use Rattle.syn_placed.proofs.OrderLemmas.{prefix_step}
 use Rattle.syn_placed.proofs.RisingLemmas.{NoneOf, Each, each-map, replaced, three_parts}
-use Rattle.syn_placed.proofs.RisingLemmas.{before_out, behind_out, each-both}
+use Rattle.syn_placed.proofs.RisingLemmas.{before_out, after_out, each-both}
 use Rattle.syn_placed.proofs.TreeLemmas.{rising-entries, entries-replace}
 use Rattle.syn_placed.proofs.CountLemmas.{kids, length-children, kids-beside, kids-after}
 use Rattle.syn_placed.proofs.CountLemmas.{kids-inside, top_of, child_parent, child_of_parent}
@@ -67,24 +67,24 @@ all-find f q c (x ∷ es) h e =
 
 -- the parts of a whole pass where it does
 parts_pass : (f : Pair → Bool) (t : Tree) (at : Path) → list_all f (entries t) ≡ true →
-    (list_all f (before at (entries t)) ≡ true) × (list_all f (behind at (entries t)) ≡ true)
+    (list_all f (before at (entries t)) ≡ true) × (list_all f (beyond at (entries t)) ≡ true)
 parts_pass f t at h =
     let es = entries t in
-    let first = and_parts (list_all f (before at es)) (list_all f (within at es ++ behind at es))
-    (sym (list_all-append f (before at es) (within at es ++ behind at es))
+    let first = and_parts (list_all f (before at es)) (list_all f (within at es ++ beyond at es))
+    (sym (list_all-append f (before at es) (within at es ++ beyond at es))
     ∙ (ap (list_all f) (sym (three_parts at es (rising-entries t))) ∙ h)) in (
       first.0,
-      (and_parts (list_all f (within at es)) (list_all f (behind at es))
-          (sym (list_all-append f (within at es) (behind at es)) ∙ first.1)).1,
+      (and_parts (list_all f (within at es)) (list_all f (beyond at es))
+          (sym (list_all-append f (within at es) (beyond at es)) ∙ first.1)).1,
     )
 
 joined : (f : Pair → Bool) (t : Tree) (at : Path) (us : Pairs) →
     list_all f (before at (entries t)) ≡ true → list_all f (under at us) ≡ true →
-    list_all f (behind at (entries t)) ≡ true → list_all f (replaced at (entries t) us) ≡ true
+    list_all f (beyond at (entries t)) ≡ true → list_all f (replaced at (entries t) us) ≡ true
 joined f t at us a b c =
     let es = entries t in
-    list_all-append f (before at es) (under at us ++ behind at es) ∙ ap₂ (λ x y. x && y) a
-    (list_all-append f (under at us) (behind at es) ∙ ap₂ (λ x y. x && y) b c)
+    list_all-append f (before at es) (under at us ++ beyond at es) ∙ ap₂ (λ x y. x && y) a
+    (list_all-append f (under at us) (beyond at es) ∙ ap₂ (λ x y. x && y) b c)
 
 -- the paths keep their limits
 pub paths-replaced : (t : Tree) (at : Path) (us : Pairs) →
@@ -137,22 +137,22 @@ kids-less t at p u out room h =
     (subst (λ n. n ≤ 256) (sym (kids-after t at p u out)) (by_child (is_child p at) refl))
   where
     by_child : (c : Bool) → is_child p at ≡ c → kids p (before at (entries t))
-        + (top_of (is_present u root) p at + kids p (behind at (entries t))) ≤ 256
+        + (top_of (is_present u root) p at + kids p (beyond at (entries t))) ≤ 256
     by_child true is =
         let same = child_parent p at is in
         top_less (is_present t at) (is_present u root) (is_child p at) (kids p (entries t)) (subst
         (λ q. (is_present t at || (not (is_present u root) || nat_lt (kids q (entries t)) 256))
         ≡ true) same room)
-        (kids p (before at (entries t))) (kids p (behind at (entries t))) (kids-beside t at p out)
+        (kids p (before at (entries t))) (kids p (beyond at (entries t))) (kids-beside t at p out)
         (within_limit (kids p (entries t)) h)
     by_child false is =
         subst (λ b. kids p (before at (entries t))
-        + (cond (is_present u root) (cond b 1 0) 0 + kids p (behind at (entries t))) ≤ 256)
+        + (cond (is_present u root) (cond b 1 0) 0 + kids p (beyond at (entries t))) ≤ 256)
         (sym is)
         (other_less (is_present t at) (is_present u root) (kids p (entries t))
-        (kids p (before at (entries t))) (kids p (behind at (entries t)))
+        (kids p (before at (entries t))) (kids p (beyond at (entries t)))
         (kids-beside t at p out ∙ ap (λ b. kids p (before at (entries t))
-        + (cond (is_present t at) (cond b 1 0) 0 + kids p (behind at (entries t)))) is)
+        + (cond (is_present t at) (cond b 1 0) 0 + kids p (beyond at (entries t)))) is)
         (within_limit (kids p (entries t)) h))
 
 -- with room each file and directory keeps its limits
@@ -185,7 +185,7 @@ room_fits t at u h k room =
     joined (pair_fits (replaced at (entries t) (entries u))) t at (entries u)
     (beside_fits t at u room (before at (entries t)) parts.0 (before_out at (entries t)))
     (under_fits t at u (entries u) (sym (part-pairs u) ∙ k))
-    (beside_fits t at u room (behind at (entries t)) parts.1 (behind_out at (entries t)))
+    (beside_fits t at u room (beyond at (entries t)) parts.1 (after_out at (entries t)))
 
 -- and without room the directory of the place does not
 fits_room : (t : Tree) (at : Path) (u : Tree) → is_root at ≡ false →
@@ -205,10 +205,10 @@ fits_room t at u below out dir h = by_case (is_present t at) (is_present u root)
         let child = child_of_parent at below in
         let after = ap (kids (parent at)) (entries-replace t at u) ∙ (kids-after t at
         (parent at) u out ∙ ap₂ (λ b c. kids (parent at) (before at (entries t))
-        + (cond b (cond c 1 0) 0 + kids (parent at) (behind at (entries t)))) is' child) in
+        + (cond b (cond c 1 0) 0 + kids (parent at) (beyond at (entries t)))) is' child) in
         let earlier = kids-beside t at (parent at) out
         ∙ ap (λ b. kids (parent at) (before at (entries t))
-        + (top_of b (parent at) at + kids (parent at) (behind at (entries t)))) is in
+        + (top_of b (parent at) at + kids (parent at) (beyond at (entries t)))) is in
         has_place (kids (parent at) (entries t)) (omega (arith, limit, after, earlier))
 
 prefix_parent : (at : Path) → is_root at ≡ false → is_prefix at (parent at) ≡ false

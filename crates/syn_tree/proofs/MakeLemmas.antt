@@ -8,14 +8,14 @@ use Rattle.syn_model.specs.Tree.{IsPart, IsTree, replace}
 use Rattle.syn_model.specs.Limits.{fits_replica, fits_part, fits_paths, tree_spelling_length}
 use Rattle.syn_model.specs.Limits.{greatest_spelling}
 use Rattle.syn_model.proofs.HistoryLemmas.{replace-is_tree}
-use Rattle.syn_placed.specs.Pairs.{Pairs, AreRising, rooted, tree_with, before, within, behind}
+use Rattle.syn_placed.specs.Pairs.{Pairs, AreRising, rooted, tree_with, before, within, beyond}
 use Rattle.syn_placed.specs.Pairs.{under, spelling_length}
 use Rattle.syn_tree.specs.Change.{Replacement, taken_from, ArePlaced, IsPreparedFor, after_change}
 use Rattle.syn_tree.specs.inner.Kept.{IsKept}
 use Rattle.syn_placed.proofs.RisingLemmas.{Rising, rising_of, are_rising, replaced, rising-replaced}
 use Rattle.syn_placed.proofs.TreeLemmas.{entries-with, entries-replace, rising-entries}
 use Rattle.syn_tree.proofs.FitLemmas.{is_dir}
-use Rattle.syn_tree.proofs.PartLemmas.{before_rooted, within_rooted, behind_rooted}
+use Rattle.syn_tree.proofs.PartLemmas.{before_rooted, within_rooted, after_rooted}
 use Rattle.syn_tree.proofs.PartLemmas.{spelling_replaced}
 use Rattle.syn_tree.proofs.MeasureLemmas.{at_most_nodes, part_size}
 
@@ -26,21 +26,21 @@ module _ (ds : Pairs) (s cap : ℕ) (change : Replacement) (added : Pairs) (size
   added_under = placed.placed ∙ ap (λ u. under change.at (entries u)) new
 
   -- the list with the change made
-  pub made_list : (items : Pairs) → items ≡ before change.at ds ++ (added ++ behind change.at ds) →
+  pub made_list : (items : Pairs) → items ≡ before change.at ds ++ (added ++ beyond change.at ds) →
       rooted items ≡ replaced change.at (rooted ds) (entries change.new)
   made_list items is =
-      ap rooted (is ∙ ap (λ xs. before change.at ds ++ (xs ++ behind change.at ds)) added_under)
+      ap rooted (is ∙ ap (λ xs. before change.at ds ++ (xs ++ beyond change.at ds)) added_under)
       ∙ sym (ap₂ (λ xs ys. xs ++ (under change.at (entries change.new) ++ ys))
-      (before_rooted change.at ds ready.below) (behind_rooted change.at ds ready.below))
+      (before_rooted change.at ds ready.below) (after_rooted change.at ds ready.below))
 
   pub made_rising : (items : Pairs) →
-      items ≡ before change.at ds ++ (added ++ behind change.at ds) → AreRising (rooted items)
+      items ≡ before change.at ds ++ (added ++ beyond change.at ds) → AreRising (rooted items)
   made_rising items is =
       are_rising (rooted items)
       (subst Rising (sym (made_list items is)) (rising-replaced change.at (rooted ds)
       (entries change.new) (rising_of (rooted ds) kept.rising) (rising-entries change.new)))
 
-  pub made_tree : (items : Pairs) → items ≡ before change.at ds ++ (added ++ behind change.at ds) →
+  pub made_tree : (items : Pairs) → items ≡ before change.at ds ++ (added ++ beyond change.at ds) →
       tree_with items ≡ after_change (tree_with ds) change
   made_tree items is =
       same_entries_map _ _ (entries-with items (made_rising items is) ∙ (made_list items is
@@ -48,7 +48,7 @@ module _ (ds : Pairs) (s cap : ℕ) (change : Replacement) (added : Pairs) (size
       ∙ ap (λ es. replaced change.at es (entries change.new)) (entries-with ds kept.rising))))
 
   -- there is room for it
-  pub made_room : length (before change.at ds) + length (behind change.at ds) + length added ≤ cap
+  pub made_room : length (before change.at ds) + length (beyond change.at ds) + length added ≤ cap
   made_room =
       let t = replace (tree_with ds) change.at change.new in
       let whole = and_parts (nat_le (len t) 1024 && nat_le
@@ -57,7 +57,7 @@ module _ (ds : Pairs) (s cap : ℕ) (change : Replacement) (added : Pairs) (size
       && nat_le (tree_spelling_length t) greatest_spelling) (fits_part t) whole.0).0 in
       let few = at_most_nodes (len t) (and_parts (nat_le (len t) 1024)
       (nat_le (tree_spelling_length t) greatest_spelling) first).0 in
-      let list = before change.at ds ++ (added ++ behind change.at ds) in
+      let list = before change.at ds ++ (added ++ beyond change.at ds) in
       let same : len t ≡ suc (length list) = len-entries t ∙ ap length
       (ap entries (sym (made_tree list refl)) ∙ entries-with list (made_rising list refl)) in
       omega (
@@ -66,12 +66,12 @@ module _ (ds : Pairs) (s cap : ℕ) (change : Replacement) (added : Pairs) (size
         same,
         kept.room,
         length-append (before change.at ds)
-            (added ++ behind change.at ds),
-        length-append added (behind change.at ds),
+            (added ++ beyond change.at ds),
+        length-append added (beyond change.at ds),
       )
 
   pub made_kept : (items : Pairs) (s' cap' : ℕ) →
-      items ≡ before change.at ds ++ (added ++ behind change.at ds) →
+      items ≡ before change.at ds ++ (added ++ beyond change.at ds) →
       s' ≡ s - spelling_length (within change.at ds) + size → cap ≤ cap' → IsKept items s' cap'
   made_kept items s' cap' is sizes more =
       let tree = made_tree items is in

@@ -10,7 +10,7 @@ use Rattle.syn_model.specs.Path.{Path, root, is_root, path_cmp}
 use Rattle.syn_model.specs.Tree.{Tree, Content, Directory, HasParents, subtree, is_present}
 use Rattle.syn_model.proofs.PathLemmas.{path_itself}
 use Rattle.syn_model.proofs.TreeLemmas.{get-subtree}
-use Rattle.syn_placed.specs.Pairs.{Pairs, rooted, within, before, behind, under, spelling_length}
+use Rattle.syn_placed.specs.Pairs.{Pairs, rooted, within, before, beyond, under, spelling_length}
 use Rattle.syn_placed.specs.Pairs.{pair_spelling_length}
 use Rattle.syn_placed.proofs.RisingLemmas.{Rising, replaced, three_parts, counted}
 use Rattle.syn_placed.proofs.TreeLemmas.{taken, within-taken, entries-subtree, rising-entries}
@@ -72,10 +72,10 @@ pub before_rooted : (at : Path) (ds : Pairs) → is_root at ≡ false →
 before_rooted [] ds h = absurd (true≢false h)
 before_rooted (n ∷ at) ds h = refl
 
-pub behind_rooted : (at : Path) (ds : Pairs) → is_root at ≡ false →
-    behind at (rooted ds) ≡ behind at ds
-behind_rooted [] ds h = absurd (true≢false h)
-behind_rooted (n ∷ at) ds h = refl
+pub after_rooted : (at : Path) (ds : Pairs) → is_root at ≡ false →
+    beyond at (rooted ds) ≡ beyond at ds
+after_rooted [] ds h = absurd (true≢false h)
+after_rooted (n ∷ at) ds h = refl
 
 pub kids_rooted : (p : Path) (ds : Pairs) → kids p (rooted ds) ≡ kids p ds
 kids_rooted p ds =
@@ -92,8 +92,8 @@ length_replaced at es us h =
     omega (
       arith,
       counted at es h,
-      length-append (before at es) (under at us ++ behind at es),
-      length-append (under at us) (behind at es),
+      length-append (before at es) (under at us ++ beyond at es),
+      length-append (under at us) (beyond at es),
       length_under at us,
     )
 
@@ -104,10 +104,10 @@ spelling_replaced at es us h =
     omega (
       arith,
       ap spelling_length (three_parts at es h),
-      sum_by-append pair_spelling_length (before at es) (within at es ++ behind at es),
-      sum_by-append pair_spelling_length (within at es) (behind at es),
-      sum_by-append pair_spelling_length (before at es) (under at us ++ behind at es),
-      sum_by-append pair_spelling_length (under at us) (behind at es),
+      sum_by-append pair_spelling_length (before at es) (within at es ++ beyond at es),
+      sum_by-append pair_spelling_length (within at es) (beyond at es),
+      sum_by-append pair_spelling_length (before at es) (under at us ++ beyond at es),
+      sum_by-append pair_spelling_length (under at us) (beyond at es),
     )
 
 pub spelling_within : (at : Path) (es : Pairs) → Rising es →
@@ -116,8 +116,8 @@ spelling_within at es h =
     omega (
       arith,
       ap spelling_length (three_parts at es h),
-      sum_by-append pair_spelling_length (before at es) (within at es ++ behind at es),
-      sum_by-append pair_spelling_length (within at es) (behind at es),
+      sum_by-append pair_spelling_length (before at es) (within at es ++ beyond at es),
+      sum_by-append pair_spelling_length (within at es) (beyond at es),
     )
 
 down : (n : ℕ) → nat_le (suc n) 1024 ≡ true → nat_le n 1023 ≡ true

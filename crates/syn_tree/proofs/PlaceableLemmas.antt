@@ -14,7 +14,7 @@ use Rattle.syn_model.specs.Tree.{Tree, Content, Pair, Directory, IsTree, at_root
 use Rattle.syn_model.specs.Limits.{fits_part, fits_paths, fits_path, fits_content}
 use Rattle.syn_model.specs.Limits.{tree_spelling_length, greatest_spelling}
 use Rattle.syn_tree.specs.Contents.{IsLawful}
-use Rattle.syn_placed.specs.Pairs.{Pairs, rooted, before, behind, under, spelling_length}
+use Rattle.syn_placed.specs.Pairs.{Pairs, rooted, before, beyond, under, spelling_length}
 use Rattle.syn_placed.specs.Pairs.{pair_spelling_length}
 use Rattle.syn_tree.specs.Lists.{IsMeasured, IsPlaceable, FitsNowhere}
 use Rattle.syn_tree.specs.Change.{ArePlaced, taken_from}
@@ -35,9 +35,9 @@ nowhere_paths at u h t =
     let fit : Pair → Bool = λ pair. fits_path pair.0 in
     let none : fits_paths (replace t at u) ≡ false =
     ap paths_fit (entries-replace t at u)
-    ∙ (list_all-append fit (before at es) (under at (entries u) ++ behind at es)
+    ∙ (list_all-append fit (before at es) (under at (entries u) ++ beyond at es)
     ∙ (ap (λ b. paths_fit (before at es) && b) (list_all-append fit (under at (entries u))
-    (behind at es) ∙ ap (λ b. b && paths_fit (behind at es)) h)
+    (beyond at es) ∙ ap (λ b. b && paths_fit (beyond at es)) h)
     ∙ and-false (paths_fit (before at es)))) in
     ap (λ b. (nat_le (len (replace t at u)) 1024 && nat_le (tree_spelling_length (replace t at u))
     greatest_spelling && fits_part (replace t at u)) && b) none
@@ -56,8 +56,8 @@ nowhere_size at u pairs e h t =
     let es = entries t in
     let all = ap spelling_length (entries-replace t at u) in
     let parts = sum_by-append pair_spelling_length (before at es)
-    (under at (entries u) ++ behind at es) in
-    let inner = sum_by-append pair_spelling_length (under at (entries u)) (behind at es) in
+    (under at (entries u) ++ beyond at es) in
+    let inner = sum_by-append pair_spelling_length (under at (entries u)) (beyond at es) in
     let large : 526336 < spelling_length (entries (replace t at u)) =
     omega (arith, all, parts, inner, ap spelling_length e, h) in
     last_false (nat_le (len (replace t at u)) 1024)

@@ -25,7 +25,7 @@ use Rattle.std.proofs.lemmas.Option.{none-some, same_Some}
 use Rattle.syn_model.specs.Limits.{fits_path, fits_content, fits_part, fits_paths}
 use Rattle.syn_model.proofs.PathLemmas.{strip_prefix-append, is_prefix-is}
 use Rattle.syn_model.proofs.TreeLemmas.{same_tree, get-subtree}
-use Rattle.syn_placed.specs.Pairs.{Pairs, rooted, before, within, behind, under}
+use Rattle.syn_placed.specs.Pairs.{Pairs, rooted, before, within, beyond, under}
 use Rattle.syn_tree.specs.Lists.{below_off, stripped}
 use Rattle.syn_tree.specs.Entries.{AreEntries}
 use Rattle.syn_placed.proofs.RisingLemmas.{Rising, After, three_parts}
@@ -85,12 +85,12 @@ strip_more at list i x l is =
     ∙ filter_map-append (below_off at) (take i list) (x ∷ [])
 
 -- a rest of a lawful path is lawful
-names_behind : (p q : Path) → All IsName (p ++ q) → All IsName q
-names_behind p q h =
+names_after : (p q : Path) → All IsName (p ++ q) → All IsName q
+names_after p q h =
     subst (All IsName) (drop-append_seam p q) (All-drop IsName (length p) (p ++ q) h)
 
-spelling_behind : (p q : Path) → length (path_spelling q) ≤ length (path_spelling (p ++ q))
-spelling_behind p q =
+spelling_after : (p q : Path) → length (path_spelling q) ≤ length (path_spelling (p ++ q))
+spelling_after p q =
     let f : Name → List ℕ = λ name. length name ∷ name in
     let parts = ap length (flat_map-append f p q) in
     let sizes = length-append (flat_map f p) (flat_map f q) in
@@ -98,9 +98,9 @@ spelling_behind p q =
 
 pub rest_lawful : (p q : Path) → IsPath (p ++ q) → IsPath q
 rest_lawful p q h = record {
-  names = names_behind p q h.names;
+  names = names_after p q h.names;
   not_deep = omega (arith, h.not_deep, length-append p q);
-  not_long = omega (arith, h.not_long, spelling_behind p q);
+  not_long = omega (arith, h.not_long, spelling_after p q);
 }
 
 shorter : (m n : ℕ) → m ≤ n → nat_le n 16 ≡ true → nat_le m 16 ≡ true
@@ -118,7 +118,7 @@ rest_fits p q h =
     (nat_le (length (path_spelling (p ++ q))) 255) h in
     ap₂ (λ a b. a && b)
     (shorter (length q) (length (p ++ q)) (omega (arith, length-append p q)) both.0) (smaller
-    (length (path_spelling q)) (length (path_spelling (p ++ q))) (spelling_behind p q) both.1)
+    (length (path_spelling q)) (length (path_spelling (p ++ q))) (spelling_after p q) both.1)
 
 paths_under : (at : Path) (us : Pairs) → list_all (λ pair. fits_path pair.0) (under at us) ≡ true →
     list_all (λ pair. fits_path pair.0) us ≡ true
@@ -133,19 +133,19 @@ part_passes : (f : Pair → Bool) (t : Tree) (at : Path) → list_all f (entries
     list_all f (under at (taken at (entries t))) ≡ true
 part_passes f t at h =
     let es = entries t in
-    let first = and_parts (list_all f (before at es)) (list_all f (within at es ++ behind at es))
-    (sym (list_all-append f (before at es) (within at es ++ behind at es))
+    let first = and_parts (list_all f (before at es)) (list_all f (within at es ++ beyond at es))
+    (sym (list_all-append f (before at es) (within at es ++ beyond at es))
     ∙ (ap (list_all f) (sym (three_parts at es (rising-entries t))) ∙ h)) in
     ap (list_all f) (sym (within-taken at es))
-    ∙ (and_parts (list_all f (within at es)) (list_all f (behind at es))
-    (sym (list_all-append f (within at es) (behind at es)) ∙ first.1)).0
+    ∙ (and_parts (list_all f (within at es)) (list_all f (beyond at es))
+    (sym (list_all-append f (within at es) (beyond at es)) ∙ first.1)).0
 
 kids_in_part : (t : Tree) (at q : Path) → kids q (taken at (entries t)) ≤ kids (at ++ q) (entries t)
 kids_in_part t at q =
     let es = entries t in
     let whole = ap (kids (at ++ q)) (three_parts at es (rising-entries t)) in
-    let parts = kids-append (at ++ q) (before at es) (within at es ++ behind at es) in
-    let inner = kids-append (at ++ q) (within at es) (behind at es) in
+    let parts = kids-append (at ++ q) (before at es) (within at es ++ beyond at es) in
+    let inner = kids-append (at ++ q) (within at es) (beyond at es) in
     let same = ap (kids (at ++ q)) (within-taken at es) ∙ kids-under at q (taken at es) in
     omega (arith, whole, parts, inner, same)
 
@@ -177,7 +177,7 @@ subtree_tree t at tree dir = record {
   part = record {
     parents = subtree-parents t at tree.part.parents;
     names =
-        λ p h. names_behind at p (tree.part.names (at ++ p) (subst IsSome (get-subtree t at p) h));
+        λ p h. names_after at p (tree.part.names (at ++ p) (subst IsSome (get-subtree t at p) h));
     lawful = λ p contents h. tree.part.lawful (at ++ p) contents (sym (get-subtree t at p) ∙ h);
   };
 }

@@ -26,9 +26,9 @@ in_front (x ∷ xs) ys h =
     All-cons IsByte x xs (All-head IsByte x (xs ++ ys) h)
     (in_front xs ys (All-tail IsByte x (xs ++ ys) h))
 
-pub behind : (xs ys : Bytes) → AreBytes (xs ++ ys) → AreBytes ys
-behind [] ys h = h
-behind (x ∷ xs) ys h = behind xs ys (All-tail IsByte x (xs ++ ys) h)
+pub in_back : (xs ys : Bytes) → AreBytes (xs ++ ys) → AreBytes ys
+in_back [] ys h = h
+in_back (x ∷ xs) ys h = in_back xs ys (All-tail IsByte x (xs ++ ys) h)
 
 -- a count with so many bytes after it is the spelling of a file, and the rest follows
 pub file_spelled : (bytes after file rest : Bytes) (count : ℕ) →

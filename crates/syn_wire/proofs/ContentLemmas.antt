@@ -11,7 +11,7 @@ use Rattle.syn_model.specs.Event.{AreBytes}
 use Rattle.syn_wire.specs.Contents.{IsBriefFileIn}
 use Rattle.syn_wire.specs.Events.{IsFile, file_spelling}
 use Rattle.syn_wire.specs.Reads.{BeginsWith, IsReading, NoneBeginsAnother}
-use Rattle.syn_wire.proofs.ByteLemmas.{behind, in_front}
+use Rattle.syn_wire.proofs.ByteLemmas.{in_back, in_front}
 use Rattle.syn_wire.proofs.NumberLemmas.{u16_tells}
 
 -- a mode is told, in the first version by its being the only one
@@ -43,7 +43,7 @@ pub digest_found : (version : Version) (bytes after : Bytes) (mode : ℕ) → Ar
     BeginsWith (IsDigestIn version) (digest_spelling_in version) bytes (contents_with mode digest)
     rest
 digest_found version bytes after mode are found digest rest front back long =
-    let later = behind (mode_spelling_in version mode) after (subst AreBytes found.spelled are) in
+    let later = in_back (mode_spelling_in version mode) after (subst AreBytes found.spelled are) in
     let lawful = in_front (take 32 after) (drop 32 after)
     (subst AreBytes (sym (take-append-drop 32 after)) later) in
     record {

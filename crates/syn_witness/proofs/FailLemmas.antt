@@ -6,7 +6,7 @@ use Rattle.syn_model.specs.Refusal.{Device, Halted as Halted_before}
 use Rattle.syn_model.specs.Event.{Edited}
 use Rattle.syn_headline.specs.Network.{Left}
 use Rattle.syn_headline.specs.Acknowledged.{Happened}
-use Rattle.syn_headline.specs.Machine.{Halted, Down, unarmed, room_behind, all_made, one_fails}
+use Rattle.syn_headline.specs.Machine.{Halted, Down, unarmed, room_after, all_made, one_fails}
 use Rattle.syn_headline.specs.Machine.{one_stops, written, unwritten, not_compacted, opened}
 use Rattle.syn_headline.specs.Machine.{recovered}
 use Rattle.syn_headline.specs.SideMachine.{SideMachine}
@@ -155,7 +155,7 @@ found room generation =
 
 -- up to the opening
 cuts : (room generation : ℕ) → ((room ≡ room_of (Edited 1 put_one ∷ [])) × (generation ≡ 1))
-    ⊎ ((room ≡ room_behind (image_spelling 7 (standing_of (Edited 1 put_one ∷ []))))
+    ⊎ ((room ≡ room_after (image_spelling 7 (standing_of (Edited 1 put_one ∷ []))))
     × (generation ≡ 2)) → CutCheckpoint room generation
 unfolding nine_ahead edited_machine five_ahead cut_off_world found
 cuts room generation finds = record {
@@ -192,11 +192,11 @@ cuts room generation finds = record {
 }
   where
     finds_it : ((room ≡ room_of (Edited 1 put_one ∷ [])) × (generation ≡ 1)) ⊎ ((true ≡ true)
-        × (room ≡ room_behind (image_spelling 7 (standing_of (Edited 1 put_one ∷ []))))
+        × (room ≡ room_after (image_spelling 7 (standing_of (Edited 1 put_one ∷ []))))
         × (generation ≡ 2))
     finds_it =
         elim finds as (λ _. ((room ≡ room_of (Edited 1 put_one ∷ [])) × (generation ≡ 1))
-        ⊎ ((true ≡ true) × (room ≡ room_behind
+        ⊎ ((true ≡ true) × (room ≡ room_after
         (image_spelling 7 (standing_of (Edited 1 put_one ∷ [])))) × (generation ≡ 2))) [
           | inl same ↦ inl same
           | inr alone ↦ inr (refl, alone.0, alone.1)

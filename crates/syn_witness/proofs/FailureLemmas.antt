@@ -17,7 +17,7 @@ use Rattle.syn_headline.specs.Network.{Which, Left, Right, Message}
 use Rattle.syn_headline.specs.Planning.{Planned}
 use Rattle.syn_headline.specs.Coordinator.{CoordinatorMachine, Call, Walk, Exchange, Running}
 use Rattle.syn_headline.specs.Coordinator.{archive_layout, past, refusing, making_room, start_of}
-use Rattle.syn_headline.specs.Coordinator.{Keeps, writes, cut_behind, Takes, CoordinatorTakes}
+use Rattle.syn_headline.specs.Coordinator.{Keeps, writes, cut_after, Takes, CoordinatorTakes}
 use Rattle.syn_headline.specs.Coordinator.{CoordinatorStarts, CoordinatorTicks, Advances}
 use Rattle.syn_headline.specs.Coordinator.{start_causes, coordinator_kind}
 use Rattle.syn_headline.specs.Coordinator as coordinator
@@ -98,7 +98,7 @@ keeps_counted : (base pair : ℕ) (old new : Journaled Archive Kept) (what : Kep
     IsCountedJournal base new
 keeps_counted base pair old _ what _ h (writes new kept w) =
     writes_counted base (archive_layout pair) old new what kept h w
-keeps_counted base pair old _ what _ h (cut_behind is fail stop) =
+keeps_counted base pair old _ what _ h (cut_after is fail stop) =
     (h.0, λ e. absurd (down_not_halted e))
 
 module _ (base pair : ℕ) (plan : List Planned) (taken : Exchange) where

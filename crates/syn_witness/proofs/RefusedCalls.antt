@@ -81,11 +81,11 @@ edited_world = record (with_room new_room) {
 }
 
 -- causes that do not stand leave it to those after them
-behind_none : (xs ys : List Cause) → first_cause xs ≡ None → first_cause (xs ++ ys) ≡ first_cause ys
-behind_none [] ys e = refl
-behind_none (x ∷ xs) ys e =
+after_none : (xs ys : List Cause) → first_cause xs ≡ None → first_cause (xs ++ ys) ≡ first_cause ys
+after_none [] ys e = refl
+after_none (x ∷ xs) ys e =
     let parts = first_cause-none x xs e in
-    ap (λ b. if b then Some x.1 else first_cause (xs ++ ys)) parts.0 ∙ behind_none xs ys parts.1
+    ap (λ b. if b then Some x.1 else first_cause (xs ++ ys)) parts.0 ∙ after_none xs ys parts.1
 
 is_full : first_cause (causes_of 7 crowded_world.left (Edited 1 put_one) ++ (true, Memory) ∷ [])
     ≡ Some JournalFull
@@ -94,7 +94,7 @@ is_full =
     let room = room_causes (has_room_for 7 crowded_world.left) event in
     let memory : List Cause = (true, Memory) ∷ [] in
     ap first_cause (append_assoc (event_causes [] event) room memory)
-    ∙ behind_none (event_causes [] event) (room ++ memory) edit_allowed.not_refused
+    ∙ after_none (event_causes [] event) (room ++ memory) edit_allowed.not_refused
 
 refuses_it : Steps crowded_world (Edits Left 1 put_one) full_world
 unfolding full_world

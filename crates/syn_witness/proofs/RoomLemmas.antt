@@ -10,7 +10,7 @@ use Rattle.syn_headline.specs.Machine.{compacted, not_compacted}
 use Rattle.syn_headline.specs.Planning.{Planned}
 use Rattle.syn_headline.specs.Coordinator.{CoordinatorMachine, Call, Walk, Exchange, Running}
 use Rattle.syn_headline.specs.Coordinator.{archive_layout, past, refusing, making_room, start_of}
-use Rattle.syn_headline.specs.Coordinator.{IsToKeep, HasNoRoom, Keeps, writes, cut_behind, Takes}
+use Rattle.syn_headline.specs.Coordinator.{IsToKeep, HasNoRoom, Keeps, writes, cut_after, Takes}
 use Rattle.syn_headline.specs.Coordinator.{Advances, EndsFor, fault_of, hearing, advanced}
 use Rattle.syn_headline.specs.Coordinator.{report_of}
 use Rattle.syn_headline.specs.Coordinator as coordinator
@@ -26,7 +26,7 @@ keeps_generation pair old _ what _ (writes _ _ (idle is)) = refl
 keeps_generation pair old _ what _ (writes _ _ (written arms is meets)) = refl
 keeps_generation pair old _ what _ (writes _ _ (unwritten status arms failed is broken meets)) =
     refl
-keeps_generation pair old _ what _ (cut_behind is fail stop) = refl
+keeps_generation pair old _ what _ (cut_after is fail stop) = refl
 
 compacts_generation : (pair : ℕ) (old new : Journaled Archive Kept) →
     Compacts (archive_layout pair) old new → new.status ≡ Up → new.generation ≡ suc old.generation

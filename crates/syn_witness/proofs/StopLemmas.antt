@@ -21,7 +21,7 @@ use Rattle.syn_headline.specs.Acknowledged.{Happened}
 use Rattle.syn_headline.specs.Planning.{Planned}
 use Rattle.syn_headline.specs.Coordinator.{CoordinatorMachine, Call, Walk, Exchange, Running}
 use Rattle.syn_headline.specs.Coordinator.{archive_layout, past, refusing, making_room, start_of}
-use Rattle.syn_headline.specs.Coordinator.{Keeps, writes, cut_behind, Takes, CoordinatorTakes}
+use Rattle.syn_headline.specs.Coordinator.{Keeps, writes, cut_after, Takes, CoordinatorTakes}
 use Rattle.syn_headline.specs.Coordinator.{CoordinatorStarts, CoordinatorTicks, Advances}
 use Rattle.syn_headline.specs.Coordinator.{start_causes, coordinator_kind}
 use Rattle.syn_headline.specs.Coordinator as coordinator
@@ -98,7 +98,7 @@ keeps_safe : (pair : ℕ) (old new : Journaled Archive Kept) (what : Kept) (kept
     IsSafeJournal old → Keeps pair old what new kept → IsSafeJournal new
 keeps_safe pair old _ what _ h (writes new kept w) =
     writes_safe (archive_layout pair) old new what kept h w
-keeps_safe pair old _ what _ h (cut_behind is fail stop) =
+keeps_safe pair old _ what _ h (cut_after is fail stop) =
     let none = h.1 in
     absurd (omega (arith, none, stop))
 

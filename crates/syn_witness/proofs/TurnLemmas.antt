@@ -14,8 +14,9 @@ use Rattle.syn_headline.specs.Network.{Which, Left, Right, Message, Asks, Answer
 use Rattle.syn_headline.specs.Planning.{Planned}
 use Rattle.syn_headline.specs.Coordinator.{Walk, Exchange, Running, BothBegun, MayAsk, AsksNext}
 use Rattle.syn_headline.specs.Coordinator.{asked_count, numbered, messages_to, sent_now, hearing}
-use Rattle.syn_headline.specs.Coordinator.{behind, past, refusing, making_room, Takes, Advances}
-use Rattle.syn_headline.specs.Coordinator.{Keeps, writes, cut_behind, IsToKeep}
+use Rattle.syn_headline.specs.Coordinator.{after_taking, past, refusing, making_room, Takes}
+use Rattle.syn_headline.specs.Coordinator.{Advances}
+use Rattle.syn_headline.specs.Coordinator.{Keeps, writes, cut_after, IsToKeep}
 use Rattle.syn_headline.specs.Coordinator as coordinator
 use Rattle.syn_witness.specs.Forbidden.{ListsAfterBegun, IsPassed, RefusedIsPassed, IsDueWithin}
 use Rattle.syn_witness.specs.Forbidden.{KeptIsDue}
@@ -71,7 +72,7 @@ lists_after_begun pair old running taken _ _
     (coordinator.goes_on plan logged walk kept left right fault has advances rests stays moves asks)
     side session number path c =
     lists_begun walk.journal.value
-    (behind running taken plan walk kept) left right asks side session number path c
+    (after_taking running taken plan walk kept) left right asks side session number path c
 
 -- What is refused
 
@@ -176,7 +177,7 @@ all_kept P pair journal _ what _ (writes _ _ (written arms is meets)) h =
     All-cons P what [] h (All-nil P)
 all_kept P pair journal _ what _ (writes _ _ (unwritten status arms failed is broken meets)) h =
     All-nil P
-all_kept P pair journal _ what _ (cut_behind is fail stop) h = All-cons P what [] h (All-nil P)
+all_kept P pair journal _ what _ (cut_after is fail stop) h = All-cons P what [] h (All-nil P)
 
 module _ (plan : List Planned) (taken : Exchange) where
   -- what is due from a later walk on is due from an earlier one on

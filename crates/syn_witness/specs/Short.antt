@@ -8,7 +8,7 @@ use Rattle.syn_model.specs.History.{standing_of}
 use Rattle.syn_model.specs.Archive.{Session, Recorded}
 use Rattle.syn_model.specs.Mark.{mark}
 use Rattle.syn_model.specs.Tree.{subtree}
-use Rattle.syn_headline.specs.Machine.{Up, room_behind}
+use Rattle.syn_headline.specs.Machine.{Up, room_after}
 use Rattle.syn_headline.specs.Side.{Begun, Refused, token_of}
 use Rattle.syn_headline.specs.Network.{Left, Right, Answers}
 use Rattle.syn_headline.specs.Acknowledged.{Happened, Kept_by}
@@ -53,7 +53,7 @@ CheckpointIsMade =
     ∷ []) []
     (λ world. (world.refusals ≡ []) × (world.left.journal.value ≡ Edited 1 put_one ∷ [])
     × (world.left.journal.room
-    ≡ room_behind (image_spelling 7 (standing_of (Edited 1 put_one ∷ []))))
+    ≡ room_after (image_spelling 7 (standing_of (Edited 1 put_one ∷ []))))
     × (world.left.journal.generation ≡ 2))
 
 -- so does one of the archive, and its reopening changes nothing

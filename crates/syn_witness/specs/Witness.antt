@@ -16,7 +16,7 @@ use Rattle.syn_model.specs.Archive.{Session, Recorded, new_archive}
 use Rattle.syn_headline.specs.Network.{Left, Right}
 use Rattle.syn_headline.specs.Acknowledged.{Ack, Happened, Kept_by, Stores}
 use Rattle.syn_headline.specs.Report.{Report, Complete, Incomplete}
-use Rattle.syn_headline.specs.Machine.{Up, Journaled, unarmed, record_size, room_behind}
+use Rattle.syn_headline.specs.Machine.{Up, Journaled, unarmed, record_size, room_after}
 use Rattle.syn_headline.specs.Machine as status
 use Rattle.syn_headline.specs.SideMachine.{SideMachine}
 use Rattle.syn_headline.specs.World.{World, At, Step, Edits, Start, Deliver, Stop, Coordinator}
@@ -34,8 +34,8 @@ abbrev pub new_archive_room : ℕ
 new_archive_room = 4194266
 
 abbrev pub NewRoomIs : Type 0
-NewRoomIs = (room_behind (image_spelling 7 (standing_of [])) ≡ new_room)
-    × (room_behind (archive_spelling 7 new_archive) ≡ new_archive_room)
+NewRoomIs = (room_after (image_spelling 7 (standing_of [])) ≡ new_room)
+    × (room_after (archive_spelling 7 new_archive) ≡ new_archive_room)
 
 -- a journal that was just formatted and opened
 abbrev pub new_journal : {V W : Type 0} → V → ℕ → Journaled V W
@@ -123,7 +123,7 @@ CutCheckpoint room generation =
 
 abbrev pub CheckpointIsCut : Type 0
 CheckpointIsCut = CutCheckpoint (new_room - record_size (event_spelling (Edited 1 put_one))) 1
-    × CutCheckpoint (room_behind (image_spelling 7 (standing_of (Edited 1 put_one ∷ [])))) 2
+    × CutCheckpoint (room_after (image_spelling 7 (standing_of (Edited 1 put_one ∷ [])))) 2
 
 -- a session that is never answered: its requests are sent again eight times, and the ninth tick
 -- ends it

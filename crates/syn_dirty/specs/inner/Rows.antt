@@ -19,11 +19,11 @@ alone pair = (pair.0, true)
 
 -- a pair of the one side among those of the other, with what is after it
 abbrev pub among : Pair → (Pairs → Rows) → Pairs → Rows
-among left behind [] = alone left ∷ behind []
-among left behind (right ∷ rights) = by_order (path_cmp left.0 right.0)
-    (alone left ∷ behind (right ∷ rights))
-    ((left.0, not (is_same_content left.1 right.1)) ∷ behind rights)
-    (alone right ∷ among left behind rights)
+among left later [] = alone left ∷ later []
+among left later (right ∷ rights) = by_order (path_cmp left.0 right.0)
+    (alone left ∷ later (right ∷ rights))
+    ((left.0, not (is_same_content left.1 right.1)) ∷ later rights)
+    (alone right ∷ among left later rights)
 
 -- the paths of both, in order, each once
 abbrev pub compared : Pairs → Pairs → Rows

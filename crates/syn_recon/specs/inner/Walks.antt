@@ -29,11 +29,11 @@ on_both path = (path, true, true)
 
 -- a path of the left among those of the right, with what is after it
 abbrev pub among : Path → (List Path → Rows) → List Path → Rows
-among left behind [] = on_left left ∷ behind []
-among left behind (right ∷ rights) = by_order (path_cmp left right)
-    (on_left left ∷ behind (right ∷ rights))
-    (on_both left ∷ behind rights)
-    (on_right right ∷ among left behind rights)
+among left later [] = on_left left ∷ later []
+among left later (right ∷ rights) = by_order (path_cmp left right)
+    (on_left left ∷ later (right ∷ rights))
+    (on_both left ∷ later rights)
+    (on_right right ∷ among left later rights)
 
 -- the paths of both lists, in order, each once
 abbrev pub merged : List Path → List Path → Rows

@@ -19,11 +19,11 @@ empty_of (x ∷ xs) l = absurd (omega arith)
 
 pub returns-clause-ok : goal.returns-clause-ok
 returns-clause-ok c =
-    let behind = c.loop-path.invariant.0 in
+    let after = c.loop-path.invariant.0 in
     let none : c.loop-path.rows.items ≡ [] = empty_of c.loop-path.rows.items
     (omega (arith, c.in_default.ensures.cases.0, c.loop-path.rows.ok)) in
-    let all : rows_at c.args.rows.items ≡ behind = c.loop-path.invariant.1
-    ∙ ap (λ xs. rows_at xs ++ behind) none in
+    let all : rows_at c.args.rows.items ≡ after = c.loop-path.invariant.1
+    ∙ ap (λ xs. rows_at xs ++ after) none in
     ap paths_at c.reverse.ensures.items
     ∙ (paths_reversed c.loop-path.paths.items ∙ (ap reverse c.loop-path.invariant.2
-    ∙ (reverse-reverse (changed behind) ∙ ap changed (sym all))))
+    ∙ (reverse-reverse (changed after) ∙ ap changed (sym all))))

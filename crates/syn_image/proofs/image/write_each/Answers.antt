@@ -4,7 +4,7 @@ use Rattle.syn_model.specs.Path.{path_spelling}
 use Rattle.syn_wire.specs.Events.{number64_spelling}
 use Rattle.syn_image.specs.inner.Pasts.{each_spelling}
 use Rattle.syn_model.proofs.ExitLemmas.{on_ok_of_exit}
-use Rattle.syn_image.proofs.ImageLemmas.{one_behind, touch_more}
+use Rattle.syn_image.proofs.ImageLemmas.{one_after, touch_more}
 use Rattle.syn_image.proofs.image.write_each.Goals as goal
 
 pub loop-touch-init : goal.loop-touch-init
@@ -18,7 +18,7 @@ loop-touch-preserved c =
     let new = c.write_path.new.out.items in
     touch_more c.args.touches.now c.loop-touch.touch-index touch c.args.out.now.items old new
     c.loop-touch-test.true c.touch-item.is c.loop-touch.invariant
-    (one_behind old mid new (number64_spelling touch.position) (path_spelling touch.path)
+    (one_after old mid new (number64_spelling touch.position) (path_spelling touch.path)
     (c.in_ok-write_u64.ensures.added
     ∙ ap (λ n. old ++ number64_spelling n) c.position.ensures.position)
     (c.in_ok-write_path.ensures.added ∙ ap (λ p. mid ++ path_spelling p) c.path.ensures))

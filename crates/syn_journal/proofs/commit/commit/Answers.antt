@@ -25,8 +25,8 @@ returns-in_err-write-2-clause-any_moment g c only =
     let run = goes_on g.D.Disk.moment g.D.Disk.left_since c.args.disk.now in
     let at_start = started g.D.Disk.moment g.D.Disk.left_since c.args.disk.now P (λ d left.
     at_first start gate body _ only d (g.met.D.Disk.only_now c.args.disk.now d left)) in
-    let behind = run c.args.disk.now c.write.new.self P _ at_start c.write.ensures.time first in
-    let kept = run c.write.new.self c.sync.new.self P _ behind c.sync.ensures.time
+    let after = run c.args.disk.now c.write.new.self P _ at_start c.write.ensures.time first in
+    let kept = run c.write.new.self c.sync.new.self P _ after c.sync.ensures.time
     (λ d now. first d (c.sync.ensures.stop d now)) in
     run c.sync.new.self c.write-2.new.self P _ kept c.write-2.ensures.time second
 
@@ -45,8 +45,8 @@ returns-clause-any_moment g c only =
     let run = goes_on g.D.Disk.moment g.D.Disk.left_since c.args.disk.now in
     let at_start = started g.D.Disk.moment g.D.Disk.left_since c.args.disk.now P (λ d left.
     at_first start gate body _ only d (g.met.D.Disk.only_now c.args.disk.now d left)) in
-    let behind = run c.args.disk.now c.write.new.self P _ at_start c.write.ensures.time first in
-    let kept = run c.write.new.self c.sync.new.self P _ behind c.sync.ensures.time
+    let after = run c.args.disk.now c.write.new.self P _ at_start c.write.ensures.time first in
+    let kept = run c.write.new.self c.sync.new.self P _ after c.sync.ensures.time
     (λ d now. first d (c.sync.ensures.stop d now)) in
     let gated = run c.sync.new.self c.write-2.new.self P _ kept c.write-2.ensures.time second in
     run c.write-2.new.self c.sync-2.new.self P _ gated c.sync-2.ensures.time
@@ -119,8 +119,8 @@ returns-in_err-sync-clause-any_moment g c only =
     let run = goes_on g.D.Disk.moment g.D.Disk.left_since c.args.disk.now in
     let at_start = started g.D.Disk.moment g.D.Disk.left_since c.args.disk.now P (λ d left.
     at_first start gate body _ only d (g.met.D.Disk.only_now c.args.disk.now d left)) in
-    let behind = run c.args.disk.now c.write.new.self P _ at_start c.write.ensures.time first in
-    run c.write.new.self c.sync.new.self P _ behind c.sync.ensures.time
+    let after = run c.args.disk.now c.write.new.self P _ at_start c.write.ensures.time first in
+    run c.write.new.self c.sync.new.self P _ after c.sync.ensures.time
     (λ d now. first d (c.sync.ensures.stop d now))
 
 pub returns-clause-written : goal.returns-clause-written

@@ -59,7 +59,7 @@ returns-in_err-records-clause-refusals g c =
     ∙ c.in_ok-image.ensures.image in
     let long : c.len.result ≡ length image = omega (arith, c.len.ensures, c.in_ok-image.image.ok) in
     let P : List ℕ → ℕ → Type 0 = λ bytes n. IsReadRefusal e
-    (let behind = bytes_from bytes half (13 + n) in records (length behind) behind ≡ None) in
+    (let after = bytes_from bytes half (13 + n) in records (length after) after ≡ None) in
     let cause : P seen (length image) = subst (λ n. P seen n) long
     (subst (λ bytes. P bytes c.len.result) same' c.in_err-records.ensures.refusals) in
     if_err_by c.from_residual-in_err-records.result _ _ c.from_residual-in_err-records.ensures.1

@@ -9,9 +9,9 @@ returns-in_err-number c =
     let session = to_be_bytes w64 head.0 in
     let number = to_be_bytes w32 head.1 in
     let small : head.0 < 2 ^ 64 = omega (arith, begins.lawful.none) in
-    let behind = (c.spelling_laws.ensures.u64 c.in_ok-session.session head.0
+    let later = (c.spelling_laws.ensures.u64 c.in_ok-session.session head.0
     c.in_ok-session.after.now (number ++ rest) c.in_ok-session.ensures.lawful small
     (sym c.in_ok-session.ensures.spelled
     ∙ (begins.spelled ∙ append_assoc session number rest))).1 in
     c.in_err-number.ensures head.1 rest
-    (record { lawful = begins.lawful.number; spelled = behind }))
+    (record { lawful = begins.lawful.number; spelled = later }))

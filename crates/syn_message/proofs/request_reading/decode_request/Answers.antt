@@ -1,6 +1,6 @@
 use Rattle.std.proofs.Common.{option_map, subst}
 use Rattle.syn_message.proofs.HeadLemmas.{no_head}
-use Rattle.syn_message.proofs.WholeLemmas.{behind}
+use Rattle.syn_message.proofs.WholeLemmas.{after_kind}
 use Rattle.syn_message.proofs.request_reading.decode_request.Goals as goal
 use Rattle.syn_message.specs.Requests.{fields_spelling, kind_of}
 use Rattle.syn_message.specs.inner.Heads.{IsHead, head_spelling}
@@ -8,7 +8,7 @@ use Rattle.syn_wire.specs.Reads.{IsReading}
 
 pub returns-in_default-read_head : goal.returns-in_default-read_head
 returns-in_default-read_head c asking lawful =
-    let none = subst (λ o. IsReading IsHead head_spelling (behind c.args.body.now)
+    let none = subst (λ o. IsReading IsHead head_spelling (after_kind c.args.body.now)
     (option_map (λ found. ((found.0, found.1), found.2.now)) o)) c.in_default-read_head.is
     c.read_head.ensures in
     no_head IsHead c.args.body.now none (kind_of asking.request) asking.session asking.number

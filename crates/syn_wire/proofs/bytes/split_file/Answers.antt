@@ -1,7 +1,7 @@
 use Rattle.std.proofs.Common.{◌≡◌, ◌<◌, ◌^◌, ◌++◌, length, sym, subst}
 use Rattle.std.specs.Int.{to_be_bytes, w32}
 use Rattle.syn_model.specs.Event.{AreBytes}
-use Rattle.syn_wire.proofs.ByteLemmas.{of_slice, in_front, behind, file_spelled}
+use Rattle.syn_wire.proofs.ByteLemmas.{of_slice, in_front, in_back, file_spelled}
 use Rattle.syn_wire.proofs.bytes.split_file.Goals as goal
 
 pub returns : goal.returns
@@ -16,7 +16,7 @@ returns c =
     let all = subst AreBytes spelled (of_slice c.args.bytes.now c.type_inv.bytes) in
     record {
       lawful = record {
-        bytes = behind front file (in_front (front ++ file) rest all);
+        bytes = in_back front file (in_front (front ++ file) rest all);
         brief = subst (λ n. n < 2 ^ 32) (sym counted) c.in-Some.ensures.lawful;
       };
       spelled = spelled;

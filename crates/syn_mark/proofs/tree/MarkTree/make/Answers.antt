@@ -4,7 +4,7 @@ use Rattle.std.specs.FinMap.{entries, len-entries}
 use Rattle.syn_model.specs.Path.{root}
 use Rattle.syn_model.specs.Tree.{is_present}
 use Rattle.syn_model.specs.Mark.{IsMarks}
-use Rattle.syn_placed.specs.Pairs.{before, behind}
+use Rattle.syn_placed.specs.Pairs.{before, beyond}
 use Rattle.syn_mark.specs.Changes.{after_change}
 use Rattle.syn_mark.proofs.MarkLemmas.{entries_of, marks_same}
 use Rattle.syn_mark.proofs.ChangeLemmas.{made_entries, made_marks, made_room, placed_change}
@@ -42,7 +42,7 @@ replace_part-requires-clause-room c =
       arith,
       room,
       ap₂ (λ p xs. length (before p xs)) c.into_parts-at.ensures.at joined,
-      ap₂ (λ p xs. length (behind p xs)) c.into_parts-at.ensures.at joined,
+      ap₂ (λ p xs. length (beyond p xs)) c.into_parts-at.ensures.at joined,
       c.into_parts-at.result.1.ok,
       c.into_parts-at.ensures.room,
       c.append.ensures.capacity,
@@ -77,7 +77,7 @@ invariant_of-self c =
     ∙ ap (λ xs. xs ++ ds) c.into_parts-at.ensures.spaced.empty) in
     made_marks t change ds added all present marks c.requires placed c.replace_part.new.list.items
     (c.replace_part.ensures.items
-    ∙ ap₂ (λ p xs. before p xs ++ (added ++ behind p xs)) c.into_parts-at.ensures.at joined)
+    ∙ ap₂ (λ p xs. before p xs ++ (added ++ beyond p xs)) c.into_parts-at.ensures.at joined)
 
 pub returns : goal.returns
 returns c =
@@ -109,4 +109,4 @@ returns c =
     marks_same (after_change t change) c.replace_part.new.list.items (made_entries t change ds added
     all present marks c.requires placed c.replace_part.new.list.items
     (c.replace_part.ensures.items
-    ∙ ap₂ (λ p xs. before p xs ++ (added ++ behind p xs)) c.into_parts-at.ensures.at joined))
+    ∙ ap₂ (λ p xs. before p xs ++ (added ++ beyond p xs)) c.into_parts-at.ensures.at joined))

@@ -4,7 +4,7 @@ use Rattle.syn_headline.specs.Session.{fault_of}
 use Rattle.syn_message.specs.Replies.{reply_of}
 use Rattle.syn_propagate.proofs.StepLemmas.{Answers, after_done, after_piece, after_staged}
 use Rattle.syn_propagate.proofs.StepLemmas.{same_answer}
-use Rattle.syn_propagate.proofs.EndLemmas.{goes_on_behind}
+use Rattle.syn_propagate.proofs.EndLemmas.{goes_on_after}
 use Rattle.syn_propagate.proofs.transfer.Transfer.step.Goals as goal
 use Rattle.syn_propagate.specs.Carrying.{WasCarried}
 use Rattle.syn_propagate.specs.declared.next.Next.TheVariants.{Done}
@@ -43,14 +43,14 @@ returns-in-Done-clause-goes_on c taken to request number answer is waits =
 
 pub returns-in-Piece-clause-ends : goal.returns-in-Piece-clause-ends
 returns-in-Piece-clause-ends c taken to request answer is waits =
-    goes_on_behind c.args.self.now.carriage request answer c.take_piece.result
+    goes_on_after c.args.self.now.carriage request answer c.take_piece.result
     (ap (λ a. is_last (reply_of a))
     (sym (same_answer c.args.reply _ answer (c.in-Some.is ∙ ap (λ a. Some a) c.in-Piece.is) is)))
     c.take_piece.ensures.asking
 
 pub returns-in-Staged-clause-ends : goal.returns-in-Staged-clause-ends
 returns-in-Staged-clause-ends c taken to request answer is waits =
-    goes_on_behind c.args.self.now.carriage request answer c.go_on.result
+    goes_on_after c.args.self.now.carriage request answer c.go_on.result
     (ap (λ a. is_last (reply_of a))
     (sym (same_answer c.args.reply _ answer (c.in-Some.is ∙ ap (λ a. Some a) c.in-Staged.is) is)))
     c.go_on.ensures.asking
