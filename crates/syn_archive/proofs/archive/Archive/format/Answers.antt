@@ -32,7 +32,7 @@ returns-in_err-machine-clause-refusals g c =
     let shown = ap (λ (m : Tree). record { marks = m; last_session = 0 }) c.in-Ok.ensures in
     let h = c.in_err-machine.ensures.refusals in
     if_err_of_exit c.from_residual.result c.in_err-machine.field-0.0
-    (λ refused. IsOfFormat refused.0) c.from_residual.ensures.1 (subst IsOfFormat (sym h.1) (format_refusal h.0 h.2
-    (λ full. image_fits c.args.pair
+    (λ refused. IsOfFormat refused.0) c.from_residual.ensures.1
+    (subst IsOfFormat (sym h.1) (format_refusal h.0 h.2 (λ full. image_fits c.args.pair
     (archive_spelling c.args.pair (record { marks = c.in-Ok.marks; last_session = 0 }))
     (ap (archive_spelling c.args.pair) shown) (h.3 full))))
