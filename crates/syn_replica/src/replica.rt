@@ -97,14 +97,12 @@ impl<D: Disk> Replica<D> {
             Ok(standing) => standing,
             Err(error) => return Err((error, disk)),
         };
-        match Journaled::format(alloc, disk, Remembered { pair, standing }) {
-            Ok(machine) => Ok(Replica {
-                machine,
-                tried: None,
-                digests: Cell::new(None),
-            }),
-            Err(refused) => Err(refused),
-        }
+        let machine = Journaled::format(alloc, disk, Remembered { pair, standing })?;
+        Ok(Replica {
+            machine,
+            tried: None,
+            digests: Cell::new(None),
+        })
     }
 
     /// Opens what the disk holds.
@@ -136,14 +134,12 @@ impl<D: Disk> Replica<D> {
             (λ refused. Reads D.Disk (Some (refusal_of refused.0)) disk refused.1) }
     {
         opening_laws();
-        match Journaled::open(alloc, disk, pair) {
-            Ok(machine) => Ok(Replica {
-                machine,
-                tried: None,
-                digests: Cell::new(None),
-            }),
-            Err(refused) => Err(refused),
-        }
+        let machine = Journaled::open(alloc, disk, pair)?;
+        Ok(Replica {
+            machine,
+            tried: None,
+            digests: Cell::new(None),
+        })
     }
 
     /// How many events the history has.
