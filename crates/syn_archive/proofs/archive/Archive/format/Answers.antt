@@ -14,7 +14,7 @@ pub returns-in-Ok-format-clause-formatted : goal.returns-in-Ok-format-clause-for
 returns-in-Ok-format-clause-formatted g c =
     let machine = c.in-Ok-format.machine in
     let pair = c.args.pair in
-    let shown = ap (λ (m : Tree). record { marks = m; last_session = 0 }) c.in-Ok.ensures.ok in
+    let shown = ap (λ (m : Tree). record { marks = m; last_session = 0 }) c.in-Ok.ensures in
     let image = archive_spelling pair new_archive in
     record {
       remembers = ap agreed_archive c.in-Ok-format.ensures.state ∙ shown;
@@ -28,7 +28,7 @@ returns-in-Ok-format-clause-formatted g c =
 
 pub returns-in-Err-format-clause-refusals : goal.returns-in-Err-format-clause-refusals
 returns-in-Err-format-clause-refusals g c =
-    let shown = ap (λ (m : Tree). record { marks = m; last_session = 0 }) c.in-Ok.ensures.ok in
+    let shown = ap (λ (m : Tree). record { marks = m; last_session = 0 }) c.in-Ok.ensures in
     let h = c.in-Err-format.ensures.refusals in
     subst IsOfFormat (sym h.1) (format_refusal h.0 h.2
     (λ full. image_fits c.args.pair
