@@ -1,5 +1,5 @@
 //! A record that is due for an item of the plan.
-ghost use Rattle.std.specs.Prelude.{◌≡◌, ◌≢◌, ◌||◌, ◌<◌, ◌^◌, ℕ, nat_le, IfErr, IfOk, None, Some};
+ghost use Rattle.std.specs.Prelude.{◌≡◌, ◌≢◌, ◌||◌, ◌<◌, ◌^◌, ℕ, nat_le, IfOk, None, Some};
 ghost use Rattle.std.specs.Prelude.{false, option_map};
 ghost use Rattle.syn_archive.specs.Archive.{disk_of, left_shown, marks_shown, pair_of, shown};
 ghost use Rattle.syn_archive.specs.Disks.{kept_size};
@@ -19,7 +19,7 @@ ghost use Rattle.syn_model.specs.Tree.{is_directory};
 ghost use Rattle.syn_refusal.specs.Refusals.{cause_of};
 ghost use Rattle.syn_image.specs.Archives.{kept_of};
 
-use std::alloc::Global;
+use std::alloc::{AllocError, Global};
 use syn_archive::{Archive, ArchiveError};
 use syn_disk::Disk;
 use syn_image::{Kept, dir_length, record_length};
@@ -27,7 +27,6 @@ use syn_mark::{Mark, MarkTree};
 use syn_path::Path;
 use syn_recovery::device_laws;
 use syn_refusal::Refusal;
-use syn_tree::TreeError;
 
 /// What became of a record that was due.
 #[derive(Clone, Copy, Debug, PartialEq, Eq)]
@@ -265,11 +264,10 @@ fn write<D: Disk>(alloc: Global, archive: &mut Archive<D>, kept: &Kept) -> Due
     }
 }
 
-/// Equal marks of their own, or none. Refused 11 where memory is refused.
-fn copied(alloc: Global, marks: Option<&MarkTree>) -> Result<Option<MarkTree>, TreeError>
-    ensures ok { IfOk result (λ copy. or_absent copy
+/// Equal marks of their own, or none. Refused where memory is refused.
+fn copied(alloc: Global, marks: Option<&MarkTree>) -> Result<Option<MarkTree>, AllocError>
+    ensures { IfOk result (λ copy. or_absent copy
         ≡ or_absent (option_map (λ there. there.now) marks.entry)) }
-    ensures memory { IfErr result (λ e. e ≡ TreeError.Memory) }
 {
     match marks {
         None => Ok(None),

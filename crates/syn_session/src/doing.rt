@@ -3,7 +3,6 @@ ghost use Rattle.std.specs.Prelude.{◌≡◌, IfErr, IfOk};
 ghost use Rattle.syn_recon.specs.Items.{item_of};
 ghost use Rattle.syn_session.specs.inner.Items.{IsDoingFor, IsMarked};
 
-use crate::carried::{copy_marks, copy_path};
 use crate::course::{Carried, Course};
 use crate::error::SessionError;
 use std::alloc::Global;
@@ -61,9 +60,9 @@ pub(crate) fn doing_for(
     ensures memory { IfErr result (λ e. e ≡ SessionError.Memory) }
 {
     match item {
-        Item::Conflict(path) => Ok(Doing::Conflict(copy_path(alloc, path)?)),
+        Item::Conflict(path) => Ok(Doing::Conflict(path.copy(alloc)?)),
         Item::MarkSame(path) => mark(alloc, path, left),
-        Item::MarkDir(path) => Ok(Doing::Mark(Kept::Dir(copy_path(alloc, path)?))),
+        Item::MarkDir(path) => Ok(Doing::Mark(Kept::Dir(path.copy(alloc)?))),
         Item::ToLeft(path) => {
             let carried = Carried::new(alloc, Side::Right, number, path, right, left)?;
             Ok(Doing::Carry(carried))
@@ -80,7 +79,6 @@ fn mark(alloc: Global, path: &Path, left: &Scan) -> Result<Doing, SessionError>
     ensures ok { IfOk result (IsMarked path.now left.now) }
     ensures memory { IfErr result (λ e. e ≡ SessionError.Memory) }
 {
-    let marks = copy_marks(alloc, left, path)?;
-    let copy = copy_path(alloc, path)?;
-    Ok(Doing::Mark(Kept::Record(copy, marks)))
+    let marks = left.tree().copy_at(alloc, path)?;
+    Ok(Doing::Mark(Kept::Record(path.copy(alloc)?, marks)))
 }

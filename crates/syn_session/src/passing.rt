@@ -9,7 +9,6 @@ ghost use Rattle.syn_model.specs.Decision.{Conflict, path_of};
 ghost use Rattle.syn_refusal.specs.Refusals.{cause_of};
 ghost use Rattle.syn_scan.specs.Found.{Found};
 
-use crate::carried::copy_path;
 use crate::course::Course;
 use crate::error::SessionError;
 use std::alloc::Global;
@@ -73,7 +72,7 @@ impl Course {
         let Some(item) = self.items.get(self.cursor) else {
             return Ok(());
         };
-        let path = copy_path(alloc, item.path())?;
+        let path = item.path().copy(alloc)?;
         self.pass_refused(why, path)
     }
 
