@@ -14,9 +14,8 @@ use Rattle.syn_disk.specs.declared.disk.Disk.{Ghosts}
 use Rattle.syn_keep.specs.Tries.{record_of}
 use Rattle.syn_keep.specs.declared.due.Due.{Due}
 use Rattle.syn_keep.specs.declared.due.Due.TheVariants.{Ends}
-use Rattle.syn_message.specs.declared.request.Request.{Request}
-use Rattle.syn_path.specs.declared.side.Side.{Side}
 use Rattle.syn_refusal.specs.declared.refusal.Refusal.TheVariants as refusal
+use Rattle.syn_session.specs.declared.session.Asks.{Asks}
 
 module _ {D : Type 0} {disk : Ghosts D} where
   -- nothing was done
@@ -107,7 +106,7 @@ module _ {D : Type 0} {disk : Ghosts D} where
     nothing_breaks (Ok went) nothing = nothing
     nothing_breaks (Err ended) nothing = inl nothing
 
-    pub asks_nothing : (went : Result Unit Ended) (result : Result (Option (Side × Request)) Ended)
+    pub asks_nothing : (went : Result Unit Ended) (result : Result (Option Asks) Ended)
         → result ≡ nothing_asked went → Breaks old new went → Breaks old new result
     asks_nothing (Ok went) result is breaks = subst (Breaks old new) (sym is) breaks
     asks_nothing (Err ended) result is breaks = subst (Breaks old new) (sym is) breaks

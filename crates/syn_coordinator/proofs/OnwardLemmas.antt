@@ -9,8 +9,6 @@ use Rattle.syn_headline.specs.Coordinator.{Exchange, IsDue, IsFor, fault_of}
 use Rattle.syn_headline.specs.Coordinator as is_due_by
 use Rattle.syn_headline.specs.Planning.{Planned}
 use Rattle.syn_headline.specs.Side as model
-use Rattle.syn_message.specs.declared.request.Request.{Request as Asked}
-use Rattle.syn_path.specs.declared.side.Side.{Side}
 use Rattle.syn_model.specs.Archive.{Kept, Session, IsOfItem}
 use Rattle.syn_model.specs.Refusal.{Refusal as Why}
 use Rattle.syn_scan.specs.Found.{Found}
@@ -18,6 +16,7 @@ use Rattle.syn_keep.specs.Machines.{IsMachine, Journal}
 use Rattle.syn_session.specs.declared.answering.Carrying.TheVariants as carrying
 use Rattle.syn_coordinator.specs.declared.coordinator.Coordinator.{Coordinator}
 use Rattle.syn_session.specs.declared.course.Course.{Course}
+use Rattle.syn_session.specs.declared.session.Asks.{Asks}
 use Rattle.syn_session.specs.Passing.{refused_at}
 use Rattle.syn_coordinator.specs.inner.Carrying.{AsksLater, CarriesOn, EndsCarrying, behind}
 use Rattle.syn_session.specs.Carrying.{IsCarriedOut, TakesAnswer}
@@ -63,7 +62,7 @@ module _ {D : Type 0} {disk : Ghosts D} (pair : ℕ) (taken : Exchange) (journal
   at_next = at_turn pair taken journal before left right all old middle course come
 
   module _ (new : Coordinator D disk) (later : Course) where
-    pub asks_later : (asks : Side × Asked) →
+    pub asks_later : (asks : Asks) →
         AsksSo middle new pair taken past.3.journal past.3.after later left right all asks →
         AsksLater old new pair taken journal before later left right all asks
     unfolding come
@@ -89,7 +88,7 @@ module _ {D : Type 0} {disk : Ghosts D} (pair : ℕ) (taken : Exchange) (journal
     ends_later how so =
         turn_ends pair taken journal before left right all old middle course come new later how so
 
-    pub later_so : (result : Result (Side × Asked) Ended) → MatchResult result
+    pub later_so : (result : Result Asks Ended) → MatchResult result
         (AsksSo middle new pair taken past.3.journal past.3.after later left right all)
         (EndsSo middle new pair taken past.3.journal past.3.after later left right) →
         MatchResult result (AsksLater old new pair taken journal before later left right all)
@@ -113,22 +112,21 @@ module _ {D : Type 0} {disk : Ghosts D} (pair : ℕ) (taken : Exchange) (journal
     (before : Reached) (left right : Found) (all : List Exchange) where
   -- it asks for the same item again
   pub carries_further : (coordinator : Coordinator D disk) (course : Course) →
-      IsMachine coordinator.archive pair journal → IsQuiet coordinator journal → (side : Side)
-      (request : Asked) → TakesAnswer journal.value left right all before taken course
-      (Ok (carrying.Asks side request)) → CarriesOn coordinator coordinator pair taken journal
-      before course left right all (side, request)
-  carries_further coordinator course is quiet side request took = record {
+      IsMachine coordinator.archive pair journal → IsQuiet coordinator journal → (asks : Asks) →
+      TakesAnswer journal.value left right all before taken course (Ok (carrying.Asks asks)) →
+      CarriesOn coordinator coordinator pair taken journal before course left right all asks
+  carries_further coordinator course is quiet asks took = record {
     fault = took.0;
     asks_so =
         asks_here pair taken journal before left right coordinator is quiet course
-        (all ++ taken ∷ []) (side, request) took.1.1;
+        (all ++ taken ∷ []) asks took.1.1;
     last = λ last. absurd (false≢true (sym took.1.0 ∙ last));
   }
 
   -- it is past the item
   pub goes_later : (old new : Coordinator D disk) (course : Course) →
       fault_of all taken.side taken.request taken.reply ≡ None →
-      (result : Result (Side × Asked) Ended) → MatchResult result
+      (result : Result Asks Ended) → MatchResult result
       (AsksLater old new pair taken journal before course left right (all ++ taken ∷ []))
       (EndsSo old new pair taken journal before course left right) →
       MatchResult result (CarriesOn old new pair taken journal before course left right all)

@@ -11,12 +11,8 @@ use Rattle.syn_disk.specs.declared.disk.Disk.{Ghosts}
 use Rattle.syn_headline.specs.Coordinator.{Exchange, settled, stands}
 use Rattle.syn_headline.specs.Planning.{Planned}
 use Rattle.syn_headline.specs.Session.{record_for}
-use Rattle.syn_message.specs.declared.request.Request.{Request as Asked}
-use Rattle.syn_path.specs.declared.side.Side.{Side}
-use Rattle.syn_message.specs.Requests.{request_of}
-use Rattle.syn_path.specs.Sides.{which_of}
 use Rattle.syn_model.specs.Archive.{kept_refusal, Kept}
-use Rattle.syn_propagate.specs.Transfers.{Asks, carriage_of}
+use Rattle.syn_propagate.specs.Transfers.{carriage_of}
 use Rattle.syn_refusal.specs.Refusals.{cause_of}
 use Rattle.syn_refusal.specs.declared.refusal.Refusal.{Refusal}
 use Rattle.syn_refusal.specs.declared.refusal.Refusal.TheVariants as refusal
@@ -25,7 +21,9 @@ use Rattle.syn_coordinator.specs.Coordinators.{written}
 use Rattle.syn_keep.specs.Machines.{IsMachine, Journal}
 use Rattle.syn_coordinator.specs.declared.coordinator.Coordinator.{Coordinator}
 use Rattle.syn_session.specs.declared.course.Carried.{Carried}
+use Rattle.syn_session.specs.Carrying.{AsksOne}
 use Rattle.syn_session.specs.declared.course.Course.{Course}
+use Rattle.syn_session.specs.declared.session.Asks.{Asks}
 use Rattle.syn_coordinator.specs.declared.ended.Ended.{Ended}
 use Rattle.syn_coordinator.specs.declared.ended.Ended.TheVariants.{Early, Settled}
 use Rattle.syn_session.specs.Passing.{refused_at}
@@ -47,10 +45,10 @@ use Rattle.syn_session.proofs.CarryingLemmas.{is_carried}
 
 -- ---- what is answered
 
-module _ {P G : Type 0} (A : Side × Asked → Type 0) (E : Ended → Type 0) (more : P → G) where
+module _ {P G : Type 0} (A : Asks → Type 0) (E : Ended → Type 0) (more : P → G) where
   -- nothing is asked
   pub past_so : {W : Type 0} (went : Result W Ended)
-      (result : Result (Option (Side × Asked)) Ended) → result ≡ nothing_asked went →
+      (result : Result (Option Asks) Ended) → result ≡ nothing_asked went →
       MatchResult went (λ _. P) E → MatchResult result (λ next. MatchOption next G A) E
   past_so (Ok w) result e so =
       subst (λ r. MatchResult r (λ next. MatchOption next G A) E) (sym e) (more so)
@@ -58,7 +56,7 @@ module _ {P G : Type 0} (A : Side × Asked → Type 0) (E : Ended → Type 0) (m
       subst (λ r. MatchResult r (λ next. MatchOption next G A) E) (sym e) so
 
   -- or something may be
-  pub further_so : (result : Result (Option (Side × Asked)) Ended) →
+  pub further_so : (result : Result (Option Asks) Ended) →
       MatchResult result (λ next. MatchOption next P A) E →
       MatchResult result (λ next. MatchOption next G A) E
   further_so (Ok None) so = more so
@@ -140,9 +138,9 @@ module _ {D : Type 0} {disk : Ghosts D} (pair : ℕ) (taken : Exchange) (journal
 
   -- it asks for the item that it has come to
   pub asks_here : (coordinator : Coordinator D disk) → IsMachine coordinator.archive pair journal →
-      IsQuiet coordinator journal → (course : Course) (all : List Exchange) (asks : Side × Asked) →
+      IsQuiet coordinator journal → (course : Course) (all : List Exchange) (asks : Asks) →
       Carries journal.value course left right all before
-      (λ transfer. Asks transfer all (which_of asks.0) (request_of asks.1)) →
+      (λ transfer. AsksOne transfer all asks) →
       AsksSo coordinator coordinator pair taken journal before course left right all asks
   asks_here coordinator is quiet course all asks carries = (
     [],
@@ -231,7 +229,7 @@ module _ {D : Type 0} {disk : Ghosts D} (pair : ℕ) (taken : Exchange) (journal
       )
 
       -- it asks
-      pub turn_asks : (asks : Side × Asked) →
+      pub turn_asks : (asks : Asks) →
           AsksSo middle last pair taken come.2.journal come.2.after later left right all asks →
           AsksSo first last pair taken journal before later left right all asks
       turn_asks asks so = (
@@ -251,7 +249,7 @@ module _ {D : Type 0} {disk : Ghosts D} (pair : ℕ) (taken : Exchange) (journal
       )
 
       -- and stands where it then stands
-      pub turn_further : (asks : Side × Asked) (so :
+      pub turn_further : (asks : Asks) (so :
           AsksSo middle last pair taken come.2.journal come.2.after later left right all asks) →
           (turn_asks asks so).2.after.cursor ≡ so.2.after.cursor
       unfolding turn_asks

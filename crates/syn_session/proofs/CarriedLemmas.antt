@@ -30,6 +30,7 @@ use Rattle.syn_scan.specs.Found.{Found}
 use Rattle.syn_session.specs.declared.answering.Carrying.TheVariants as carrying
 use Rattle.syn_session.specs.declared.course.Carried.{Carried}
 use Rattle.syn_session.specs.declared.course.Course.{Course}
+use Rattle.syn_session.specs.declared.session.Asks.TheVariants.{One}
 use Rattle.syn_session.specs.Answering.{exchange_of}
 use Rattle.syn_session.specs.Carrying.{IsCarriedOut, TakesAnswer}
 use Rattle.syn_session.specs.Plans.{Plan}
@@ -115,7 +116,7 @@ module _ (archive : kept_in.Archive) (course : Course) (left right : Found) (all
         later.kept ≡ was.kept → (side : Side) (asks : Asked) → is_last reply ≡ false →
         TransferAsks later.transfer (all ++ taken ∷ []) (which_of side) (request_of asks) →
         TakesAnswer archive left right all before taken (record course { carried = Some later })
-        (Ok (carrying.Asks side asks))
+        (Ok (carrying.Asks (One side asks)))
     takes_on later same_carriage same_record side asks goes asks_it = (
       fault,
       (

@@ -10,17 +10,18 @@ ghost use Rattle.syn_scan.specs.Found.{Found};
 ghost use Rattle.syn_session.specs.Answering.{exchange_of};
 
 use crate::course::{Carried, Course};
+use crate::session::Asks;
 use std::alloc::Global;
 use syn_image::Kept;
-use syn_message::{Reply, Request, Side};
+use syn_message::Reply;
 use syn_propagate::{Next, transfer_laws};
 use syn_refusal::Refusal;
 
 /// What an answer for the item that is carried comes to.
 #[derive(Debug, Drop)]
 pub enum Carrying {
-    /// The side is to be asked for this next.
-    Asks(Side, Request),
+    /// This is to be asked next.
+    Asks(Asks),
     /// The item is in its place on the other side, and the archive is to have this.
     Done(Kept),
     /// A side refused what it was asked.
@@ -50,7 +51,7 @@ impl Course {
         match transfer.step(alloc, Some(reply)) {
             Ok(Next::Ask(side, request)) => {
                 self.carried = Some(Carried { transfer, kept });
-                Ok(Carrying::Asks(side, request))
+                Ok(Carrying::Asks(Asks::One(side, request)))
             }
             // By calls, or the prover would look here at all that each holds.
             Ok(Next::Done) => {

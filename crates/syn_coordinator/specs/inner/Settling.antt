@@ -7,15 +7,14 @@ use Rattle.syn_coordinator.specs.inner.Walking.{Comes, ComesToAsk, Ends}
 use Rattle.syn_disk.specs.declared.disk.Disk.{Ghosts}
 use Rattle.syn_headline.specs.Coordinator.{Exchange}
 use Rattle.syn_keep.specs.Machines.{Journal}
-use Rattle.syn_message.specs.declared.request.Request.{Request as Asked}
-use Rattle.syn_path.specs.declared.side.Side.{Side}
 use Rattle.syn_model.specs.Archive.{Kept}
 use Rattle.syn_scan.specs.Found.{Found}
 use Rattle.syn_session.specs.Stages.{AreAskedBefore, Reached, plan_in}
 use Rattle.syn_session.specs.declared.course.Course.{Course}
+use Rattle.syn_session.specs.declared.session.Asks.{Asks}
 
 -- it asks for nothing: it is past an item, or it ends
-abbrev pub nothing_asked : {A : Type 0} → Result A Ended → Result (Option (Side × Asked)) Ended
+abbrev pub nothing_asked : {A : Type 0} → Result A Ended → Result (Option Asks) Ended
 nothing_asked (Ok went) = Ok None
 nothing_asked (Err ended) = Err ended
 
@@ -40,7 +39,7 @@ module _ {D : Type 0} {disk : Ghosts D} (old new : Coordinator D disk) (pair : �
       ended
 
   -- it asks for this
-  abbrev pub AsksSo : List Exchange → Side × Asked → Type 0
+  abbrev pub AsksSo : List Exchange → Asks → Type 0
   AsksSo all asks = (kept : List Kept) × (written new ≡ written old ++ kept)
       × ComesToAsk (archive_of new) pair taken journal before kept course left right all asks
       × (tried_shown new ≡ None)

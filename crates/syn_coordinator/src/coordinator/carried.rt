@@ -20,10 +20,10 @@ use crate::ended::Ended;
 use std::alloc::Global;
 use syn_disk::Disk;
 use syn_image::Kept;
-use syn_message::{Reply, Request, Side};
+use syn_message::Reply;
 use syn_refusal::Refusal;
 use syn_scan::Scan;
-use syn_session::{Carrying, Course};
+use syn_session::{Asks, Carrying, Course};
 
 impl<D: Disk> Coordinator<D> {
     ghost use Rattle.syn_coordinator.specs.Coordinators.{Breaks, archive_of};
@@ -42,7 +42,7 @@ impl<D: Disk> Coordinator<D> {
         left: &Scan,
         right: &Scan,
         reply: Reply,
-    ) -> Result<(Side, Request), Ended>
+    ) -> Result<Asks, Ended>
         ensures step { (pair : ℕ) (journal : Journal) (all : List Exchange) (before : Reached)
             (to : Which) (number : ℕ) (request : Asked)
             → IsMachine (archive_of self.old) pair journal → IsQuiet self.old journal
@@ -58,7 +58,7 @@ impl<D: Disk> Coordinator<D> {
         ensures breaks { Breaks self.old self.new result }
     {
         match course.take_answer(alloc, reply) {
-            Ok(Carrying::Asks(side, request)) => Ok((side, request)),
+            Ok(Carrying::Asks(asks)) => Ok(asks),
             Ok(Carrying::Done(kept)) => self.walk_behind(alloc, course, left, right, kept),
             Ok(Carrying::Refused(why)) => self.walk_past(alloc, course, left, right, why),
             Err(why) => Err(Ended::Early(why)),
@@ -74,7 +74,7 @@ impl<D: Disk> Coordinator<D> {
         left: &Scan,
         right: &Scan,
         kept: Kept,
-    ) -> Result<(Side, Request), Ended>
+    ) -> Result<Asks, Ended>
         ensures step { (pair : ℕ) (journal : Journal) (taken : Exchange) (all : List Exchange)
             (before : Reached) (planned : Planned) → IsMachine (archive_of self.old) pair journal
             → IsQuiet self.old journal
@@ -102,7 +102,7 @@ impl<D: Disk> Coordinator<D> {
         left: &Scan,
         right: &Scan,
         why: Refusal,
-    ) -> Result<(Side, Request), Ended>
+    ) -> Result<Asks, Ended>
         ensures step { (pair : ℕ) (journal : Journal) (taken : Exchange) (all : List Exchange)
             (before : Reached) (planned : Planned) → IsMachine (archive_of self.old) pair journal
             → IsQuiet self.old journal

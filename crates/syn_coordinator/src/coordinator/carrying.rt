@@ -11,12 +11,11 @@ ghost use Rattle.syn_headline.specs.Session.{record_for};
 ghost use Rattle.syn_keep.specs.Due.{Settles, TriesBy};
 ghost use Rattle.syn_model.specs.Archive.{IsOfItem, Archive as Keeping};
 ghost use Rattle.syn_keep.specs.Machines.{IsMachine, Journal};
-ghost use Rattle.syn_message.specs.Requests.{request_of};
-ghost use Rattle.syn_path.specs.Sides.{which_of};
 ghost use Rattle.syn_model.specs.Decision.{Conflict};
-ghost use Rattle.syn_propagate.specs.Transfers.{Asks, IsReady, carriage_of};
+ghost use Rattle.syn_propagate.specs.Transfers.{IsReady, carriage_of};
 ghost use Rattle.syn_refusal.specs.Refusals.{cause_of};
 ghost use Rattle.syn_scan.specs.Found.{Found};
+ghost use Rattle.syn_session.specs.Carrying.{AsksOne};
 ghost use Rattle.syn_session.specs.Passing.{refused_at};
 ghost use Rattle.syn_session.specs.Stages.{AreAskedBefore, Carries, IsCarriedFor, IsCarriageOf};
 ghost use Rattle.syn_session.specs.Stages.{IsCourse, Reached, plan_in};
@@ -28,13 +27,12 @@ use std::alloc::Global;
 use syn_disk::Disk;
 use syn_image::Kept;
 use syn_keep::{Due, Tried, keep_due, refusal_for};
-use syn_message::{Request, Side};
 use syn_model::plan_laws;
 use syn_path::Path;
 use syn_propagate::Next;
 use syn_refusal::Refusal;
 use syn_scan::Scan;
-use syn_session::{Carried, Course, Doing};
+use syn_session::{Asks, Carried, Course, Doing};
 
 impl<D: Disk> Coordinator<D> {
     ghost use Rattle.syn_coordinator.specs.Coordinators.{Breaks, archive_of, tried_shown, written};
@@ -163,7 +161,7 @@ impl<D: Disk> Coordinator<D> {
         alloc: Global,
         course: &mut Course,
         carried: Carried,
-    ) -> Result<Option<(Side, Request)>, Ended>
+    ) -> Result<Option<Asks>, Ended>
         requires { IsOfItem (kept_of carried.kept) }
         ensures step { (pair : ℕ) (journal : Journal) (left right : Found) (taken : Exchange)
             (all : List Exchange) (before : Reached) (planned : Planned)
@@ -196,7 +194,7 @@ impl<D: Disk> Coordinator<D> {
         course: &mut Course,
         left: &Scan,
         right: &Scan,
-    ) -> Result<(Side, Request), Ended>
+    ) -> Result<Asks, Ended>
         ensures step { (pair : ℕ) (journal : Journal) (taken : Exchange) (all : List Exchange)
             (before : Reached) → IsMachine (archive_of self.old) pair journal
             → IsQuiet self.old journal → IsAtItem course.old left.now right.now all before
@@ -226,7 +224,7 @@ impl<D: Disk> Coordinator<D> {
         course: &mut Course,
         left: &Scan,
         right: &Scan,
-    ) -> Result<Option<(Side, Request)>, Ended>
+    ) -> Result<Option<Asks>, Ended>
         ensures step { (pair : ℕ) (journal : Journal) (taken : Exchange) (all : List Exchange)
             (before : Reached) → IsMachine (archive_of self.old) pair journal
             → IsQuiet self.old journal → IsAtItem course.old left.now right.now all before
@@ -249,7 +247,7 @@ impl<D: Disk> Coordinator<D> {
 }
 
 /// The session asks for nothing: it is past an item, or it ends.
-fn nothing_asked(went: Result<(), Ended>) -> Result<Option<(Side, Request)>, Ended>
+fn nothing_asked(went: Result<(), Ended>) -> Result<Option<Asks>, Ended>
     ensures { result ≡ nothing_asked went }
 {
     match went {
@@ -260,14 +258,14 @@ fn nothing_asked(went: Result<(), Ended>) -> Result<Option<(Side, Request)>, End
 
 /// Asks for the first piece of the item that the session has come to, which is carried. The session
 /// ends 11 where memory is refused.
-fn ask_first(alloc: Global, course: &mut Course, carried: Carried) -> Result<(Side, Request), Ended>
+fn ask_first(alloc: Global, course: &mut Course, carried: Carried) -> Result<Asks, Ended>
     ensures step { (archive : Keeping) (left right : Found) (all : List Exchange)
         (before : Reached) (planned : Planned) → IsCourse course.old left right before
         → slice_get (plan_in course.old left right) course.old.cursor ≡ Some planned
         → IsCarriedFor archive carried planned course.old.cursor → IsReady carried.transfer
         → AreAskedBefore (plan_in course.old left right) course.old.cursor all
         → IfOk result (λ asks. Carries archive course.new left right all before
-        (λ transfer. Asks transfer all (which_of asks.0) (request_of asks.1))) }
+        (λ transfer. AsksOne transfer all asks)) }
     ensures memory { IfErr result (λ ended. ended ≡ Ended.Early Refusal.Memory) }
     ensures stays { OnErr result (course.new ≡ course.old) }
 {
@@ -276,7 +274,7 @@ fn ask_first(alloc: Global, course: &mut Course, carried: Carried) -> Result<(Si
     match carried.transfer.step(alloc, None) {
         Ok(Next::Ask(side, request)) => {
             drop(course.carried.replace(carried));
-            Ok((side, request))
+            Ok(Asks::One(side, request))
         }
         // A transfer that has asked for nothing yet is not done, and no side refused anything.
         _ => {

@@ -14,7 +14,7 @@ returns-in-Ok-Asks-clause-step g c pair journal all before to number request is 
     let right = c.args.right.now in
     let taken = exchange_of to number request (reply_of c.args.reply) in
     carries_further pair taken journal before left right all c.args.self.now c.take_answer.new.self
-    is quiet c.in-Ok-Asks.side c.in-Ok-Asks.request
+    is quiet c.in-Ok-Asks.asks
     (subst (λ n. TakesAnswer journal.value left right all before taken c.take_answer.new.self
     (Ok n)) c.in-Ok-Asks.field-0-is
     (c.in-Ok-Asks.ensures.step journal.value left right all before to number request carries))
