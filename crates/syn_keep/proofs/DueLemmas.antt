@@ -68,32 +68,17 @@ nothing_marks =
 
 -- ---- whether it is for the device
 
-is_device : ArchiveError → Bool
-is_device error.Device = true
-is_device _ = false
-
-not_device : (e : ArchiveError) → is_device e ≡ false → e ≢ error.Device
-unfolding is_device
-not_device e other device = false≢true (sym other ∙ ap is_device device)
-
-pub device_or_other : (e : ArchiveError) →
-    (e ≡ error.Device) ⊎ ((e ≢ error.Device) × (ended_by e ≡ Ends refusal.Memory))
-unfolding is_device
+pub device_or_other : (e : ArchiveError) → (e ≡ error.Device) ⊎ (e ≢ error.Device)
 device_or_other error.Device = inl refl
-device_or_other error.NoParent = inr (not_device error.NoParent refl, refl)
-device_or_other error.Root = inr (not_device error.Root refl, refl)
-device_or_other error.Full = inr (not_device error.Full refl, refl)
-device_or_other error.JournalFull = inr (not_device error.JournalFull refl, refl)
-device_or_other error.Halted = inr (not_device error.Halted refl, refl)
-device_or_other error.Memory = inr (not_device error.Memory refl, refl)
-device_or_other error.NoImage = inr (not_device error.NoImage refl, refl)
-device_or_other error.OldVersion = inr (not_device error.OldVersion refl, refl)
-device_or_other error.Damaged = inr (not_device error.Damaged refl, refl)
-device_or_other error.WrongPair = inr (not_device error.WrongPair refl, refl)
+device_or_other _ = inr (λ is. cc)
+
+-- each other error ends what is due for lack of memory
+pub other_ends : (e : ArchiveError) → e ≢ error.Device → ended_by e ≡ Ends refusal.Memory
+other_ends error.Device other = absurd (other refl)
+other_ends _ other = refl
 
 pub full_no_device : error.Full ≢ error.Device
-unfolding is_device
-full_no_device = not_device error.Full refl
+full_no_device is = cc
 
 pub is_greatest : (n : ℕ) → n + 1 ≡ 2 ^ 64 → nat_le greatest n ≡ true
 is_greatest n e = grind (arith, nat_tests)
@@ -179,8 +164,8 @@ module _ {D : Type 0} {disk : Ghosts D} (old new : Archive D disk) (pair : ℕ) 
               (step.breaks (kept_failed old new pair machine kept is was written_now
               (subst (λ x. Ended old new (Some kept) (Some (refusal_of x))) device ended) ready.can
               counts (moments machine.value was.stands) broken))
-          | inr other ↦ subst (Writes new pair machine kept) (sym other.1)
-              (step.no_memory (stays e other.0 ended.unchanged ended.readings))
+          | inr other ↦ subst (Writes new pair machine kept) (sym (other_ends e other))
+              (step.no_memory (stays e other ended.unchanged ended.readings))
         ]
 
     pub write_made : Ended old new (Some kept) None → ((before : model.Archive) →

@@ -223,16 +223,7 @@ fn ending(error: ArchiveError) -> Due
 {
     match error {
         ArchiveError::Device => Due::Ends(Refusal::Device),
-        ArchiveError::NoParent
-        | ArchiveError::Root
-        | ArchiveError::Full
-        | ArchiveError::JournalFull
-        | ArchiveError::Halted
-        | ArchiveError::Memory
-        | ArchiveError::NoImage
-        | ArchiveError::OldVersion
-        | ArchiveError::Damaged
-        | ArchiveError::WrongPair => Due::Ends(Refusal::Memory),
+        _ => Due::Ends(Refusal::Memory),
     }
 }
 

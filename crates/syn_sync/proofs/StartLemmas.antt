@@ -9,6 +9,7 @@ use Rattle.syn_disk.specs.declared.disk.Disk.{Ghosts}
 use Rattle.syn_headline.specs.Coordinator.{Call, CoordinatorMachine, coordinator_kind}
 use Rattle.syn_headline.specs.MachineSteps.{Checkpoints}
 use Rattle.syn_journaled.specs.Endings as endings
+use Rattle.syn_keep.proofs.DueLemmas.{device_or_other}
 use Rattle.syn_model.specs.Refusal as why
 use Rattle.syn_model.specs.Refusal.{first_cause}
 use Rattle.syn_refusal.specs.Refusals.{cause_of}
@@ -29,10 +30,6 @@ is_start_device session.Device = inl refl
 is_start_device session.Halted = inr (λ is. cc)
 is_start_device session.Memory = inr (λ is. cc)
 is_start_device session.Busy = inr (λ is. cc)
-
-pub is_archive_device : (e : ArchiveError) → (e ≡ archive.Device) ⊎ (e ≢ archive.Device)
-is_archive_device archive.Device = inl refl
-is_archive_device _ = inr (λ is. cc)
 
 -- what was done, where something was
 pub on_ok : {X E : Type 0} (P : Type 0) (result : Result X E) → P → OnOk result P
@@ -125,7 +122,7 @@ module _ {D : Type 0} {disk : Ghosts D} where
       → (e ≢ archive.Device → first_cause (checkpoint_causes machine) ≡ Some (kept.refusal_of e))
       → Refuses old new pair machine (kept.refusal_of e)
   checkpoint_refused old new pair machine e full counts refused =
-      checkpoint_refused_at old new pair machine e (is_archive_device e) full counts refused
+      checkpoint_refused_at old new pair machine e (device_or_other e) full counts refused
 
   -- what was refused before any device call failed
   pub refuses_from : (old middle new : Coordinator D disk) (pair : ℕ)

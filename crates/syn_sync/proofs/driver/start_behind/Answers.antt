@@ -1,11 +1,11 @@
 use Rattle.std.proofs.Common.{◌∙◌, [], ap, refl, subst, sym, option_map}
 use Rattle.syn_archive.specs.declared.error.ArchiveError.TheVariants as archive
+use Rattle.syn_keep.proofs.DueLemmas.{device_or_other}
 use Rattle.syn_session.specs.Sendings.{messages_of}
 use Rattle.syn_session.specs.declared.error.SessionError.TheVariants as session
 use Rattle.syn_sync.proofs.RunLemmas.{calls_one, calls_refused, calls_twice, stands_of}
 use Rattle.syn_sync.proofs.RunLemmas.{starts_behind}
-use Rattle.syn_sync.proofs.StartLemmas.{behind_refused, checkpoint_refused, is_archive_device}
-use Rattle.syn_sync.proofs.StartLemmas.{is_start_device}
+use Rattle.syn_sync.proofs.StartLemmas.{behind_refused, checkpoint_refused, is_start_device}
 use Rattle.syn_sync.proofs.driver.start_behind.Goals as goal
 use Rattle.syn_sync.specs.Refusals.{Refuses, stopped}
 use Rattle.syn_sync.specs.Runs.{Compacts, Starts, frames_to}
@@ -14,7 +14,7 @@ use Rattle.syn_path.specs.Sides.{which_of}
 pub returns-in-Err : goal.returns-in-Err
 returns-in-Err g c = λ pair machine stands full. (
   calls_refused c.args.coordinator.now c.checkpoint.new.self pair machine Compacts
-      archive.Device c.in-Err.error (is_archive_device c.in-Err.error)
+      archive.Device c.in-Err.error (device_or_other c.in-Err.error)
       (c.in-Err.ensures.step pair machine stands)
       (λ other. (c.in-Err.ensures.refused pair machine stands other).1) (λ side. refl)
       (λ call side is. ap (frames_to side) is),

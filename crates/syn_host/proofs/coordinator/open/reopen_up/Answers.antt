@@ -23,7 +23,7 @@ returns-in-Err g c pair machine stands =
       | inl device ↦ subst (λ e. Does c.args.coordinator c.reopen.new.self pair
           (ReopensNot pair machine (refusal_of e)) [] []) (sym device)
           (c.reopen.ensures.device pair machine stands (c.in-Err.is ∙ ap Err device))
-      | inr other ↦ let memory = c.in-Err.ensures.memory pair machine stands other.0 in
+      | inr other ↦ let memory = c.in-Err.ensures.memory pair machine stands other in
           subst (λ e. Does c.args.coordinator c.reopen.new.self pair
           (ReopensNot pair machine (refusal_of e)) [] []) (sym memory.0) memory.1
     ] in
