@@ -22,7 +22,9 @@ ghost use Rattle.syn_archive.specs.inner.Openings.{IsOfPayload};
 use crate::error::ArchiveError;
 use crate::laws::opening_laws;
 use std::alloc::Global;
-use syn_image::{ArchiveImage, Kept, decode_archive, decode_kept, image_laws, is_old_archive};
+use syn_image::{
+    ArchiveImage, Kept, KeptItem, decode_archive, decode_kept, image_laws, is_old_archive,
+};
 use syn_mark::{Mark, MarkTree};
 use syn_path::Path;
 use syn_tree::TreeError;
@@ -210,8 +212,8 @@ fn keep(alloc: Global, archive: &mut ArchiveImage, kept: Kept) -> Result<(), Arc
 {
     match kept {
         Kept::Session(session) => begin(archive, session),
-        Kept::Record(path, marks) => put(alloc, &mut archive.marks, &path, marks),
-        Kept::Dir(path) => make_dir(alloc, archive, &path),
+        Kept::Item(KeptItem::Record(path, marks)) => put(alloc, &mut archive.marks, &path, marks),
+        Kept::Item(KeptItem::Dir(path)) => make_dir(alloc, archive, &path),
     }
 }
 

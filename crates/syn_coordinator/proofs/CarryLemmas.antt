@@ -40,7 +40,7 @@ use Rattle.syn_session.specs.declared.session.Asks.{Asks}
 use Rattle.syn_session.specs.declared.session.Asks.TheVariants.{Listings, One}
 use Rattle.syn_session.specs.Hearing.{IsAsking, IsFresh}
 use Rattle.syn_session.specs.Sessions.{IsLine, IsStage, Tells, TellsOf}
-use Rattle.syn_image.specs.Archives.{kept_of}
+use Rattle.syn_image.specs.Archives.{kept_for}
 use Rattle.syn_session.specs.Stages.{Carries, IsCarriageOf, IsCourse, Reached, found_on}
 use Rattle.syn_session.specs.Stages.{line_of, plan_in, reached_by, requests_on, waiting_of}
 use Rattle.syn_coordinator.specs.inner.Taking as taking
@@ -365,7 +365,7 @@ module _ {D : Type 0} {disk : Ghosts D} (new : Archive D disk) (pair : ℕ) (jou
               subst (λ w. MayAsk comes.journal.value now_at w (request_of wants)) (sym that.0)
                   (may_ask comes.journal.value now_at (plan_in course (found_on session Left)
                   (found_on session Right)) comes.carries.planned c
-                  (kept_of comes.carries.carried.kept) course_is.plan course.cursor course_is.cursor
+                  (kept_for comes.carries.carried.kept) course_is.plan course.cursor course_is.cursor
                   comes.carries.at comes.carries.carries.carriage comes.carries.carries.record_is
                   comes.carries.carries.can (which_of asker) (request_of wants) asked.may),
               asked.lawful,

@@ -5,11 +5,9 @@ use Rattle.std.specs.Prelude.{MatchResult, Result, Ok, Err}
 use Rattle.std.proofs.lemmas.Bool.{false≢true}
 use Rattle.std.specs.List.{slice_get}
 use Rattle.syn_disk.specs.declared.disk.Disk.{Ghosts}
-use Rattle.syn_headline.specs.Coordinator.{Exchange, IsDue, IsFor, fault_of}
-use Rattle.syn_headline.specs.Coordinator as is_due_by
+use Rattle.syn_headline.specs.Coordinator.{Exchange, IsFor, fault_of}
 use Rattle.syn_headline.specs.Planning.{Planned}
 use Rattle.syn_headline.specs.Side as model
-use Rattle.syn_model.specs.Archive.{Kept, Session, IsOfItem}
 use Rattle.syn_model.specs.Refusal.{Refusal as Why}
 use Rattle.syn_scan.specs.Found.{Found}
 use Rattle.syn_keep.specs.Machines.{IsMachine, Journal}
@@ -137,17 +135,3 @@ module _ {D : Type 0} {disk : Ghosts D} (pair : ℕ) (taken : Exchange) (journal
     last = λ last same. omega (arith, so.later, same);
   }
   goes_later old new course fault (Err how) so = behind how fault so
-
--- the number of a session is due for no item
-pub no_session_due : (item : ℕ) (planned : Planned) (taken : Exchange) (what : Kept) (session : ℕ) →
-    IsDue item planned taken what → what ≡ Session session → ⊥
-no_session_due item planned taken what session is equal =
-    of_item (subst IsOfItem equal (by what is))
-  where
-    of_item : IsOfItem (Session session) → ⊥
-    of_item never = never
-
-    by : (due : Kept) → IsDue item planned taken due → IsOfItem due
-    by _ (is_due_by.done path since size said asked writes) = tt
-    by _ (is_due_by.same path is_item marks) = tt
-    by _ (is_due_by.directory path is_item) = tt

@@ -40,7 +40,7 @@ use Rattle.syn_coordinator.proofs.FreshLemmas.{asked_past}
 use Rattle.syn_coordinator.proofs.SettleLemmas.{at_walk, ends_for_memory}
 use Rattle.syn_coordinator.proofs.WalkLemmas.{comes_behind, ends_behind, keeps_none, passes_more}
 use Rattle.syn_coordinator.proofs.WalkLemmas.{passes_none, passes_unfit}
-use Rattle.syn_image.specs.Archives.{kept_of}
+use Rattle.syn_image.specs.Archives.{kept_for}
 use Rattle.syn_session.proofs.CarryingLemmas.{is_carried}
 
 -- ---- what is answered
@@ -75,15 +75,15 @@ module _ {D : Type 0} {disk : Ghosts D} (pair : ℕ) (taken : Exchange) (journal
       (course : Course) → IsCourse course left right before → (planned : Planned) →
       slice_get (plan_in course left right) course.cursor ≡ Some planned → (carried : Carried) →
       IsCarriageOf (carriage_of carried.transfer) planned course.cursor →
-      record_for planned planned.item ≡ Some (kept_of carried.kept) → (why : Refusal) →
-      Some (cause_of why) ≡ kept_refusal (shown archive) (kept_of carried.kept) →
+      record_for planned planned.item ≡ Some (kept_for carried.kept) → (why : Refusal) →
+      Some (cause_of why) ≡ kept_refusal (shown archive) (kept_for carried.kept) →
       Passes pair taken journal before journal (refused_at before (cause_of why) planned) []
   carried_unfit archive is course course_is planned at carried carriage record_is why refused =
       passes_unfit pair taken journal before planned
-      (at_walk before course left right course_is planned at) (kept_of carried.kept)
+      (at_walk before course left right course_is planned at) (kept_for carried.kept)
       (cause_of why) record_is
       (inl (is_carried planned (carriage_of carried.transfer) course.cursor carriage))
-      (ap (λ a. kept_refusal a (kept_of carried.kept)) (sym is.remembers) ∙ sym refused)
+      (ap (λ a. kept_refusal a (kept_for carried.kept)) (sym is.remembers) ∙ sym refused)
 
   -- no item is left
   pub ends_settled : (archive : Archive D disk) (tried : Option Tried) →

@@ -5,7 +5,7 @@ ghost use Rattle.syn_model.specs.MarkSpelling.{IsOldArchiveImage, archive_front}
 ghost use Rattle.syn_model.specs.MarkSpelling.{archive_spelling, kept_spelling};
 ghost use Rattle.syn_mark.specs.Marks.{or_absent};
 ghost use Rattle.syn_wire.specs.Versions.{version_of};
-ghost use Rattle.syn_image.specs.Archives.{kept_of};
+ghost use Rattle.syn_image.specs.Archives.{kept_for, kept_of};
 
 use std::alloc::{AllocError, Global};
 use syn_mark::MarkTree;
@@ -26,6 +26,13 @@ pub(crate) const DIR: u8 = 3;
 pub enum Kept {
     /// The number of a session that begins.
     Session(u64),
+    /// What a session settled for an item.
+    Item(KeptItem),
+}
+
+/// What is kept for an item of a plan.
+#[derive(Debug, Drop)]
+pub enum KeptItem {
     /// The marks at and below the path, or that nothing is there.
     Record(Path, Option<MarkTree>),
     /// A directory is at the path, with what the archive has below it.
@@ -39,17 +46,28 @@ impl Kept {
     {
         match self {
             Kept::Session(session) => Ok(Kept::Session(*session)),
-            Kept::Record(path, marks) => {
-                let marks = copied_marks(alloc, marks.as_ref())?;
-                Ok(Kept::Record(path.copy(alloc)?, marks))
-            }
-            Kept::Dir(path) => Ok(Kept::Dir(path.copy(alloc)?)),
+            Kept::Item(item) => Ok(Kept::Item(item.copy(alloc)?)),
         }
     }
 }
 
-// Equal marks of their own, or none.
-fn copied_marks(alloc: Global, marks: Option<&MarkTree>) -> Result<Option<MarkTree>, AllocError>
+impl KeptItem {
+    /// The same, on its own. Refused where memory is refused.
+    fn copy(&self, alloc: Global) -> Result<KeptItem, AllocError>
+        ensures { IfOk result (λ copy. kept_for copy ≡ kept_for self.now) }
+    {
+        match self {
+            KeptItem::Record(path, marks) => {
+                let marks = copied_marks(alloc, marks.as_ref())?;
+                Ok(KeptItem::Record(path.copy(alloc)?, marks))
+            }
+            KeptItem::Dir(path) => Ok(KeptItem::Dir(path.copy(alloc)?)),
+        }
+    }
+}
+
+/// Equal marks of their own, or none. Refused where memory is refused.
+pub fn copied_marks(alloc: Global, marks: Option<&MarkTree>) -> Result<Option<MarkTree>, AllocError>
     ensures { IfOk result (λ copy. or_absent copy
         ≡ or_absent (option_map (λ there. there.now) marks.entry)) }
 {
@@ -78,8 +96,8 @@ pub fn encode_kept(alloc: Global, kept: &Kept) -> Result<Vec<u8>, WireError>
 {
     match kept {
         Kept::Session(session) => encode_session(alloc, *session),
-        Kept::Record(path, marks) => encode_record(alloc, path, marks.as_ref()),
-        Kept::Dir(path) => encode_dir(alloc, path),
+        Kept::Item(KeptItem::Record(path, marks)) => encode_record(alloc, path, marks.as_ref()),
+        Kept::Item(KeptItem::Dir(path)) => encode_dir(alloc, path),
     }
 }
 

@@ -11,7 +11,7 @@ ghost use Rattle.syn_image.specs.Archives.{IsKeptInEach, IsSpelledKept, kept_of}
 ghost use Rattle.syn_image.specs.Archives.{IsSpelledArchive, spelled_archive, archive_in};
 
 use crate::image_reading::read_two;
-use crate::kept::{ArchiveImage, DIR, Kept, RECORD, SESSION, front};
+use crate::kept::{ArchiveImage, DIR, Kept, KeptItem, RECORD, SESSION, front};
 use std::alloc::Global;
 use syn_mark::{Mark, MarkTree};
 use syn_path::Path;
@@ -63,7 +63,7 @@ fn read_record(
         (option_map (λ found. (kept_of found.0, found.1.now)) read)) }
 {
     match read_recorded(alloc, version, fields)? {
-        Some((path, marks, rest)) => Ok(Some((Kept::Record(path, marks), rest))),
+        Some((path, marks, rest)) => Ok(Some((Kept::Item(KeptItem::Record(path, marks)), rest))),
         None => Ok(None),
     }
 }
@@ -74,7 +74,7 @@ fn read_dir(alloc: Global, fields: &[u8]) -> Result<Option<(Kept, &[u8])>, WireE
         (option_map (λ found. (kept_of found.0, found.1.now)) read)) }
 {
     match decode_path(alloc, fields)? {
-        Some((path, rest)) => Ok(Some((Kept::Dir(path), rest))),
+        Some((path, rest)) => Ok(Some((Kept::Item(KeptItem::Dir(path)), rest))),
         None => Ok(None),
     }
 }

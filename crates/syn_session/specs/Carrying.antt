@@ -20,7 +20,7 @@ use Rattle.syn_session.specs.declared.answering.Carrying.TheVariants as has
 use Rattle.syn_session.specs.declared.course.Course.{Course}
 use Rattle.syn_session.specs.declared.session.Asks.{Asks}
 use Rattle.syn_session.specs.declared.session.Asks.TheVariants.{Listings, One}
-use Rattle.syn_image.specs.Archives.{kept_of}
+use Rattle.syn_image.specs.Archives.{kept_for}
 
 -- the item at the cursor is carried no further, and no request is out for a later one
 pub record IsCarriedOut (course : Course) (left right : Found) (all : List Exchange)
@@ -46,7 +46,7 @@ module _ (archive : Archive) (left right : Found) (all : List Exchange) (before 
       (λ transfer. AsksOne transfer (all ++ taken ∷ []) asks)
   ComesTo (has.Done kept) = (planned : Planned)
       × IsCarriedOut course left right (all ++ taken ∷ []) before planned
-      × IsDue course.cursor planned taken (kept_of kept)
+      × IsDue course.cursor planned taken (kept_for kept)
   ComesTo (has.Refused why) = (planned : Planned)
       × IsCarriedOut course left right (all ++ taken ∷ []) before planned
       × (taken.reply ≡ model.Refused (cause_of why))

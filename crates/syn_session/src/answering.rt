@@ -12,7 +12,7 @@ ghost use Rattle.syn_session.specs.Answering.{exchange_of};
 use crate::course::{Carried, Course};
 use crate::session::Asks;
 use std::alloc::Global;
-use syn_image::Kept;
+use syn_image::KeptItem;
 use syn_message::Reply;
 use syn_propagate::{Next, transfer_laws};
 use syn_refusal::Refusal;
@@ -23,7 +23,7 @@ pub enum Carrying {
     /// This is to be asked next.
     Asks(Asks),
     /// The item is in its place on the other side, and the archive is to have this.
-    Done(Kept),
+    Done(KeptItem),
     /// A side refused what it was asked.
     Refused(Refusal),
 }

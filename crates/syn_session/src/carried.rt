@@ -5,12 +5,12 @@ ghost use Rattle.syn_model.specs.Path.{parent};
 ghost use Rattle.syn_model.specs.Tree.{subtree};
 ghost use Rattle.syn_propagate.specs.Transfers.{IsReady, carriage_of};
 ghost use Rattle.syn_scan.specs.Found.{position_of};
-ghost use Rattle.syn_image.specs.Archives.{kept_of};
+ghost use Rattle.syn_image.specs.Archives.{kept_for};
 
 use crate::course::Carried;
 use crate::error::SessionError;
 use std::alloc::Global;
-use syn_image::Kept;
+use syn_image::KeptItem;
 use syn_message::Side;
 use syn_path::Path;
 use syn_propagate::{Carriage, Transfer};
@@ -34,7 +34,7 @@ impl Carried {
             (carriage_of carried.transfer).source_since ≡ position_of from.now (parent path.now)) }
         ensures target_since { IfOk result (λ carried.
             (carriage_of carried.transfer).target_since ≡ position_of to.now (parent path.now)) }
-        ensures record { IfOk result (λ carried. kept_of carried.kept
+        ensures record { IfOk result (λ carried. kept_for carried.kept
             ≡ Recorded path.now (subtree from.now.marks path.now)) }
         ensures ready { IfOk result (λ carried. IsReady carried.transfer) }
         ensures memory { IfErr result (λ e. e ≡ SessionError.Memory) }
@@ -49,7 +49,7 @@ impl Carried {
         };
         Ok(Carried {
             transfer: Transfer::new(carriage),
-            kept: Kept::Record(path.copy(alloc)?, marks),
+            kept: KeptItem::Record(path.copy(alloc)?, marks),
         })
     }
 }

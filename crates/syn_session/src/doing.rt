@@ -6,7 +6,7 @@ ghost use Rattle.syn_session.specs.inner.Items.{IsDoingFor, IsMarked};
 use crate::course::{Carried, Course};
 use crate::error::SessionError;
 use std::alloc::Global;
-use syn_image::Kept;
+use syn_image::KeptItem;
 use syn_message::Side;
 use syn_model::plan_laws;
 use syn_path::Path;
@@ -21,20 +21,19 @@ pub enum Doing {
     /// Both sides changed there: nothing is done.
     Conflict(Path),
     /// The archive is to have what both sides have.
-    Mark(Kept),
+    Mark(KeptItem),
     /// A side is to have what the other has.
     Carry(Carried),
 }
 
 impl Course {
-    ghost use Rattle.syn_session.specs.Doings.{IsDoing, KeepsOfItem};
+    ghost use Rattle.syn_session.specs.Doings.{IsDoing};
     ghost use Rattle.syn_session.specs.Stages.{IsCourse, Reached};
 
     /// What is to be done for the item at the cursor. Refused 11 where memory is refused.
     pub fn doing(&self, alloc: Global, left: &Scan, right: &Scan) -> Result<Doing, SessionError>
         ensures ok { (reached : Reached) → IsCourse self.now left.now right.now reached
             → IfOk result (IsDoing self.now left.now right.now) }
-        ensures record { IfOk result KeepsOfItem }
         ensures memory { IfErr result (λ e. e ≡ SessionError.Memory) }
     {
         plan_laws();
@@ -62,7 +61,7 @@ pub(crate) fn doing_for(
     match item {
         Item::Conflict(path) => Ok(Doing::Conflict(path.copy(alloc)?)),
         Item::MarkSame(path) => mark(alloc, path, left),
-        Item::MarkDir(path) => Ok(Doing::Mark(Kept::Dir(path.copy(alloc)?))),
+        Item::MarkDir(path) => Ok(Doing::Mark(KeptItem::Dir(path.copy(alloc)?))),
         Item::ToLeft(path) => {
             let carried = Carried::new(alloc, Side::Right, number, path, right, left)?;
             Ok(Doing::Carry(carried))
@@ -80,5 +79,5 @@ fn mark(alloc: Global, path: &Path, left: &Scan) -> Result<Doing, SessionError>
     ensures memory { IfErr result (λ e. e ≡ SessionError.Memory) }
 {
     let marks = left.tree().copy_at(alloc, path)?;
-    Ok(Doing::Mark(Kept::Record(path.copy(alloc)?, marks)))
+    Ok(Doing::Mark(KeptItem::Record(path.copy(alloc)?, marks)))
 }

@@ -6,7 +6,7 @@ use crate::told::{carried_line, conflict_line, count_line, marked_line, refused_
 use crate::watch::Watch;
 use std::alloc::{AllocError, Global};
 use std::io::Write;
-use syn_image::Kept;
+use syn_image::{Kept, KeptItem};
 use syn_message::{Answered, Reply, Request, Side};
 use syn_path::Path;
 use syn_refusal::Refusal;
@@ -229,8 +229,7 @@ impl<W: Write> Watch for Progress<W> {
     fn kept(&mut self, kept: &[Kept]) {
         for one in kept {
             match one {
-                Kept::Record(path, _) => self.record(path),
-                Kept::Dir(path) => self.record(path),
+                Kept::Item(KeptItem::Record(path, _) | KeptItem::Dir(path)) => self.record(path),
                 Kept::Session(_) => {}
             }
         }

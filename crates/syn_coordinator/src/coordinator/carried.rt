@@ -13,13 +13,13 @@ ghost use Rattle.syn_scan.specs.Found.{Found};
 ghost use Rattle.syn_session.specs.Answering.{exchange_of};
 ghost use Rattle.syn_session.specs.Carrying.{IsCarriedOut};
 ghost use Rattle.syn_session.specs.Stages.{Carries, IsCourse, Reached, plan_in};
-ghost use Rattle.syn_image.specs.Archives.{kept_of};
+ghost use Rattle.syn_image.specs.Archives.{kept_for};
 
 use super::Coordinator;
 use crate::ended::Ended;
 use std::alloc::Global;
 use syn_disk::Disk;
-use syn_image::Kept;
+use syn_image::KeptItem;
 use syn_message::Reply;
 use syn_refusal::Refusal;
 use syn_scan::Scan;
@@ -73,13 +73,13 @@ impl<D: Disk> Coordinator<D> {
         course: &mut Course,
         left: &Scan,
         right: &Scan,
-        kept: Kept,
+        kept: KeptItem,
     ) -> Result<Asks, Ended>
         ensures step { (pair : ℕ) (journal : Journal) (taken : Exchange) (all : List Exchange)
             (before : Reached) (planned : Planned) → IsMachine (archive_of self.old) pair journal
             → IsQuiet self.old journal
             → IsCarriedOut course.old left.now right.now all before planned
-            → IsDue course.old.cursor planned taken (kept_of kept)
+            → IsDue course.old.cursor planned taken (kept_for kept)
             → MatchResult result
             (AsksLater self.old self.new pair taken journal before course.new left.now right.now
             all)
@@ -88,7 +88,7 @@ impl<D: Disk> Coordinator<D> {
         ensures report { self.new.report ≡ self.old.report }
         ensures breaks { Breaks self.old self.new result }
     {
-        match self.settle_carried(alloc, course, kept) {
+        match self.settle(alloc, course, kept, true) {
             Ok(()) => self.walk(alloc, course, left, right),
             Err(ended) => Err(ended),
         }
@@ -120,37 +120,6 @@ impl<D: Disk> Coordinator<D> {
         match self.give_up(alloc, course, why) {
             Ok(()) => self.walk(alloc, course, left, right),
             Err(ended) => Err(ended),
-        }
-    }
-
-    /// Keeps in the archive what is due for an item that was carried, and goes past the item.
-    fn settle_carried(
-        &mut self,
-        alloc: Global,
-        course: &mut Course,
-        kept: Kept,
-    ) -> Result<(), Ended>
-        ensures step { (pair : ℕ) (journal : Journal) (left right : Found) (taken : Exchange)
-            (before : Reached) (planned : Planned) → IsMachine (archive_of self.old) pair journal
-            → IsQuiet self.old journal
-            → IsCourse course.old left right before
-            → slice_get (plan_in course.old left right) course.old.cursor ≡ Some planned
-            → IsDue course.old.cursor planned taken (kept_of kept)
-            → is_carrying planned.item ≡ true
-            → MatchResult result
-            (λ _. IsPast self.old self.new pair taken journal before course.new left right)
-            (EndsSo self.old self.new pair taken journal before course.new left right) }
-        ensures running { self.new.running ≡ self.old.running }
-        ensures report { self.new.report ≡ self.old.report }
-        ensures breaks { Breaks self.old self.new result }
-    {
-        match kept {
-            // What is carried for an item is never the number of a session.
-            Kept::Session(_) => Err(Ended::Early(Refusal::BadMessage)),
-            Kept::Record(path, marks) => {
-                self.settle(alloc, course, Kept::Record(path, marks), true)
-            }
-            Kept::Dir(path) => self.settle(alloc, course, Kept::Dir(path), true),
         }
     }
 }

@@ -9,7 +9,7 @@ ghost use Rattle.syn_headline.specs.Planning.{Planned};
 ghost use Rattle.syn_headline.specs.Report.{conflict_at, is_carrying};
 ghost use Rattle.syn_headline.specs.Session.{record_for};
 ghost use Rattle.syn_keep.specs.Due.{Settles, TriesBy};
-ghost use Rattle.syn_model.specs.Archive.{IsOfItem, Archive as Keeping};
+ghost use Rattle.syn_model.specs.Archive.{Archive as Keeping};
 ghost use Rattle.syn_keep.specs.Machines.{IsMachine, Journal};
 ghost use Rattle.syn_model.specs.Decision.{Conflict};
 ghost use Rattle.syn_propagate.specs.Transfers.{IsReady, carriage_of};
@@ -19,13 +19,13 @@ ghost use Rattle.syn_session.specs.Carrying.{AsksOne};
 ghost use Rattle.syn_session.specs.Passing.{refused_at};
 ghost use Rattle.syn_session.specs.Stages.{AreAskedBefore, Carries, IsCarriedFor, IsCarriageOf};
 ghost use Rattle.syn_session.specs.Stages.{IsCourse, Reached, plan_in};
-ghost use Rattle.syn_image.specs.Archives.{kept_of};
+ghost use Rattle.syn_image.specs.Archives.{kept_for};
 
 use super::{Broken, Coordinator};
 use crate::ended::Ended;
 use std::alloc::Global;
 use syn_disk::Disk;
-use syn_image::Kept;
+use syn_image::{Kept, KeptItem};
 use syn_keep::{Due, Tried, keep_due, refusal_for};
 use syn_model::plan_laws;
 use syn_path::Path;
@@ -46,15 +46,14 @@ impl<D: Disk> Coordinator<D> {
         &mut self,
         alloc: Global,
         course: &mut Course,
-        kept: Kept,
+        kept: KeptItem,
         was_carried: bool,
     ) -> Result<(), Ended>
-        requires { IsOfItem (kept_of kept) }
         ensures step { (pair : ℕ) (journal : Journal) (left right : Found) (taken : Exchange)
             (before : Reached) (planned : Planned) → IsMachine (archive_of self.old) pair journal
             → IsQuiet self.old journal → IsCourse course.old left right before
             → slice_get (plan_in course.old left right) course.old.cursor ≡ Some planned
-            → IsDue course.old.cursor planned taken (kept_of kept)
+            → IsDue course.old.cursor planned taken (kept_for kept)
             → is_carrying planned.item ≡ was_carried
             → MatchResult result
             (λ _. IsPast self.old self.new pair taken journal before course.new left right)
@@ -82,13 +81,12 @@ impl<D: Disk> Coordinator<D> {
 
     /// Keeps what is due in the archive, and tells it among what was written. The session ends 11
     /// where memory is refused.
-    fn keep(&mut self, alloc: Global, kept: Kept) -> Due
-        requires { IsOfItem (kept_of kept) }
+    fn keep(&mut self, alloc: Global, kept: KeptItem) -> Due
         ensures settles { (pair : ℕ) (journal : Journal)
             → IsMachine (archive_of self.old) pair journal
-            → Settles (archive_of self.new) pair journal (kept_of kept) result }
-        ensures written { written self.new ≡ written self.old ++ kept_by (kept_of kept) result }
-        ensures tried { TriesBy (archive_of self.new) (kept_of kept) (tried_shown self.old)
+            → Settles (archive_of self.new) pair journal (kept_for kept) result }
+        ensures written { written self.new ≡ written self.old ++ kept_by (kept_for kept) result }
+        ensures tried { TriesBy (archive_of self.new) (kept_for kept) (tried_shown self.old)
             (tried_shown self.new) result }
         ensures running { self.new.running ≡ self.old.running }
         ensures report { self.new.report ≡ self.old.report }
@@ -100,10 +98,10 @@ impl<D: Disk> Coordinator<D> {
         }
         let due = keep_due(alloc, &mut self.archive, &kept);
         match due {
-            Due::Recorded => self.written.push_reserved(kept),
+            Due::Recorded => self.written.push_reserved(Kept::Item(kept)),
             Due::Refused(_) => drop(kept),
             Due::Ends(Refusal::Device) => {
-                self.tried = Some(Tried::new(kept, &self.archive));
+                self.tried = Some(Tried::new(Kept::Item(kept), &self.archive));
                 self.broke = Broken::AsTried;
             }
             Due::Ends(_) => drop(kept),
@@ -162,14 +160,13 @@ impl<D: Disk> Coordinator<D> {
         course: &mut Course,
         carried: Carried,
     ) -> Result<Option<Asks>, Ended>
-        requires { IsOfItem (kept_of carried.kept) }
         ensures step { (pair : ℕ) (journal : Journal) (left right : Found) (taken : Exchange)
             (all : List Exchange) (before : Reached) (planned : Planned)
             → IsMachine (archive_of self.now) pair journal → IsQuiet self.now journal
             → IsAtItem course.old left right all before
             → slice_get (plan_in course.old left right) course.old.cursor ≡ Some planned
             → IsCarriageOf (carriage_of carried.transfer) planned course.old.cursor
-            → record_for planned planned.item ≡ Some (kept_of carried.kept)
+            → record_for planned planned.item ≡ Some (kept_for carried.kept)
             → IsReady carried.transfer
             → MatchResult result (λ next. MatchOption next
             (IsPast self.now self.now pair taken journal before course.new left right)

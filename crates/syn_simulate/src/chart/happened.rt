@@ -4,7 +4,7 @@ use crate::chart::Chart;
 use crate::chart::messages::{ends_of, sent_text};
 use crate::turn::Moment;
 use std::alloc::{AllocError, Global};
-use syn_image::Kept;
+use syn_image::{Kept, KeptItem};
 use syn_message::Side;
 use syn_refusal::Refusal;
 use syn_session::{End, Report};
@@ -125,8 +125,10 @@ fn part<T>(list: &[T], from: usize, to: usize) -> &[T] {
 fn kept_text(alloc: Global, kept: &Kept) -> Result<String, AllocError> {
     match kept {
         Kept::Session(number) => format!(in alloc; "keeps session {number}"),
-        Kept::Record(path, Some(_)) => format!(in alloc; "keeps {path}"),
-        Kept::Record(path, None) => format!(in alloc; "keeps that {path} is gone"),
-        Kept::Dir(path) => format!(in alloc; "keeps directory {path}"),
+        Kept::Item(KeptItem::Record(path, Some(_))) => format!(in alloc; "keeps {path}"),
+        Kept::Item(KeptItem::Record(path, None)) => {
+            format!(in alloc; "keeps that {path} is gone")
+        }
+        Kept::Item(KeptItem::Dir(path)) => format!(in alloc; "keeps directory {path}"),
     }
 }

@@ -3,7 +3,7 @@ use Rattle.syn_model.specs.Archive.{kept_refusal}
 use Rattle.syn_session.proofs.CourseLemmas.{no_conflict}
 use Rattle.syn_coordinator.proofs.PassLemmas.{asks_here, carried_unfit, ends_here, past_so}
 use Rattle.syn_coordinator.specs.inner.Settling.{AsksSo, EndsSo}
-use Rattle.syn_image.specs.Archives.{kept_of}
+use Rattle.syn_image.specs.Archives.{kept_for}
 use Rattle.syn_coordinator.proofs.coordinator.Coordinator.carry.Goals as goal
 
 pub returns-in-Some : goal.returns-in-Some
@@ -32,7 +32,7 @@ returns-in-Ok g c = record {
       (record {
         carriage = carriage;
         record_is = record_is;
-        can = ap (λ a. kept_refusal a (kept_of
+        can = ap (λ a. kept_refusal a (kept_for
             c.args.carried.kept)) (sym is.remembers) ∙ sym c.in_default.ensures;
       }) ready at.asked);
 }

@@ -46,7 +46,7 @@ returns-in-Ok-Mark-clause-step g c pair journal taken all before is quiet at =
     c.settle.new.course all at) c.settle.result c.nothing_asked-in-Ok-Mark.result
     c.nothing_asked-in-Ok-Mark.ensures
     (c.settle.ensures.step pair journal left right taken before doing.0 is quiet at.course_is
-    doing.1 (doing.4 taken) doing.2)
+    doing.1 (doing.3 taken) doing.2)
 
 pub returns-in-Ok-Carry-clause-step : goal.returns-in-Ok-Carry-clause-step
 returns-in-Ok-Carry-clause-step g c pair journal taken all before is quiet at =

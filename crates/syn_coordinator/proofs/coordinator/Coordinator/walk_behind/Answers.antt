@@ -8,14 +8,14 @@ returns-in-Ok-clause-step g c pair journal taken all before planned is quiet out
     let right = c.args.right.now in
     let past = c.in-Ok.ensures.step pair journal left right taken before planned is quiet
     out.course_is out.at is_due out.carries in
-    later_so pair taken journal before left right all c.args.self.now c.settle_carried.new.self
-    c.args.course.now c.settle_carried.new.course planned out past c.walk.new.self
+    later_so pair taken journal before left right all c.args.self.now c.settle.new.self
+    c.args.course.now c.settle.new.course planned out past c.walk.new.self
     c.walk.new.course c.walk.result
     (c.walk.ensures.step pair past.3.journal taken all past.3.after past.3.is (still_quiet pair
-    taken journal before left right all c.args.self.now c.settle_carried.new.self
-    c.args.course.now c.settle_carried.new.course planned out past quiet)
-    (at_next pair taken journal before left right all c.args.self.now c.settle_carried.new.self
-    c.args.course.now c.settle_carried.new.course planned out past))
+    taken journal before left right all c.args.self.now c.settle.new.self
+    c.args.course.now c.settle.new.course planned out past quiet)
+    (at_next pair taken journal before left right all c.args.self.now c.settle.new.self
+    c.args.course.now c.settle.new.course planned out past))
 
 pub returns-in-Err-clause-step : goal.returns-in-Err-clause-step
 returns-in-Err-clause-step g c pair journal taken all before planned is quiet out is_due =
@@ -23,5 +23,5 @@ returns-in-Err-clause-step g c pair journal taken all before planned is quiet ou
     quiet out.course_is out.at is_due out.carries
 
 pub returns-in-Ok-clause-breaks : goal.returns-in-Ok-clause-breaks
-returns-in-Ok-clause-breaks g c = then_breaks c.args.self.now c.settle_carried.new.self
+returns-in-Ok-clause-breaks g c = then_breaks c.args.self.now c.settle.new.self
     c.walk.new.self c.in-Ok.ensures.breaks c.walk.result c.walk.ensures.breaks
