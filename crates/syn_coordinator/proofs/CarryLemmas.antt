@@ -365,7 +365,8 @@ module _ {D : Type 0} {disk : Ghosts D} (new : Archive D disk) (pair : ℕ) (jou
               subst (λ w. MayAsk comes.journal.value now_at w (request_of wants)) (sym that.0)
                   (may_ask comes.journal.value now_at (plan_in course (found_on session Left)
                   (found_on session Right)) comes.carries.planned c
-                  (kept_for comes.carries.carried.kept) course_is.plan course.cursor course_is.cursor
+                  (kept_for comes.carries.carried.kept) course_is.plan course.cursor
+                  course_is.cursor
                   comes.carries.at comes.carries.carries.carriage comes.carries.carries.record_is
                   comes.carries.carries.can (which_of asker) (request_of wants) asked.may),
               asked.lawful,

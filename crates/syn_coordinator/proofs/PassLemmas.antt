@@ -29,7 +29,6 @@ use Rattle.syn_coordinator.specs.declared.ended.Ended.TheVariants.{Early, Settle
 use Rattle.syn_session.specs.Passing.{refused_at}
 use Rattle.syn_session.specs.Plans.{Plan}
 use Rattle.syn_coordinator.specs.inner.Settling.{AsksSo, EndsSo, HasCome, IsPast, IsQuiet, PassesOn}
-use Rattle.syn_coordinator.specs.inner.Settling.{nothing_asked}
 use Rattle.syn_keep.specs.declared.tried.Tried.{Tried}
 use Rattle.syn_coordinator.proofs.AdvanceLemmas.{remembers_still}
 use Rattle.syn_coordinator.proofs.TriedLemmas.{tries_none}
@@ -46,16 +45,7 @@ use Rattle.syn_session.proofs.CarryingLemmas.{is_carried}
 -- ---- what is answered
 
 module _ {P G : Type 0} (A : Asks → Type 0) (E : Ended → Type 0) (more : P → G) where
-  -- nothing is asked
-  pub past_so : {W : Type 0} (went : Result W Ended)
-      (result : Result (Option Asks) Ended) → result ≡ nothing_asked went →
-      MatchResult went (λ _. P) E → MatchResult result (λ next. MatchOption next G A) E
-  past_so (Ok w) result e so =
-      subst (λ r. MatchResult r (λ next. MatchOption next G A) E) (sym e) (more so)
-  past_so (Err ended) result e so =
-      subst (λ r. MatchResult r (λ next. MatchOption next G A) E) (sym e) so
-
-  -- or something may be
+  -- something may be asked
   pub further_so : (result : Result (Option Asks) Ended) →
       MatchResult result (λ next. MatchOption next P A) E →
       MatchResult result (λ next. MatchOption next G A) E

@@ -1,5 +1,5 @@
 -- What a call that carries out a plan has come to, with what it wrote.
-use Rattle.std.specs.Prelude.{◌≡◌, ◌≤◌, ◌++◌, ℕ, suc, List, Option, None, Result, Ok, Err}
+use Rattle.std.specs.Prelude.{◌≡◌, ◌≤◌, ◌++◌, ℕ, suc, List, None}
 use Rattle.syn_coordinator.specs.Coordinators.{archive_of, tried_shown, written}
 use Rattle.syn_coordinator.specs.declared.coordinator.Coordinator.{Coordinator}
 use Rattle.syn_coordinator.specs.declared.ended.Ended.{Ended}
@@ -12,11 +12,6 @@ use Rattle.syn_scan.specs.Found.{Found}
 use Rattle.syn_session.specs.Stages.{AreAskedBefore, Reached, plan_in}
 use Rattle.syn_session.specs.declared.course.Course.{Course}
 use Rattle.syn_session.specs.declared.session.Asks.{Asks}
-
--- it asks for nothing: it is past an item, or it ends
-abbrev pub nothing_asked : {A : Type 0} → Result A Ended → Result (Option Asks) Ended
-nothing_asked (Ok went) = Ok None
-nothing_asked (Err ended) = Err ended
 
 -- nothing is being written, and nothing is remembered that was
 abbrev pub IsQuiet : {D : Type 0} → {disk : Ghosts D} → Coordinator D disk → Journal → Type 0

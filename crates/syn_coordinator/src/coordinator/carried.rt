@@ -88,10 +88,8 @@ impl<D: Disk> Coordinator<D> {
         ensures report { self.new.report ≡ self.old.report }
         ensures breaks { Breaks self.old self.new result }
     {
-        match self.settle(alloc, course, kept, true) {
-            Ok(()) => self.walk(alloc, course, left, right),
-            Err(ended) => Err(ended),
-        }
+        self.settle(alloc, course, kept, true)?;
+        self.walk(alloc, course, left, right)
     }
 
     /// Gives up an item for which a side refused what it was asked, and goes on through the plan.
@@ -117,9 +115,7 @@ impl<D: Disk> Coordinator<D> {
         ensures report { self.new.report ≡ self.old.report }
         ensures breaks { Breaks self.old self.new result }
     {
-        match self.give_up(alloc, course, why) {
-            Ok(()) => self.walk(alloc, course, left, right),
-            Err(ended) => Err(ended),
-        }
+        self.give_up(alloc, course, why)?;
+        self.walk(alloc, course, left, right)
     }
 }

@@ -2,7 +2,6 @@
 ghost use Rattle.std.specs.Prelude.{◌≡◌, ◌++◌, ℕ, List, [], MatchResult, None, Some, slice_get};
 ghost use Rattle.std.specs.Prelude.{IfErr, IfOk, MatchOption, OnErr};
 ghost use Rattle.syn_coordinator.specs.inner.Advancing.{kept_by};
-ghost use Rattle.syn_coordinator.specs.inner.Settling.{nothing_asked};
 ghost use Rattle.syn_coordinator.specs.inner.Walking.{IsAtItem, Passes};
 ghost use Rattle.syn_headline.specs.Coordinator.{Exchange, IsDue};
 ghost use Rattle.syn_headline.specs.Planning.{Planned};
@@ -174,12 +173,10 @@ impl<D: Disk> Coordinator<D> {
             (EndsSo self.now self.now pair taken journal before course.new left right) }
     {
         if let Some(why) = refusal_for(&self.archive, &carried.kept) {
-            return nothing_asked(self.give_up(alloc, course, why));
+            self.give_up(alloc, course, why)?;
+            return Ok(None);
         }
-        match ask_first(alloc, course, carried) {
-            Ok(asks) => Ok(Some(asks)),
-            Err(ended) => Err(ended),
-        }
+        Ok(Some(ask_first(alloc, course, carried)?))
     }
 
     /// Goes on through the plan, until it asks for the first piece of an item, or the session ends.
@@ -235,21 +232,17 @@ impl<D: Disk> Coordinator<D> {
     {
         match course.doing(alloc, left, right) {
             Ok(Doing::Nothing) => Err(Ended::Settled),
-            Ok(Doing::Conflict(path)) => nothing_asked(self.pass_conflict(course, path)),
-            Ok(Doing::Mark(kept)) => nothing_asked(self.settle(alloc, course, kept, false)),
+            Ok(Doing::Conflict(path)) => {
+                self.pass_conflict(course, path)?;
+                Ok(None)
+            }
+            Ok(Doing::Mark(kept)) => {
+                self.settle(alloc, course, kept, false)?;
+                Ok(None)
+            }
             Ok(Doing::Carry(carried)) => self.carry(alloc, course, carried),
             Err(_) => Err(Ended::Early(Refusal::Memory)),
         }
-    }
-}
-
-/// The session asks for nothing: it is past an item, or it ends.
-fn nothing_asked(went: Result<(), Ended>) -> Result<Option<Asks>, Ended>
-    ensures { result ≡ nothing_asked went }
-{
-    match went {
-        Ok(()) => Ok(None),
-        Err(ended) => Err(ended),
     }
 }
 
