@@ -1,5 +1,5 @@
 //! What an answer for the item that is carried comes to.
-ghost use Rattle.std.specs.Prelude.{◌≡◌, ℕ, List};
+ghost use Rattle.std.specs.Prelude.{ℕ, List};
 ghost use Rattle.syn_headline.specs.Coordinator.{Exchange};
 ghost use Rattle.syn_headline.specs.Network.{Which};
 ghost use Rattle.syn_headline.specs.Side.{Request as Asked};

@@ -28,7 +28,7 @@ use syn_refusal::Refusal;
 use syn_session::{Asks, Course, Sending, Session};
 
 impl<D: Disk> Coordinator<D> {
-    ghost use Rattle.syn_coordinator.specs.Coordinators.{Breaks, BreaksNothing, BreaksOff, Does};
+    ghost use Rattle.syn_coordinator.specs.Coordinators.{Breaks, BreaksOff, Does};
     ghost use Rattle.syn_coordinator.specs.Coordinators.{HaltsByFailure};
     ghost use Rattle.syn_coordinator.specs.Coordinators.{Stands, archive_of, broken, device_of};
     ghost use Rattle.syn_coordinator.specs.Coordinators.{report_shown, runs, tried_shown, written};

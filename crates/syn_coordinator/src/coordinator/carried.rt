@@ -1,18 +1,16 @@
 //! How a coordinator goes on after an answer for the item that is carried.
-ghost use Rattle.std.specs.Prelude.{◌≡◌, ℕ, List, MatchResult, slice_get, Some, true};
+ghost use Rattle.std.specs.Prelude.{◌≡◌, ℕ, List, MatchResult};
 ghost use Rattle.syn_headline.specs.Coordinator.{Exchange, IsDue, IsFor};
 ghost use Rattle.syn_headline.specs.Network.{Which};
 ghost use Rattle.syn_headline.specs.Planning.{Planned};
-ghost use Rattle.syn_headline.specs.Report.{is_carrying};
 ghost use Rattle.syn_headline.specs.Side.{Request as Asked, Refused};
 ghost use Rattle.syn_keep.specs.Machines.{IsMachine, Journal};
 ghost use Rattle.syn_message.specs.Replies.{reply_of};
 ghost use Rattle.syn_propagate.specs.Transfers.{WaitsFor};
 ghost use Rattle.syn_refusal.specs.Refusals.{cause_of};
-ghost use Rattle.syn_scan.specs.Found.{Found};
 ghost use Rattle.syn_session.specs.Answering.{exchange_of};
 ghost use Rattle.syn_session.specs.Carrying.{IsCarriedOut};
-ghost use Rattle.syn_session.specs.Stages.{Carries, IsCourse, Reached, plan_in};
+ghost use Rattle.syn_session.specs.Stages.{Carries, Reached};
 ghost use Rattle.syn_image.specs.Archives.{kept_for};
 
 use super::Coordinator;
@@ -28,7 +26,7 @@ use syn_session::{Asks, Carrying, Course};
 impl<D: Disk> Coordinator<D> {
     ghost use Rattle.syn_coordinator.specs.Coordinators.{Breaks, archive_of};
     ghost use Rattle.syn_coordinator.specs.inner.Carrying.{AsksLater, CarriesOn, EndsCarrying};
-    ghost use Rattle.syn_coordinator.specs.inner.Settling.{EndsSo, IsPast, IsQuiet};
+    ghost use Rattle.syn_coordinator.specs.inner.Settling.{EndsSo, IsQuiet};
 
     /// Takes the answer for the item that the session has come to, which is carried, and goes on
     /// through the plan until it asks for something, or the session ends.
