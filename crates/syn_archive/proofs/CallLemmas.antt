@@ -1,6 +1,6 @@
 -- What a machine's reopening makes of an archive.
 use Rattle.std.specs.Prelude.{◌≢◌, Result, Ok, Err, IfErr, OnOk}
-use Rattle.std.proofs.Common.{◌≡◌, ◌⊎◌, Some, ap, inl, inr}
+use Rattle.std.proofs.Common.{◌≡◌, ◌⊎◌, ap, inl, inr}
 use Rattle.syn_disk.specs.declared.disk.Disk.{Ghosts}
 use Rattle.syn_journal.specs.Journal as journal
 use Rattle.syn_journal.specs.Layout.{Value}

@@ -1,5 +1,5 @@
 -- Why it is not kept, and what it says of a refusal that nothing was prepared.
-use Rattle.std.proofs.Common.{◌≡◌, ◌≢◌, ◌⊎◌, ◌<◌, ◌≤◌, ◌∙◌, ℕ, length, nat_lt, true, false}
+use Rattle.std.proofs.Common.{◌≡◌, ◌⊎◌, ◌<◌, ◌≤◌, ◌∙◌, ℕ, length, nat_lt, true, false}
 use Rattle.std.proofs.Common.{true≢false, if◌then◌else◌, inl, inr, refl, sym, ap, subst, Some, None}
 use Rattle.std.proofs.Common.{arith}
 use Rattle.std.proofs.lemmas.Bool.Decides.{nat_tests}

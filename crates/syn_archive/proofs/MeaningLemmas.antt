@@ -1,13 +1,13 @@
 -- Why a disk is not opened, and what an opened archive stands for.
 use Rattle.std.proofs.Common.{◌⊎◌, ◌≡◌, ◌<◌, ◌^◌, ℕ, List, refl, sym, ap, ◌∙◌, subst, Option}
-use Rattle.std.proofs.Common.{Result, Ok, Err, inl, inr, Bool, true, false, true≢false, ap₂}
+use Rattle.std.proofs.Common.{Ok, inl, inr, ap₂}
 use Rattle.std.proofs.lemmas.Option.{none-some, same_Some}
 use Rattle.syn_disk.specs.declared.disk.Disk.{Ghosts}
 use Rattle.syn_model.specs.Archive as model
 use Rattle.syn_model.specs.ArchiveImage.{ArchiveStandsFor, ArchiveStandsForIn}
 use Rattle.syn_model.specs.Version.{Version, One, current_version}
 use Rattle.syn_journal.specs.Journal as journal
-use Rattle.syn_journal.specs.Layout.{Value, Fault, meaning}
+use Rattle.syn_journal.specs.Layout.{Value, meaning}
 use Rattle.syn_journal.proofs.Meanings.{no_value, one_value}
 use Rattle.syn_journal.specs.Refusals as journal_refusals
 use Rattle.syn_journal.specs.declared.error.JournalError.{JournalError}
@@ -243,31 +243,3 @@ lawful_refusal one WrongPair wanted bytes number kept fits d is h =
 lawful_refusal one OldVersion wanted bytes number kept fits d is h =
     absurd (not_old number h.0.image h.0.payloads kept (subst (λ v. ArchiveStandsFor number v.image
     v.payloads kept) (one_value (meaning bytes) d.value h.0 d.means h.1) d.stands) h.2)
-
--- a disk of the first version is opened to no archive,
-pub no_old_opened : {D : Type 0} {disk : Ghosts D} (archive : Archive D disk) (bytes : List ℕ) →
-    IsOpened (λ a. a.pair) Gives bytes archive.machine → IsOldDisk bytes → ⊥
-no_old_opened archive bytes opened old =
-    not_old (pair_of archive) opened.value.image opened.value.payloads (shown archive) opened.given
-    (subst (λ v. IsOldArchiveImage v.image)
-    (one_value (meaning bytes) old.0 opened.value old.1 opened.means) old.2)
-
--- and refused as such, by the device or for lack of memory
-pub old_refusal : (e : ArchiveError) (wanted : Option ℕ) (bytes : List ℕ) → IsOldDisk bytes →
-    IsOpenRefusal e wanted bytes → (e ≡ OldVersion) ⊎ ((e ≡ Device) ⊎ (e ≡ Memory))
-old_refusal NoParent wanted bytes old h = absurd h
-old_refusal Root wanted bytes old h = absurd h
-old_refusal Full wanted bytes old h = absurd h
-old_refusal JournalFull wanted bytes old h = absurd h
-old_refusal Device wanted bytes old h = inr (inl refl)
-old_refusal Halted wanted bytes old h = absurd h
-old_refusal Memory wanted bytes old h = inr (inr refl)
-old_refusal NoImage wanted bytes old h = absurd (no_value (meaning bytes) old.0 _ old.1 h)
-old_refusal Damaged wanted bytes old (inl h) = absurd (no_value (meaning bytes) old.0 _ old.1 h)
-old_refusal Damaged wanted bytes old (inr h) =
-    absurd (h.2 (subst (λ v. IsOldArchiveImage v.image)
-    (one_value (meaning bytes) old.0 h.0 old.1 h.1) old.2))
-old_refusal WrongPair wanted bytes old h =
-    absurd (not_old h.2.pair h.0.image h.0.payloads h.2.archive h.2.stands
-    (subst (λ v. IsOldArchiveImage v.image) (one_value (meaning bytes) old.0 h.0 old.1 h.1) old.2))
-old_refusal OldVersion wanted bytes old h = inl refl

@@ -3,7 +3,7 @@ use Rattle.std.proofs.Common.{◌≡◌, ◌⊎◌, ◌<◌, ◌^◌, ◌+◌, �
 use Rattle.std.proofs.Common.{⊎_elim, refl}
 use Rattle.std.proofs.Common.{sym, ap, subst, Ok, Option, Some, None, arith, ◌≤◌}
 use Rattle.std.proofs.lemmas.Option.{none-some}
-use Rattle.syn_disk.specs.Stops.{LeavesOnly, Untouched}
+use Rattle.syn_disk.specs.Stops.{LeavesOnly}
 use Rattle.syn_disk.specs.declared.disk.Disk.{Ghosts}
 use Rattle.syn_journal.specs.Journal as journal
 use Rattle.syn_journal.specs.Layout.{HasJournal, IsBeforeOrAfter, Value, bytes_left, image_alone}
@@ -319,12 +319,3 @@ whole {disk = disk} old mid new e ended is reads migrates =
     let read = subst (λ x. Reads disk (Some (refusal_of x)) old mid) is reads in
     after_reads (λ a. a.pair) GivesOld image_of ended old mid new read.untouched read.failures
     read.arms migrates
-
--- where an opening was refused for anything else nothing was written
-pub only_read : {D : Type 0} (seen : D → List ℕ) (may_leave : D → List ℕ → Type 0)
-    (moment : D → ℕ) (left_since : D → ℕ → List ℕ → Type 0) (old new : D)
-    (P : List ℕ → Type 0) → Untouched seen may_leave moment left_since old new →
-    LeavesOnly moment left_since old new (λ bytes. may_leave old bytes ⊎ P bytes)
-only_read seen may_leave moment left_since old new P read =
-    leaves_weaker moment left_since old new (may_leave old) _ (λ bytes was. inl was)
-    read.any_moment

@@ -28,6 +28,26 @@ pub(crate) struct Agreed {
     pub(crate) marks: MarkTree,
 }
 
+impl From<ArchiveImage> for Agreed {
+    ghost use Rattle.std.specs.Prelude.{◌≡◌};
+    ghost use Rattle.syn_archive.specs.inner.Agreements.{agreed_of};
+
+    ghost from_gives = { λ read agreed. agreed ≡ agreed_of read };
+
+    fn from(read: ArchiveImage) -> Agreed {
+        let ArchiveImage {
+            pair,
+            last_session,
+            marks,
+        } = read;
+        Agreed {
+            pair,
+            last_session,
+            marks,
+        }
+    }
+}
+
 /// What a record changes of it, with all memory for it.
 #[derive(Drop)]
 pub(crate) enum Update {
@@ -85,38 +105,14 @@ impl State for Agreed {
         wanted: Option<u64>,
     ) -> Result<Agreed, ArchiveError> {
         opening_laws();
-        match read_wanted(alloc, image, wanted, payloads) {
-            Ok(
-                ArchiveImage {
-                    pair,
-                    last_session,
-                    marks,
-                },
-            ) => Ok(Agreed {
-                pair,
-                last_session,
-                marks,
-            }),
-            Err(error) => Err(error),
-        }
+        let read = read_wanted(alloc, image, wanted, payloads)?;
+        Ok(Agreed::from(read))
     }
 
     fn read_old(alloc: Global, image: &[u8], payloads: &[Vec<u8>]) -> Result<Agreed, ArchiveError> {
         opening_laws();
-        match read_archive(alloc, Version::One, image, payloads) {
-            Ok(
-                ArchiveImage {
-                    pair,
-                    last_session,
-                    marks,
-                },
-            ) => Ok(Agreed {
-                pair,
-                last_session,
-                marks,
-            }),
-            Err(error) => Err(error),
-        }
+        let read = read_archive(alloc, Version::One, image, payloads)?;
+        Ok(Agreed::from(read))
     }
 
     fn read_again(
@@ -126,20 +122,8 @@ impl State for Agreed {
         payloads: &[Vec<u8>],
     ) -> Result<Agreed, ArchiveError> {
         opening_laws();
-        match read_own(alloc, image, self.pair, payloads) {
-            Ok(
-                ArchiveImage {
-                    pair: _,
-                    last_session,
-                    marks,
-                },
-            ) => Ok(Agreed {
-                pair: self.pair,
-                last_session,
-                marks,
-            }),
-            Err(error) => Err(error),
-        }
+        let read = read_own(alloc, image, self.pair, payloads)?;
+        Ok(Agreed::from(read))
     }
 
     fn make(&mut self, update: Update) {

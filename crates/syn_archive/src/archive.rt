@@ -84,10 +84,8 @@ impl<D: Disk> Archive<D> {
             last_session: 0,
             marks,
         };
-        match Journaled::format(alloc, disk, agreed) {
-            Ok(machine) => Ok(Archive { machine }),
-            Err(refused) => Err(refused),
-        }
+        let machine = Journaled::format(alloc, disk, agreed)?;
+        Ok(Archive { machine })
     }
 
     /// The number of the pair.
@@ -190,10 +188,8 @@ impl<D: Disk> Archive<D> {
         ensures machine { Writes self.old self.new (Some (Session (session_shown self.old + 1)))
             (ended refusal_of result) }
     {
-        match self.keep(alloc, Keeping::Session) {
-            Ok(()) => Ok(self.last_session()),
-            Err(error) => Err(error),
-        }
+        self.keep(alloc, Keeping::Session)?;
+        Ok(self.last_session())
     }
 
     /// Why the marks, or that nothing is there, cannot be recorded at the path; it takes no memory.

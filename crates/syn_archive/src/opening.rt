@@ -86,8 +86,9 @@ pub(crate) fn read_own(
     pair: u64,
     payloads: &[Vec<u8>],
 ) -> Result<ArchiveImage, ArchiveError>
-    ensures fits { pair < 2 ^ 64 }
-    ensures stands { IfOk result (λ read. ArchiveStandsFor pair image.now
+    ensures fits { IfOk result (λ read. read.pair < 2 ^ 64) }
+    ensures pair { IfOk result (λ read. read.pair ≡ pair) }
+    ensures stands { IfOk result (λ read. ArchiveStandsFor read.pair image.now
         (bytes_of_each payloads.now) (archive_read read)) }
     ensures refusals { IfErr result IsOfPayload }
     ensures damaged { IfErr result (λ e. e ≡ ArchiveError.Damaged → (archive : model.Archive)

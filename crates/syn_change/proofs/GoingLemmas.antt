@@ -1,7 +1,7 @@
 -- How edits go on, and where one of them is refused.
 use Rattle.std.proofs.Common.{◌≡◌, ◌∙◌, false, List, [], ◌∷◌, ◌++◌, map, refl}
 use Rattle.std.proofs.Common.{sym, ap, subst, append_assoc, append-nil, ◌≢◌, Result, Ok, Err}
-use Rattle.std.proofs.Common.{IfErr}
+use Rattle.std.proofs.Common.{IfErr, Some}
 use Rattle.std.proofs.lemmas.List.{map-append}
 use Rattle.std.proofs.lemmas.List.Sums.{fold-append}
 use Rattle.std.specs.List.{AllByRecursion, IsDistinct}
@@ -122,12 +122,11 @@ goes_as Q old edits new more edit has on =
 
 pub refused_as : {X : Type 0} (Q : Edit → Type 0) (old : Tree) (result : Result X TreeError)
     (edit : Edit) → Q edit →
-    IfErr result (λ e. e ≢ Memory → IsRefusedAmong (λ made. made ≡ edit) old (refusal_of e)) →
+    IfErr result (λ e. e ≢ Memory → edit_refusal old edit ≡ Some (refusal_of e)) →
     IfErr result (λ e. e ≢ Memory → IsRefusedAmong Q old (refusal_of e))
-refused_as Q old (Ok x) edit has refused = tt
-refused_as Q old (Err e) edit has refused =
-    λ other. refused_weaker (λ made. made ≡ edit) Q old (refusal_of e)
-    (λ e is. subst Q (sym is) has) (refused other)
+refused_as Q old (Ok x) edit has cause = tt
+refused_as Q old (Err e) edit has cause =
+    λ other. record { made = []; next = edit; each = tt; this = has; refused = cause other }
 
 -- a result that is refused after edits that go on
 pub refused_after : {X : Type 0} (P Q R : Edit → Type 0) (a b : Tree) (es fs : List Planned)

@@ -71,15 +71,15 @@ needed_for work old wanted (p, File c) e same there (inr changes) =
 abbrev pub IsAmong : Pairs → Path → Type 0
 IsAmong pairs path = IsSome (find path_cmp path pairs)
 
-pub still_among : (front behind : Pairs) (path : Path) → IsAmong front path →
-    IsAmong (front ++ behind) path
-still_among [] behind path among = absurd (true≢false (sym among))
-still_among (x ∷ front) behind path among =
-    at (eq_by_cmp path_cmp path x.0) among (still_among front behind path)
+pub still_among : (front others : Pairs) (path : Path) → IsAmong front path →
+    IsAmong (front ++ others) path
+still_among [] others path among = absurd (true≢false (sym among))
+still_among (x ∷ front) others path among =
+    at (eq_by_cmp path_cmp path x.0) among (still_among front others path)
   where
     at : (b : Bool) → IsSome (cond b (Some x.1) (find path_cmp path front)) →
-        (IsAmong front path → IsAmong (front ++ behind) path) →
-        IsSome (cond b (Some x.1) (find path_cmp path (front ++ behind)))
+        (IsAmong front path → IsAmong (front ++ others) path) →
+        IsSome (cond b (Some x.1) (find path_cmp path (front ++ others)))
     at true among rest = among
     at false among rest = rest among
 

@@ -244,17 +244,17 @@ is_wanted old wanted new trimmed overlaid =
 
 -- ---- which removals are needed
 
-later_than : (front : Pairs) (pair : Pair) (behind : Pairs) → Rising (front ++ pair ∷ behind) →
-    After pair.0 behind
-later_than [] pair behind rising = rising.0
-later_than (x ∷ front) pair behind rising = later_than front pair behind rising.1
+later_than : (front : Pairs) (pair : Pair) (others : Pairs) → Rising (front ++ pair ∷ others) →
+    After pair.0 others
+later_than [] pair others rising = rising.0
+later_than (x ∷ front) pair others rising = later_than front pair others rising.1
 
 -- in path order a directory comes before what stands in it
 pub directory_stays : (old wanted work : Tree) (front : Pairs) (n : Name) (p : Path) (c : Content)
-    (behind : Pairs) → rooted (front ++ (n ∷ p, c) ∷ behind) ≡ entries old →
+    (others : Pairs) → rooted (front ++ (n ∷ p, c) ∷ others) ≡ entries old →
     get wanted root ≡ Some Directory → AreRemoved old wanted front work →
     get work (parent (n ∷ p)) ≡ Some Directory → get wanted (parent (n ∷ p)) ≡ Some Directory
-directory_stays old wanted work front n p c behind all over done dir =
+directory_stays old wanted work front n p c others all over done dir =
     at (eq_by_cmp path_cmp q root) refl
     (ap (find path_cmp q) all ∙ (sym (get-entries old q) ∙ stood))
   where
@@ -270,37 +270,37 @@ directory_stays old wanted work front n p c behind all over done dir =
     less : path_cmp q (n ∷ p) ≡ Less
     less = ap (path_cmp q) last.1 ∙ first_of_all q last.0 []
 
-    after : After q ((n ∷ p, c) ∷ behind)
+    after : After q ((n ∷ p, c) ∷ others)
     after = (
       less,
-      after_more q (n ∷ p) behind less
-          (later_than front (n ∷ p, c) behind (rising_below old _ all).1),
+      after_more q (n ∷ p) others less
+          (later_than front (n ∷ p, c) others (rising_below old _ all).1),
     )
 
     at : (b : Bool) → eq_by_cmp path_cmp q root ≡ b →
-        cond b (Some Directory) (find path_cmp q (front ++ (n ∷ p, c) ∷ behind)) ≡ Some Directory →
+        cond b (Some Directory) (find path_cmp q (front ++ (n ∷ p, c) ∷ others)) ≡ Some Directory →
         get wanted q ≡ Some Directory
     at true same is = ap (get wanted) (same_path q root same) ∙ over
     at false same is =
         stays_directory (get wanted q) (ap (λ o. can_stay o (get wanted q)) (sym dir)
         ∙ fine_in front wanted work q Directory done.fine (found_in_front q Directory front
-        ((n ∷ p, c) ∷ behind) after is) (ap is_some dir))
+        ((n ∷ p, c) ∷ others) after is) (ap is_some dir))
 
-pub removal_needed : (old wanted work : Tree) (front : Pairs) (pair : Pair) (behind : Pairs)
-    (e : Edit) → rooted (front ++ pair ∷ behind) ≡ entries old →
+pub removal_needed : (old wanted work : Tree) (front : Pairs) (pair : Pair) (others : Pairs)
+    (e : Edit) → rooted (front ++ pair ∷ others) ≡ entries old →
     get wanted root ≡ Some Directory → AreRemoved old wanted front work →
     Removes work wanted pair.0 e → IsRemoval old wanted e × (edited_path e ≡ pair.0)
-removal_needed old wanted work front ([], c) behind e all over done removes =
+removal_needed old wanted work front ([], c) others e all over done removes =
     absurd (true≢false (sym (ap (λ o. can_stay o (get wanted root)) removes.3
     ∙ ap (can_stay (Some Directory)) over) ∙ removes.2))
-removal_needed old wanted work front (n ∷ p, c) behind e all over done removes =
+removal_needed old wanted work front (n ∷ p, c) others e all over done removes =
     let same = was_there old wanted work (n ∷ p) done.less removes.1 in
     subst (λ e. IsRemoval old wanted e × (edited_path e ≡ n ∷ p)) (sym removes.0) (
       (
         (
           subst IsSome same removes.1,
           ap (λ o. can_stay o (get wanted (n ∷ p))) (sym same) ∙ removes.2,
-          directory_stays old wanted work front n p c behind all over done removes.3,
+          directory_stays old wanted work front n p c others all over done removes.3,
         ),
         refl,
       ),

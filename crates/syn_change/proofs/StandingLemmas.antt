@@ -13,28 +13,28 @@ use Rattle.syn_placed.proofs.FindLemmas.{find_after}
 use Rattle.syn_placed.proofs.TreeLemmas.{rising-entries}
 
 -- nothing is found at the path of a pair among those before it
-pub none_in_front : (front : Pairs) (pair : Pair) (behind : Pairs) →
-    Rising (front ++ pair ∷ behind) → find path_cmp pair.0 front ≡ None
-none_in_front [] pair behind rising = refl
-none_in_front (x ∷ front) pair behind rising =
+pub none_in_front : (front : Pairs) (pair : Pair) (others : Pairs) →
+    Rising (front ++ pair ∷ others) → find path_cmp pair.0 front ≡ None
+none_in_front [] pair others rising = refl
+none_in_front (x ∷ front) pair others rising =
     ap (λ b. cond b (Some x.1) (find path_cmp pair.0 front))
-    (later front rising.0) ∙ none_in_front front pair behind rising.1
+    (later front rising.0) ∙ none_in_front front pair others rising.1
   where
-    later : (es : Pairs) → After x.0 (es ++ pair ∷ behind) → eq_by_cmp path_cmp pair.0 x.0 ≡ false
+    later : (es : Pairs) → After x.0 (es ++ pair ∷ others) → eq_by_cmp path_cmp pair.0 x.0 ≡ false
     later [] after =
         ap is_eq (path_total.antisymm pair.0 x.0 ∙ ap ordering_reverse after.0)
     later (e ∷ es) after = later es after.1
 
 -- what is found in two lists is found in the first, where all of the second comes later
-pub found_in_front : (q : Path) (c : Content) (front behind : Pairs) → After q behind →
-    find path_cmp q (front ++ behind) ≡ Some c → find path_cmp q front ≡ Some c
-found_in_front q c [] behind after is =
-    absurd (none-some _ (sym (find_after q behind after) ∙ is))
-found_in_front q c (x ∷ front) behind after is =
-    at (eq_by_cmp path_cmp q x.0) is (found_in_front q c front behind after)
+pub found_in_front : (q : Path) (c : Content) (front others : Pairs) → After q others →
+    find path_cmp q (front ++ others) ≡ Some c → find path_cmp q front ≡ Some c
+found_in_front q c [] others after is =
+    absurd (none-some _ (sym (find_after q others after) ∙ is))
+found_in_front q c (x ∷ front) others after is =
+    at (eq_by_cmp path_cmp q x.0) is (found_in_front q c front others after)
   where
-    at : (b : Bool) → cond b (Some x.1) (find path_cmp q (front ++ behind)) ≡ Some c →
-        (find path_cmp q (front ++ behind) ≡ Some c → find path_cmp q front ≡ Some c) →
+    at : (b : Bool) → cond b (Some x.1) (find path_cmp q (front ++ others)) ≡ Some c →
+        (find path_cmp q (front ++ others) ≡ Some c → find path_cmp q front ≡ Some c) →
         cond b (Some x.1) (find path_cmp q front) ≡ Some c
     at true is rest = is
     at false is rest = rest is
@@ -45,25 +45,25 @@ pub rising_below : (tree : Tree) (list : Pairs) → rooted list ≡ entries tree
 rising_below tree list all = subst Rising (sym all) (rising-entries tree)
 
 -- a pair of a list that rises is found at its path
-found_in : (front : Pairs) (pair : Pair) (behind : Pairs) → Rising (front ++ pair ∷ behind) →
-    find path_cmp pair.0 (front ++ pair ∷ behind) ≡ Some pair.1
-found_in [] pair behind rising =
-    ap (λ b. cond b (Some pair.1) (find path_cmp pair.0 behind)) (path_itself pair.0)
-found_in (x ∷ front) pair behind rising =
-    go (eq_by_cmp path_cmp pair.0 x.0) refl (found_in front pair behind rising.1)
+found_in : (front : Pairs) (pair : Pair) (others : Pairs) → Rising (front ++ pair ∷ others) →
+    find path_cmp pair.0 (front ++ pair ∷ others) ≡ Some pair.1
+found_in [] pair others rising =
+    ap (λ b. cond b (Some pair.1) (find path_cmp pair.0 others)) (path_itself pair.0)
+found_in (x ∷ front) pair others rising =
+    go (eq_by_cmp path_cmp pair.0 x.0) refl (found_in front pair others rising.1)
   where
     go : (b : Bool) → eq_by_cmp path_cmp pair.0 x.0 ≡ b →
-        find path_cmp pair.0 (front ++ pair ∷ behind) ≡ Some pair.1 →
-        cond b (Some x.1) (find path_cmp pair.0 (front ++ pair ∷ behind)) ≡ Some pair.1
+        find path_cmp pair.0 (front ++ pair ∷ others) ≡ Some pair.1 →
+        cond b (Some x.1) (find path_cmp pair.0 (front ++ pair ∷ others)) ≡ Some pair.1
     go true is later =
-        absurd (none-some _ (sym (find_after x.0 (front ++ pair ∷ behind) rising.0)
-        ∙ (sym (ap (λ p. find path_cmp p (front ++ pair ∷ behind)) (same_path _ x.0 is)) ∙ later)))
+        absurd (none-some _ (sym (find_after x.0 (front ++ pair ∷ others) rising.0)
+        ∙ (sym (ap (λ p. find path_cmp p (front ++ pair ∷ others)) (same_path _ x.0 is)) ∙ later)))
     go false is later = later
 
 -- so each pair of a tree stands in it
-pub pair_stands : (tree : Tree) (front : Pairs) (pair : Pair) (behind : Pairs) →
-    rooted (front ++ pair ∷ behind) ≡ entries tree → get tree pair.0 ≡ Some pair.1
-pair_stands tree front pair behind all =
+pub pair_stands : (tree : Tree) (front : Pairs) (pair : Pair) (others : Pairs) →
+    rooted (front ++ pair ∷ others) ≡ entries tree → get tree pair.0 ≡ Some pair.1
+pair_stands tree front pair others all =
     get-entries tree pair.0
     ∙ (sym (ap (find path_cmp pair.0) all)
-    ∙ found_in ((root, Directory) ∷ front) pair behind (rising_below tree _ all))
+    ∙ found_in ((root, Directory) ∷ front) pair others (rising_below tree _ all))

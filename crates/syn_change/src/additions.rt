@@ -179,8 +179,6 @@ pub(crate) fn make(
         → edit_refusal work.old (edit_of edit) ≡ Some (refusal_of e)) }
     ensures edits { OnOk result (GoesOn (λ made. made ≡ edit_of edit) work.old edits.old.items
         work.new edits.new.items) }
-    ensures refused { IfErr result (λ e. e ≢ TreeError.Memory
-        → IsRefusedAmong (λ made. made ≡ edit_of edit) work.old (refusal_of e)) }
 {
     edits.push(edit.copy(alloc)?)?;
     work.apply(alloc, edit)

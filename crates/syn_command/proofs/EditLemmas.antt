@@ -21,12 +21,9 @@ use Rattle.syn_replica.specs.Replica.{KeepsBeforeOrAfter, Stands, pair_of, disk_
 use Rattle.syn_replica.specs.Replica.{generation_shown}
 use Rattle.syn_replica.specs.declared.replica.Replica.{Replica}
 use Rattle.syn_command.specs.Asked.{edit_asked}
+use Rattle.syn_command.specs.declared.edit.TheConstants.{MOST_INPUT as most}
 use Rattle.syn_words.specs.declared.line.Change.{Change}
 use Rattle.syn_words.specs.declared.line.Change.TheVariants as change
-
--- the most bytes that are read
-abbrev most : ℕ
-most = 16385
 
 -- a fact of what is left, where that is known
 pub known : (o : Option Bytes) (left : Bytes) (P : Bytes → Type 0) → o ≡ Some left → IfSome o P →

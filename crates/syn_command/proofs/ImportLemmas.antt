@@ -23,10 +23,10 @@ edits_after : (tree : Tree) (user : ℕ) (edits : List Edit) →
 edits_after tree user [] = refl
 edits_after tree user (e ∷ es) = edits_after (after_event tree (Edited user e)) user es
 
-events_after : (tree : Tree) (front behind : History) →
-    fold after_event tree (front ++ behind) ≡ fold after_event (fold after_event tree front) behind
-events_after tree [] behind = refl
-events_after tree (e ∷ front) behind = events_after (after_event tree e) front behind
+events_after : (tree : Tree) (front others : History) →
+    fold after_event tree (front ++ others) ≡ fold after_event (fold after_event tree front) others
+events_after tree [] others = refl
+events_after tree (e ∷ front) others = events_after (after_event tree e) front others
 
 pub tree_of-edits : (history : History) (user : ℕ) (edits : List Edit) →
     tree_of (history ++ map (Edited user) edits) ≡ after_edits (tree_of history) edits

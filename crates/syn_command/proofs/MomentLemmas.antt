@@ -67,7 +67,7 @@ pub none_begun : (pair : ℕ) (history events : History) (bytes : List ℕ)
     → DiskStands pair bytes history → IsBegun pair history events bytes
 none_begun pair history events bytes stands = record {
   front = [];
-  behind = events;
+  others = events;
   are = refl;
   stands = subst (DiskStands pair bytes) (sym (append-nil history)) stands;
 }
@@ -80,7 +80,7 @@ one_begun replica history event bytes (inl keeps) =
     none_begun (pair_of replica) history (event ∷ []) bytes (keeps_stands keeps)
 one_begun replica history event bytes (inr keeps) = record {
   front = event ∷ [];
-  behind = [];
+  others = [];
   are = refl;
   stands = keeps_stands keeps;
 }
@@ -91,10 +91,10 @@ pub more_begun : (pair : ℕ) (history made events rest all : History) (bytes : 
     → IsBegun pair history all bytes
 more_begun pair history made events rest all bytes are begun = record {
   front = made ++ begun.front;
-  behind = begun.behind ++ rest;
+  others = begun.others ++ rest;
   are = are ∙ (ap (λ es. made ++ (es ++ rest)) begun.are
-      ∙ (ap (λ es. made ++ es) (append_assoc begun.front begun.behind rest)
-      ∙ sym (append_assoc made begun.front (begun.behind ++ rest))));
+      ∙ (ap (λ es. made ++ es) (append_assoc begun.front begun.others rest)
+      ∙ sym (append_assoc made begun.front (begun.others ++ rest))));
   stands = subst (DiskStands pair bytes) (append_assoc history made begun.front) begun.stands;
 }
 

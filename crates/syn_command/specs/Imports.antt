@@ -19,8 +19,8 @@ use Rattle.syn_command.specs.declared.error.CommandError.TheVariants.{Folder}
 -- a stop leaves the history with a beginning of the events after it
 pub record IsBegun (pair : ℕ) (history events : History) (bytes : List ℕ) : Type 0 where
   pub front : History
-  pub behind : History
-  pub are : events ≡ front ++ behind
+  pub others : History
+  pub are : events ≡ front ++ others
   pub stands : DiskStands pair bytes (history ++ front)
 
 -- a stop leaves the history, or that with a beginning of edits of the user after it, each of which

@@ -18,11 +18,11 @@ use syn_disk::Disk;
 use syn_model::history_laws;
 use syn_path::Path;
 use syn_replica::Replica;
-use syn_tree::Edit;
+use syn_tree::{Edit, LONGEST_FILE};
 use syn_words::{Change, EditLine};
 
 /// How many bytes of the input are read at most: one more than a file may have.
-const MOST_INPUT: u64 = 16_385;
+const MOST_INPUT: u64 = LONGEST_FILE as u64 + 1;
 
 /// Makes the edit that the line asks for, as its user, and answers the new position. A put puts
 /// what is left of the input.

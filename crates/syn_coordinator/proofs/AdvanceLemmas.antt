@@ -51,40 +51,40 @@ record_due item planned taken kept (model.directory path is) = ap (record_for pl
 
 module _ (pair : ℕ) (plan : List Planned) (taken : Exchange) where
   -- where the status stays a walk goes on from where it came to
-  pub goes_further : (first middle last : Walk) (before behind : List Kept) →
+  pub goes_further : (first middle last : Walk) (before onward : List Kept) →
       Advances pair plan taken first before middle → middle.journal.status ≡ first.journal.status →
-      Advances pair plan taken middle behind last →
-      Advances pair plan taken first (before ++ behind) last
-  goes_further first middle last before behind (model.stands walk) same rest = rest
-  goes_further first middle last before behind
+      Advances pair plan taken middle onward last →
+      Advances pair plan taken first (before ++ onward) last
+  goes_further first middle last before onward (model.stands walk) same rest = rest
+  goes_further first middle last before onward
       (model.conflicts walk later kept planned path fresh at is more) same rest =
-      model.conflicts walk last (kept ++ behind) planned path fresh at is
-      (goes_further _ _ last kept behind more same rest)
-  goes_further first middle last before behind
+      model.conflicts walk last (kept ++ onward) planned path fresh at is
+      (goes_further _ _ last kept onward more same rest)
+  goes_further first middle last before onward
       (model.side_refuses walk later kept planned why fresh at refused for more) same rest =
-      model.side_refuses walk last (kept ++ behind) planned why fresh at refused for
-      (goes_further _ _ last kept behind more same rest)
-  goes_further first middle last before behind
+      model.side_refuses walk last (kept ++ onward) planned why fresh at refused for
+      (goes_further _ _ last kept onward more same rest)
+  goes_further first middle last before onward
       (model.archive_refuses walk later kept planned what why fresh at is up refused more) same
       rest =
-      model.archive_refuses walk last (kept ++ behind) planned what why fresh at is up refused
-      (goes_further _ _ last kept behind more same rest)
-  goes_further first middle last before behind
+      model.archive_refuses walk last (kept ++ onward) planned what why fresh at is up refused
+      (goes_further _ _ last kept onward more same rest)
+  goes_further first middle last before onward
       (model.no_checkpoint walk later kept what fresh full greatest more) same rest =
-      model.no_checkpoint walk last (kept ++ behind) what fresh full greatest
-      (goes_further _ _ last kept behind more same rest)
-  goes_further first middle last before behind
+      model.no_checkpoint walk last (kept ++ onward) what fresh full greatest
+      (goes_further _ _ last kept onward more same rest)
+  goes_further first middle last before onward
       (model.checkpoints walk later kept what journal fresh full less compacts up more) same rest =
-      model.checkpoints walk last (kept ++ behind) what journal fresh full less compacts up
-      (goes_further _ _ last kept behind more (same ∙ (full.to_keep.up ∙ sym up)) rest)
-  goes_further first middle last before behind
+      model.checkpoints walk last (kept ++ onward) what journal fresh full less compacts up
+      (goes_further _ _ last kept onward more (same ∙ (full.to_keep.up ∙ sym up)) rest)
+  goes_further first middle last before onward
       (model.checkpoint_breaks walk what journal fresh full less compacts broken) same rest =
       absurd (broken (same ∙ full.to_keep.up))
-  goes_further first middle last before behind
+  goes_further first middle last before onward
       (model.keeps walk later what kept journal keep room kept_so up more) same rest =
-      model.keeps walk last what (kept ++ behind) journal keep room kept_so up
-      (goes_further _ _ last kept behind more (same ∙ (keep.up ∙ sym up)) rest)
-  goes_further first middle last before behind
+      model.keeps walk last what (kept ++ onward) journal keep room kept_so up
+      (goes_further _ _ last kept onward more (same ∙ (keep.up ∙ sym up)) rest)
+  goes_further first middle last before onward
       (model.record_breaks walk what kept journal keep room kept_so broken) same rest =
       absurd (broken (same ∙ keep.up))
 
@@ -135,11 +135,11 @@ module _ {D : Type 0} {disk : Ghosts D} (new : Archive D disk) (tried : Option T
       let still = ready_still new pair walk.journal what ready now compacts up in
       record { planned = planned; at = at; due = is_due; can = still.can; up = still.up }
 
-  behind_room : IsReady walk.journal what → (between : Journal) →
+  after_room : IsReady walk.journal what → (between : Journal) →
       MakesRoom pair walk.journal what true between → (kept : List Kept) (later : Walk) →
       Advances pair plan taken (making_room walk between) kept later →
       Advances pair plan taken walk kept later
-  behind_room ready between (makes_some now none less compacts up) kept later more =
+  after_room ready between (makes_some now none less compacts up) kept later more =
       model.checkpoints walk later kept what now fresh (no_room ready none) less compacts up more
 
   -- a checkpoint that makes room writes no record
@@ -186,7 +186,7 @@ module _ {D : Type 0} {disk : Ghosts D} (new : Archive D disk) (tried : Option T
       [] journal (to_keep ready) has keeps up (model.stands (past walk journal))) up is
   advanced became (due.recorded true between ready room has (moves_on journal (keeps, shown) up is))
       quiet tries =
-      kept_it journal (behind_room ready between room (what ∷ []) (past walk journal)
+      kept_it journal (after_room ready between room (what ∷ []) (past walk journal)
       (model.keeps (making_room walk between) (past walk journal) what [] journal
       (room_made ready between room) has keeps up (model.stands (past walk journal)))) up is
   advanced became (due.recorded false between ready (has_some enough) has
@@ -196,7 +196,7 @@ module _ {D : Type 0} {disk : Ghosts D} (new : Archive D disk) (tried : Option T
       down cut leaves (tries_kept walk.journal journal keeps quiet tries)
   advanced became (due.recorded true between ready room has
       (moves_down journal (keeps, shown) cut down leaves)) quiet tries =
-      stopped _ (record (making_room walk between) { journal = journal }) (behind_room ready between
+      stopped _ (record (making_room walk between) { journal = journal }) (after_room ready between
       room (what ∷ []) (record (making_room walk between) { journal = journal })
       (model.record_breaks (making_room walk between) what (what ∷ []) journal
       (room_made ready between room) has keeps (not_up down))) down cut leaves
@@ -236,7 +236,7 @@ module _ {D : Type 0} {disk : Ghosts D} (new : Archive D disk) (tried : Option T
   advanced became (due.record_breaks true between ready room has
       (moves_on journal (keeps, shown) halted is)) quiet tries =
       ended refusal.Device (record (making_room walk between) { journal = journal })
-      (behind_room ready between room [] (record (making_room walk between) { journal = journal })
+      (after_room ready between room [] (record (making_room walk between) { journal = journal })
       (model.record_breaks (making_room walk between) what
       [] journal (room_made ready between room) has keeps (halted_not_up halted))) refl refl
       (λ running same. model.fails ready.up halted) is
@@ -251,12 +251,12 @@ module _ {D : Type 0} {disk : Ghosts D} (new : Archive D disk) (tried : Option T
   advanced became (due.record_breaks true between ready room has
       (moves_down journal (keeps, shown) cut down leaves)) quiet tries =
       stopped _ (record (making_room walk between) { journal = journal })
-      (behind_room ready between room [] (record (making_room walk between) { journal = journal })
+      (after_room ready between room [] (record (making_room walk between) { journal = journal })
       (model.record_breaks (making_room walk between) what [] journal (room_made ready between room)
       has keeps (not_up down))) down cut leaves (tries_failed between journal keeps shown has
       (quiet_between true between room quiet) (not_up down) tries)
   advanced became (due.no_room_left between ready room none is) quiet tries =
-      ended refusal.JournalFull (making_room walk between) (behind_room ready between room
+      ended refusal.JournalFull (making_room walk between) (after_room ready between room
       [] (making_room walk between) (model.stands (making_room walk between))) refl refl
       (λ running same. model.no_room_left what
       (subst (λ p. HasNoRoom pair p taken (making_room walk between) what) (sym same)
@@ -269,8 +269,8 @@ module _ {D : Type 0} {disk : Ghosts D} (new : Archive D disk) (tried : Option T
       (λ running same. model.no_memory refl) is
       (remembers_still pair walk.journal.status tried walk.journal
       (tries_none pair tried _ tries quiet) refl)
-  advanced became (due.no_memory_behind between ready room is) quiet tries =
-      ended refusal.Memory (making_room walk between) (behind_room ready between room
+  advanced became (due.no_memory_after between ready room is) quiet tries =
+      ended refusal.Memory (making_room walk between) (after_room ready between room
       [] (making_room walk between) (model.stands (making_room walk between))) refl refl
       (λ running same. model.no_memory ((room_made ready between room).up ∙ sym ready.up)) is
       (remembers_still pair walk.journal.status tried between

@@ -1,7 +1,7 @@
 -- A session that has made its plan, or goes on in it, after an answer.
 use Rattle.std.proofs.Common.{◌≡◌, ℕ, false, ◌||◌, List, [], ◌∷◌, ◌++◌, Option, Some, None, refl}
 use Rattle.std.proofs.Common.{sym, ap, ◌∙◌, subst, ◌≤◌, arith, length, map}
-use Rattle.std.specs.Prelude.{Contains}
+use Rattle.std.specs.Prelude.{Contains, MatchResult, Result, Ok, Err}
 use Rattle.std.proofs.lemmas.List.{length-map}
 use Rattle.std.proofs.lemmas.List.Elements.{Contains-push}
 use Rattle.std.proofs.lemmas.Option.{none-some}
@@ -11,8 +11,6 @@ use Rattle.syn_headline.specs.Coordinator.{Outstanding, is_not_dir, is_unstable,
 use Rattle.syn_headline.specs.Network.{Left, Right, Which, other}
 use Rattle.syn_headline.specs.Side.{Begin, Fetch, Listed, ListAt, NotDir, Replace, Request, Stage}
 use Rattle.syn_headline.specs.Side as said
-use Rattle.syn_message.specs.declared.request.Request.{Request as Asked}
-use Rattle.syn_path.specs.declared.side.Side.{Side}
 use Rattle.syn_model.specs.Plan as planning
 use Rattle.syn_propagate.specs.Transfers.{IsForItem, WaitsFor, WaitsForItem, carriage_of}
 use Rattle.syn_propagate.specs.declared.carriage.Carriage.{Carriage}
@@ -31,10 +29,10 @@ use Rattle.syn_coordinator.specs.declared.ended.Ended.TheVariants.{Early}
 use Rattle.syn_session.specs.declared.session.Session.{Session}
 use Rattle.syn_session.specs.Answering.{IsAnswering, IsHeard, exchange_of}
 use Rattle.syn_coordinator.specs.inner.Taking.{TakesEnd, TakesOn, TakesSo}
-use Rattle.syn_session.specs.declared.session.Asks.TheVariants.{One}
+use Rattle.syn_session.specs.declared.session.Asks.{Asks}
 use Rattle.syn_coordinator.specs.inner.Carrying.{CarriesOn, EndsCarrying}
 use Rattle.syn_coordinator.specs.inner.Carrying as carrying
-use Rattle.syn_session.specs.Hearing.{HasHeard, IsScanned, behind}
+use Rattle.syn_session.specs.Hearing.{HasHeard, IsScanned, afterwards}
 use Rattle.syn_session.specs.Plans.{Plan}
 use Rattle.syn_session.specs.Sessions.{IsLine, IsSession, IsStage, Tells}
 use Rattle.syn_coordinator.specs.inner.Settling.{AsksSo, EndsSo, IsQuiet}
@@ -99,7 +97,7 @@ module _ {D : Type 0} {disk : Ghosts D} (old : Coordinator D disk) (pair : ℕ) 
   no_plan quiet =
       hears_end old.archive pair journal running taken session is_machine old.tried
       (tries_none pair old.tried journal quiet.0 quiet.1) (written old) nothing refusal.Memory
-      (behind fault refl (tells_heard session (hearing running taken) heard))
+      (afterwards fault refl (tells_heard session (hearing running taken) heard))
 
   module _ (made : Course) (left right : Found) (same_left : left ≡ found_on session Left)
       (same_right : right ≡ found_on session Right)
@@ -135,27 +133,26 @@ module _ {D : Type 0} {disk : Ghosts D} (old : Coordinator D disk) (pair : ℕ) 
         abbrev later : Session
         later = record session { course = Some course }
 
-        pub begins_asking : (side : Side) (request : Asked) →
+        begins_asking : (asks : Asks) →
             AsksSo old new pair taken journal first course left right (running.taken ++ taken ∷ [])
-            (side, request) → TakesOn new.archive pair journal running taken later (written new)
-            (One side request)
-        begins_asking side request so =
-            subst (λ k. TakesOn new.archive pair journal running taken later k
-            (One side request)) (sym (so.1 ∙ ap (λ l. l ++ so.0) nothing))
+            asks → TakesOn new.archive pair journal running taken later (written new) asks
+        begins_asking asks so =
+            subst (λ k. TakesOn new.archive pair journal running taken later k asks)
+            (sym (so.1 ∙ ap (λ l. l ++ so.0) nothing))
             (asks_course new.archive pair journal running taken later course refl
             (heard_with session (Some course) (hearing running taken) heard.heard_is)
             heard.unstable (silent_with session (Some course) scanned.silent) fault first
             (sym (ap (λ (r : Reached). r.cursor) heard.reached))
             (sym (ap (λ (r : Reached). r.refused) heard.reached))
-            (sym (ap (λ (r : Reached). r.kept) heard.reached)) _ made_it so.0 (side, request)
+            (sym (ap (λ (r : Reached). r.kept) heard.reached)) _ made_it so.0 asks
             (subst (λ r. ComesToAsk new.archive pair taken journal first so.0 course
-            (found_on session Left) r (running.taken ++ taken ∷ []) (side, request)) same_right
+            (found_on session Left) r (running.taken ++ taken ∷ []) asks) same_right
             (subst (λ l. ComesToAsk new.archive pair taken journal first so.0 course l right
-            (running.taken ++ taken ∷ []) (side, request)) same_left so.2))
+            (running.taken ++ taken ∷ []) asks) same_left so.2))
             (λ last. absurd (scans_further running.taken taken.side taken.request
             (heard.of_scan taken (Contains-push running.taken taken)) taken.reply fault last)))
 
-        pub begins_ending : (ended : Ended) →
+        begins_ending : (ended : Ended) →
             EndsSo old new pair taken journal first course left right ended →
             TakesEnd new.archive new.tried pair journal running taken later (written new) ended
         begins_ending ended so =
@@ -171,6 +168,14 @@ module _ {D : Type 0} {disk : Ghosts D} (old : Coordinator D disk) (pair : ℕ) 
             (found_on session Left) r ended) same_right
             (subst (λ l. Ends new.archive new.tried pair taken journal first so.0 course l right
             ended) same_left so.2)))
+
+        pub begins_so : (result : Result Asks Ended) → MatchResult result
+            (AsksSo old new pair taken journal first course left right
+            (running.taken ++ taken ∷ []))
+            (EndsSo old new pair taken journal first course left right) →
+            TakesSo new.archive new.tried pair journal running taken later (written new) result
+        begins_so (Ok asks) so = (begins_asking asks so, so.3)
+        begins_so (Err ended) so = begins_ending ended so
 
 -- ---- it goes on in its plan
 
@@ -306,28 +311,28 @@ module _ (pair : ℕ) (journal : Journal) (before session : Session) (running : 
         told = (left, right, course_is);
       }
 
-      pub carries_asking : (asker : Side) (asks : Asked) → CarriesOn old new pair taken journal
-          (reached_by running) later left right running.taken (asker, asks) →
-          TakesOn new.archive pair journal running taken next (written new) (One asker asks)
-      carries_asking asker asks so =
-          subst (λ k. TakesOn new.archive pair journal running taken next k (One asker asks))
+      carries_asking : (asks : Asks) → CarriesOn old new pair taken journal
+          (reached_by running) later left right running.taken asks →
+          TakesOn new.archive pair journal running taken next (written new) asks
+      carries_asking asks so =
+          subst (λ k. TakesOn new.archive pair journal running taken next k asks)
           (sym (so.asks_so.1 ∙ ap (λ l. l ++ so.asks_so.0) nothing))
           (asks_course new.archive pair journal running taken next later refl heard
           (unstable so.fault) (silent_with session (Some later) silent_now) so.fault
-          (reached_by running) refl refl refl [] stays so.asks_so.0 (asker, asks)
+          (reached_by running) refl refl refl [] stays so.asks_so.0 asks
           (subst (λ r. ComesToAsk new.archive pair taken journal (reached_by running) so.asks_so.0
-          later (found_on session Left) r (running.taken ++ taken ∷ []) (asker, asks)) same_right
+          later (found_on session Left) r (running.taken ++ taken ∷ []) asks) same_right
           (subst (λ l. ComesToAsk new.archive pair taken journal (reached_by running) so.asks_so.0
-          later l right (running.taken ++ taken ∷ []) (asker, asks)) same_left so.asks_so.2))
+          later l right (running.taken ++ taken ∷ []) asks) same_left so.asks_so.2))
           so.last)
 
-      pub carries_ending : (ended : Ended) → EndsCarrying old new pair taken journal
+      carries_ending : (ended : Ended) → EndsCarrying old new pair taken journal
           (reached_by running) later left right running.taken ended →
           TakesEnd new.archive new.tried pair journal running taken next (written new) ended
       carries_ending ended (carrying.at_once why fault same is_machine quiet course_is) =
           taking.at_once why fault (tells_before course_is) is_machine (same ∙ nothing)
           (tries_none pair new.tried journal quiet.0 quiet.1)
-      carries_ending ended (carrying.behind how fault so) =
+      carries_ending ended (carrying.afterwards how fault so) =
           subst (λ k. TakesEnd new.archive new.tried pair journal running taken next k ended)
           (sym (so.1 ∙ ap (λ l. l ++ so.0) nothing))
           (ends_course new.archive pair journal running taken next later refl heard (unstable fault)
@@ -337,3 +342,11 @@ module _ (pair : ℕ) (journal : Journal) (before session : Session) (running : 
           (found_on session Left) r ended) same_right
           (subst (λ l. Ends new.archive new.tried pair taken journal
           (reached_by running) so.0 later l right ended) same_left so.2)))
+
+      pub carries_so : (result : Result Asks Ended) → MatchResult result
+          (CarriesOn old new pair taken journal (reached_by running) later left right running.taken)
+          (EndsCarrying old new pair taken journal (reached_by running) later left right
+          running.taken) →
+          TakesSo new.archive new.tried pair journal running taken next (written new) result
+      carries_so (Ok asks) so = (carries_asking asks so, so.asks_so.3)
+      carries_so (Err ended) so = carries_ending ended so

@@ -1,21 +1,17 @@
 -- What breaks off in a call that goes through a plan.
 use Rattle.std.proofs.Common.{◌≡◌, ◌⊎◌, ◌∙◌, None, Ok, Err, inl, inr, ap, refl, subst, sym}
-use Rattle.std.specs.Prelude.{Result, Option, is_some, option_map, true, ◌<◌}
+use Rattle.std.specs.Prelude.{Result, is_some, option_map, true, ◌<◌}
 use Rattle.syn_archive.specs.Archive.{disk_of}
 use Rattle.syn_coordinator.specs.Coordinators.{Breaks, BreaksNothing, BreaksOff, broken}
 use Rattle.syn_coordinator.specs.Coordinators.{broken_by, device_of, tried_shown}
 use Rattle.syn_coordinator.specs.declared.coordinator.Broken.TheVariants.{Nothing}
 use Rattle.syn_coordinator.specs.declared.coordinator.Coordinator.{Coordinator}
-use Rattle.syn_coordinator.specs.declared.ended.Ended.{Ended}
 use Rattle.syn_coordinator.specs.inner.Advancing.{BreaksBy}
-use Rattle.syn_coordinator.specs.inner.Settling.{nothing_asked}
 use Rattle.syn_disk.specs.Arms.{is_stopped}
 use Rattle.syn_disk.specs.declared.disk.Disk.{Ghosts}
 use Rattle.syn_keep.specs.Tries.{record_of}
 use Rattle.syn_keep.specs.declared.due.Due.{Due}
 use Rattle.syn_keep.specs.declared.due.Due.TheVariants.{Ends}
-use Rattle.syn_message.specs.declared.request.Request.{Request}
-use Rattle.syn_path.specs.declared.side.Side.{Side}
 use Rattle.syn_refusal.specs.declared.refusal.Refusal.TheVariants as refusal
 
 module _ {D : Type 0} {disk : Ghosts D} where
@@ -106,11 +102,6 @@ module _ {D : Type 0} {disk : Ghosts D} where
         Breaks old new result
     nothing_breaks (Ok went) nothing = nothing
     nothing_breaks (Err ended) nothing = inl nothing
-
-    pub asks_nothing : (went : Result Unit Ended) (result : Result (Option (Side × Request)) Ended)
-        → result ≡ nothing_asked went → Breaks old new went → Breaks old new result
-    asks_nothing (Ok went) result is breaks = subst (Breaks old new) (sym is) breaks
-    asks_nothing (Err ended) result is breaks = subst (Breaks old new) (sym is) breaks
 
     -- and of a record that is due
     pub due_breaks : (due : Due) → BreaksBy old new due → BreaksNothing old new ⊎ BreaksOff old new

@@ -36,10 +36,11 @@ use Rattle.syn_session.specs.declared.session.Session.{Session}
 use Rattle.syn_keep.specs.declared.tried.Tried.{Tried}
 use Rattle.syn_session.specs.Answering.{IsHeard, asks_of}
 use Rattle.syn_coordinator.specs.inner.Taking.{TakesEnd, TakesOn, Walks, reaching}
-use Rattle.syn_session.specs.declared.session.Asks.TheVariants.{One}
+use Rattle.syn_session.specs.declared.session.Asks.{Asks}
+use Rattle.syn_session.specs.declared.session.Asks.TheVariants.{Listings, One}
 use Rattle.syn_session.specs.Hearing.{IsAsking, IsFresh}
 use Rattle.syn_session.specs.Sessions.{IsLine, IsStage, Tells, TellsOf}
-use Rattle.syn_image.specs.Archives.{kept_of}
+use Rattle.syn_image.specs.Archives.{kept_for}
 use Rattle.syn_session.specs.Stages.{Carries, IsCarriageOf, IsCourse, Reached, found_on}
 use Rattle.syn_session.specs.Stages.{line_of, plan_in, reached_by, requests_on, waiting_of}
 use Rattle.syn_coordinator.specs.inner.Taking as taking
@@ -226,9 +227,9 @@ module _ {D : Type 0} {disk : Ghosts D} (new : Archive D disk) (pair : ℕ) (jou
       (record { plan = refl; kept_is = refl }) goes) stopped down leaves tries
 
   -- it asks a side for what comes next
-  module _ (kept : List Kept) (asks : Side × Asked)
+  module _ (kept : List Kept) (asker : Side) (wants : Asked)
       (comes : ComesToAsk new pair taken journal before kept course (found_on session Left)
-      (found_on session Right) (running.taken ++ taken ∷ []) asks) where
+      (found_on session Right) (running.taken ++ taken ∷ []) (One asker wants)) where
     abbrev now_at : Running
     now_at = reaching running taken comes.after
 
@@ -236,28 +237,28 @@ module _ {D : Type 0} {disk : Ghosts D} (new : Archive D disk) (pair : ℕ) (jou
     c = carriage_of comes.carries.carried.transfer
 
     asked : TransferAsks comes.carries.carried.transfer (running.taken ++ taken ∷ [])
-        (which_of asks.0) (request_of asks.1)
+        (which_of asker) (request_of wants)
     asked = comes.carries.is
 
     -- only that is asked
     only_that : (side : Which) (request : Request) →
-        Contains (asks_of (One asks.0 asks.1) side) request →
-        (side ≡ which_of asks.0) × (request ≡ request_of asks.1)
-    only_that side request contains = by asks.0 side contains
+        Contains (asks_of (One asker wants) side) request →
+        (side ≡ which_of asker) × (request ≡ request_of wants)
+    only_that side request contains = by asker side contains
       where
-        one : Contains (request_of asks.1 ∷ []) request → request ≡ request_of asks.1
+        one : Contains (request_of wants ∷ []) request → request ≡ request_of wants
         one contains_it =
-            elim (Contains-push_cases [] _ _ contains_it) as (λ _. request ≡ request_of asks.1)
+            elim (Contains-push_cases [] _ _ contains_it) as (λ _. request ≡ request_of wants)
             [ inl never ↦ absurd (no_such _ never) | inr same ↦ sym same ]
 
-        by : (to : Side) (on : Which) → Contains (asks_of (One to asks.1) on) request →
-            (on ≡ which_of to) × (request ≡ request_of asks.1)
+        by : (to : Side) (on : Which) → Contains (asks_of (One to wants) on) request →
+            (on ≡ which_of to) × (request ≡ request_of wants)
         by side_is.Left Left contains_it = (refl, one contains_it)
         by side_is.Left Right contains_it = absurd (no_such _ contains_it)
         by side_is.Right Left contains_it = absurd (no_such _ contains_it)
         by side_is.Right Right contains_it = (refl, one contains_it)
 
-    fresh_so : (side : Which) → IsFresh now_at side (request_of asks.1)
+    fresh_so : (side : Which) → IsFresh now_at side (request_of wants)
     fresh_so side n was (inl (reply, contains_it)) repeat = asked.new _ contains_it repeat
     fresh_so Left n was (inr (k, contains_it)) repeat =
         no_such _
@@ -268,61 +269,61 @@ module _ {D : Type 0} {disk : Ghosts D} (new : Archive D disk) (pair : ℕ) (jou
         (subst (λ l. let waits : Outstanding = record { number = n; request = was; resent = k } in
         Contains l waits) ((heard.line Right).waits ∙ silent Right) contains_it)
 
-    asks_own : (to : Side) → asks_of (One to asks.1) (which_of to) ≡ request_of asks.1 ∷ []
+    asks_own : (to : Side) → asks_of (One to wants) (which_of to) ≡ request_of wants ∷ []
     asks_own side_is.Left = refl
     asks_own side_is.Right = refl
 
-    asks_across : (to : Side) → asks_of (One to asks.1) (other (which_of to)) ≡ []
+    asks_across : (to : Side) → asks_of (One to wants) (other (which_of to)) ≡ []
     asks_across side_is.Left = refl
     asks_across side_is.Right = refl
 
-    now_asks : (side : Which) (later : Session) → IsAsking session later (One asks.0 asks.1) →
-        requests_on (line_of later side) ≡ asks_of (One asks.0 asks.1) side
+    now_asks : (side : Which) (later : Session) → IsAsking session later (One asker wants) →
+        requests_on (line_of later side) ≡ asks_of (One asker wants) side
     now_asks side later asking =
         ap (map (λ (one : Outstanding). one.request)) ((asking.line side).waits
         ∙ ap (λ w. w ++ numbered (line_of session side).asked
-        (asks_of (One asks.0 asks.1) side)) (silent side))
-        ∙ numbered_requests (line_of session side).asked (asks_of (One asks.0 asks.1) side)
+        (asks_of (One asker wants) side)) (silent side))
+        ∙ numbered_requests (line_of session side).asked (asks_of (One asker wants) side)
 
-    few_asked : (to : Side) (on : Which) → length (asks_of (One to asks.1) on) ≤ 1
+    few_asked : (to : Side) (on : Which) → length (asks_of (One to wants) on) ≤ 1
     few_asked side_is.Left Left = omega arith
     few_asked side_is.Left Right = omega arith
     few_asked side_is.Right Left = omega arith
     few_asked side_is.Right Right = omega arith
 
     may_wait_so : (side : Which) → MayWait (waiting_of (line_of session side)
-        ++ numbered (line_of session side).asked (asks_of (One asks.0 asks.1) side))
+        ++ numbered (line_of session side).asked (asks_of (One asker wants) side))
     may_wait_so side =
-        let few = few_asked asks.0 side in
+        let few = few_asked asker side in
         let none = ap length (silent side) in
         let long = length-append (waiting_of (line_of session side))
-        (numbered (line_of session side).asked (asks_of (One asks.0 asks.1) side)) in
+        (numbered (line_of session side).asked (asks_of (One asker wants) side)) in
         let same = numbered-length (line_of session side).asked
-        (asks_of (One asks.0 asks.1) side) in
+        (asks_of (One asker wants) side) in
         inl (omega (arith, few, none, long, same))
 
     apart_so : (side : Which) →
-        AllPairs (λ one another. ¬ IsRepeat one another) (asks_of (One asks.0 asks.1) side)
+        AllPairs (λ one another. ¬ IsRepeat one another) (asks_of (One asker wants) side)
     apart_so side i j d before less =
-        let few = few_asked asks.0 side in
+        let few = few_asked asker side in
         absurd (omega (arith, before, less, few))
 
     some_so : (side : Which) × (1 ≤ length (waiting_of (line_of session side))
-        + length (asks_of (One asks.0 asks.1) side))
-    some_so = (which_of asks.0, let one = ap length (asks_own asks.0) in omega (arith, one))
+        + length (asks_of (One asker wants) side))
+    some_so = (which_of asker, let one = ap length (asks_own asker) in omega (arith, one))
 
-    carries_later : (later : Session) → IsAsking session later (One asks.0 asks.1) →
+    carries_later : (later : Session) → IsAsking session later (One asker wants) →
         Carries comes.journal.value course (found_on later Left) (found_on later Right)
         (running.taken ++ taken ∷ []) comes.after (λ transfer. TransferWaitsFor transfer
-        (running.taken ++ taken ∷ []) (which_of asks.0) (request_of asks.1))
+        (running.taken ++ taken ∷ []) (which_of asker) (request_of wants))
     carries_later later asking =
         subst (λ r. Carries comes.journal.value course (found_on later Left) (found_of r)
         (running.taken ++ taken ∷ []) comes.after (λ transfer. TransferWaitsFor transfer
-        (running.taken ++ taken ∷ []) (which_of asks.0) (request_of asks.1)))
+        (running.taken ++ taken ∷ []) (which_of asker) (request_of wants)))
         (sym (asking.line Right).scan)
         (subst (λ l. Carries comes.journal.value course (found_of l) (found_on session Right)
         (running.taken ++ taken ∷ []) comes.after (λ transfer. TransferWaitsFor transfer
-        (running.taken ++ taken ∷ []) (which_of asks.0) (request_of asks.1)))
+        (running.taken ++ taken ∷ []) (which_of asker) (request_of wants)))
         (sym (asking.line Left).scan) (record {
           course_is = comes.carries.course_is;
           carried = comes.carries.carried;
@@ -334,9 +335,9 @@ module _ {D : Type 0} {disk : Ghosts D} (new : Archive D disk) (pair : ℕ) (jou
           is = asked.waits;
         }))
 
-    pub asks_course : (is_last taken.reply ≡ true → comes.after.cursor ≢ running.cursor) →
-        TakesOn new pair journal running taken session kept (One asks.0 asks.1)
-    asks_course last = record {
+    asks_one : (is_last taken.reply ≡ true → comes.after.cursor ≢ running.cursor) →
+        TakesOn new pair journal running taken session kept (One asker wants)
+    asks_one last = record {
       now = comes.journal;
       after = comes.after;
       walks =
@@ -361,23 +362,32 @@ module _ {D : Type 0} {disk : Ghosts D} (new : Archive D disk) (pair : ℕ) (jou
             let that = only_that side request contains in
             let course_is = comes.carries.course_is in
             subst (λ r. MayAsk comes.journal.value now_at side r × IsLawfulBody r) (sym that.1) (
-              subst (λ w. MayAsk comes.journal.value now_at w (request_of asks.1)) (sym that.0)
+              subst (λ w. MayAsk comes.journal.value now_at w (request_of wants)) (sym that.0)
                   (may_ask comes.journal.value now_at (plan_in course (found_on session Left)
                   (found_on session Right)) comes.carries.planned c
-                  (kept_of comes.carries.carried.kept) course_is.plan course.cursor course_is.cursor
+                  (kept_for comes.carries.carried.kept) course_is.plan course.cursor
+                  course_is.cursor
                   comes.carries.at comes.carries.carries.carriage comes.carries.carries.record_is
-                  comes.carries.carries.can (which_of asks.0) (request_of asks.1) asked.may),
+                  comes.carries.carries.can (which_of asker) (request_of wants) asked.may),
               asked.lawful,
             );
         some = some_so;
         stage =
             λ later asking. subst (λ o. IsStage comes.journal.value later o
             (running.taken ++ taken ∷ []) comes.after) (sym (asking.course ∙ is_course)) (record {
-              to = which_of asks.0;
-              request = request_of asks.1;
-              waits = now_asks (which_of asks.0) later asking ∙ asks_own asks.0;
-              alone = now_asks (other (which_of asks.0)) later asking ∙ asks_across asks.0;
+              to = which_of asker;
+              request = request_of wants;
+              waits = now_asks (which_of asker) later asking ∙ asks_own asker;
+              alone = now_asks (other (which_of asker)) later asking ∙ asks_across asker;
               carries = carries_later later asking;
             });
       };
     }
+
+  pub asks_course : (kept : List Kept) (asks : Asks) (comes : ComesToAsk new pair taken journal
+      before kept course (found_on session Left) (found_on session Right)
+      (running.taken ++ taken ∷ []) asks) →
+      (is_last taken.reply ≡ true → comes.after.cursor ≢ running.cursor) →
+      TakesOn new pair journal running taken session kept asks
+  asks_course kept (Listings left right) comes = absurd comes.carries.is
+  asks_course kept (One side request) comes = asks_one kept side request comes

@@ -67,8 +67,8 @@ module _ {D : Type 0} {disk : Ghosts D} (old new : Coordinator D disk) where
 pub fails_or_stops : {D : Type 0} {disk : Ghosts D} (first old new last : Coordinator D disk) →
     old.archive ≡ first.archive → last.archive ≡ new.archive → FailsOrStops old new →
     FailsOrStops first last
-fails_or_stops {D} {disk} first old new last before behind how =
+fails_or_stops {D} {disk} first old new last before later how =
     subst (λ a. (disk.failures (disk_of a) < disk.failures (device_of last))
     ⊎ (is_stopped (disk.arms (device_of last)) ≡ true)) before
     (subst (λ b. (disk.failures (device_of old) < disk.failures (disk_of b))
-    ⊎ (is_stopped (disk.arms (disk_of b)) ≡ true)) (sym behind) how)
+    ⊎ (is_stopped (disk.arms (disk_of b)) ≡ true)) (sym later) how)

@@ -17,17 +17,11 @@ use Rattle.syn_model.specs.Archive as model
 use Rattle.syn_model.specs.Archive.{CanKeep, Session, after_kept}
 use Rattle.syn_model.specs.Path.{Bytes}
 use Rattle.syn_model.specs.Refusal.{Device}
-use Rattle.syn_recovery.specs.Calls.{MadeCallsMeet, StopsBehind, BrokenCallsMeet}
+use Rattle.syn_recovery.specs.Calls.{MadeCallsMeet, StopsAfter, BrokenCallsMeet}
 use Rattle.syn_keep.specs.Machines.{Journal, Runs, IsMachine}
 use Rattle.syn_keep.specs.Steps.{KeepsSo}
 use Rattle.syn_keep.proofs.MachineLemmas.{kept_ok, kept_failed}
 use Rattle.syn_archive.proofs.StandLemmas.{can_begin}
-
--- where no device call failed, none is counted
-pub counts_none : (e : ArchiveError) (old new : ℕ) → e ≢ error.Device →
-    CountsFailures (Some (refusal_of e)) old new → new ≡ old
-counts_none error.Device old new other counts = absurd (other refl)
-counts_none _ old new other counts = counts
 
 module _ {D : Type 0} {disk : Ghosts D} (old new : Archive D disk) (pair : ℕ) (machine : Journal)
     (is : IsMachine old pair machine) (up : IsHalted old → ⊥) where
@@ -40,19 +34,19 @@ module _ {D : Type 0} {disk : Ghosts D} (old new : Archive D disk) (pair : ℕ) 
   last = ap (λ a. a.last_session) is.remembers
 
   pub number_kept : MadeCallsMeet →
-      StopsBehind → Writes old new (Some (Session (session_shown old + 1))) None →
+      StopsAfter → Writes old new (Some (Session (session_shown old + 1))) None →
       (session : ℕ) → ((kept : model.Archive) → ArchiveStands old kept →
       (session ≡ kept.last_session + 1) × ArchiveStands new (after_kept kept (Session session))) →
       ((kept : model.Archive) → ArchiveStands new kept → (bytes : Bytes) →
       disk.may_leave (disk_of new) bytes →
       DiskKeeps (pair_of new) kept (left_shown new) (generation_shown new) bytes) → KeepsSo new pair
       machine (Session (session_shown old + 1)) (Session (session_shown old + 1) ∷ []) Up
-  number_kept made behind ended session acknowledged on_disk =
+  number_kept made after ended session acknowledged on_disk =
       let now = acknowledged machine.value running.stands in
       let stands = subst (λ n. ArchiveStands new (after_kept machine.value (Session n)))
       (now.0 ∙ ap (λ n. n + 1) (sym last)) now.1 in
       kept_ok old new pair machine (Session (session_shown old + 1)) is running refl stands ended
-      (on_disk _ stands) made behind
+      (on_disk _ stands) made after
 
   pub number_failed : BrokenCallsMeet → session_shown old + 1 < 2 ^ 64 →
       Writes old new (Some (Session (session_shown old + 1))) (Some Device) →

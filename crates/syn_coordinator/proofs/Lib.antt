@@ -1,4 +1,3 @@
-pub mod ErrorLemmas
 pub mod TriedLemmas
 pub mod ArmLemmas
 pub mod OpeningLemmas

@@ -5,21 +5,18 @@ use Rattle.std.specs.Prelude.{MatchResult, Result, Ok, Err}
 use Rattle.std.proofs.lemmas.Bool.{false≢true}
 use Rattle.std.specs.List.{slice_get}
 use Rattle.syn_disk.specs.declared.disk.Disk.{Ghosts}
-use Rattle.syn_headline.specs.Coordinator.{Exchange, IsDue, IsFor, fault_of}
-use Rattle.syn_headline.specs.Coordinator as is_due_by
+use Rattle.syn_headline.specs.Coordinator.{Exchange, IsFor, fault_of}
 use Rattle.syn_headline.specs.Planning.{Planned}
 use Rattle.syn_headline.specs.Side as model
-use Rattle.syn_message.specs.declared.request.Request.{Request as Asked}
-use Rattle.syn_path.specs.declared.side.Side.{Side}
-use Rattle.syn_model.specs.Archive.{Kept, Session, IsOfItem}
 use Rattle.syn_model.specs.Refusal.{Refusal as Why}
 use Rattle.syn_scan.specs.Found.{Found}
 use Rattle.syn_keep.specs.Machines.{IsMachine, Journal}
 use Rattle.syn_session.specs.declared.answering.Carrying.TheVariants as carrying
 use Rattle.syn_coordinator.specs.declared.coordinator.Coordinator.{Coordinator}
 use Rattle.syn_session.specs.declared.course.Course.{Course}
+use Rattle.syn_session.specs.declared.session.Asks.{Asks}
 use Rattle.syn_session.specs.Passing.{refused_at}
-use Rattle.syn_coordinator.specs.inner.Carrying.{AsksLater, CarriesOn, EndsCarrying, behind}
+use Rattle.syn_coordinator.specs.inner.Carrying.{AsksLater, CarriesOn, EndsCarrying, afterwards}
 use Rattle.syn_session.specs.Carrying.{IsCarriedOut, TakesAnswer}
 use Rattle.syn_coordinator.specs.inner.Settling.{AsksSo, EndsSo, HasCome, IsPast, IsQuiet}
 use Rattle.syn_session.specs.Stages.{AreAskedBefore, Reached, plan_in}
@@ -63,7 +60,7 @@ module _ {D : Type 0} {disk : Ghosts D} (pair : ℕ) (taken : Exchange) (journal
   at_next = at_turn pair taken journal before left right all old middle course come
 
   module _ (new : Coordinator D disk) (later : Course) where
-    pub asks_later : (asks : Side × Asked) →
+    pub asks_later : (asks : Asks) →
         AsksSo middle new pair taken past.3.journal past.3.after later left right all asks →
         AsksLater old new pair taken journal before later left right all asks
     unfolding come
@@ -89,7 +86,7 @@ module _ {D : Type 0} {disk : Ghosts D} (pair : ℕ) (taken : Exchange) (journal
     ends_later how so =
         turn_ends pair taken journal before left right all old middle course come new later how so
 
-    pub later_so : (result : Result (Side × Asked) Ended) → MatchResult result
+    pub later_so : (result : Result Asks Ended) → MatchResult result
         (AsksSo middle new pair taken past.3.journal past.3.after later left right all)
         (EndsSo middle new pair taken past.3.journal past.3.after later left right) →
         MatchResult result (AsksLater old new pair taken journal before later left right all)
@@ -113,22 +110,21 @@ module _ {D : Type 0} {disk : Ghosts D} (pair : ℕ) (taken : Exchange) (journal
     (before : Reached) (left right : Found) (all : List Exchange) where
   -- it asks for the same item again
   pub carries_further : (coordinator : Coordinator D disk) (course : Course) →
-      IsMachine coordinator.archive pair journal → IsQuiet coordinator journal → (side : Side)
-      (request : Asked) → TakesAnswer journal.value left right all before taken course
-      (Ok (carrying.Asks side request)) → CarriesOn coordinator coordinator pair taken journal
-      before course left right all (side, request)
-  carries_further coordinator course is quiet side request took = record {
+      IsMachine coordinator.archive pair journal → IsQuiet coordinator journal → (asks : Asks) →
+      TakesAnswer journal.value left right all before taken course (Ok (carrying.Asks asks)) →
+      CarriesOn coordinator coordinator pair taken journal before course left right all asks
+  carries_further coordinator course is quiet asks took = record {
     fault = took.0;
     asks_so =
         asks_here pair taken journal before left right coordinator is quiet course
-        (all ++ taken ∷ []) (side, request) took.1.1;
+        (all ++ taken ∷ []) asks took.1.1;
     last = λ last. absurd (false≢true (sym took.1.0 ∙ last));
   }
 
   -- it is past the item
   pub goes_later : (old new : Coordinator D disk) (course : Course) →
       fault_of all taken.side taken.request taken.reply ≡ None →
-      (result : Result (Side × Asked) Ended) → MatchResult result
+      (result : Result Asks Ended) → MatchResult result
       (AsksLater old new pair taken journal before course left right (all ++ taken ∷ []))
       (EndsSo old new pair taken journal before course left right) →
       MatchResult result (CarriesOn old new pair taken journal before course left right all)
@@ -138,18 +134,4 @@ module _ {D : Type 0} {disk : Ghosts D} (pair : ℕ) (taken : Exchange) (journal
     asks_so = so.asks_so;
     last = λ last same. omega (arith, so.later, same);
   }
-  goes_later old new course fault (Err how) so = behind how fault so
-
--- the number of a session is due for no item
-pub no_session_due : (item : ℕ) (planned : Planned) (taken : Exchange) (what : Kept) (session : ℕ) →
-    IsDue item planned taken what → what ≡ Session session → ⊥
-no_session_due item planned taken what session is equal =
-    of_item (subst IsOfItem equal (by what is))
-  where
-    of_item : IsOfItem (Session session) → ⊥
-    of_item never = never
-
-    by : (due : Kept) → IsDue item planned taken due → IsOfItem due
-    by _ (is_due_by.done path since size said asked writes) = tt
-    by _ (is_due_by.same path is_item marks) = tt
-    by _ (is_due_by.directory path is_item) = tt
+  goes_later old new course fault (Err how) so = afterwards how fault so

@@ -10,7 +10,7 @@ use Rattle.syn_archive.specs.Disks.{kept_size}
 use Rattle.syn_archive.specs.declared.archive.Archive.{Archive}
 use Rattle.syn_disk.specs.declared.disk.Disk.{Ghosts}
 use Rattle.syn_headline.specs.Coordinator.{archive_layout}
-use Rattle.syn_headline.specs.Machine.{IsAsLeft, Opens, opened, recovered, room_behind}
+use Rattle.syn_headline.specs.Machine.{IsAsLeft, Opens, opened, recovered, room_after}
 use Rattle.syn_model.specs.Archive.{CanKeep, Kept, Recorded, RecordedDir, Session}
 use Rattle.std.specs.Int.{to_be_bytes, w64}
 use Rattle.syn_model.specs.MarkSpelling.{mark_spelling}
@@ -70,7 +70,7 @@ no_less room generation image left before now after (inr was) (inr is) =
 either : (pair : ℕ) (machine : Journal) (room generation : ℕ) →
     IsAsLeft (archive_layout pair) machine room generation →
     ((room ≡ machine.room) × (generation ≡ machine.generation))
-    ⊎ ((room ≡ room_behind ((archive_layout pair).image machine.value))
+    ⊎ ((room ≡ room_after ((archive_layout pair).image machine.value))
     × (generation ≡ suc machine.generation))
 either pair machine room generation (inl same) = inl same
 either pair machine room generation (inr made) = inr (made.1, made.2)
@@ -94,7 +94,7 @@ module _ {D : Type 0} {disk : Ghosts D} (archive : Archive D disk) (pair : ℕ)
           ap₂ (λ g n. (g == tried.generation) && nat_lt n tried.room) numbered
           (room_left archive ∙ ap (λ n. n - 5) shown)
           ∙ (ap (λ n. (generation == tried.generation) && nat_lt (room - 5) n) tries.room_is
-          ∙ no_less machine.room machine.generation (room_behind
+          ∙ no_less machine.room machine.generation (room_after
           ((archive_layout pair).image machine.value)) tries.left tried.generation room generation
           (either pair machine tries.left tried.generation tries.as_left)
           (either pair machine room generation left))

@@ -11,12 +11,8 @@ use Rattle.syn_disk.specs.declared.disk.Disk.{Ghosts}
 use Rattle.syn_headline.specs.Coordinator.{Exchange, settled, stands}
 use Rattle.syn_headline.specs.Planning.{Planned}
 use Rattle.syn_headline.specs.Session.{record_for}
-use Rattle.syn_message.specs.declared.request.Request.{Request as Asked}
-use Rattle.syn_path.specs.declared.side.Side.{Side}
-use Rattle.syn_message.specs.Requests.{request_of}
-use Rattle.syn_path.specs.Sides.{which_of}
 use Rattle.syn_model.specs.Archive.{kept_refusal, Kept}
-use Rattle.syn_propagate.specs.Transfers.{Asks, carriage_of}
+use Rattle.syn_propagate.specs.Transfers.{carriage_of}
 use Rattle.syn_refusal.specs.Refusals.{cause_of}
 use Rattle.syn_refusal.specs.declared.refusal.Refusal.{Refusal}
 use Rattle.syn_refusal.specs.declared.refusal.Refusal.TheVariants as refusal
@@ -25,13 +21,14 @@ use Rattle.syn_coordinator.specs.Coordinators.{written}
 use Rattle.syn_keep.specs.Machines.{IsMachine, Journal}
 use Rattle.syn_coordinator.specs.declared.coordinator.Coordinator.{Coordinator}
 use Rattle.syn_session.specs.declared.course.Carried.{Carried}
+use Rattle.syn_session.specs.Carrying.{AsksOne}
 use Rattle.syn_session.specs.declared.course.Course.{Course}
+use Rattle.syn_session.specs.declared.session.Asks.{Asks}
 use Rattle.syn_coordinator.specs.declared.ended.Ended.{Ended}
 use Rattle.syn_coordinator.specs.declared.ended.Ended.TheVariants.{Early, Settled}
 use Rattle.syn_session.specs.Passing.{refused_at}
 use Rattle.syn_session.specs.Plans.{Plan}
 use Rattle.syn_coordinator.specs.inner.Settling.{AsksSo, EndsSo, HasCome, IsPast, IsQuiet, PassesOn}
-use Rattle.syn_coordinator.specs.inner.Settling.{nothing_asked}
 use Rattle.syn_keep.specs.declared.tried.Tried.{Tried}
 use Rattle.syn_coordinator.proofs.AdvanceLemmas.{remembers_still}
 use Rattle.syn_coordinator.proofs.TriedLemmas.{tries_none}
@@ -40,25 +37,16 @@ use Rattle.syn_session.specs.Stages.{plan_in}
 use Rattle.syn_coordinator.specs.inner.Walking.{Ends, IsAtItem, Passes, ends, walk_at}
 use Rattle.syn_coordinator.proofs.FreshLemmas.{asked_past}
 use Rattle.syn_coordinator.proofs.SettleLemmas.{at_walk, ends_for_memory}
-use Rattle.syn_coordinator.proofs.WalkLemmas.{comes_behind, ends_behind, keeps_none, passes_more}
+use Rattle.syn_coordinator.proofs.WalkLemmas.{comes_after, ends_after, keeps_none, passes_more}
 use Rattle.syn_coordinator.proofs.WalkLemmas.{passes_none, passes_unfit}
-use Rattle.syn_image.specs.Archives.{kept_of}
+use Rattle.syn_image.specs.Archives.{kept_for}
 use Rattle.syn_session.proofs.CarryingLemmas.{is_carried}
 
 -- ---- what is answered
 
-module _ {P G : Type 0} (A : Side × Asked → Type 0) (E : Ended → Type 0) (more : P → G) where
-  -- nothing is asked
-  pub past_so : {W : Type 0} (went : Result W Ended)
-      (result : Result (Option (Side × Asked)) Ended) → result ≡ nothing_asked went →
-      MatchResult went (λ _. P) E → MatchResult result (λ next. MatchOption next G A) E
-  past_so (Ok w) result e so =
-      subst (λ r. MatchResult r (λ next. MatchOption next G A) E) (sym e) (more so)
-  past_so (Err ended) result e so =
-      subst (λ r. MatchResult r (λ next. MatchOption next G A) E) (sym e) so
-
-  -- or something may be
-  pub further_so : (result : Result (Option (Side × Asked)) Ended) →
+module _ {P G : Type 0} (A : Asks → Type 0) (E : Ended → Type 0) (more : P → G) where
+  -- something may be asked
+  pub further_so : (result : Result (Option Asks) Ended) →
       MatchResult result (λ next. MatchOption next P A) E →
       MatchResult result (λ next. MatchOption next G A) E
   further_so (Ok None) so = more so
@@ -77,15 +65,15 @@ module _ {D : Type 0} {disk : Ghosts D} (pair : ℕ) (taken : Exchange) (journal
       (course : Course) → IsCourse course left right before → (planned : Planned) →
       slice_get (plan_in course left right) course.cursor ≡ Some planned → (carried : Carried) →
       IsCarriageOf (carriage_of carried.transfer) planned course.cursor →
-      record_for planned planned.item ≡ Some (kept_of carried.kept) → (why : Refusal) →
-      Some (cause_of why) ≡ kept_refusal (shown archive) (kept_of carried.kept) →
+      record_for planned planned.item ≡ Some (kept_for carried.kept) → (why : Refusal) →
+      Some (cause_of why) ≡ kept_refusal (shown archive) (kept_for carried.kept) →
       Passes pair taken journal before journal (refused_at before (cause_of why) planned) []
   carried_unfit archive is course course_is planned at carried carriage record_is why refused =
       passes_unfit pair taken journal before planned
-      (at_walk before course left right course_is planned at) (kept_of carried.kept)
+      (at_walk before course left right course_is planned at) (kept_for carried.kept)
       (cause_of why) record_is
       (inl (is_carried planned (carriage_of carried.transfer) course.cursor carriage))
-      (ap (λ a. kept_refusal a (kept_of carried.kept)) (sym is.remembers) ∙ sym refused)
+      (ap (λ a. kept_refusal a (kept_for carried.kept)) (sym is.remembers) ∙ sym refused)
 
   -- no item is left
   pub ends_settled : (archive : Archive D disk) (tried : Option Tried) →
@@ -140,9 +128,9 @@ module _ {D : Type 0} {disk : Ghosts D} (pair : ℕ) (taken : Exchange) (journal
 
   -- it asks for the item that it has come to
   pub asks_here : (coordinator : Coordinator D disk) → IsMachine coordinator.archive pair journal →
-      IsQuiet coordinator journal → (course : Course) (all : List Exchange) (asks : Side × Asked) →
+      IsQuiet coordinator journal → (course : Course) (all : List Exchange) (asks : Asks) →
       Carries journal.value course left right all before
-      (λ transfer. Asks transfer all (which_of asks.0) (request_of asks.1)) →
+      (λ transfer. AsksOne transfer all asks) →
       AsksSo coordinator coordinator pair taken journal before course left right all asks
   asks_here coordinator is quiet course all asks carries = (
     [],
@@ -202,7 +190,7 @@ module _ {D : Type 0} {disk : Ghosts D} (pair : ℕ) (taken : Exchange) (journal
       come.1,
       subst (λ l. Ends middle.archive middle.tried pair taken journal before l course left right
           how) (append-nil come.0)
-          (ends_behind pair taken journal come.2.journal before come.2.after come.0 come.2.passes
+          (ends_after pair taken journal come.2.journal before come.2.after come.0 come.2.passes
           middle.archive [] course left right middle.tried how
           (subst (λ e. Ends middle.archive middle.tried pair taken come.2.journal come.2.after
           [] course left right e) (sym memory)
@@ -223,7 +211,7 @@ module _ {D : Type 0} {disk : Ghosts D} (pair : ℕ) (taken : Exchange) (journal
       turn_past past = (
         come.0 ++ past.0.0,
         both past.0.0 past.0.1,
-        comes_behind pair taken journal come.2.journal before come.2.after come.0 come.2.passes
+        comes_after pair taken journal come.2.journal before come.2.after come.0 come.2.passes
             last.archive past.0.0 later left right past.0.3,
         omega (arith, come.3, come.2.course_is.cursor, past.0.2),
         past.1,
@@ -231,7 +219,7 @@ module _ {D : Type 0} {disk : Ghosts D} (pair : ℕ) (taken : Exchange) (journal
       )
 
       -- it asks
-      pub turn_asks : (asks : Side × Asked) →
+      pub turn_asks : (asks : Asks) →
           AsksSo middle last pair taken come.2.journal come.2.after later left right all asks →
           AsksSo first last pair taken journal before later left right all asks
       turn_asks asks so = (
@@ -251,7 +239,7 @@ module _ {D : Type 0} {disk : Ghosts D} (pair : ℕ) (taken : Exchange) (journal
       )
 
       -- and stands where it then stands
-      pub turn_further : (asks : Side × Asked) (so :
+      pub turn_further : (asks : Asks) (so :
           AsksSo middle last pair taken come.2.journal come.2.after later left right all asks) →
           (turn_asks asks so).2.after.cursor ≡ so.2.after.cursor
       unfolding turn_asks
@@ -264,6 +252,6 @@ module _ {D : Type 0} {disk : Ghosts D} (pair : ℕ) (taken : Exchange) (journal
       turn_ends how so = (
         come.0 ++ so.0,
         both so.0 so.1,
-        ends_behind pair taken journal come.2.journal before come.2.after come.0 come.2.passes
+        ends_after pair taken journal come.2.journal before come.2.after come.0 come.2.passes
             last.archive so.0 later left right last.tried how so.2,
       )

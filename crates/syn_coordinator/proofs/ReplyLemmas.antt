@@ -7,7 +7,7 @@ use Rattle.syn_archive.specs.declared.archive.Archive.{Archive}
 use Rattle.syn_disk.specs.declared.disk.Disk.{Ghosts}
 use Rattle.syn_headline.specs.Coordinator.{AsksNext, CoordinatorMachine, CoordinatorTakes, EndsFor}
 use Rattle.syn_headline.specs.Coordinator.{Exchange, IsExpected, Running, Takes, asked_in, asked_of}
-use Rattle.syn_headline.specs.Coordinator.{asking, behind, ignores, is_unstable, report_of}
+use Rattle.syn_headline.specs.Coordinator.{asking, after_taking, ignores, is_unstable, report_of}
 use Rattle.syn_headline.specs.Coordinator.{sent_now, takes}
 use Rattle.syn_headline.specs.Coordinator as model
 use Rattle.syn_headline.specs.Network.{Left, Message, Right, Which}
@@ -55,7 +55,7 @@ module _ (pair : ℕ) (machine : CoordinatorMachine) (running : Running) (taken 
   come_to : (after : Reached) (kept : List Kept) (walk : model.Walk) →
       Walks pair machine.journal running taken after kept walk → walk.cursor ≡ after.cursor →
       walk.refused ≡ after.refused →
-      behind running taken after.plan walk kept ≡ reaching running taken after
+      after_taking running taken after.plan walk kept ≡ reaching running taken after
   come_to after kept walk walks cursor refused =
       ap₂ (λ c r. reaching running taken (record
       { plan = after.plan; cursor = c; kept = running.kept ++ kept; refused = r })) cursor refused
@@ -82,7 +82,7 @@ module _ (pair : ℕ) (machine : CoordinatorMachine) (running : Running) (taken 
     abbrev says : model.Running → model.Running
     says r = asking r (asks_of asks Left) (asks_of asks Right)
 
-    same : behind running taken on.after.plan (walk_at on.now on.after) kept ≡ heard
+    same : after_taking running taken on.after.plan (walk_at on.now on.after) kept ≡ heard
     same = come_to on.after kept (walk_at on.now on.after) on.walks refl refl
 
     is_session : IsSession on.now.value next (says heard)
@@ -120,8 +120,8 @@ module _ (pair : ℕ) (machine : CoordinatorMachine) (running : Running) (taken 
           journal = on.is;
           running =
               subst (λ s. IsRunning on.now.value s
-              (Some (says (behind running taken on.after.plan (walk_at on.now on.after) kept))))
-              (sym runs_it)
+              (Some (says (after_taking running taken on.after.plan (walk_at on.now on.after)
+              kept)))) (sym runs_it)
               (subst (λ r. IsSession on.now.value next (says r)) (sym same) is_session);
           quiet = λ _. on.quiet quiet;
           untried = λ _. untried;

@@ -14,7 +14,7 @@ use Rattle.syn_coordinator.specs.declared.ended.Ended.TheVariants.{Early}
 use Rattle.syn_session.specs.declared.session.Asks.{Asks}
 use Rattle.syn_session.specs.declared.session.Session.{Session}
 use Rattle.syn_keep.specs.declared.tried.Tried.{Tried}
-use Rattle.syn_session.specs.Hearing.{EndsHearing, HasHeard, MayGoOn, at_once, behind}
+use Rattle.syn_session.specs.Hearing.{EndsHearing, HasHeard, MayGoOn, at_once, afterwards}
 use Rattle.syn_session.specs.Stages.{reached_by}
 use Rattle.syn_coordinator.specs.inner.Taking.{TakesEnd, TakesOn, Walks, reaching}
 use Rattle.syn_coordinator.specs.inner.Taking as taking
@@ -61,7 +61,7 @@ module _ {D : Type 0} {disk : Ghosts D} (new : Archive D disk) (pair : ℕ) (jou
       TakesEnd new tried pair journal running taken session kept (Early why)
   hears_end tried tries kept nothing why (at_once fault tells) =
       taking.at_once why fault tells is nothing tries
-  hears_end tried tries kept nothing why (behind fault memory tells) =
+  hears_end tried tries kept nothing why (afterwards fault memory tells) =
       subst (λ k. TakesEnd new tried pair journal running taken session k (Early why)) (sym nothing)
       (taking.ends (Early why) (walk_at journal (reached_by running)) (reached_by running)
       (walks_none fault) refl refl

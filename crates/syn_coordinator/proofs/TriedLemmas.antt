@@ -5,7 +5,7 @@ use Rattle.std.proofs.lemmas.Option.{none-some}
 use Rattle.std.specs.Prelude.{unwrap_or}
 use Rattle.syn_archive.specs.declared.archive.Archive.{Archive}
 use Rattle.syn_disk.specs.declared.disk.Disk.{Ghosts}
-use Rattle.syn_headline.specs.Coordinator.{Keeps, archive_layout, cut_behind, writes}
+use Rattle.syn_headline.specs.Coordinator.{Keeps, archive_layout, cut_after, writes}
 use Rattle.std.proofs.lemmas.Bool.Decides.{nat_tests}
 use Rattle.syn_archive.specs.Archive.{left_shown, room_shown}
 use Rattle.syn_archive.specs.Disks.{kept_size}
@@ -34,7 +34,7 @@ quiet_by pair machine journal kept done what
 quiet_by pair machine journal kept done what
     (writes new acknowledged (unwritten status arms failed is was meets)) quiet some =
     absurd (none_some what some)
-quiet_by pair machine journal kept done what (cut_behind is before stop) quiet some = quiet
+quiet_by pair machine journal kept done what (cut_after is before stop) quiet some = quiet
 
 -- one that goes on writes nothing more
 pub kept_quiet : (pair : ℕ) (machine journal : Journal) (kept what : Kept) →
@@ -56,7 +56,7 @@ written_by pair machine journal kept done what
 written_by pair machine journal kept done what
     (writes new acknowledged (unwritten status arms failed idle_is was meets)) quiet is =
     some_is _ _ is
-written_by pair machine journal kept done what (cut_behind idle_is before stop) quiet is =
+written_by pair machine journal kept done what (cut_after idle_is before stop) quiet is =
     absurd (none-some _ (sym quiet ∙ is))
 
 -- one whose device failed was writing the record
@@ -80,7 +80,7 @@ fits_by pair machine journal kept done what
     (writes new acknowledged (unwritten status arms failed idle_is was meets)) quiet has is =
     at_most (kept_size kept) machine.room
     (sym (ap (λ b. b || nat_le (kept_size kept) machine.room) idle_is) ∙ has)
-fits_by pair machine journal kept done what (cut_behind idle_is before stop) quiet has is =
+fits_by pair machine journal kept done what (cut_after idle_is before stop) quiet has is =
     absurd (none-some _ (sym quiet ∙ is))
 
 pub fits_in : (pair : ℕ) (machine journal : Journal) (kept : Kept) →

@@ -38,12 +38,12 @@ use Rattle.syn_keep.proofs.DueLemmas.{when_up}
 pub keeps_none : (reached : Reached) → HasKept reached reached []
 keeps_none reached = record { plan = refl; kept_is = sym (append-nil reached.kept) }
 
-pub keeps_more : (first middle last : Reached) (before behind : List Kept) →
-    HasKept first middle before → HasKept middle last behind → HasKept first last (before ++ behind)
-keeps_more first middle last before behind one two = record {
+pub keeps_more : (first middle last : Reached) (before onward : List Kept) →
+    HasKept first middle before → HasKept middle last onward → HasKept first last (before ++ onward)
+keeps_more first middle last before onward one two = record {
   plan = two.plan ∙ one.plan;
   kept_is =
-      two.kept_is ∙ (ap (λ l. l ++ behind) one.kept_is ∙ append_assoc first.kept before behind);
+      two.kept_is ∙ (ap (λ l. l ++ onward) one.kept_is ∙ append_assoc first.kept before onward);
 }
 
 module _ (pair : ℕ) (taken : Exchange) where
@@ -91,9 +91,9 @@ module _ (pair : ℕ) (taken : Exchange) where
 
     module _ {D : Type 0} {disk : Ghosts D} (new : Archive D disk) (more : List Kept)
         (course : Course) (left right : Found) where
-      pub comes_behind : Comes new pair taken middle between more course left right →
+      pub comes_after : Comes new pair taken middle between more course left right →
           Comes new pair taken old before (kept ++ more) course left right
-      comes_behind comes =
+      comes_after comes =
           record {
             journal = comes.journal;
             after = comes.after;
@@ -103,16 +103,16 @@ module _ (pair : ℕ) (taken : Exchange) where
             course_is = comes.course_is;
           }
 
-      pub ends_behind : (tried : Option Tried) (how : Ended) →
+      pub ends_after : (tried : Option Tried) (how : Ended) →
           Ends new tried pair taken middle between more course left right how →
           Ends new tried pair taken old before (kept ++ more) course left right how
-      ends_behind tried how (ends walk after advances cursor refused has why is course_is tries) =
+      ends_after tried how (ends walk after advances cursor refused has why is course_is tries) =
           ends walk after (led walk more advances) cursor refused
           (keeps_more before between after kept more first.has has)
           (λ running same. subst (λ s. EndsFor pair running taken s walk (ended_by how))
           first.status (why running (same ∙ sym first.has.plan))) is course_is
           (subst (λ s. Remembers pair s tried walk.journal) first.status tries)
-      ends_behind tried how (goes_down walk advances cut down leaves tries) =
+      ends_after tried how (goes_down walk advances cut down leaves tries) =
           goes_down walk (led walk more advances) cut down leaves tries
 
   -- ---- one item

@@ -1,5 +1,5 @@
 //! A coordinator over its archive.
-ghost use Rattle.std.specs.Prelude.{◌≡◌, ◌≢◌, ◌++◌, ◌∷◌, [], ℕ, true, is_some, Some, None, Err};
+ghost use Rattle.std.specs.Prelude.{◌≡◌, ◌≢◌, ◌∷◌, [], ℕ, is_some, Some, None, Err};
 ghost use Rattle.std.specs.Prelude.{IfErr, IfOk, MatchResult, OnErr, OnOk, false, map, option_map};
 ghost use Rattle.std.specs.Prelude.{◌+◌, ◌<◌, ◌^◌, ◌⊎◌, ◌&&◌, not};
 ghost use Rattle.syn_archive.specs.Archive.{IsHalted, session_shown};
@@ -360,14 +360,16 @@ impl<D: Disk> Coordinator<D> {
         ensures other { (result ≡ SessionError.Device) ⊎ ((result ≡ SessionError.Memory)
             × (error ≢ ArchiveError.Device) × (self.new ≡ self.old)) }
     {
-        if !is_device(error) {
+        match error {
+            ArchiveError::Device => {
+                self.written = Vec::new(alloc);
+                self.tried = Some(Tried::new(Kept::Session(number), &self.archive));
+                self.broke = Broken::AsTried;
+                SessionError::Device
+            }
             // What else refuses a session was looked at before.
-            return SessionError::Memory;
+            _ => SessionError::Memory,
         }
-        self.written = Vec::new(alloc);
-        self.tried = Some(Tried::new(Kept::Session(number), &self.archive));
-        self.broke = Broken::AsTried;
-        SessionError::Device
     }
 
     /// Some time went by without an answer: each request that waits is to be sent again. It answers
@@ -415,26 +417,6 @@ impl<D: Disk> Coordinator<D> {
             let report = session.into_report(alloc, ended);
             drop(self.report.replace(report));
         }
-    }
-}
-
-/// Whether a device call failed.
-fn is_device(error: ArchiveError) -> bool
-    ensures device { result ≡ true → error ≡ ArchiveError.Device }
-    ensures other { result ≡ false → error ≢ ArchiveError.Device }
-{
-    match error {
-        ArchiveError::Device => true,
-        ArchiveError::NoParent => false,
-        ArchiveError::Root => false,
-        ArchiveError::Full => false,
-        ArchiveError::JournalFull => false,
-        ArchiveError::Halted => false,
-        ArchiveError::Memory => false,
-        ArchiveError::NoImage => false,
-        ArchiveError::OldVersion => false,
-        ArchiveError::Damaged => false,
-        ArchiveError::WrongPair => false,
     }
 }
 

@@ -40,7 +40,7 @@ impl Stranger {
     pub fn copy(&self, alloc: Global) -> Result<Stranger, AllocError> {
         let text = String::from_str(alloc, self.text.as_str())?;
         let path = match &self.path {
-            Some(path) => Some(path.copy(alloc).map_err(|_| AllocError)?),
+            Some(path) => Some(path.copy(alloc)?),
             None => None,
         };
         Ok(Stranger {

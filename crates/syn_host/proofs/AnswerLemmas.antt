@@ -149,15 +149,15 @@ module _ {D : Type 0} {disk : Ghosts D} (pair : ℕ) (old new : Replica D disk)
         | goes_on goes ↦ absurd (false≢true (sym goes.runs ∙ stopped))
         | stops rests ↦
             let down = becomes.down rests.down in
-            let behind = settles.stops stopped in (
+            let settling = settles.stops stopped in (
               record {
                 next = takes_so.next;
                 events = takes_so.events;
-                step = unrefused None (ap refused_in behind.0) (subst (λ s. SideTakes pair machine
+                step = unrefused None (ap refused_in settling.0) (subst (λ s. SideTakes pair machine
                     session request takes_so.next (heard s (reply_of said)) takes_so.events)
                     rests.down takes_so.takes);
-                acknowledges = subst (λ o. Acknowledges o takes_so.events) (sym behind.0) down.0;
-                is = behind.1 pair takes_so.next (record {
+                acknowledges = subst (λ o. Acknowledges o takes_so.events) (sym settling.0) down.0;
+                is = settling.1 pair takes_so.next (record {
                   down = rests.down;
                   unarmed_is = down.1;
                   unstaged = down.2;
@@ -216,14 +216,14 @@ module _ {D : Type 0} {disk : Ghosts D} (pair : ℕ) (old new : Replica D disk)
               | inl stays ↦
                   let settled = same (position_now
                   ∙ (ap length (sym stays.1) ∙ sym shown)) in
-                  let behind = settled.goes_on goes in (
+                  let settling = settled.goes_on goes in (
                     record {
                       next = takes_so.next;
                       events = takes_so.events;
-                      step = unrefused (Some (reply_of said)) (ap refused_in behind.0) made;
-                      acknowledges = subst (λ o. Acknowledges o takes_so.events) (sym behind.0)
+                      step = unrefused (Some (reply_of said)) (ap refused_in settling.0) made;
+                      acknowledges = subst (λ o. Acknowledges o takes_so.events) (sym settling.0)
                           stays.0;
-                      is = behind.1 pair takes_so.next now;
+                      is = settling.1 pair takes_so.next now;
                       counts = omega (arith, settled.counted, takes_so.counts);
                     },
                     lawful,
@@ -231,14 +231,14 @@ module _ {D : Type 0} {disk : Ghosts D} (pair : ℕ) (old new : Replica D disk)
               | inr grown ↦
                   let settled = added (λ is. one_longer machine.journal.value grown.0
                   (ap length (sym grown.2) ∙ (sym shown ∙ (sym is ∙ position_now)))) in
-                  let behind = settled.goes_on goes grown.0 (takes_so.added grown.0 grown.1) in (
+                  let settling = settled.goes_on goes grown.0 (takes_so.added grown.0 grown.1) in (
                     record {
                       next = takes_so.next;
                       events = takes_so.events;
-                      step = unrefused (Some (reply_of said)) behind.0 made;
+                      step = unrefused (Some (reply_of said)) settling.0 made;
                       acknowledges = subst (λ es. Acknowledges call.outcome es) (sym grown.1)
-                          behind.1;
-                      is = behind.2 pair takes_so.next grown.3 now;
+                          settling.1;
+                      is = settling.2 pair takes_so.next grown.3 now;
                       counts = omega (arith, settled.counted, takes_so.counts);
                     },
                     lawful,

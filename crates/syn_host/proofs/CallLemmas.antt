@@ -5,7 +5,7 @@ use Rattle.std.proofs.lemmas.Option.{none-some}
 use Rattle.std.specs.Global.{Vec}
 use Rattle.syn_disk.specs.declared.disk.Disk.{Ghosts}
 use Rattle.syn_headline.specs.Coordinator.{Call, CoordinatorMachine, CoordinatorStarts}
-use Rattle.syn_headline.specs.Coordinator.{CoordinatorTicks, Keeps, archive_layout, cut_behind}
+use Rattle.syn_headline.specs.Coordinator.{CoordinatorTicks, Keeps, archive_layout, cut_after}
 use Rattle.syn_headline.specs.Coordinator.{gives_up, no_call, no_session, resends, running_after}
 use Rattle.syn_headline.specs.Coordinator.{Starts, coordinator_kind, start_breaks, start_causes}
 use Rattle.syn_headline.specs.Coordinator.{writes}
@@ -97,22 +97,22 @@ module _ {D : Type 0} {disk : Ghosts D} (old new : Session D disk) (pair : ℕ)
   pub does_call : Does old new pair Step told.kept told.messages
       → CallIsStep pair machine (disk.failures (device_of old)) Whole call
   does_call (goes_on next made step now kept messages reports) =
-      let behind = settles.goes_on pair next now in
+      let settling = settles.goes_on pair next now in
       record {
         made = made;
         refusals = refusals_at next.journal.status;
         goes = record {
           next = next;
           step = lift next made step;
-          is = behind.1;
+          is = settling.1;
           counts = counts_on next made step (inl now);
         };
         tells = retell call.outcome told made _ _ (sym kept) (sym messages)
-            (sym (same next made step reports)) refl behind.0;
+            (sym (same next made step reports)) refl settling.0;
       }
   does_call (goes_down next made step stopped down leaves kept tried) =
       let cut = cuts next made step down in
-      let behind = settles.stops stopped pair next (record {
+      let settling = settles.stops stopped pair next (record {
         down = down;
         unarmed_is = cut.unarmed_is;
         idle = cut.idle;
@@ -125,11 +125,11 @@ module _ {D : Type 0} {disk : Ghosts D} (old new : Session D disk) (pair : ℕ)
         goes = record {
           next = next;
           step = lift next made step;
-          is = behind.1;
+          is = settling.1;
           counts = counts_on next made step (inr down);
         };
         tells = retell call.outcome (record no_call { kept = told.kept }) made _ _ (sym kept)
-            (sym cut.silent) (sym cut.reportless) (sym (ap refusals_at down ∙ none)) behind.0;
+            (sym cut.silent) (sym cut.reportless) (sym (ap refusals_at down ∙ none)) settling.0;
       }
 
 -- Which calls are cut
@@ -156,7 +156,7 @@ pub keeps_down : (pair : ℕ) (machine journal : Journal) (kept : Kept) (told : 
     → journal.status ≡ Down → journal.arms ≡ unarmed
 keeps_down pair machine journal kept told other (writes _ _ done) down =
     writes_down pair machine journal kept told other done down
-keeps_down pair machine _ kept _ other (cut_behind fresh before stop) down = refl
+keeps_down pair machine _ kept _ other (cut_after fresh before stop) down = refl
 
 module _ (pair : ℕ) (machine : CoordinatorMachine)
     (other : machine.journal.status ≢ Down) where

@@ -26,17 +26,6 @@ use Rattle.syn_agent.proofs.CauseLemmas.{device_is, none_is_no, or_cases, outsid
 use Rattle.syn_replica.proofs.RoomLemmas.{spelled_long}
 use Rattle.syn_standing.proofs.CauseLemmas.{first_skips, first_stays}
 
--- a call of the archive's disk failed exactly where the device is the cause
-pub archive_failed : (w : Refusal) (old new : ℕ) → w ≡ why.Device
-    → endings.CountsFailures (Some w) old new → old < new
-archive_failed w old new device counts =
-    subst (λ w. endings.CountsFailures (Some w) old new) device counts
-
-pub archive_did_not : (w : Refusal) (old new : ℕ) → w ≢ why.Device
-    → endings.CountsFailures (Some w) old new → new ≡ old
-archive_did_not why.Device old new other counts = absurd (other refl)
-archive_did_not w old new other counts = counts
-
 pub memory_not_device : why.Memory ≢ why.Device
 memory_not_device e = cc
 

@@ -9,7 +9,7 @@ use Rattle.syn_disk.specs.Arms.{is_stopped}
 use Rattle.syn_disk.specs.Calls.{Makes, Breaks}
 use Rattle.syn_disk.specs.Stops.{LeavesOnly}
 use Rattle.syn_disk.specs.declared.disk.Disk.{Ghosts}
-use Rattle.syn_headline.specs.Machine.{Status, Up, Halted, Down, Arms, Meets, unarmed, room_behind}
+use Rattle.syn_headline.specs.Machine.{Status, Up, Halted, Down, Arms, Meets, unarmed, room_after}
 use Rattle.syn_headline.specs.Machine.{after_device, with_image, compacted, not_compacted}
 use Rattle.syn_headline.specs.MachineSteps.{Checkpoint, Does, causes_at, checkpoints}
 use Rattle.syn_headline.specs.MachineSteps.{full_generation, is_done, makes, refused_by, refuses}
@@ -42,7 +42,7 @@ use Rattle.syn_replica.specs.declared.replica.Replica.{Replica}
 use Rattle.syn_host.proofs.EditLemmas.{counts_still, failed_by, side_of, stays}
 use Rattle.syn_host.proofs.SideLemmas.{halted_not_up, none_not_some, not_down, remembers}
 use Rattle.syn_host.proofs.SideLemmas.{still_staged}
-use Rattle.syn_recovery.proofs.DiskLemmas.{behind_image}
+use Rattle.syn_recovery.proofs.DiskLemmas.{after_image}
 
 -- a checkpoint of the machine
 abbrev Checkpoints : ℕ → SideMachine → SideStep
@@ -121,17 +121,17 @@ module _ {D : Type 0} {disk : Ghosts D} (pair : ℕ) (old new : Replica D disk) 
         → Meets machine.journal.arms 6 Down unarmed 0
         → CallIsStep pair machine (failed_by old) (Checkpoints pair machine) call
     stopped_so few stopped meets =
-        let behind = stops stopped in
+        let settling = stops stopped in
         let next = with_journal machine (under_way Down unarmed 0) in
         record {
           next = next;
           events = [];
-          step = subst (λ o. Checkpoints pair machine next [] (refused_in o)) (sym behind.0)
+          step = subst (λ o. Checkpoints pair machine next [] (refused_in o)) (sym settling.0)
               (is_done _ _ _ (not_down pair (side_of old agent) machine runs) (makes next [] none
               (checkpoints (under_way Down unarmed 0)
               (not_compacted Down unarmed 0 (inr refl) meets))));
-          acknowledges = subst (λ o. Acknowledges o []) (sym behind.0) refl;
-          is = behind.1 pair next (record {
+          acknowledges = subst (λ o. Acknowledges o []) (sym settling.0) refl;
+          is = settling.1 pair next (record {
             down = refl;
             unarmed_is = refl;
             unstaged = refl;
@@ -153,17 +153,17 @@ module _ {D : Type 0} {disk : Ghosts D} (pair : ℕ) (old new : Replica D disk) 
     abbrev with_it : Journal
     with_it = with_image (side_layout pair) machine.journal arms_now
 
-    room_is : room_behind (image_spelling pair (standing_of value)) ≡ left_shown new
+    room_is : room_after (image_spelling pair (standing_of value)) ≡ left_shown new
     room_is =
         sym (ap (λ n. 4194304 - 1 - n) alone.gate
-        ∙ (behind_image (image_spelling (pair_of old) (standing_shown old))
-        ∙ ap₂ (λ p s. room_behind (image_spelling p s)) runs.is.pair_is standing_is))
+        ∙ (after_image (image_spelling (pair_of old) (standing_shown old))
+        ∙ ap₂ (λ p s. room_after (image_spelling p s)) runs.is.pair_is standing_is))
 
     compacts : is_stopped (disk.arms (disk_of new)) ≡ false
         → Meets machine.journal.arms 6 Up arms_now 0
         → CallIsStep pair machine (failed_by old) (Checkpoints pair machine) call
     compacts goes meets =
-        let behind = settles.goes_on goes in
+        let settling = settles.goes_on goes in
         let next = with_journal machine with_it in
         let made : Checkpoints pair machine next [] (refused_by machine.journal.status) =
         is_done _ _ _ (not_down pair (side_of old agent) machine runs) (makes next [] none
@@ -171,10 +171,10 @@ module _ {D : Type 0} {disk : Ghosts D} (pair : ℕ) (old new : Replica D disk) 
         record {
           next = next;
           events = [];
-          step = subst (λ o. Checkpoints pair machine next [] (refused_in o)) (sym behind.0)
+          step = subst (λ o. Checkpoints pair machine next [] (refused_in o)) (sym settling.0)
               (subst (λ s. Checkpoints pair machine next [] (refused_by s)) up made);
-          acknowledges = subst (λ o. Acknowledges o []) (sym behind.0) refl;
-          is = behind.1 pair next (record {
+          acknowledges = subst (λ o. Acknowledges o []) (sym settling.0) refl;
+          is = settling.1 pair next (record {
             is = is_up next (record {
               pair_is = memory.pair ∙ runs.is.pair_is;
               up = up;
@@ -211,7 +211,7 @@ module _ {D : Type 0} {disk : Ghosts D} (pair : ℕ) (old new : Replica D disk) 
         → Meets machine.journal.arms 6 Halted arms_now 1
         → CallIsStep pair machine (failed_by old) (Checkpoints pair machine) call
     broke goes meets =
-        let behind = settles.goes_on goes in
+        let settling = settles.goes_on goes in
         let next = with_journal machine (under_way Halted arms_now 1) in
         let past = remembers pair (side_of old agent) machine runs in
         let made : Checkpoints pair machine next [] (why.Device ∷ []) =
@@ -221,10 +221,10 @@ module _ {D : Type 0} {disk : Ghosts D} (pair : ℕ) (old new : Replica D disk) 
         record {
           next = next;
           events = [];
-          step = subst (λ o. Checkpoints pair machine next [] (refused_in o)) (sym behind.0)
+          step = subst (λ o. Checkpoints pair machine next [] (refused_in o)) (sym settling.0)
               (subst (λ r. Checkpoints pair machine next [] r) (sym is_refused) made);
-          acknowledges = subst (λ o. Acknowledges o []) (sym behind.0) is_not;
-          is = behind.1 pair next (record {
+          acknowledges = subst (λ o. Acknowledges o []) (sym settling.0) is_not;
+          is = settling.1 pair next (record {
             is = record {
               pair_is = memory.pair ∙ runs.is.pair_is;
               stands = (
@@ -271,16 +271,16 @@ pub compact_refused : {D : Type 0} {disk : Ghosts D} (pair : ℕ) (old new : Rep
     → CallIsStep pair machine (failed_by old) (Checkpoints pair machine) call
 compact_refused pair old new agent machine runs up stands readings same_tried arms is_up outcome
     reason call position settles is_refused is_not some same =
-    let behind = settles.goes_on (ap is_stopped arms ∙ runs.is.runs) in
+    let settling = settles.goes_on (ap is_stopped arms ∙ runs.is.runs) in
     let made : Checkpoints pair machine machine [] (reason ∷ []) =
     is_done _ _ _ (not_down pair (side_of old agent) machine runs) (refuses reason some) in
     record {
       next = machine;
       events = [];
-      step = subst (λ o. Checkpoints pair machine machine [] (refused_in o)) (sym behind.0)
+      step = subst (λ o. Checkpoints pair machine machine [] (refused_in o)) (sym settling.0)
           (subst (λ r. Checkpoints pair machine machine [] r) (sym is_refused) made);
-      acknowledges = subst (λ o. Acknowledges o []) (sym behind.0) is_not;
-      is = behind.1 pair machine
+      acknowledges = subst (λ o. Acknowledges o []) (sym settling.0) is_not;
+      is = settling.1 pair machine
           (stays pair old new agent machine runs up stands readings same_tried arms is_up);
       counts = omega (arith, settles.counted, same);
     }

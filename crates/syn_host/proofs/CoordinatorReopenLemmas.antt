@@ -120,16 +120,16 @@ module _ {D : Type 0} {disk : Ghosts D} (old new : Session D disk) (pair : ℕ)
         (λ next call. Reopens (coordinator_kind pair) machine next call
         (told next.journal.status)) (listed (option_map kept_of found)) [] → IsSo
     reopened_so (goes_on next call step now kept messages reports) =
-        let behind = settles.goes_on pair next now in
+        let settling = settles.goes_on pair next now in
         let is_told = told_is next.journal.status (is_not_down pair new next now) in
         is_step next call (told next.journal.status) step
-        (kept ∙ ap (λ f. listed (option_map kept_of f)) (sym behind.0))
-        (is_told ∙ ap causes_in (sym behind.1)) behind.2
+        (kept ∙ ap (λ f. listed (option_map kept_of f)) (sym settling.0))
+        (is_told ∙ ap causes_in (sym settling.1)) settling.2
         (subst (λ n. before ≤ n) (sym settles.counted) least)
         (λ nine. subst (λ n. before < n) (sym settles.counted) (grew (sym is_told ∙ nine)))
     reopened_so (goes_down next call step stopped down leaves kept tries) =
         let cut = cut_off pair machine other next call (told next.journal.status) step down in
-        let behind = settles.stops stopped pair next (record {
+        let settling = settles.stops stopped pair next (record {
           down = down;
           unarmed_is = cut.unarmed_is;
           idle = cut.idle;
@@ -137,7 +137,7 @@ module _ {D : Type 0} {disk : Ghosts D} (old new : Session D disk) (pair : ℕ)
           tries = tries;
         }) in
         is_step next call (told next.journal.status) step
-        (cut.nothing ∙ ap (λ f. listed (option_map kept_of f)) (sym behind.0))
-        (cut.unrefused ∙ ap causes_in (sym behind.1)) behind.2
+        (cut.nothing ∙ ap (λ f. listed (option_map kept_of f)) (sym settling.0))
+        (cut.unrefused ∙ ap causes_in (sym settling.1)) settling.2
         (subst (λ n. before ≤ n) (sym settles.counted) least)
         (λ nine. absurd (not_nine (sym cut.unrefused ∙ nine)))

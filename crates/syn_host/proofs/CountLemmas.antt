@@ -10,7 +10,7 @@ use Rattle.syn_disk.specs.declared.disk.Disk.{Ghosts}
 use Rattle.syn_headline.specs.Coordinator.{Advances, Call, CoordinatorMachine, CoordinatorStarts}
 use Rattle.syn_headline.specs.Coordinator.{CoordinatorTakes, CoordinatorTicks, Exchange, Keeps}
 use Rattle.syn_headline.specs.Coordinator.{Takes, Walk, archive_layout, coordinator_kind}
-use Rattle.syn_headline.specs.Coordinator.{cut_behind, gives_up, ignores, no_session, resends}
+use Rattle.syn_headline.specs.Coordinator.{cut_after, gives_up, ignores, no_session, resends}
 use Rattle.syn_headline.specs.Coordinator.{start_breaks, takes, writes}
 use Rattle.syn_headline.specs.Coordinator as walk
 use Rattle.syn_headline.specs.Machine.{Arms, Compacts, Down, Halted, Meets, Status, Up, Writes}
@@ -87,13 +87,13 @@ module _ (pair : ℕ) (machine : Journal) where
   pub keeps_once : (journal : Journal) (kept : Kept) (told : List Kept) →
       Keeps pair machine kept journal told → FailsOnce machine journal
   keeps_once journal kept told (writes _ _ done) = writes_once journal kept told done
-  keeps_once _ kept _ (cut_behind fresh before stop) = inl (omega arith)
+  keeps_once _ kept _ (cut_after fresh before stop) = inl (omega arith)
 
 -- after a call that left it up
-behind_up : (was middle now : Journal) → was.status ≡ Up → middle.failures ≤ was.failures →
+up_after : (was middle now : Journal) → was.status ≡ Up → middle.failures ≤ was.failures →
     FailsFromUp middle now → FailsFromUp was now
-behind_up was middle now up less (inl none) = inl (omega (arith, less, none))
-behind_up was middle now up less (inr one) =
+up_after was middle now up less (inl none) = inl (omega (arith, less, none))
+up_after was middle now up less (inr one) =
     let most = one.0 in inr (omega (arith, less, most), up, one.2)
 
 module _ (pair : ℕ) (plan : List Planned) (taken : Exchange) where
@@ -111,14 +111,14 @@ module _ (pair : ℕ) (plan : List Planned) (taken : Exchange) where
       advances_once _ end kept more
   advances_once start end kept
       (walk.checkpoints _ _ _ what journal free full less compacts up more) =
-      behind_up start.journal journal end.journal full.to_keep.up
+      up_after start.journal journal end.journal full.to_keep.up
       (none_up start.journal journal up (compacts_once pair start.journal journal compacts))
       (advances_once _ end kept more)
   advances_once start _ _ (walk.checkpoint_breaks _ what journal free full less compacts broke) =
       from_up start.journal journal full.to_keep.up
       (compacts_once pair start.journal journal compacts)
   advances_once start end _ (walk.keeps _ _ what kept journal due room keeps up more) =
-      behind_up start.journal journal end.journal due.up
+      up_after start.journal journal end.journal due.up
       (none_up start.journal journal up (keeps_once pair start.journal journal what _ keeps))
       (advances_once _ end kept more)
   advances_once start _ kept (walk.record_breaks _ what _ journal due room keeps broke) =

@@ -111,17 +111,17 @@ module _ {D : Type 0} {disk : Ghosts D} (pair : ℕ) (old new : Replica D disk) 
         → Meets machine.journal.arms 4 Down unarmed 0
         → CallIsStep pair machine (failed_by old) (UserEdits pair machine event) call
     stopped_so few stopped meets =
-        let behind = stops stopped in
+        let settling = stops stopped in
         let next = with_journal machine (writing_it Down unarmed 0) in
         record {
           next = next;
           events = [];
-          step = subst (λ o. UserEdits pair machine event next [] (refused_in o)) (sym behind.0)
+          step = subst (λ o. UserEdits pair machine event next [] (refused_in o)) (sym settling.0)
               (is_done _ _ _ (not_down pair (side_of old agent) machine runs) (makes next [] none
               (edits (writing_it Down unarmed 0) [] lawful
               (unwritten Down unarmed 0 refl (inr refl) meets))));
-          acknowledges = subst (λ o. Acknowledges o []) (sym behind.0) refl;
-          is = behind.1 pair next (record {
+          acknowledges = subst (λ o. Acknowledges o []) (sym settling.0) refl;
+          is = settling.1 pair next (record {
             down = refl;
             unarmed_is = refl;
             unstaged = refl;
@@ -145,7 +145,7 @@ module _ {D : Type 0} {disk : Ghosts D} (pair : ℕ) (old new : Replica D disk) 
         → Meets machine.journal.arms 4 Up arms_now 0
         → CallIsStep pair machine (failed_by old) (UserEdits pair machine event) call
     added goes meets =
-        let behind = settles.goes_on goes event tried in
+        let settling = settles.goes_on goes event tried in
         let next = with_journal machine with_it in
         let made : UserEdits pair machine event next (event ∷ [])
         (refused_by machine.journal.status) =
@@ -154,10 +154,10 @@ module _ {D : Type 0} {disk : Ghosts D} (pair : ℕ) (old new : Replica D disk) 
         record {
           next = next;
           events = event ∷ [];
-          step = subst (λ r. UserEdits pair machine event next (event ∷ []) r) (sym behind.0)
+          step = subst (λ r. UserEdits pair machine event next (event ∷ []) r) (sym settling.0)
               (subst (λ s. UserEdits pair machine event next (event ∷ []) (refused_by s)) up made);
-          acknowledges = behind.1;
-          is = behind.2 pair next up (record {
+          acknowledges = settling.1;
+          is = settling.2 pair next up (record {
             is = is_up next (record {
               pair_is = has.pair ∙ runs.is.pair_is;
               up = up;
@@ -195,7 +195,7 @@ module _ {D : Type 0} {disk : Ghosts D} (pair : ℕ) (old new : Replica D disk) 
         → Meets machine.journal.arms 4 Halted arms_now 1
         → CallIsStep pair machine (failed_by old) (UserEdits pair machine event) call
     broke goes meets =
-        let behind = settles.goes_on goes in
+        let settling = settles.goes_on goes in
         let next = with_journal machine (writing_it Halted arms_now 1) in
         let past = remembers pair (side_of old agent) machine runs in
         let made : UserEdits pair machine event next [] (why.Device ∷ []) =
@@ -205,10 +205,10 @@ module _ {D : Type 0} {disk : Ghosts D} (pair : ℕ) (old new : Replica D disk) 
         record {
           next = next;
           events = [];
-          step = subst (λ o. UserEdits pair machine event next [] (refused_in o)) (sym behind.0)
+          step = subst (λ o. UserEdits pair machine event next [] (refused_in o)) (sym settling.0)
               (subst (λ r. UserEdits pair machine event next [] r) (sym is_refused) made);
-          acknowledges = subst (λ o. Acknowledges o []) (sym behind.0) is_not;
-          is = behind.1 pair next (record {
+          acknowledges = subst (λ o. Acknowledges o []) (sym settling.0) is_not;
+          is = settling.1 pair next (record {
             is = record {
               pair_is = readings.memory.pair ∙ runs.is.pair_is;
               stands = (
@@ -273,16 +273,16 @@ module _ {D : Type 0} {disk : Ghosts D} (pair : ℕ) (old new : Replica D disk) 
       ≡ Some reason → failed_by new ≡ failed_by old
       → CallIsStep pair machine (failed_by old) (UserEdits pair machine event) call
   edit_refused event outcome reason call position settles is_refused is_not some same =
-      let behind = settles.goes_on (ap is_stopped arms ∙ runs.is.runs) in
+      let settling = settles.goes_on (ap is_stopped arms ∙ runs.is.runs) in
       let made : UserEdits pair machine event machine [] (reason ∷ []) =
       is_done _ _ _ (not_down pair (side_of old agent) machine runs) (refuses reason some) in
       record {
         next = machine;
         events = [];
-        step = subst (λ o. UserEdits pair machine event machine [] (refused_in o)) (sym behind.0)
+        step = subst (λ o. UserEdits pair machine event machine [] (refused_in o)) (sym settling.0)
             (subst (λ r. UserEdits pair machine event machine [] r) (sym is_refused) made);
-        acknowledges = subst (λ o. Acknowledges o []) (sym behind.0) is_not;
-        is = behind.1 pair machine stays;
+        acknowledges = subst (λ o. Acknowledges o []) (sym settling.0) is_not;
+        is = settling.1 pair machine stays;
         counts = omega (arith, settles.counted, same);
       }
 

@@ -133,15 +133,15 @@ module _ {D : Type 0} {disk : Ghosts D} (pair : ℕ) (old new : Replica D disk) 
       Meets machine.journal.arms calls Down unarmed 0 →
       CallIsStep pair machine (failed_by old) (ReopensSide pair machine) call
   cut_so tried tries settles counted calls few stopped meets =
-      let behind = settles stopped in
+      let settling = settles stopped in
       let next = with_device (side_kind pair) machine Down unarmed 0 in
       record {
         next = next;
         events = [];
-        step = subst (λ o. ReopensSide pair machine next [] (refused_in o)) (sym behind.0)
+        step = subst (λ o. ReopensSide pair machine next [] (refused_in o)) (sym settling.0)
             (is_done _ _ _ other (reopen_is_cut calls unarmed 0 meets));
-        acknowledges = subst (λ o. Acknowledges o []) (sym behind.0) refl;
-        is = behind.1 pair next (record {
+        acknowledges = subst (λ o. Acknowledges o []) (sym settling.0) refl;
+        is = settling.1 pair next (record {
           down = refl;
           unarmed_is = refl;
           unstaged = refl;
@@ -168,8 +168,8 @@ module _ {D : Type 0} {disk : Ghosts D} (pair : ℕ) (old new : Replica D disk) 
         → Meets machine.journal.arms calls Up arms_now 0
         → CallIsStep pair machine (failed_by old) (ReopensSide pair machine) call
     opened_so calls least goes meets =
-        let behind = settles.goes_on goes in
-        let gains = behind.0 in
+        let settling = settles.goes_on goes in
+        let gains = settling.0 in
         let found = sides pair machine.journal calls arms_now here.value here.generation meets
         here.means in
         let stood = each found.new.value (record {
@@ -189,7 +189,7 @@ module _ {D : Type 0} {disk : Ghosts D} (pair : ℕ) (old new : Replica D disk) 
           acknowledges = gained_so pair machine.journal calls found.new found.added call.outcome
               position (position_shown new) tried gains tries position_now
               (ap (λ s. s.position) stood.remembers.standing) found.opens;
-          is = behind.1 pair next (record {
+          is = settling.1 pair next (record {
             is = is_up next (record {
               pair_is = same_pair ∙ runs.is.pair_is;
               up = found.opened.up;
@@ -244,7 +244,7 @@ module _ {D : Type 0} {disk : Ghosts D} (pair : ℕ) (old new : Replica D disk) 
         breaks.1)
         as (λ _. CallIsStep pair machine (failed_by old) (ReopensSide pair machine) call) [
           | goes_on goes meets ↦
-              let behind = settles.goes_on goes in
+              let settling = settles.goes_on goes in
               let next = with_device (side_kind pair) machine Halted arms_now 1 in
               let past = remembers pair (side_of old agent) machine runs in
               let made : ReopensSide pair machine next [] (why.Device ∷ []) =
@@ -254,10 +254,10 @@ module _ {D : Type 0} {disk : Ghosts D} (pair : ℕ) (old new : Replica D disk) 
                 next = next;
                 events = [];
                 step = subst (λ o. ReopensSide pair machine next [] (refused_in o))
-                    (sym behind.0)
+                    (sym settling.0)
                     (subst (λ r. ReopensSide pair machine next [] r) (sym is_refused) made);
-                acknowledges = subst (λ o. Acknowledges o []) (sym behind.0) is_not;
-                is = behind.1 pair next (record {
+                acknowledges = subst (λ o. Acknowledges o []) (sym settling.0) is_not;
+                is = settling.1 pair next (record {
                   is = record {
                     pair_is = memory.pair ∙ runs.is.pair_is;
                     stands = (
@@ -296,7 +296,7 @@ module _ {D : Type 0} {disk : Ghosts D} (pair : ℕ) (old new : Replica D disk) 
         elim found.2
         as (λ _. CallIsStep pair machine (failed_by old) (ReopensSide pair machine) call) [
           | goes_on goes meets ↦
-              let behind = settles.goes_on goes in
+              let settling = settles.goes_on goes in
               let next = with_device (side_kind pair) machine machine.journal.status arms_now 0 in
               let made : ReopensSide pair machine next [] (why.Memory ∷ []) =
               is_done _ _ _ other
@@ -310,10 +310,10 @@ module _ {D : Type 0} {disk : Ghosts D} (pair : ℕ) (old new : Replica D disk) 
                 next = next;
                 events = [];
                 step = subst (λ o. ReopensSide pair machine next [] (refused_in o))
-                    (sym behind.0)
+                    (sym settling.0)
                     (subst (λ r. ReopensSide pair machine next [] r) (sym is_refused) made);
-                acknowledges = subst (λ o. Acknowledges o []) (sym behind.0) is_not;
-                is = behind.1 pair next (still_runs pair old new agent machine arms_now 0 runs
+                acknowledges = subst (λ o. Acknowledges o []) (sym settling.0) is_not;
+                is = settling.1 pair next (still_runs pair old new agent machine arms_now 0 runs
                     memory (stands_as old new machine.journal.value machine.journal.status
                     unchanged halted memory runs.is.stands)
                     (λ up. runs.is.room up ∙ sym (same up).0)

@@ -41,14 +41,14 @@ use Rattle.syn_coordinator.proofs.DownLemmas.{never_stops, still_unarmed}
 use Rattle.syn_recovery.proofs.DiskLemmas.{one_generation, one_value}
 
 -- a disk that was read is free as it was
-free_behind : (old now : DiskArms) (calls : ℕ) (status : Status) (failed : ℕ) → IsFree old
+free_after : (old now : DiskArms) (calls : ℕ) (status : Status) (failed : ℕ) → IsFree old
     → CallsMeet old now calls status failed → IsFree now
-free_behind old now calls status failed free (goes_on goes meets) = record {
+free_after old now calls status failed free (goes_on goes meets) = record {
   goes = goes;
   unarmed_is = still_unarmed calls failed status (armed_at now)
       (subst (λ a. Meets a calls status (armed_at now) failed) free.unarmed_is meets);
 }
-free_behind old now calls status failed free (goes_down stopped meets) =
+free_after old now calls status failed free (goes_down stopped meets) =
     absurd (never_stops calls 0 unarmed
     (subst (λ a. Meets a calls Down unarmed 0) free.unarmed_is meets))
 
@@ -56,7 +56,7 @@ free_still : (old now : DiskArms) → IsFree old → MadeReadsMeet → MakesAtLe
     → IsFree now
 free_still old now free reads makes =
     let found = reads 1 old now free.goes makes in
-    free_behind old now found.0 Up 0 free found.2
+    free_after old now found.0 Up 0 free found.2
 
 -- the journal of a machine that was just opened
 abbrev opened_as : {V W : Type 0} → V → Value → ℕ → Journaled V W

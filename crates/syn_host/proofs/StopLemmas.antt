@@ -4,12 +4,12 @@ use Rattle.syn_headline.specs.Machine.{Down}
 use Rattle.syn_headline.specs.MachineSteps.{Does, Kind, Stop, arming, is_done, is_down, with_device}
 
 module _ {M A V W : Type 0} (kind : Kind M A V W) (machine : M) where
-  pub stops_behind : (calls : ℕ) → calls ≢ 0 → (kind.journal_of machine).status ≢ Down
+  pub stops_after : (calls : ℕ) → calls ≢ 0 → (kind.journal_of machine).status ≢ Down
       → Does kind machine (Stop calls)
       (with_device kind machine (kind.journal_of machine).status
       (record (kind.journal_of machine).arms { stop = calls }) 0) (kind.acknowledging []) []
-  stops_behind zero some up = absurd (some refl)
-  stops_behind (suc calls) some up = is_done _ _ _ up arming
+  stops_after zero some up = absurd (some refl)
+  stops_after (suc calls) some up = is_done _ _ _ up arming
 
   pub stops_down : (calls : ℕ) → (kind.journal_of machine).status ≡ Down
       → Does kind machine (Stop calls) machine (kind.acknowledging []) []

@@ -3,9 +3,9 @@ ghost use Rattle.std.specs.Prelude.{◌≡◌, IfOk, map};
 ghost use Rattle.syn_session.specs.Reports.{report_model};
 ghost use Rattle.syn_image.specs.Archives.{kept_of};
 
-use std::alloc::Global;
+use std::alloc::{AllocError, Global};
 use syn_image::Kept;
-use syn_path::{Path, PathError};
+use syn_path::Path;
 use syn_refusal::Refusal;
 use syn_session::Report;
 use syn_wire::WireError;
@@ -22,7 +22,7 @@ pub(crate) fn copy_kept(alloc: Global, source: &[Kept]) -> Result<Vec<Kept>, Wir
 }
 
 /// The same report. Refused 11 where memory is refused.
-pub(crate) fn copy_report(alloc: Global, source: &Report) -> Result<Report, PathError>
+pub(crate) fn copy_report(alloc: Global, source: &Report) -> Result<Report, AllocError>
     ensures { IfOk result (λ copy. report_model copy ≡ report_model source.now) }
 {
     let conflicts = copy_paths(alloc, source.conflicts.as_slice())?;
@@ -39,7 +39,7 @@ pub(crate) fn copy_report(alloc: Global, source: &Report) -> Result<Report, Path
 }
 
 /// Equal paths. Refused 11 where memory is refused.
-fn copy_paths(alloc: Global, source: &[Path]) -> Result<Vec<Path>, PathError>
+fn copy_paths(alloc: Global, source: &[Path]) -> Result<Vec<Path>, AllocError>
     ensures { IfOk result (λ copies. copies.items ≡ source.now) }
 {
     let mut copies = Vec::with_capacity(alloc, source.len())?;
@@ -53,7 +53,7 @@ fn copy_paths(alloc: Global, source: &[Path]) -> Result<Vec<Path>, PathError>
 fn copy_refused(
     alloc: Global,
     source: &[(Refusal, Path)],
-) -> Result<Vec<(Refusal, Path)>, PathError>
+) -> Result<Vec<(Refusal, Path)>, AllocError>
     ensures { IfOk result (λ copies. copies.items ≡ source.now) }
 {
     let mut copies = Vec::with_capacity(alloc, source.len())?;

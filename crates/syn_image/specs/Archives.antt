@@ -12,8 +12,15 @@ use Rattle.syn_wire.specs.Reads.{IsReading, NoneBeginsAnother}
 use Rattle.syn_image.specs.declared.kept.ArchiveImage.{ArchiveImage}
 use Rattle.syn_image.specs.declared.kept.Kept.{Kept}
 use Rattle.syn_image.specs.declared.kept.Kept.TheVariants as has
+use Rattle.syn_image.specs.declared.kept.KeptItem.{KeptItem}
+use Rattle.syn_image.specs.declared.kept.KeptItem.TheVariants as item
 
--- what is kept, as the model has it
+-- what is kept for an item, as the model has it
+abbrev pub kept_for : KeptItem → model.Kept
+kept_for (item.Record path marks) = Recorded path (or_absent marks)
+kept_for (item.Dir path) = RecordedDir path
+
+-- what is kept
 abbrev pub kept_of : Kept → model.Kept
 kept_of (has.Session session) = Session session
 kept_of (has.Record path marks) = Recorded path (or_absent marks)

@@ -32,6 +32,28 @@ pub enum Kept {
     Dir(Path),
 }
 
+/// What is kept for an item of a plan: all but the number of a session.
+#[derive(Debug, Drop)]
+pub enum KeptItem {
+    /// The marks at and below the path, or that nothing is there.
+    Record(Path, Option<MarkTree>),
+    /// A directory is at the path, with what the archive has below it.
+    Dir(Path),
+}
+
+impl From<KeptItem> for Kept {
+    ghost use Rattle.syn_image.specs.Archives.{kept_for, kept_of};
+
+    ghost from_gives = { λ item kept. kept_of kept ≡ kept_for item };
+
+    fn from(item: KeptItem) -> Kept {
+        match item {
+            KeptItem::Record(path, marks) => Kept::Record(path, marks),
+            KeptItem::Dir(path) => Kept::Dir(path),
+        }
+    }
+}
+
 impl Kept {
     /// The same, on its own. Refused where memory is refused.
     pub fn copy(&self, alloc: Global) -> Result<Kept, AllocError>
@@ -48,8 +70,8 @@ impl Kept {
     }
 }
 
-// Equal marks of their own, or none.
-fn copied_marks(alloc: Global, marks: Option<&MarkTree>) -> Result<Option<MarkTree>, AllocError>
+/// Equal marks of their own, or none. Refused where memory is refused.
+pub fn copied_marks(alloc: Global, marks: Option<&MarkTree>) -> Result<Option<MarkTree>, AllocError>
     ensures { IfOk result (λ copy. or_absent copy
         ≡ or_absent (option_map (λ there. there.now) marks.entry)) }
 {

@@ -13,7 +13,7 @@
 //!   `decode_archive` read them, exactly as trees are read. The marks of an image have a directory
 //!   as their root.
 //! - `record_length` and `dir_length` are how many bytes spell a record, before it is spelled and
-//!   without memory. `Kept::copy` is equal.
+//!   without memory. `Kept::copy` is equal, and so are `copied_marks`.
 //! - `is_old_image` and `is_old_archive` tell an image of the first version by how it begins.
 //! - In no version does a spelling of an image, a record or an archive's image begin that of
 //!   another (`image_laws`: `image`, `kept`, `archive`).
@@ -30,8 +30,8 @@ mod kept_reading;
 pub use image::{Image, encode_image, is_old_image};
 pub use image_reading::decode_image;
 pub use kept::{
-    ArchiveImage, Kept, dir_length, encode_archive, encode_dir, encode_kept, encode_record,
-    encode_session, is_old_archive, record_length,
+    ArchiveImage, Kept, KeptItem, copied_marks, dir_length, encode_archive, encode_dir,
+    encode_kept, encode_record, encode_session, is_old_archive, record_length,
 };
 pub use kept_reading::{decode_archive, decode_kept};
 

@@ -5,6 +5,7 @@ use Rattle.std.proofs.Common.{⊎_elim, sym, ap, subst, Option, Some, None, Resu
 use Rattle.std.proofs.Common.{true≢false}
 use Rattle.std.specs.Result.{result_ok}
 use Rattle.std.proofs.lemmas.Option.{same_Some}
+use Rattle.syn_disk.proofs.LeftLemmas.{leaves_weaker}
 use Rattle.syn_disk.specs.Arms.{Arms, after_call}
 use Rattle.syn_disk.specs.Calls.{Makes, MakesAtLeast}
 use Rattle.syn_disk.specs.Stops.{LeavesOnly, Untouched}
@@ -45,15 +46,13 @@ module _ {D : Type 0} (moment : D → ℕ) (left_since : D → ℕ → List ℕ 
         (λ now. inr (inr now)) (second.before t c (omega (arith, le, first.later)) left);
   }
 
-  -- what has P has Q
-  weakened : (old new : D) (P Q : List ℕ → Type 0) → ((c : List ℕ) → P c → Q c) →
-      LeavesOnly moment left_since old new P → LeavesOnly moment left_since old new Q
-  weakened old new P Q leads run = record {
-    later = run.later;
-    each = λ c left. leads c (run.each c left);
-    before =
-        λ t c le left. ⊎_elim (λ was. inl was) (λ now. inr (leads c now)) (run.before t c le left);
-  }
+  -- where nothing was written, nothing else is left
+  pub only_read : (seen : D → List ℕ) (may_leave : D → List ℕ → Type 0) (old new : D)
+      (P : List ℕ → Type 0) → Untouched seen may_leave moment left_since old new →
+      LeavesOnly moment left_since old new (λ bytes. may_leave old bytes ⊎ P bytes)
+  only_read seen may_leave old new P read =
+      leaves_weaker moment left_since old new (may_leave old) _ (λ bytes was. inl was)
+      read.any_moment
 
 one_more : (m n : ℕ) → suc m + n ≡ suc (m + n)
 one_more m n = omega arith
@@ -265,7 +264,7 @@ after_reads {disk = disk} pair gives spelling ended old mid new read same made m
         | inr (inr more) ↦ inr (inr (record {
           same = more.same ∙ read.same;
           nothing_new = λ c left. read.nothing_new c (more.nothing_new c left);
-          any_moment = weakened disk.moment disk.left_since old new _ (disk.may_leave old)
+          any_moment = leaves_weaker disk.moment disk.left_since old new _ (disk.may_leave old)
               (λ c left. ⊎_elim (λ was. was) (λ now. read.nothing_new c now) left)
               (then_leaves disk.moment disk.left_since old mid new (disk.may_leave old)
               (disk.may_leave mid) read.any_moment more.any_moment);
@@ -285,7 +284,7 @@ after_reads {disk = disk} pair gives spelling ended old mid new read same made m
         LeavesOnly disk.moment disk.left_since mid new (λ bytes. disk.may_leave mid bytes ⊎ P
         bytes) → LeavesOnly disk.moment disk.left_since old new (λ bytes. disk.may_leave old bytes
         ⊎ P bytes)
-    runs_on P later = weakened disk.moment disk.left_since old new _ _
+    runs_on P later = leaves_weaker disk.moment disk.left_since old new _ _
         (λ c left. ⊎_elim (λ was. inl was)
         (λ now. ⊎_elim (λ mid. inl (read.nothing_new c mid)) (λ p. inr p) now) left)
         (then_leaves disk.moment disk.left_since old mid new (disk.may_leave old)

@@ -10,7 +10,7 @@ use Rattle.syn_disk.specs.Stops.{LeavesOnly}
 use Rattle.syn_disk.specs.declared.disk.Disk.{Ghosts}
 use Rattle.syn_headline.specs.Coordinator.{archive_layout}
 use Rattle.syn_headline.specs.Machine.{Up, Halted, Down, Meets, unarmed, with_image, after_device}
-use Rattle.syn_headline.specs.Machine.{compacted, not_compacted, room_behind}
+use Rattle.syn_headline.specs.Machine.{compacted, not_compacted, room_after}
 use Rattle.syn_journal.specs.Layout.{HasJournal, image_alone, bytes_left}
 use Rattle.syn_model.specs.Path.{Bytes}
 use Rattle.syn_model.specs.ArchiveImage.{ArchiveStandsFor}
@@ -24,7 +24,7 @@ use Rattle.syn_keep.specs.Tries.{IsShown}
 use Rattle.syn_keep.specs.Steps.{CompactsSo, moves_on, moves_down}
 use Rattle.std.proofs.lemmas.Option.{none-some}
 use Rattle.syn_keep.proofs.MachineLemmas.{may_be}
-use Rattle.syn_recovery.proofs.DiskLemmas.{behind_image, one_value}
+use Rattle.syn_recovery.proofs.DiskLemmas.{after_image, one_value}
 
 -- what a disk has by its image alone may be the machine's
 pub may_be_compacted : (pair : ℕ) (machine : Journal) (bytes : Bytes) (generation : ℕ) →
@@ -67,11 +67,11 @@ module _ {D : Type 0} {disk : Ghosts D} (old new : Archive D disk) (pair : ℕ) 
         (of_pair bytes left).value ≡ image_alone (archive_spelling pair machine.value)
     value_is bytes left = one_value bytes _ _ _ _ (of_pair bytes left).journal (holds bytes left)
 
-    room_is : left_shown new ≡ room_behind (archive_spelling pair machine.value)
+    room_is : left_shown new ≡ room_after (archive_spelling pair machine.value)
     room_is =
         let here = of_pair (disk.seen (disk_of new)) (stays (disk_of new)) in
         sym here.left_is ∙ (ap bytes_left (value_is (disk.seen (disk_of new)) (stays (disk_of new)))
-        ∙ behind_image (archive_spelling pair machine.value))
+        ∙ after_image (archive_spelling pair machine.value))
 
     by_image : (bytes : Bytes) → disk.may_leave (disk_of new) bytes →
         DiskCompacted pair machine.value (generation_shown new) bytes

@@ -30,14 +30,14 @@ use Rattle.syn_model.specs.Mark.{IsMarks}
 use Rattle.syn_model.specs.Path.{Bytes, Path, path_cmp, is_root}
 use Rattle.syn_model.specs.Refusal.{Device, Root, first_cause}
 use Rattle.syn_model.specs.Tree.{absent, IsPart, is_directory, replace, empty_directory}
-use Rattle.syn_recovery.specs.Calls.{MadeCallsMeet, StopsBehind, BrokenCallsMeet}
+use Rattle.syn_recovery.specs.Calls.{MadeCallsMeet, StopsAfter, BrokenCallsMeet}
 use Rattle.syn_refusal.specs.declared.refusal.Refusal.TheVariants as refusal
 use Rattle.syn_keep.specs.Machines.{Journal, Runs, IsMachine}
 use Rattle.syn_keep.specs.declared.due.Due.{Due}
 use Rattle.syn_keep.specs.declared.due.Due.TheVariants.{Ends}
 use Rattle.syn_keep.specs.Due.{IsReady, MakesRoom, has_some, makes_some, Settles, recorded}
 use Rattle.syn_keep.specs.Due.{no_checkpoint, checkpoint_breaks, record_breaks, no_memory}
-use Rattle.syn_keep.specs.Due.{no_memory_behind}
+use Rattle.syn_keep.specs.Due.{no_memory_after}
 use Rattle.syn_keep.specs.inner.Recording.{Writes, written, Checkpoints, at_greatest, MakesRoomNow}
 use Rattle.syn_keep.specs.inner.Recording.{has_made, made_none, ended_by}
 use Rattle.syn_keep.specs.inner.Recording as step
@@ -68,32 +68,17 @@ nothing_marks =
 
 -- ---- whether it is for the device
 
-is_device : ArchiveError → Bool
-is_device error.Device = true
-is_device _ = false
-
-not_device : (e : ArchiveError) → is_device e ≡ false → e ≢ error.Device
-unfolding is_device
-not_device e other device = false≢true (sym other ∙ ap is_device device)
-
-pub device_or_other : (e : ArchiveError) →
-    (e ≡ error.Device) ⊎ ((e ≢ error.Device) × (ended_by e ≡ Ends refusal.Memory))
-unfolding is_device
+pub device_or_other : (e : ArchiveError) → (e ≡ error.Device) ⊎ (e ≢ error.Device)
 device_or_other error.Device = inl refl
-device_or_other error.NoParent = inr (not_device error.NoParent refl, refl)
-device_or_other error.Root = inr (not_device error.Root refl, refl)
-device_or_other error.Full = inr (not_device error.Full refl, refl)
-device_or_other error.JournalFull = inr (not_device error.JournalFull refl, refl)
-device_or_other error.Halted = inr (not_device error.Halted refl, refl)
-device_or_other error.Memory = inr (not_device error.Memory refl, refl)
-device_or_other error.NoImage = inr (not_device error.NoImage refl, refl)
-device_or_other error.OldVersion = inr (not_device error.OldVersion refl, refl)
-device_or_other error.Damaged = inr (not_device error.Damaged refl, refl)
-device_or_other error.WrongPair = inr (not_device error.WrongPair refl, refl)
+device_or_other _ = inr (λ is. cc)
+
+-- each other error ends what is due for lack of memory
+pub other_ends : (e : ArchiveError) → e ≢ error.Device → ended_by e ≡ Ends refusal.Memory
+other_ends error.Device other = absurd (other refl)
+other_ends _ other = refl
 
 pub full_no_device : error.Full ≢ error.Device
-unfolding is_device
-full_no_device = not_device error.Full refl
+full_no_device is = cc
 
 pub is_greatest : (n : ℕ) → n + 1 ≡ 2 ^ 64 → nat_le greatest n ≡ true
 is_greatest n e = grind (arith, nat_tests)
@@ -179,8 +164,8 @@ module _ {D : Type 0} {disk : Ghosts D} (old new : Archive D disk) (pair : ℕ) 
               (step.breaks (kept_failed old new pair machine kept is was written_now
               (subst (λ x. Ended old new (Some kept) (Some (refusal_of x))) device ended) ready.can
               counts (moments machine.value was.stands) broken))
-          | inr other ↦ subst (Writes new pair machine kept) (sym other.1)
-              (step.no_memory (stays e other.0 ended.unchanged ended.readings))
+          | inr other ↦ subst (Writes new pair machine kept) (sym (other_ends e other))
+              (step.no_memory (stays e other ended.unchanged ended.readings))
         ]
 
     pub write_made : Ended old new (Some kept) None → ((before : model.Archive) →
@@ -188,12 +173,12 @@ module _ {D : Type 0} {disk : Ghosts D} (old new : Archive D disk) (pair : ℕ) 
         ((after : model.Archive) → Stands new after → (bytes : Bytes) →
         disk.may_leave (disk_of new) bytes →
         DiskKeeps (pair_of new) after (left_shown new) (generation_shown new) bytes) →
-        MadeCallsMeet → StopsBehind → KeepsSo new pair machine kept (kept ∷ []) Up
-    write_made ended acknowledged on_disk made behind =
+        MadeCallsMeet → StopsAfter → KeepsSo new pair machine kept (kept ∷ []) Up
+    write_made ended acknowledged on_disk made later =
         let was = when_up old pair machine is ready.up in
         let stands = acknowledged machine.value was.stands in
         kept_ok old new pair machine kept is was written_now stands ended (on_disk _ stands) made
-        behind
+        later
 
   -- a directory that is recorded already is not written
   module _ (path : Path) (ready : IsReady machine (RecordedDir path)) where
@@ -264,7 +249,7 @@ module _ {D : Type 0} {disk : Ghosts D} (new : Archive D disk) (pair : ℕ) (mac
       record_breaks made between ready room has keeps
   settled made between (has_some enough) has due (step.no_memory is) = no_memory is
   settled made between (makes_some new none less compacts up) has due (step.no_memory is) =
-      no_memory_behind between ready (makes_some new none less compacts up) is
+      no_memory_after between ready (makes_some new none less compacts up) is
 
   pub ready_still : (between : Journal) → Compacts (archive_layout pair) machine between →
       between.status ≡ Up → IsReady between kept
@@ -288,16 +273,16 @@ module _ {D : Type 0} {disk : Ghosts D} (new : Archive D disk) (pair : ℕ) (mac
 
 -- after a checkpoint the machine goes on, or was stopped
 module _ {D : Type 0} {disk : Ghosts D} (new : Archive D disk) (pair : ℕ) (machine : Journal) where
-  pub stopped_behind : is_stopped (disk.arms (disk_of new)) ≡ true →
+  pub stopped_after : is_stopped (disk.arms (disk_of new)) ≡ true →
       Checkpoints new pair machine None → Checkpoints new pair machine (Some (Ends refusal.Device))
-  stopped_behind stopped (step.made less (moves_on between compacts up is)) =
+  stopped_after stopped (step.made less (moves_on between compacts up is)) =
       absurd (false≢true (sym is.goes ∙ stopped))
-  stopped_behind stopped (step.made less (moves_down between compacts cut down leaves)) =
+  stopped_after stopped (step.made less (moves_down between compacts cut down leaves)) =
       step.breaks less (moves_down between compacts cut down leaves)
 
-  pub goes_on_behind : is_stopped (disk.arms (disk_of new)) ≡ false →
+  pub goes_on_after : is_stopped (disk.arms (disk_of new)) ≡ false →
       Checkpoints new pair machine None → MakesRoomNow new pair machine None
-  goes_on_behind goes (step.made less (moves_on between (compacts, _) up is)) =
+  goes_on_after goes (step.made less (moves_on between (compacts, _) up is)) =
       has_made between less compacts up is
-  goes_on_behind goes (step.made less (moves_down between compacts cut down leaves)) =
+  goes_on_after goes (step.made less (moves_down between compacts cut down leaves)) =
       absurd (false≢true (sym goes ∙ cut))

@@ -8,13 +8,13 @@ use Rattle.syn_archive.specs.Calls.{Writes}
 use Rattle.syn_archive.specs.declared.archive.Archive.{Archive}
 use Rattle.syn_disk.specs.Stops.{LeavesOnly}
 use Rattle.syn_disk.specs.declared.disk.Disk.{Ghosts}
-use Rattle.syn_headline.specs.Coordinator.{archive_layout, writes, cut_behind}
+use Rattle.syn_headline.specs.Coordinator.{archive_layout, writes, cut_after}
 use Rattle.syn_headline.specs.Machine.{Up, Halted, Down, Status, Arms, Meets, unarmed, with_record}
 use Rattle.syn_headline.specs.Machine.{after_device, cut, IsBefore, written, unwritten}
 use Rattle.syn_model.specs.Path.{Bytes}
 use Rattle.syn_model.specs.Archive.{Kept, CanKeep, after_kept}
 use Rattle.syn_model.specs.Refusal.{Device}
-use Rattle.syn_recovery.specs.Calls.{armed_at, goes_on, goes_down, MadeCallsMeet, StopsBehind}
+use Rattle.syn_recovery.specs.Calls.{armed_at, goes_on, goes_down, MadeCallsMeet, StopsAfter}
 use Rattle.syn_recovery.specs.Calls.{BrokenCallsMeet}
 use Rattle.syn_recovery.specs.Machines.{of_archive}
 use Rattle.syn_recovery.specs.Meaning.{MayBeOf, as_kept, with_record as has_record}
@@ -97,8 +97,8 @@ module _ {D : Type 0} {disk : Ghosts D} (old new : Archive D disk) (pair : ℕ) 
       exactly = λ what is. absurd (none-some _ (sym idle ∙ is));
     }
 
-    pub kept_ok : MadeCallsMeet → StopsBehind → KeepsSo new pair machine kept (kept ∷ []) Up
-    kept_ok made behind =
+    pub kept_ok : MadeCallsMeet → StopsAfter → KeepsSo new pair machine kept (kept ∷ []) Up
+    kept_ok made after =
         elim (made 4 (disk.arms (disk_of old)) (disk.arms (disk_of new)) is.goes ended.device.arms)
         as (λ _. KeepsSo new pair machine kept (kept ∷ []) Up) [
           | goes_on goes meets ↦ moves_on
@@ -125,10 +125,10 @@ module _ {D : Type 0} {disk : Ghosts D} (old new : Archive D disk) (pair : ℕ) 
                 leaves = leaves_record _ refl refl refl;
               })
           | goes_down down meets ↦
-              let stop = behind 4 (disk.arms (disk_of old))
+              let stop = after 4 (disk.arms (disk_of old))
               (disk.arms (disk_of new)) is.goes ended.device.arms down in
               moves_down (cut (with_record (archive_layout pair) machine kept unarmed)) (
-                cut_behind written_now (subst (λ a. IsBefore 4 a.fail) is.armed stop.1)
+                cut_after written_now (subst (λ a. IsBefore 4 a.fail) is.armed stop.1)
                     (ap (λ a. a.stop) (sym is.armed) ∙ stop.0),
                 shows_record _ refl refl was.idle,
               ) down refl

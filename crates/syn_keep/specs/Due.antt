@@ -80,6 +80,6 @@ pub data Settles {D : Type 0} {disk : Ghosts D} (new : Archive D disk) (pair : �
       has_room (archive_layout pair) between kept ≡ false → IsMachine new pair between →
       Settles new pair machine kept (Ends refusal.JournalFull)
   no_memory : IsMachine new pair machine → Settles new pair machine kept (Ends refusal.Memory)
-  no_memory_behind : (between : Journal) → IsReady machine kept →
+  no_memory_after : (between : Journal) → IsReady machine kept →
       MakesRoom pair machine kept true between → IsMachine new pair between →
       Settles new pair machine kept (Ends refusal.Memory)

@@ -1,5 +1,5 @@
 //! A record that is due for an item of the plan.
-ghost use Rattle.std.specs.Prelude.{◌≡◌, ◌≢◌, ◌||◌, ◌<◌, ◌^◌, ℕ, nat_le, IfErr, IfOk, None, Some};
+ghost use Rattle.std.specs.Prelude.{◌≡◌, ◌≢◌, ◌||◌, ◌<◌, ◌^◌, ℕ, nat_le, None, Some};
 ghost use Rattle.std.specs.Prelude.{false, option_map};
 ghost use Rattle.syn_archive.specs.Archive.{disk_of, left_shown, marks_shown, pair_of, shown};
 ghost use Rattle.syn_archive.specs.Disks.{kept_size};
@@ -12,22 +12,21 @@ ghost use Rattle.syn_keep.specs.Due.{CountsFailures, CountsFailuresOrStops};
 ghost use Rattle.syn_keep.specs.Machines.{IsMachine, Journal};
 ghost use Rattle.syn_keep.specs.inner.Recording.{Checkpoints, MakesRoomNow, Writes, ended_by};
 ghost use Rattle.syn_mark.specs.Marks.{or_absent};
-ghost use Rattle.syn_model.specs.Archive.{IsLawfulKept, IsOfItem, Recorded as RecordOf};
+ghost use Rattle.syn_model.specs.Archive.{IsLawfulKept, Recorded as RecordOf};
 ghost use Rattle.syn_model.specs.Archive.{RecordedDir, kept_refusal};
 ghost use Rattle.syn_model.specs.Mark.{IsMarks};
 ghost use Rattle.syn_model.specs.Tree.{is_directory};
 ghost use Rattle.syn_refusal.specs.Refusals.{cause_of};
-ghost use Rattle.syn_image.specs.Archives.{kept_of};
+ghost use Rattle.syn_image.specs.Archives.{kept_for};
 
 use std::alloc::Global;
 use syn_archive::{Archive, ArchiveError};
 use syn_disk::Disk;
-use syn_image::{Kept, dir_length, record_length};
+use syn_image::{KeptItem, copied_marks, dir_length, record_length};
 use syn_mark::{Mark, MarkTree};
 use syn_path::Path;
 use syn_recovery::device_laws;
 use syn_refusal::Refusal;
-use syn_tree::TreeError;
 
 /// What became of a record that was due.
 #[derive(Clone, Copy, Debug, PartialEq, Eq)]
@@ -48,10 +47,9 @@ pub enum Due {
 /// The session ends 10 where the archive is halted, 9 where a device call fails or the machine is
 /// stopped after the checkpoint, 8 where that leaves no room either, and 11 where memory is
 /// refused. An item that is refused leaves the archive as it was.
-pub fn keep_due<D: Disk>(alloc: Global, archive: &mut Archive<D>, kept: &Kept) -> Due
-    requires { IsOfItem (kept_of kept.now) }
+pub fn keep_due<D: Disk>(alloc: Global, archive: &mut Archive<D>, kept: &KeptItem) -> Due
     ensures settles { (pair : ℕ) (machine : Journal) → IsMachine archive.old pair machine
-        → Settles archive.new pair machine (kept_of kept.now) result }
+        → Settles archive.new pair machine (kept_for kept.now) result }
     ensures failures { CountsFailuresOrStops result
         (is_stopped (D.Disk.arms (disk_of archive.new)))
         (D.Disk.failures (disk_of archive.old)) (D.Disk.failures (disk_of archive.new)) }
@@ -66,17 +64,16 @@ pub fn keep_due<D: Disk>(alloc: Global, archive: &mut Archive<D>, kept: &Kept) -
     match refusal_for(archive, kept) {
         Some(why) => Due::Refused(why),
         None if has_room(archive, kept) => write(alloc, archive, kept),
-        None => write_behind(alloc, archive, kept),
+        None => write_after(alloc, archive, kept),
     }
 }
 
 /// Records after a checkpoint what the archive does not refuse and has no room for.
-fn write_behind<D: Disk>(alloc: Global, archive: &mut Archive<D>, kept: &Kept) -> Due
-    requires { IsOfItem (kept_of kept.now) }
+fn write_after<D: Disk>(alloc: Global, archive: &mut Archive<D>, kept: &KeptItem) -> Due
     ensures settles { (pair : ℕ) (machine : Journal) → IsMachine archive.old pair machine
-        → IsReady machine (kept_of kept.now)
-        → has_room (archive_layout pair) machine (kept_of kept.now) ≡ false
-        → Settles archive.new pair machine (kept_of kept.now) result }
+        → IsReady machine (kept_for kept.now)
+        → has_room (archive_layout pair) machine (kept_for kept.now) ≡ false
+        → Settles archive.new pair machine (kept_for kept.now) result }
     ensures failures { CountsFailuresOrStops result
         (is_stopped (D.Disk.arms (disk_of archive.new)))
         (D.Disk.failures (disk_of archive.old)) (D.Disk.failures (disk_of archive.new)) }
@@ -92,16 +89,15 @@ fn write_behind<D: Disk>(alloc: Global, archive: &mut Archive<D>, kept: &Kept) -
 }
 
 /// It can be kept in an archive, if the archive does not refuse it.
-fn is_lawful(kept: &Kept)
-    ensures { IsLawfulKept (kept_of kept.now) }
+fn is_lawful(kept: &KeptItem)
+    ensures { IsLawfulKept (kept_for kept.now) }
 {
     match kept {
-        Kept::Session(_) => {}
-        Kept::Record(path, marks) => {
+        KeptItem::Record(path, marks) => {
             let _ = path.names();
             are_lawful(marks.as_ref());
         }
-        Kept::Dir(path) => {
+        KeptItem::Dir(path) => {
             let _ = path.names();
         }
     }
@@ -120,17 +116,15 @@ fn are_lawful(marks: Option<&MarkTree>)
 }
 
 /// Why the archive refuses the record of an item, but for its journal and its device.
-pub fn refusal_for<D: Disk>(archive: &Archive<D>, kept: &Kept) -> Option<Refusal>
-    requires { IsOfItem (kept_of kept.now) }
-    ensures { option_map cause_of result ≡ kept_refusal (shown archive.now) (kept_of kept.now) }
+pub fn refusal_for<D: Disk>(archive: &Archive<D>, kept: &KeptItem) -> Option<Refusal>
+    ensures { option_map cause_of result ≡ kept_refusal (shown archive.now) (kept_for kept.now) }
 {
     match kept {
-        Kept::Session(_) => unreachable!(),
-        Kept::Record(path, marks) => match archive.fits(path, marks.as_ref()) {
+        KeptItem::Record(path, marks) => match archive.fits(path, marks.as_ref()) {
             Ok(()) => None,
             Err(error) => Some(error.refusal()),
         },
-        Kept::Dir(path) => refusal_for_dir(archive, path),
+        KeptItem::Dir(path) => refusal_for_dir(archive, path),
     }
 }
 
@@ -158,15 +152,13 @@ fn has_dir<D: Disk>(archive: &Archive<D>, path: &Path) -> bool
 }
 
 /// Whether the record need not be written, or fits into what the journal has left.
-fn has_room<D: Disk>(archive: &Archive<D>, kept: &Kept) -> bool
-    requires { IsOfItem (kept_of kept.now) }
-    ensures { result ≡ (is_recorded (shown archive.now) (kept_of kept.now)
-        || nat_le (kept_size (kept_of kept.now)) (left_shown archive.now)) }
+fn has_room<D: Disk>(archive: &Archive<D>, kept: &KeptItem) -> bool
+    ensures { result ≡ (is_recorded (shown archive.now) (kept_for kept.now)
+        || nat_le (kept_size (kept_for kept.now)) (left_shown archive.now)) }
 {
     match kept {
-        Kept::Session(_) => unreachable!(),
-        Kept::Record(path, marks) => record_length(path, marks.as_ref()) <= archive.room(),
-        Kept::Dir(path) => has_dir(archive, path) || dir_length(path) <= archive.room(),
+        KeptItem::Record(path, marks) => record_length(path, marks.as_ref()) <= archive.room(),
+        KeptItem::Dir(path) => has_dir(archive, path) || dir_length(path) <= archive.room(),
     }
 }
 
@@ -224,16 +216,7 @@ fn ending(error: ArchiveError) -> Due
 {
     match error {
         ArchiveError::Device => Due::Ends(Refusal::Device),
-        ArchiveError::NoParent
-        | ArchiveError::Root
-        | ArchiveError::Full
-        | ArchiveError::JournalFull
-        | ArchiveError::Halted
-        | ArchiveError::Memory
-        | ArchiveError::NoImage
-        | ArchiveError::OldVersion
-        | ArchiveError::Damaged
-        | ArchiveError::WrongPair => Due::Ends(Refusal::Memory),
+        _ => Due::Ends(Refusal::Memory),
     }
 }
 
@@ -245,35 +228,21 @@ fn is_long(number: u64)
 }
 
 /// Writes the record of an item, which the archive does not refuse.
-fn write<D: Disk>(alloc: Global, archive: &mut Archive<D>, kept: &Kept) -> Due
-    requires { IsOfItem (kept_of kept.now) }
+fn write<D: Disk>(alloc: Global, archive: &mut Archive<D>, kept: &KeptItem) -> Due
     ensures writes { (pair : ℕ) (machine : Journal) → IsMachine archive.old pair machine
-        → IsReady machine (kept_of kept.now)
-        → Writes archive.new pair machine (kept_of kept.now) result }
+        → IsReady machine (kept_for kept.now)
+        → Writes archive.new pair machine (kept_for kept.now) result }
     ensures failures { CountsFailures result (D.failures (disk_of archive.old))
         (D.failures (disk_of archive.new)) }
     ensures unrefused { (why : Refusal) → result ≢ Due.Refused why }
     ensures pair { pair_of archive.new ≡ pair_of archive.old }
 {
     match kept {
-        Kept::Session(_) => unreachable!(),
-        Kept::Record(path, marks) => match copied(alloc, marks.as_ref()) {
+        KeptItem::Record(path, marks) => match copied_marks(alloc, marks.as_ref()) {
             Ok(copy) => write_record(alloc, archive, path, copy),
             Err(_) => Due::Ends(Refusal::Memory),
         },
-        Kept::Dir(path) => write_dir(alloc, archive, path),
-    }
-}
-
-/// Equal marks of their own, or none. Refused 11 where memory is refused.
-fn copied(alloc: Global, marks: Option<&MarkTree>) -> Result<Option<MarkTree>, TreeError>
-    ensures ok { IfOk result (λ copy. or_absent copy
-        ≡ or_absent (option_map (λ there. there.now) marks.entry)) }
-    ensures memory { IfErr result (λ e. e ≡ TreeError.Memory) }
-{
-    match marks {
-        None => Ok(None),
-        Some(there) => Ok(Some(there.copy(alloc)?)),
+        KeptItem::Dir(path) => write_dir(alloc, archive, path),
     }
 }
 

@@ -65,15 +65,15 @@ pub(crate) fn first_body(bytes: &[u8]) -> Result<Option<&[u8]>, LinkError>
     ensures too_large { (result ≡ Err LinkError.TooLarge) ↔ ClaimsTooMuch bytes.now }
     ensures other { IfErr result (λ e. (e ≡ LinkError.BadFrame) ⊎ (e ≡ LinkError.TooLarge)) }
 {
-    let Some((length, behind)) = read_u32(bytes) else {
+    let Some((length, rest)) = read_u32(bytes) else {
         return Ok(None);
     };
     syn_wire::spelling_laws();
     let length = length as usize;
     check_length(length)?;
-    if behind.len() < length {
+    if rest.len() < length {
         return Ok(None);
     }
-    let (body, _) = behind.split_at(length);
+    let (body, _) = rest.split_at(length);
     Ok(Some(body))
 }

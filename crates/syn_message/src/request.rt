@@ -46,7 +46,7 @@ pub enum Request {
 
 impl Request {
     /// The first byte of its body.
-    fn kind(&self) -> u8
+    pub fn kind(&self) -> u8
         ensures { result ≡ kind_of (request_of self.now) }
     {
         match self {

@@ -1,6 +1,7 @@
 //! What a user asks of a served replica.
 ghost use Rattle.std.specs.Prelude.{◌≡◌, IfOk};
-ghost use Rattle.syn_message.specs.Users.{IsLawfulWished, wished_of, wished_spelling};
+ghost use Rattle.syn_message.specs.Users.{IsLawfulWished, wish_kind, wish_of, wished_of};
+ghost use Rattle.syn_message.specs.Users.{wished_spelling};
 
 use crate::head::write_head;
 use crate::kind::{EDIT, GET};
@@ -18,6 +19,18 @@ pub enum UserRequest {
     Get { path: Path },
 }
 
+impl UserRequest {
+    /// The first byte of its body.
+    pub fn kind(&self) -> u8
+        ensures { result ≡ wish_kind (wish_of self.now) }
+    {
+        match self {
+            UserRequest::Edit { .. } => EDIT,
+            UserRequest::Get { .. } => GET,
+        }
+    }
+}
+
 /// A user's request with its number. It belongs to no session.
 #[derive(Debug, Drop)]
 pub struct AskedByUser {
@@ -33,15 +46,12 @@ pub fn encode_user_request(alloc: Global, asked: &AskedByUser) -> Result<Vec<u8>
     ensures { IfOk result (λ body. body.items ≡ wished_spelling (wished_of asked.now)) }
 {
     let mut body = Vec::new(alloc);
+    write_head(&mut body, asked.request.kind(), 0, asked.number)?;
     match &asked.request {
         UserRequest::Edit { user, edit } => {
-            write_head(&mut body, EDIT, 0, asked.number)?;
             body.extend_from_slice(&encode_edit(alloc, *user, edit)?)?;
         }
-        UserRequest::Get { path } => {
-            write_head(&mut body, GET, 0, asked.number)?;
-            write_path(&mut body, path)?;
-        }
+        UserRequest::Get { path } => write_path(&mut body, path)?,
     }
     Ok(body)
 }

@@ -1,7 +1,7 @@
 -- The replies of a side, one after another.
-use Rattle.std.proofs.Common.{◌≡◌, ◌++◌, ◌∷◌, [], ℕ, zero, suc, Bool, true, false}
+use Rattle.std.proofs.Common.{◌≡◌, ◌⊎◌, ◌<◌, ◌+◌, ◌++◌, ◌∷◌, [], ℕ, zero, suc, Bool, true, false}
 use Rattle.std.proofs.Common.{cond, not, Some, None, refl, sym, ap, ap₂, ◌∙◌, subst}
-use Rattle.std.proofs.Common.{arith}
+use Rattle.std.proofs.Common.{arith, inl, inr, length, length-append}
 use Rattle.std.proofs.lemmas.List.{map-append}
 use Rattle.std.specs.Prelude.{◌&&◌, Contains}
 use Rattle.syn_headline.specs.Network.{Which, Left}
@@ -11,7 +11,10 @@ use Rattle.syn_model.specs.Dirty.{IsScanBy}
 use Rattle.syn_model.specs.Path.{Path}
 use Rattle.syn_model.proofs.PathLemmas.{path_itself}
 use Rattle.syn_print.specs.Listings.{GaveReplies, IsScanned, Replies, SaysListed, SaysNone}
-use Rattle.syn_print.specs.inner.Asking.{IsAsked, exchanges_of}
+use Rattle.syn_model.specs.Limits.{most_nodes}
+use Rattle.syn_model.specs.Refusal.{Refusal, Memory, TooLarge}
+use Rattle.syn_print.specs.Listings.{NotScanned, endless, ended, exchanges_of, fault_after, refused}
+use Rattle.syn_print.specs.inner.Asking.{IsAsked}
 use Rattle.syn_scan.specs.Asked.{AreAllOut, handed_out, is_out, without}
 use Rattle.syn_scan.specs.Found.{Found, IsWhole, is_open, position_of, scan_of}
 use Rattle.syn_session.specs.Scanning.{Exchanges, IsFoundIn, WaitsFor, WasListedAt}
@@ -44,56 +47,105 @@ module _ {S : Type 0} (lists : S → Path → Reply → S → Type 0) where
   gave_more old now new (first ∷ more) path reply (between, is, rest) one =
       (between, is, gave_more between now new more path reply rest one)
 
+  -- as many replies were taken
+  pub record AskedTimes (old : S) (scan : SideScan) (now : S) (times : ℕ) : Type 0 where
+    pub asked : IsAsked lists old scan now
+    pub count : length asked.replies ≡ times
+
   pub none_asked : (side : S) (scan : SideScan)
       → ((which : Which) → IsFoundIn (found_of scan) which []) → out_of scan ≡ []
-      → IsAsked lists side scan side
-  none_asked side scan found out =
-      record { replies = []; gave = refl; found = found; none_out = out }
+      → AskedTimes side scan side 0
+  none_asked side scan found out = record {
+    asked = record { replies = []; gave = refl; found = found; none_out = out };
+    count = refl;
+  }
 
-  -- a path was handed out, and the reply to it was taken
+  -- a path was handed out, which alone waits
+  waits_alone : (scan asked : SideScan) (path : Path) → out_of scan ≡ []
+      → out_of asked ≡ handed_out (out_of scan) (Some path) → out_of asked ≡ path ∷ []
+  waits_alone scan asked path none out = out ∙ ap (λ ps. ps ++ path ∷ []) none
+
+  pub waits : (scan asked : SideScan) (path : Path) → out_of scan ≡ []
+      → out_of asked ≡ handed_out (out_of scan) (Some path) → WaitsFor asked path
+  waits scan asked path none out =
+      contains_out (out_of asked) path
+      (subst (λ ps. Contains ps path) (sym (waits_alone scan asked path none out))
+      (0, omega arith, refl))
+
+  -- and the reply to it was taken
   pub one_asked : (old now new : S) (scan asked taken : SideScan) (path : Path) (reply : Reply)
-      → IsAsked lists old scan now → found_of asked ≡ found_of scan
+      (times : ℕ) → AskedTimes old scan now times → found_of asked ≡ found_of scan
       → out_of asked ≡ handed_out (out_of scan) (Some path) → lists now path reply new
       → ((side : Which) (before : Exchanges) → WaitsFor asked path
       → IsFoundIn (found_of asked) side before
       → IsFoundIn (found_of taken) side (with_listing_answered before side 0 path reply))
-      → out_of taken ≡ without (out_of asked) path → IsAsked lists old taken new
-  one_asked old now new scan asked taken path reply so_far same out gave takes left =
-      let alone : out_of asked ≡ path ∷ [] =
-      out ∙ ap (λ ps. ps ++ path ∷ []) so_far.none_out in
-      let waits : WaitsFor asked path = contains_out (out_of asked) path
-      (subst (λ ps. Contains ps path) (sym alone) (0, omega arith, refl)) in
+      → out_of taken ≡ without (out_of asked) path → AskedTimes old taken new (times + 1)
+  one_asked old now new scan asked taken path reply times has same out gave takes left =
+      let so_far = has.asked in
+      let alone = waits_alone scan asked path so_far.none_out out in
       record {
-        replies = so_far.replies ++ (path, reply) ∷ [];
-        gave = gave_more old now new so_far.replies path reply so_far.gave gave;
-        found = λ side.
-            subst (IsFoundIn (found_of taken) side)
-            (sym (map-append (λ (one : Path × Reply). record {
-              side = side;
-              number = 0;
-              request = ListAt one.0;
-              reply = one.1;
-            }) so_far.replies ((path, reply) ∷ [])))
-            (takes side (exchanges_of side so_far.replies) waits
-            (subst (λ (f : Found). IsFoundIn f side (exchanges_of side so_far.replies)) (sym same)
-            (so_far.found side)));
-        none_out = left ∙ (ap (λ ps. without ps path) alone ∙ none_left);
+        asked = record {
+          replies = so_far.replies ++ (path, reply) ∷ [];
+          gave = gave_more old now new so_far.replies path reply so_far.gave gave;
+          found = λ side.
+              subst (IsFoundIn (found_of taken) side)
+              (sym (map-append (λ (one : Path × Reply). record {
+                side = side;
+                number = 0;
+                request = ListAt one.0;
+                reply = one.1;
+              }) so_far.replies ((path, reply) ∷ [])))
+              (takes side (exchanges_of side so_far.replies)
+              (waits scan asked path so_far.none_out out)
+              (subst (λ (f : Found). IsFoundIn f side (exchanges_of side so_far.replies)) (sym same)
+              (so_far.found side)));
+          none_out = left ∙ (ap (λ ps. without ps path) alone ∙ none_left);
+        };
+        count = length-append so_far.replies ((path, reply) ∷ []) ∙ ap (λ n. n + 1) has.count;
       }
     where
       none_left : without (path ∷ []) path ≡ []
       none_left = ap (λ b. cond (not b) (path ∷ []) []) (path_itself path)
 
   -- where nothing is left to ask for, all was answered
-  pub all_asked : (old now : S) (scan next : SideScan) → IsAsked lists old scan now
+  pub all_asked : (old now : S) (scan next : SideScan) (times : ℕ) → AskedTimes old scan now times
       → found_of next ≡ found_of scan → out_of next ≡ handed_out (out_of scan) None
       → IsAsked lists old next now
-  all_asked old now scan next so_far same out = record {
+  all_asked old now scan next times has same out = let so_far = has.asked in record {
     replies = so_far.replies;
     gave = so_far.gave;
     found = λ side. subst (λ (f : Found). IsFoundIn f side (exchanges_of side so_far.replies))
         (sym same) (so_far.found side);
     none_out = out ∙ so_far.none_out;
   }
+
+  -- the next listing is refused, or the reply to it ends a session, or too many were asked
+  module _ (refuses : S → Path → Refusal → S → Type 0) (old now new : S) (scan : SideScan)
+      (times : ℕ) (has : AskedTimes old scan now times) (why : Refusal) where
+    pub refused_so : (path : Path) → refuses now path why new
+        → NotScanned lists refuses old why new
+    refused_so path is = refused has.asked.replies now path has.asked.gave is
+
+    pub ended_so : (asked : SideScan) (path : Path) (reply : Reply)
+        → found_of asked ≡ found_of scan → out_of asked ≡ handed_out (out_of scan) (Some path)
+        → lists now path reply new → (WaitsFor asked path
+        → IsFoundIn (found_of asked) Left (exchanges_of Left has.asked.replies)
+        → (why ≡ Memory) ⊎ (fault_after has.asked.replies path reply ≡ Some why))
+        → (why ≡ Memory) ⊎ NotScanned lists refuses old why new
+    ended_so asked path reply same out gave takes =
+        elim (takes (waits scan asked path has.asked.none_out out)
+        (subst (λ (f : Found). IsFoundIn f Left (exchanges_of Left has.asked.replies)) (sym same)
+        (has.asked.found Left))) [
+          | inl memory ↦ inl memory
+          | inr fault ↦ inr (ended has.asked.replies now path reply has.asked.gave gave fault)
+        ]
+
+    pub endless_so : new ≡ now → most_nodes < times → why ≡ TooLarge
+        → NotScanned lists refuses old why new
+    endless_so same many is =
+        endless has.asked.replies
+        (subst (λ s. GaveReplies lists old has.asked.replies s) (sym same) has.asked.gave)
+        (subst (λ n. most_nodes < n) (sym has.count) many) is
 
   -- the scan that it is then
   pub scanned : (old new : S) (scan : SideScan) (shown : Found) → shown ≡ found_of scan

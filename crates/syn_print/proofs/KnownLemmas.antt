@@ -74,10 +74,10 @@ pub told_in_all : (none one two all : List Logged) (older newer touches : List T
     → entries_of two ≡ entries_of one ++ touched newer → older ++ newer ≡ touches
     → first ≡ position → entries_of all ≡ entries_of two ++ events_from first events
     → entries_of all ≡ touched touches ++ events_from position events
-told_in_all none one two all older newer touches first position events nothing before behind are at
-    told =
+told_in_all none one two all older newer touches first position events nothing had_older had_newer
+    are at told =
     let had : entries_of two ≡ touched touches =
-    behind ∙ (ap (λ es. es ++ touched newer) (before
+    had_newer ∙ (ap (λ es. es ++ touched newer) (had_older
     ∙ ap (λ ls. entries_of ls ++ touched older) nothing)
     ∙ (sym (map-append (λ (touch : Touch). (touch.position + 1, OfPath touch.path)) older newer)
     ∙ ap touched are)) in

@@ -3,5 +3,6 @@ mod OrderLemmas
 mod ImageLemmas
 mod EventLemmas
 mod KnownLemmas
+mod DamageLemmas
 mod AskedLemmas
 mod ShownLemmas

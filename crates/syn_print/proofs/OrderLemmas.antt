@@ -27,9 +27,9 @@ abbrev head_or : {X : Type 0} → X → List X → X
 head_or d [] = d
 head_or d (x ∷ xs) = x
 
-abbrev behind : {X : Type 0} → List X → List X
-behind [] = []
-behind (x ∷ xs) = xs
+abbrev others_of : {X : Type 0} → List X → List X
+others_of [] = []
+others_of (x ∷ xs) = xs
 
 abbrev has_head : {X : Type 0} → List X → Bool
 has_head [] = false
@@ -40,7 +40,7 @@ not_empty x xs h = true≢false (ap has_head h)
 
 without : {X : Type 0} (t : Bool) (x : X) (xs ys : List X)
     → cond t (x ∷ xs) xs ≡ cond t (x ∷ ys) ys → xs ≡ ys
-without true x xs ys h = ap behind h
+without true x xs ys h = ap others_of h
 without false x xs ys h = h
 
 module _ {X : Type 0} (lt : X → X → Bool) where

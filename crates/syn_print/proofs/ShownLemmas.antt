@@ -1,5 +1,5 @@
 -- A side that replies by one history shows its tree.
-use Rattle.std.proofs.Common.{◌≡◌, ◌≢◌, ◌++◌, ◌∷◌, [], ℕ, List, zero, suc, true}
+use Rattle.std.proofs.Common.{◌≡◌, ◌≢◌, ◌⊎◌, ◌++◌, ◌∷◌, [], ℕ, List, zero, suc, true}
 use Rattle.std.proofs.Common.{false}
 use Rattle.std.proofs.Common.{None, option_map, length, refl, sym, ap, ap₂, ◌∙◌, subst, arith}
 use Rattle.std.proofs.Common.{append_assoc, append-nil, true≢false, inl, inr}
@@ -17,13 +17,14 @@ use Rattle.syn_model.specs.Limits.{children}
 use Rattle.syn_model.specs.Mark.{mark, mark_of}
 use Rattle.syn_model.specs.Path.{Name, Path, child}
 use Rattle.syn_model.specs.Plan.{scan_of as scan_of_tree}
-use Rattle.syn_model.specs.Refusal.{Device}
+use Rattle.syn_model.specs.Refusal.{Device, Refusal}
 use Rattle.syn_model.specs.Tree.{Content, IsTree, Tree, is_directory, is_directory_content}
 use Rattle.syn_model.proofs.HistoryLemmas.{history-is_tree}
 use Rattle.syn_model.proofs.MarkLemmas.{get-mark}
 use Rattle.syn_model.proofs.QuietLemmas.{directory_of_mark, nothing_below, same_child}
 use Rattle.syn_model.proofs.TreeLemmas.{same_tree}
-use Rattle.syn_print.specs.Listings.{GaveReplies, IsScanned, Replies, RepliesBy}
+use Rattle.syn_print.specs.Listings.{GaveReplies, IsScanned, NotScanned, NotShown, Replies}
+use Rattle.syn_print.specs.Listings.{RepliesBy, ended, ended_by, endless, endless_by, refused}
 use Rattle.syn_print.specs.declared.plan.side.ReplicaSide.{ReplicaSide}
 use Rattle.syn_replica.specs.Replica.{Stands, pair_of}
 use Rattle.syn_replica.specs.declared.replica.Replica.{Replica}
@@ -65,6 +66,24 @@ module _ {S : Type 0} (lists : S → Path → Reply → S → Type 0) (IsGood : 
   each_by old new (first ∷ more) good (between, gave, rest) path reply (suc i, within, is) =
       each_by between new more (one old between first.0 first.1 good gave).0 rest path reply
       (i, omega arith, is)
+
+  good_after : (old new : S) (replies : Replies) → IsGood old → GaveReplies lists old replies new
+      → IsGood new
+  good_after old new [] good gave = subst IsGood (sym gave) good
+  good_after old new (first ∷ more) good (between, gave, rest) =
+      good_after between new more (one old between first.0 first.1 good gave).0 rest
+
+  -- if it refuses nothing, it was not scanned for what it replied
+  not_shown : (refuses : S → Path → Refusal → S → Type 0) → ((old new : S) (path : Path)
+      (why : Refusal) → ¬ refuses old path why new) → (old new : S) (why : Refusal) → IsGood old
+      → NotScanned lists refuses old why new → NotShown history why
+  not_shown refuses never old new why good (refused replies between path gave is) =
+      absurd (never between new path why is)
+  not_shown refuses never old new why good (ended replies between path reply gave listed fault) =
+      ended_by replies path reply (each_by old between replies good gave)
+      (one between new path reply (good_after old between replies good gave) listed).1 fault
+  not_shown refuses never old new why good (endless replies gave many is) =
+      endless_by replies (each_by old new replies good gave) many is
 
 -- what a listing by a history says of its tree
 listed_by : (history : History) (path : Path) (position : ℕ) (entries : List (Name × Content))
@@ -180,19 +199,42 @@ module _ {D : Type 0} {disk : Ghosts D} where
   ListsByHistory old path reply new = (new ≡ old)
       × ((history : History) → Stands old.replica.now history → RepliesBy history path reply)
 
+  -- it refuses nothing
+  abbrev pub NeverRefuses : ReplicaSide D disk → Path → Refusal → ReplicaSide D disk → Type 0
+  NeverRefuses old path why new = ⊥
+
+  stays_good : (history : History) (old new : ReplicaSide D disk) (path : Path) (reply : Reply)
+      → Stands old.replica.now history → ListsByHistory old path reply new
+      → Stands new.replica.now history × RepliesBy history path reply
+  stays_good history old new path reply good lists = (
+    subst (λ (side : ReplicaSide D disk). Stands side.replica.now history) (sym lists.0) good,
+    lists.1 history good,
+  )
+
+  pub not_shown_replica : (history : History) (old new : ReplicaSide D disk) (why : Refusal)
+      → Stands old.replica.now history → NotScanned ListsByHistory NeverRefuses old why new
+      → NotShown history why
+  not_shown_replica history old new why stands is =
+      not_shown ListsByHistory (λ side. Stands side.replica.now history) history
+      (stays_good history) NeverRefuses (λ before after path cause never. never) old new why stands
+      is
+
   -- so it is scanned as the tree of its history
   pub shows_replica : (history : History) (old new : ReplicaSide D disk) (scan : SideScan)
       → Stands old.replica.now history → IsScanned ListsByHistory old scan new
       → scan_of (found_of scan) ≡ scan_of_tree (tree_of history)
   shows_replica history old new scan stands is =
       shows_tree ListsByHistory (λ side. Stands side.replica.now history) history
-      (λ before after path reply good lists. (
-        subst (λ (side : ReplicaSide D disk). Stands side.replica.now history) (sym lists.0) good,
-        lists.1 history good,
-      )) (history-is_tree history stands.remembers.lawful) old new scan stands is
+      (stays_good history) (history-is_tree history stands.remembers.lawful) old new scan stands is
 
 -- what holds of a plan in three parts holds of it
 pub planned_so : {A E : Type 0} (P Q R W : A → Type 0) → ((a : A) → P a → Q a → R a → W a)
     → (r : Result A E) → IfOk r P → IfOk r Q → IfOk r R → IfOk r W
 planned_so P Q R W to (Ok a) p q r = to a p q r
 planned_so P Q R W to (Err e) p q r = tt
+
+-- and what holds of why there is none
+pub cause_so : {M A B C D : Type 0} → (A → C) → (B → D) → M ⊎ (A ⊎ B) → M ⊎ (C ⊎ D)
+cause_so f g (inl memory) = inl memory
+cause_so f g (inr (inl left)) = inr (inl (f left))
+cause_so f g (inr (inr right)) = inr (inr (g right))

@@ -1,3 +1,4 @@
 -- Definitions that no public clause reaches.
 pub mod Asking
+pub mod Damages
 pub mod Named

@@ -20,14 +20,18 @@
 //!   it early, if anything did. Only the order takes memory: that is tested.
 //! - **The last events of a replica**: `read_log` answers what its disk has of them, the oldest
 //!   first (`TellsLast`). The journal has the events since its last checkpoint, whole. Of those
-//!   before, the image has which path each changed, for the last 4,096 of them. `show_log` prints
-//!   the last of them, so many at most, the newest first.
+//!   before, the image has which path each changed, for the last 4,096 of them. It is refused only
+//!   for a cause for which the disk is opened as no replica (`cause`: `IsOpenRefusal`). `show_log`
+//!   prints the last of them, so many at most, the newest first.
 //! - **What a session would do**: `plan_between` lists both sides as a session lists them (`Side`:
 //!   a replica that is open, or a connection). It answers the plan of the two scans and the marks,
 //!   by a session's own course (`items`). Nothing begins, nothing is carried, and nothing is
 //!   recorded. Each scan is by what its side replied, one listing after another (`left`, `right`:
-//!   `IsScanned`). `plan_of_replicas` does so with two replicas, whose plan is that of their
-//!   trees. `counts_of` counts a plan's items, and `show_plan` prints its counts and its items.
+//!   `IsScanned`). It is refused for lack of memory, or where a side was not scanned (`cause`:
+//!   `NotScanned`). Then a listing was refused, or the reply to it ends a session, or more were
+//!   asked for than a scan has nodes. `plan_of_replicas` does so with two replicas, whose plan is
+//!   that of their trees, and whose replies are by their histories (`NotShown`). `counts_of` counts
+//!   a plan's items, and `show_plan` prints its counts and its items.
 #![tactic(auto)]
 
 mod error;

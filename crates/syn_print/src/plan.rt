@@ -1,9 +1,11 @@
 //! The plan of a session that does not run.
-ghost use Rattle.std.specs.Prelude.{◌≡◌, IfOk, option_map};
+ghost use Rattle.std.specs.Prelude.{◌≡◌, ◌⊎◌, IfErr, IfOk, option_map};
 ghost use Rattle.syn_path.specs.Sides.{which_of};
 ghost use Rattle.syn_model.specs.History.{History, tree_of};
 ghost use Rattle.syn_model.specs.Plan.{plan, scan_of as scan_of_tree};
-ghost use Rattle.syn_print.specs.Listings.{IsScanned};
+ghost use Rattle.syn_model.specs.Refusal.{Memory};
+ghost use Rattle.syn_refusal.specs.Refusals.{cause_of};
+ghost use Rattle.syn_print.specs.Listings.{IsScanned, NotScanned, NotShown};
 ghost use Rattle.syn_print.specs.inner.Asking.{IsAsked};
 ghost use Rattle.syn_recon.specs.Items.{items_of};
 ghost use Rattle.syn_replica.specs.Replica.{Stands};
@@ -56,6 +58,11 @@ pub fn plan_between<L: Side, R: Side>(
         (scan_of (found_of planned.right)) archive.now) }
     ensures left { IfOk result (λ planned. IsScanned L.lists left.old planned.left left.new) }
     ensures right { IfOk result (λ planned. IsScanned R.lists right.old planned.right right.new) }
+
+    // Which side is not scanned, and why. The right is asked nothing where the left is not.
+    ensures cause { IfErr result (λ why. (cause_of why ≡ Memory)
+        ⊎ ((NotScanned L.lists L.refuses left.old (cause_of why) left.new × (right.new ≡ right.old))
+        ⊎ NotScanned R.lists R.refuses right.old (cause_of why) right.new)) }
 {
     let left = scan_side(alloc, left)?;
     let right = scan_side(alloc, right)?;
@@ -72,10 +79,13 @@ pub fn plan_of_replicas<L: Disk, R: Disk>(
     archive: &MarkTree,
     preference: Option<Preferred>,
 ) -> Result<Planned, Refusal>
-    ensures { (on_left on_right : History) → Stands left.now on_left
+    ensures items { (on_left on_right : History) → Stands left.now on_left
         → Stands right.now on_right → IfOk result (λ planned. items_of planned.items.items
         ≡ plan (option_map which_of preference) (scan_of_tree (tree_of on_left))
         (scan_of_tree (tree_of on_right)) archive.now) }
+    ensures cause { (on_left on_right : History) → Stands left.now on_left
+        → Stands right.now on_right → IfErr result (λ why. (cause_of why ≡ Memory)
+        ⊎ (NotShown on_left (cause_of why) ⊎ NotShown on_right (cause_of why))) }
 {
     let (mut left, mut right) = (ReplicaSide::new(left), ReplicaSide::new(right));
     plan_between(alloc, &mut left, &mut right, archive, preference)
@@ -89,9 +99,10 @@ fn items_between(
     archive: &MarkTree,
     preference: Option<Preferred>,
 ) -> Result<Vec<Item>, Refusal>
-    ensures { IfOk result (λ items. items_of items.items
+    ensures items { IfOk result (λ items. items_of items.items
         ≡ plan (option_map which_of preference) (scan_of left.now) (scan_of right.now)
         archive.now) }
+    ensures memory { IfErr result (λ why. cause_of why ≡ Memory) }
 {
     let course = Course::new(alloc, left, right, archive, preference);
     Ok(course.map_err(|error| error.refusal())?.items)
@@ -101,6 +112,8 @@ fn items_between(
 fn scan_side<S: Side>(alloc: Global, side: &mut S) -> Result<SideScan, Refusal>
     ensures asked { IfOk result (λ scan. IsAsked S.lists side.old scan side.new) }
     ensures whole { IfOk result (λ scan. IsWhole (found_of scan)) }
+    ensures cause { IfErr result (λ why. (cause_of why ≡ Memory)
+        ⊎ NotScanned S.lists S.refuses side.old (cause_of why) side.new) }
 {
     let mut scan = match SideScan::new(alloc) {
         Ok(scan) => scan,

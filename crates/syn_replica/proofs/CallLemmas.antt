@@ -24,6 +24,7 @@ use Rattle.syn_replica.specs.Replica.{IsHalted, KeepsOrCompacts, KeepsReadings, 
 use Rattle.syn_replica.specs.Replica.{disk_of, journal_of, pair_of, standing_shown, tried_shown}
 use Rattle.syn_replica.specs.declared.replica.Replica.{Replica}
 use Rattle.syn_replica.proofs.RefusalLemmas.{halted_is}
+use Rattle.syn_replica.proofs.GrowthLemmas.{stands_still}
 use Rattle.syn_replica.proofs.StandLemmas.{keeps_now}
 
 none_made : (arms : Arms) → Makes 0 arms arms
@@ -117,6 +118,19 @@ exits_halted replica (Err x) e event is other halted =
       λ same. halted.0 (ap (λ y. Err y) (halted_is e (sym why ∙ same_Some _ _ same))),
       λ h. ap (λ r. Some r) why ∙ ap (ended refusal_of) (halted.1 h),
     )
+
+-- a refusal but the device's leaves it standing
+pub still_stands : {X D : Type 0} {disk : Ghosts D} (old new : Replica D disk)
+    (event : Option Event) (result : Result X ReplicaError) →
+    Writes old new event (ended refusal_of result) → (history : History) → Stands old history →
+    IfErr result (λ e. (refusal_of e ≡ Device) ⊎ Stands new history)
+still_stands old new event (Ok value) writes history stands = tt
+still_stands old new event (Err e) writes history stands = elim writes.unchanged
+    as (λ _. (refusal_of e ≡ Device) ⊎ Stands new history) [
+      | inl device ↦ inl device
+      | inr same ↦ inr (stands_still old new writes.readings.memory.pair
+          writes.readings.memory.standing same history stands)
+    ]
 
 -- what a machine's checkpoint makes of a replica
 pub compacts : {D : Type 0} {disk : Ghosts D} (old new : Replica D disk) (why : Option Refusal) →

@@ -2,7 +2,7 @@
 use Rattle.std.proofs.Common.{◌≡◌, ◌⊎◌, ◌+◌, ◌<◌, ◌≤◌, ◌^◌, ℕ, List, [], length, refl, sym, ap}
 use Rattle.std.proofs.Common.{subst, inl, inr, ⊎_elim, Option, Some, None, Ok, arith}
 use Rattle.std.proofs.lemmas.Option.{none-some}
-use Rattle.syn_disk.specs.Stops.{LeavesOnly, Untouched}
+use Rattle.syn_disk.specs.Stops.{LeavesOnly}
 use Rattle.syn_disk.specs.declared.disk.Disk.{Ghosts}
 use Rattle.syn_journal.specs.Layout.{IsBeforeOrAfter, Value, image_alone}
 use Rattle.syn_journal.specs.Layout.{longest_image, meaning}
@@ -255,12 +255,3 @@ whole {disk = disk} old mid new e ended is reads migrates =
     let read = subst (λ x. Reads disk (Some (refusal_of x)) old mid) is reads in
     after_reads (λ m. m.pair) GivesOld image_of ended old mid new read.untouched read.failures
     read.arms migrates
-
--- where an opening was refused for anything else nothing was written
-pub only_read : {D : Type 0} (seen : D → List ℕ) (may_leave : D → List ℕ → Type 0)
-    (moment : D → ℕ) (left_since : D → ℕ → List ℕ → Type 0) (old new : D)
-    (P : List ℕ → Type 0) → Untouched seen may_leave moment left_since old new →
-    LeavesOnly moment left_since old new (λ bytes. may_leave old bytes ⊎ P bytes)
-only_read seen may_leave moment left_since old new P read =
-    leaves_weaker moment left_since old new (may_leave old) _ (λ bytes was. inl was)
-    read.any_moment

@@ -1,9 +1,9 @@
 -- Which refusals a call may answer.
 use Rattle.std.proofs.Common.{◌≡◌, ◌≢◌, ◌⊎◌, ℕ, Bool, true, false, ◌||◌, ◌==◌, List, [], ◌∷◌}
 use Rattle.std.proofs.Common.{refl, sym}
-use Rattle.std.proofs.Common.{ap, ap₂, ◌∙◌, subst, Option, Some, None, Result, Ok, Err, inl, inr}
+use Rattle.std.proofs.Common.{ap, ap₂, ◌∙◌, subst, Option, Some, Result, Ok, Err, inl, inr}
 use Rattle.std.proofs.Common.{true≢false, arith}
-use Rattle.std.specs.Prelude.{IsErrAnd, IfErr, OnOk}
+use Rattle.std.specs.Prelude.{IfErr}
 use Rattle.std.specs.List.{list_any, AllByRecursion}
 use Rattle.std.proofs.lemmas.Bool.Decides.{nat_tests}
 use Rattle.std.proofs.lemmas.Option.{none-some, same_Some}
@@ -87,68 +87,11 @@ edit_among s user (Chmod path mode) refusal e =
     first_among edit_refusals (causes_at s (Edited user (Chmod path mode))) refusal
     (refl, (refl, (refl, (refl, (refl, (refl, tt)))))) e
 
--- what no history is the cause of is lack of memory or a failed device call
-pub outside_is : (w : Refusal) → is_among outside_refusals w ≡ true →
-    (w ≡ why.Memory) ⊎ (w ≡ why.Device)
-outside_is why.BadPath h = absurd (true≢false (sym h))
-outside_is why.NoParent h = absurd (true≢false (sym h))
-outside_is why.IsDirectory h = absurd (true≢false (sym h))
-outside_is why.Exists h = absurd (true≢false (sym h))
-outside_is why.Absent h = absurd (true≢false (sym h))
-outside_is why.Root h = absurd (true≢false (sym h))
-outside_is why.Full h = absurd (true≢false (sym h))
-outside_is why.JournalFull h = absurd (true≢false (sym h))
-outside_is why.Device h = inr refl
-outside_is why.Halted h = absurd (true≢false (sym h))
-outside_is why.Memory h = inl refl
-outside_is why.Busy h = absurd (true≢false (sym h))
-outside_is why.Touched h = absurd (true≢false (sym h))
-outside_is why.OldSession h = absurd (true≢false (sym h))
-outside_is why.BelowFloor h = absurd (true≢false (sym h))
-outside_is why.NotStaged h = absurd (true≢false (sym h))
-outside_is why.BadStage h = absurd (true≢false (sym h))
-outside_is why.NoImage h = absurd (true≢false (sym h))
-outside_is why.Damaged h = absurd (true≢false (sym h))
-outside_is why.WrongPair h = absurd (true≢false (sym h))
-outside_is why.BadFrame h = absurd (true≢false (sym h))
-outside_is why.TooLarge h = absurd (true≢false (sym h))
-outside_is why.BadMessage h = absurd (true≢false (sym h))
-outside_is why.NoSeat h = absurd (true≢false (sym h))
-outside_is why.NoAnswer h = absurd (true≢false (sym h))
-outside_is why.OldVersion h = absurd (true≢false (sym h))
-
--- where a cause stands, it is answered, or in its place that memory is refused
-pub refused_by : (r : Result ℕ ReplicaError) (answered : Option Refusal) (cause : Refusal) →
-    answered ≡ Some cause → OnOk r (answered ≡ None) →
-    IfErr r (λ e. refusal_of e ≡ why.Device → answered ≡ None) →
-    IfErr r (λ e. IsOneOf outside_refusals e ⊎ (answered ≡ Some (refusal_of e))) →
-    IsErrAnd r (λ e. (refusal_of e ≡ cause) ⊎ (refusal_of e ≡ why.Memory))
-refused_by (Ok x) answered cause e none device told = none-some _ (sym none ∙ e)
-refused_by (Err x) answered cause e none device told =
-    elim told as (λ _. (refusal_of x ≡ cause) ⊎ (refusal_of x ≡ why.Memory)) [
-      | inl outside ↦ elim (outside_is (refusal_of x) outside)
-          as (λ _. (refusal_of x ≡ cause) ⊎ (refusal_of x ≡ why.Memory)) [
-            | inl memory ↦ inr memory
-            | inr failed ↦ absurd (none-some _ (sym (device failed) ∙ e))
-          ]
-      | inr is ↦ inl (same_refusal x cause answered is e)
-    ]
-
 -- what a clause says of each refusal, where all are for what no history is the cause of
 pub or_outside : {X : Type 0} (Q : ReplicaError → Type 0) (r : Result X ReplicaError) →
     IfErr r (IsOneOf outside_refusals) → IfErr r (λ e. IsOneOf outside_refusals e ⊎ Q e)
 or_outside Q (Ok x) h = tt
 or_outside Q (Err x) h = inl h
-
--- what holds, whatever was answered
-pub whatever_ok : {X : Type 0} (P : Type 0) → P → (r : Result X ReplicaError) → OnOk r P
-whatever_ok P holds (Ok x) = holds
-whatever_ok P holds (Err x) = tt
-
-pub whatever_why : {X : Type 0} (w : Refusal) (P : Type 0) → P → (r : Result X ReplicaError) →
-    IfErr r (λ e. refusal_of e ≡ w → P)
-whatever_why w P holds (Ok x) = tt
-whatever_why w P holds (Err x) = λ _. holds
 
 -- ---- a refusal of lack of memory, or of what a history is the cause of
 

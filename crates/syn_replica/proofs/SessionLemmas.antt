@@ -48,7 +48,7 @@ module _ (room : ℕ) (history : History) (token : Token) (path : Path) (since :
       not_old current ∙ first_skips (since_causes history path since) rest_causes none
 
   -- where the token and the path stand as they should, what is left is why the event is not added
-  pub replaced_rest : is_old_token history token ≡ false →
+  replaced_rest : is_old_token history token ≡ false →
       first_cause (since_causes history path since) ≡ None →
       replace_refusal room history token path since new
       ≡ add_refusal room history (Replaced token path since new)
@@ -63,6 +63,17 @@ module _ (room : ℕ) (history : History) (token : Token) (path : Path) (since :
       (place ++ full) position last) ∙ ap (λ xs. xs ++ last) (append_assoc place full position)))
       ∙ sym (first_false (is_old_token history token) OldSession
       ((place ++ (full ++ position)) ++ last) current))
+
+  -- and so of what a replica remembers, with a copy of the path
+  pub replaced_as : (standing : Standing) (copy : Path) → standing ≡ standing_of history →
+      copy ≡ path → is_old standing.session standing.token token ≡ false →
+      first_cause (since_causes history path since) ≡ None →
+      add_refusal_at room standing (Replaced token copy since new)
+      ≡ replace_refusal room history token path since new
+  replaced_as standing copy same is current none =
+      ap (λ s. add_refusal_at room s (Replaced token copy since new)) same
+      ∙ (ap (λ q. add_refusal room history (Replaced token q since new)) is
+      ∙ sym (replaced_rest (ap (λ s. is_old s.session s.token token) (sym same) ∙ current) none))
 
   -- where the tree refuses what is put, that is answered
   refused_place : is_old_token history token ≡ false →

@@ -87,7 +87,8 @@
 //! - `format` gives a replica that stands for no events, of the given pair. After any refusal but 9
 //!   the disk comes back as it was.
 //! - Of each call it is told what its device saw (`device`: `Spends` where it writes, `Reads` where
-//!   it opens). A session or a token again makes no device call. `arm` and `is_cut` are the disk's.
+//!   it opens). `migrate` says it in two (`calls`, `failures`). A session or a token again makes no
+//!   device call. `arm` and `is_cut` are the disk's.
 //! - `get` gives what the tree holds at the path, and 5 exactly where it holds nothing. `list`
 //!   gives the names of a directory in byte order with what is a directory, and 5 exactly where no
 //!   directory is. `tree` is the tree itself, without a copy.

@@ -75,10 +75,8 @@ impl State for Remembered {
         if is_old_image(image) {
             return Err(ReplicaError::OldVersion);
         }
-        match read_replica(alloc, Version::Two, image, wanted, payloads) {
-            Ok((pair, standing)) => Ok(Remembered { pair, standing }),
-            Err(error) => Err(error),
-        }
+        let (pair, standing) = read_replica(alloc, Version::Two, image, wanted, payloads)?;
+        Ok(Remembered { pair, standing })
     }
 
     fn read_old(
@@ -86,10 +84,8 @@ impl State for Remembered {
         image: &[u8],
         payloads: &[Vec<u8>],
     ) -> Result<Remembered, ReplicaError> {
-        match read_replica(alloc, Version::One, image, None, payloads) {
-            Ok((pair, standing)) => Ok(Remembered { pair, standing }),
-            Err(error) => Err(error),
-        }
+        let (pair, standing) = read_replica(alloc, Version::One, image, None, payloads)?;
+        Ok(Remembered { pair, standing })
     }
 
     /// Refused 19 too where they give fewer events than are remembered, so that no reopening goes
@@ -102,15 +98,11 @@ impl State for Remembered {
     ) -> Result<Remembered, ReplicaError> {
         opening_laws();
         has_64_bits(self.pair);
-        match read_replica(alloc, Version::Two, image, Some(self.pair), payloads) {
-            Ok((pair, standing)) => {
-                if standing.trail().position() < self.standing.trail().position() {
-                    return Err(ReplicaError::Damaged);
-                }
-                Ok(Remembered { pair, standing })
-            }
-            Err(error) => Err(error),
+        let (pair, standing) = read_replica(alloc, Version::Two, image, Some(self.pair), payloads)?;
+        if standing.trail().position() < self.standing.trail().position() {
+            return Err(ReplicaError::Damaged);
         }
+        Ok(Remembered { pair, standing })
     }
 
     fn make(&mut self, update: Update) {

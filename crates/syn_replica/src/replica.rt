@@ -5,12 +5,10 @@ ghost use Rattle.std.specs.Prelude.{None, true, false, option_map};
 ghost use Rattle.std.specs.FinMap.{get};
 ghost use Rattle.syn_model.specs.Tree.{is_directory};
 ghost use Rattle.syn_model.specs.Event as model;
-ghost use Rattle.syn_model.specs.History.{History, IsAllowed};
-ghost use Rattle.syn_model.specs.Refusal.{Refusal, Device, first_cause};
-ghost use Rattle.syn_model.specs.Spelling.{event_spelling};
+ghost use Rattle.syn_model.specs.History.{History};
+ghost use Rattle.syn_model.specs.Refusal.{Refusal, Device};
 ghost use Rattle.syn_tree.specs.Contents.{content_of};
 ghost use Rattle.syn_tree.specs.Lists.{listing};
-ghost use Rattle.syn_history.specs.Events.{event_of};
 ghost use Rattle.syn_journal.specs.Journal.{Takes};
 ghost use Rattle.syn_disk.specs.Arms.{is_stopped};
 ghost use Rattle.syn_disk.specs.Stops.{LeavesOnly};
@@ -23,9 +21,8 @@ ghost use Rattle.syn_replica.specs.Disks.{DiskGives, DiskStands, IsOfOtherPair, 
 ghost use Rattle.syn_replica.specs.Disks.{IsOldDisk};
 ghost use Rattle.syn_replica.specs.Edits.{event_by};
 ghost use Rattle.syn_replica.specs.Steps.{add_refusal};
-ghost use Rattle.syn_standing.specs.Updates.{IsReady, IsOf, early_causes};
-ghost use Rattle.syn_replica.specs.inner.Additions.{add_refusal_at};
-ghost use Rattle.syn_wire.specs.Events.{IsShort};
+ghost use Rattle.syn_standing.specs.Updates.{IsReady};
+ghost use Rattle.syn_replica.specs.inner.Additions.{Adds};
 
 use crate::digests::Digests;
 use crate::remembered::Remembered;
@@ -39,7 +36,7 @@ use syn_model::{history_laws, worked_rows};
 use syn_path::{Name, Path};
 use syn_standing::{ReplicaError, Standing, Update, opening_laws};
 use syn_tree::{Content, Edit, Found, Tree, TreeError};
-use syn_wire::{edit_length, encode_event};
+use syn_wire::edit_length;
 
 mod checkpoint;
 mod device;
@@ -97,14 +94,12 @@ impl<D: Disk> Replica<D> {
             Ok(standing) => standing,
             Err(error) => return Err((error, disk)),
         };
-        match Journaled::format(alloc, disk, Remembered { pair, standing }) {
-            Ok(machine) => Ok(Replica {
-                machine,
-                tried: None,
-                digests: Cell::new(None),
-            }),
-            Err(refused) => Err(refused),
-        }
+        let machine = Journaled::format(alloc, disk, Remembered { pair, standing })?;
+        Ok(Replica {
+            machine,
+            tried: None,
+            digests: Cell::new(None),
+        })
     }
 
     /// Opens what the disk holds.
@@ -136,14 +131,12 @@ impl<D: Disk> Replica<D> {
             (λ refused. Reads D.Disk (Some (refusal_of refused.0)) disk refused.1) }
     {
         opening_laws();
-        match Journaled::open(alloc, disk, pair) {
-            Ok(machine) => Ok(Replica {
-                machine,
-                tried: None,
-                digests: Cell::new(None),
-            }),
-            Err(refused) => Err(refused),
-        }
+        let machine = Journaled::open(alloc, disk, pair)?;
+        Ok(Replica {
+            machine,
+            tried: None,
+            digests: Cell::new(None),
+        })
     }
 
     /// How many events the history has.
@@ -308,7 +301,8 @@ impl<D: Disk> Replica<D> {
         let event = Event::Edited { user, edit };
         self.check(&event)?;
         self.check_room(length)?;
-        self.add(alloc, event)
+        let (payload, update) = self.prepare(alloc, event)?;
+        self.commit(alloc, payload, update)
     }
 
     /// Why a payload of this length is not written: there is no room for it (8).
@@ -324,36 +318,6 @@ impl<D: Disk> Replica<D> {
         }
     }
 
-    /// Adds an event that `check` does not refuse, and answers the new position.
-    fn add(&mut self, alloc: Global, event: Event) -> Result<u64, ReplicaError>
-        requires checked { first_cause (early_causes (standing_shown self.old) (event_of event))
-            ≡ None }
-        requires brief { IsShort (event_of event) }
-        requires running { ¬ IsHalted self.old }
-        ensures acknowledged { (history : History) → Stands self.old history
-            → IfOk result (λ position. (position ≡ length history + 1)
-            × Stands self.new (history ++ event_of event ∷ [])) }
-        ensures any_moment { (history : History) → Stands self.old history
-            → LeavesOnly D.moment D.left_since (disk_of self.old) (disk_of self.new)
-            (KeepsBeforeOrAfter self.old history (event_of event)) }
-        ensures cause { IfErr result (λ e. IsOneOf outside_refusals e
-            ⊎ (add_refusal_at (room_shown self.old) (standing_shown self.old) (event_of event)
-            ≡ Some (refusal_of e))) }
-        ensures allowed { OnOk result
-            (add_refusal_at (room_shown self.old) (standing_shown self.old) (event_of event)
-            ≡ None) }
-        ensures device { IfErr result (λ e. refusal_of e ≡ Device
-            → add_refusal_at (room_shown self.old) (standing_shown self.old) (event_of event)
-            ≡ None) }
-        ensures machine { Writes self.old self.new (Some (event_of event))
-            (ended refusal_of result) }
-    {
-        let payload = encode_event(alloc, &event)?;
-        let update = self.prepare(alloc, event)?;
-        self.check_room(payload.len())?;
-        self.commit(alloc, payload, update)
-    }
-
     /// Writes the payload of an event, and makes its update of what is in memory.
     fn commit(
         &mut self,
@@ -365,18 +329,16 @@ impl<D: Disk> Replica<D> {
         requires takes { Takes (journal_of self.old) (length payload.items) }
         requires running { ¬ IsHalted self.old }
         ensures acknowledged { (history : History) (event : model.Event) → Stands self.old history
-            → IsAllowed history event → payload.items ≡ event_spelling event
-            → IsOf (standing_shown self.old) event update
+            → Adds (standing_shown self.old) event payload.items update
             → IfOk result (λ position. (position ≡ length history + 1)
             × Stands self.new (history ++ event ∷ [])) }
         ensures any_moment { (history : History) (event : model.Event) → Stands self.old history
-            → IsAllowed history event → payload.items ≡ event_spelling event
+            → Adds (standing_shown self.old) event payload.items update
             → LeavesOnly D.moment D.left_since (disk_of self.old) (disk_of self.new)
             (KeepsBeforeOrAfter self.old history event) }
         ensures refusals { IfErr result (IsOneOf outside_refusals) }
         ensures machine { (event : model.Event)
-            → ((history : History) → Stands self.old history → IsAllowed history event)
-            → payload.items ≡ event_spelling event → IsOf (standing_shown self.old) event update
+            → Adds (standing_shown self.old) event payload.items update
             → Writes self.old self.new (Some event) (ended refusal_of result) }
     {
         history_laws();

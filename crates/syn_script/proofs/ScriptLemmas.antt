@@ -57,7 +57,7 @@ pub first_fault : {W : Type 0} (text : W → Text) (lines : List W) (i : ℕ) (d
 first_fault text lines i d steps l said unfit = record {
   before = map text (take i lines);
   line = text (get_or lines i d);
-  behind = map text (drop (i + 1) lines);
+  after = map text (drop (i + 1) lines);
   parts =
       ap (map text) (sym (take-append-drop (i + 1) lines)) ∙ map-append text (take (i + 1) lines)
       (drop (i + 1) lines) ∙ ap (λ (front : List Text). front ++ map text (drop (i + 1) lines))

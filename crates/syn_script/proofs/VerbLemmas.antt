@@ -3,7 +3,7 @@ use Rattle.std.proofs.Common.{◌≡◌, ◌≢◌, ◌∙◌, List, [], ◌∷�
 use Rattle.std.proofs.Common.{subst, Some, None}
 use Rattle.std.specs.Prelude.{bytes_eq}
 use Rattle.syn_script.specs.Words.{Say, Text}
-use Rattle.syn_script.specs.inner.Rows.{NothingBehind, NothingSaid, SayBehind, verb_word}
+use Rattle.syn_script.specs.inner.Rows.{NothingAfter, NothingSaid, SayAfter, verb_word}
 use Rattle.syn_script.specs.declared.line.Line.{Line}
 use Rattle.syn_script.specs.declared.line.Line.TheVariants as has
 use Rattle.syn_script.specs.declared.verb.Verb.{Verb}
@@ -51,60 +51,60 @@ one_verb : (v w : Verb) → verb_word v ≡ verb_word w → v ≡ w
 one_verb v w e = sym (verb_is v) ∙ ap verb_at e ∙ verb_is w
 
 -- what the words after a verb say, the words with it say
-pub said_behind : (v : Verb) (words : List Text) (line : Line) → SayBehind v words line →
+pub said_whole : (v : Verb) (words : List Text) (line : Line) → SayAfter v words line →
     Say (verb_word v ∷ words) line
-said_behind verb.Edit words (has.Edit side user edit) s =
+said_whole verb.Edit words (has.Edit side user edit) s =
     (s.0, s.1, ap (λ rest. codes "edit" ∷ rest) s.2, s.3, s.4)
-said_behind verb.Start words (has.Start None) s = ap (λ rest. codes "start" ∷ rest) s
-said_behind verb.Start words (has.Start (Some side)) s = ap (λ rest. codes "start" ∷ rest) s
-said_behind verb.Tick words has.Tick s = ap (λ rest. codes "tick" ∷ rest) s
-said_behind verb.Deliver words (has.Deliver first last) s = (words, refl, s)
-said_behind verb.Drain words has.Drain s = ap (λ rest. codes "drain" ∷ rest) s
-said_behind verb.Checkpoint words (has.Checkpoint m) s = ap (λ rest. codes "checkpoint" ∷ rest) s
-said_behind verb.Fail words (has.Fail m call) s = (s.0, ap (λ rest. codes "fail" ∷ rest) s.1, s.2)
-said_behind verb.Stop words (has.Stop m call leaves) s =
+said_whole verb.Start words (has.Start None) s = ap (λ rest. codes "start" ∷ rest) s
+said_whole verb.Start words (has.Start (Some side)) s = ap (λ rest. codes "start" ∷ rest) s
+said_whole verb.Tick words has.Tick s = ap (λ rest. codes "tick" ∷ rest) s
+said_whole verb.Deliver words (has.Deliver first last) s = (words, refl, s)
+said_whole verb.Drain words has.Drain s = ap (λ rest. codes "drain" ∷ rest) s
+said_whole verb.Checkpoint words (has.Checkpoint m) s = ap (λ rest. codes "checkpoint" ∷ rest) s
+said_whole verb.Fail words (has.Fail m call) s = (s.0, ap (λ rest. codes "fail" ∷ rest) s.1, s.2)
+said_whole verb.Stop words (has.Stop m call leaves) s =
     (s.0, ap (λ rest. codes "stop" ∷ rest) s.1, s.2)
-said_behind verb.Open words (has.Open m) s = ap (λ rest. codes "open" ∷ rest) s
-said_behind verb.Reopen words (has.Reopen m) s = ap (λ rest. codes "reopen" ∷ rest) s
-said_behind v words line s = absurd s
+said_whole verb.Open words (has.Open m) s = ap (λ rest. codes "open" ∷ rest) s
+said_whole verb.Reopen words (has.Reopen m) s = ap (λ rest. codes "reopen" ∷ rest) s
+said_whole v words line s = absurd s
 
 -- the words of a step begin with its verb
-record IsBehind (words : List Text) (line : Line) : Type 0 where
+record BeginsWithVerb (words : List Text) (line : Line) : Type 0 where
   rest : List Text
   parts : words ≡ verb_word (verb_of line) ∷ rest
-  said : SayBehind (verb_of line) rest line
+  said : SayAfter (verb_of line) rest line
 
-behind_said : (words : List Text) (line : Line) → Say words line → IsBehind words line
-behind_said words (has.Edit side user edit) s =
+verb_begins : (words : List Text) (line : Line) → Say words line → BeginsWithVerb words line
+verb_begins words (has.Edit side user edit) s =
     record { rest = _; parts = s.2; said = (s.0, s.1, refl, s.3, s.4) }
-behind_said words (has.Start None) s = record { rest = []; parts = s; said = refl }
-behind_said words (has.Start (Some side)) s = record { rest = _; parts = s; said = refl }
-behind_said words has.Tick s = record { rest = []; parts = s; said = refl }
-behind_said words (has.Deliver first last) s = record { rest = s.0; parts = s.1; said = s.2 }
-behind_said words has.Drain s = record { rest = []; parts = s; said = refl }
-behind_said words (has.Checkpoint m) s = record { rest = _; parts = s; said = refl }
-behind_said words (has.Fail m call) s = record { rest = _; parts = s.1; said = (s.0, refl, s.2) }
-behind_said words (has.Stop m call leaves) s =
+verb_begins words (has.Start None) s = record { rest = []; parts = s; said = refl }
+verb_begins words (has.Start (Some side)) s = record { rest = _; parts = s; said = refl }
+verb_begins words has.Tick s = record { rest = []; parts = s; said = refl }
+verb_begins words (has.Deliver first last) s = record { rest = s.0; parts = s.1; said = s.2 }
+verb_begins words has.Drain s = record { rest = []; parts = s; said = refl }
+verb_begins words (has.Checkpoint m) s = record { rest = _; parts = s; said = refl }
+verb_begins words (has.Fail m call) s = record { rest = _; parts = s.1; said = (s.0, refl, s.2) }
+verb_begins words (has.Stop m call leaves) s =
     record { rest = _; parts = s.1; said = (s.0, refl, s.2) }
-behind_said words (has.Open m) s = record { rest = _; parts = s; said = refl }
-behind_said words (has.Reopen m) s = record { rest = _; parts = s; said = refl }
+verb_begins words (has.Open m) s = record { rest = _; parts = s; said = refl }
+verb_begins words (has.Reopen m) s = record { rest = _; parts = s; said = refl }
 
 head_is : (x y : Text) (xs ys : List Text) → x ∷ xs ≡ y ∷ ys → (x ≡ y) × (xs ≡ ys)
 head_is x y xs ys e = (cc, cc)
 
 -- where the words after a verb say nothing, the words with it say nothing
-pub nothing_said : (v : Verb) (words : List Text) → NothingBehind v words →
+pub nothing_said : (v : Verb) (words : List Text) → NothingAfter v words →
     NothingSaid (verb_word v ∷ words)
 nothing_said v words nothing line s =
-    let b = behind_said (verb_word v ∷ words) line s in
+    let b = verb_begins (verb_word v ∷ words) line s in
     let e = head_is _ _ _ _ b.parts in
-    let P : Verb → Type 0 = λ w. SayBehind w words line in
-    let Q : List Text → Type 0 = λ ws. SayBehind (verb_of line) ws line in
+    let P : Verb → Type 0 = λ w. SayAfter w words line in
+    let Q : List Text → Type 0 = λ ws. SayAfter (verb_of line) ws line in
     nothing line (subst P (sym (one_verb _ _ e.0)) (subst Q (sym e.1) b.said))
 
 -- words whose first has no verb say nothing
 pub no_verb : (word : Text) (words : List Text) → ((v : Verb) → word ≢ verb_word v) →
     NothingSaid (word ∷ words)
 no_verb word words none line s =
-    let b = behind_said (word ∷ words) line s in
+    let b = verb_begins (word ∷ words) line s in
     none (verb_of line) (head_is _ _ _ _ b.parts).0

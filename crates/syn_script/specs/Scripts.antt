@@ -30,8 +30,8 @@ IsFit line = IsUtf8 line × (IsSilent line ⊎ ((step : Line) × Says line step)
 pub record IsFirstFault (lines : List Text) (number : ℕ) : Type 0 where
   pub before : List Text
   pub line : Text
-  pub behind : List Text
-  pub parts : lines ≡ before ++ line ∷ behind
+  pub after : List Text
+  pub parts : lines ≡ before ++ line ∷ after
   pub counted : number ≡ length before + 1
   pub fit : All IsFit before
   pub unfit : ¬ IsFit line

@@ -1,7 +1,7 @@
 //! The step of each row, by the words after the first.
 ghost use Rattle.std.specs.Prelude.{◌≡◌, IfOk, IfErr, IfSome, IfNone, map};
 ghost use Rattle.syn_script.specs.Words.{Say, SayEdit};
-ghost use Rattle.syn_script.specs.inner.Rows.{NoEdit, NothingBehind, NothingSaid, SayBehind};
+ghost use Rattle.syn_script.specs.inner.Rows.{NoEdit, NothingAfter, NothingSaid, SayAfter};
 ghost use Rattle.syn_script.specs.declared.verb.Verb.TheVariants as verb;
 
 use crate::error::LineError;
@@ -24,14 +24,14 @@ pub(crate) fn read_words(alloc: Global, words: &[&str]) -> Result<Line, LineErro
     let Some(verb) = read_verb(first) else {
         return Err(LineError::Nothing);
     };
-    read_behind(alloc, verb, words)
+    read_after_verb(alloc, verb, words)
 }
 
 /// The step that the words after the first say.
-fn read_behind(alloc: Global, verb: Verb, words: &[&str]) -> Result<Line, LineError>
-    ensures ok { IfOk result (λ line. SayBehind verb (map (λ word. word.now) words.now) line) }
+fn read_after_verb(alloc: Global, verb: Verb, words: &[&str]) -> Result<Line, LineError>
+    ensures ok { IfOk result (λ line. SayAfter verb (map (λ word. word.now) words.now) line) }
     ensures bad { IfErr result (λ e. e ≡ LineError.Nothing
-        → NothingBehind verb (map (λ word. word.now) words.now)) }
+        → NothingAfter verb (map (λ word. word.now) words.now)) }
 {
     match verb {
         Verb::Edit => edit_line(alloc, words),
@@ -48,9 +48,9 @@ fn read_behind(alloc: Global, verb: Verb, words: &[&str]) -> Result<Line, LineEr
 }
 
 fn edit_line(alloc: Global, words: &[&str]) -> Result<Line, LineError>
-    ensures ok { IfOk result (λ line. SayBehind verb.Edit (map (λ word. word.now) words.now) line) }
+    ensures ok { IfOk result (λ line. SayAfter verb.Edit (map (λ word. word.now) words.now) line) }
     ensures bad { IfErr result (λ e. e ≡ LineError.Nothing
-        → NothingBehind verb.Edit (map (λ word. word.now) words.now)) }
+        → NothingAfter verb.Edit (map (λ word. word.now) words.now)) }
 {
     let [side_word, user_word, words @ ..] = words else {
         return Err(LineError::Nothing);
@@ -89,8 +89,8 @@ fn edit(alloc: Global, words: &[&str]) -> Result<Edit, LineError>
 
 fn start(words: &[&str]) -> Option<Line>
     ensures some { IfSome result (λ line.
-        SayBehind verb.Start (map (λ word. word.now) words.now) line) }
-    ensures none { IfNone result (NothingBehind verb.Start (map (λ word. word.now) words.now)) }
+        SayAfter verb.Start (map (λ word. word.now) words.now) line) }
+    ensures none { IfNone result (NothingAfter verb.Start (map (λ word. word.now) words.now)) }
 {
     match words {
         [] => Some(Line::Start(None)),
@@ -101,8 +101,8 @@ fn start(words: &[&str]) -> Option<Line>
 
 fn tick(words: &[&str]) -> Option<Line>
     ensures some { IfSome result (λ line.
-        SayBehind verb.Tick (map (λ word. word.now) words.now) line) }
-    ensures none { IfNone result (NothingBehind verb.Tick (map (λ word. word.now) words.now)) }
+        SayAfter verb.Tick (map (λ word. word.now) words.now) line) }
+    ensures none { IfNone result (NothingAfter verb.Tick (map (λ word. word.now) words.now)) }
 {
     match words {
         [] => Some(Line::Tick),
@@ -112,8 +112,8 @@ fn tick(words: &[&str]) -> Option<Line>
 
 fn drain(words: &[&str]) -> Option<Line>
     ensures some { IfSome result (λ line.
-        SayBehind verb.Drain (map (λ word. word.now) words.now) line) }
-    ensures none { IfNone result (NothingBehind verb.Drain (map (λ word. word.now) words.now)) }
+        SayAfter verb.Drain (map (λ word. word.now) words.now) line) }
+    ensures none { IfNone result (NothingAfter verb.Drain (map (λ word. word.now) words.now)) }
 {
     match words {
         [] => Some(Line::Drain),
@@ -123,8 +123,8 @@ fn drain(words: &[&str]) -> Option<Line>
 
 fn deliver(words: &[&str]) -> Option<Line>
     ensures some { IfSome result (λ line.
-        SayBehind verb.Deliver (map (λ word. word.now) words.now) line) }
-    ensures none { IfNone result (NothingBehind verb.Deliver (map (λ word. word.now) words.now)) }
+        SayAfter verb.Deliver (map (λ word. word.now) words.now) line) }
+    ensures none { IfNone result (NothingAfter verb.Deliver (map (λ word. word.now) words.now)) }
 {
     match words {
         [one] => {
@@ -142,9 +142,9 @@ fn deliver(words: &[&str]) -> Option<Line>
 
 fn checkpoint(words: &[&str]) -> Option<Line>
     ensures some { IfSome result (λ line.
-        SayBehind verb.Checkpoint (map (λ word. word.now) words.now) line) }
+        SayAfter verb.Checkpoint (map (λ word. word.now) words.now) line) }
     ensures none { IfNone result
-        (NothingBehind verb.Checkpoint (map (λ word. word.now) words.now)) }
+        (NothingAfter verb.Checkpoint (map (λ word. word.now) words.now)) }
 {
     let [word] = words else {
         return None;
@@ -155,8 +155,8 @@ fn checkpoint(words: &[&str]) -> Option<Line>
 
 fn fail(words: &[&str]) -> Option<Line>
     ensures some { IfSome result (λ line.
-        SayBehind verb.Fail (map (λ word. word.now) words.now) line) }
-    ensures none { IfNone result (NothingBehind verb.Fail (map (λ word. word.now) words.now)) }
+        SayAfter verb.Fail (map (λ word. word.now) words.now) line) }
+    ensures none { IfNone result (NothingAfter verb.Fail (map (λ word. word.now) words.now)) }
 {
     let [machine_word, number_word] = words else {
         return None;
@@ -168,8 +168,8 @@ fn fail(words: &[&str]) -> Option<Line>
 
 fn stop(words: &[&str]) -> Option<Line>
     ensures some { IfSome result (λ line.
-        SayBehind verb.Stop (map (λ word. word.now) words.now) line) }
-    ensures none { IfNone result (NothingBehind verb.Stop (map (λ word. word.now) words.now)) }
+        SayAfter verb.Stop (map (λ word. word.now) words.now) line) }
+    ensures none { IfNone result (NothingAfter verb.Stop (map (λ word. word.now) words.now)) }
 {
     let [machine_word, number_word, leaves_word] = words else {
         return None;
@@ -182,8 +182,8 @@ fn stop(words: &[&str]) -> Option<Line>
 
 fn open(words: &[&str]) -> Option<Line>
     ensures some { IfSome result (λ line.
-        SayBehind verb.Open (map (λ word. word.now) words.now) line) }
-    ensures none { IfNone result (NothingBehind verb.Open (map (λ word. word.now) words.now)) }
+        SayAfter verb.Open (map (λ word. word.now) words.now) line) }
+    ensures none { IfNone result (NothingAfter verb.Open (map (λ word. word.now) words.now)) }
 {
     let [word] = words else {
         return None;
@@ -194,8 +194,8 @@ fn open(words: &[&str]) -> Option<Line>
 
 fn reopen(words: &[&str]) -> Option<Line>
     ensures some { IfSome result (λ line.
-        SayBehind verb.Reopen (map (λ word. word.now) words.now) line) }
-    ensures none { IfNone result (NothingBehind verb.Reopen (map (λ word. word.now) words.now)) }
+        SayAfter verb.Reopen (map (λ word. word.now) words.now) line) }
+    ensures none { IfNone result (NothingAfter verb.Reopen (map (λ word. word.now) words.now)) }
 {
     let [word] = words else {
         return None;

@@ -33,11 +33,11 @@ short_each : (entries : Entries) → All IsEntry entries
 short_each [] all = omega arith
 short_each (entry ∷ entries) all =
     let here = short_entry entry (All-head IsEntry entry entries all) in
-    let behind = short_each entries (All-tail IsEntry entry entries all) in
+    let others = short_each entries (All-tail IsEntry entry entries all) in
     omega (
       arith,
       here,
-      behind,
+      others,
       length-append (entry_spelling entry) (flat_map entry_spelling entries),
     )
 

@@ -1,16 +1,14 @@
 //! What comes over a connection and what goes back: of a session, or of a user.
 ghost use Rattle.std.specs.Prelude.{◌≡◌, IfOk, option_map};
 ghost use Rattle.syn_message.specs.Bodies.{IsWholeReading};
-ghost use Rattle.syn_message.specs.Requests.{kind_of, request_of};
-ghost use Rattle.syn_message.specs.Users.{wish_kind, wish_of};
 ghost use Rattle.syn_serve.specs.Messages.{IsLawfulMessage, IsLawfulResponse, message_kind};
 ghost use Rattle.syn_serve.specs.Messages.{message_of, message_spelling, response_of};
 ghost use Rattle.syn_serve.specs.Messages.{response_spelling};
 
 use std::alloc::Global;
 use syn_message::{
-    Answered, AnsweredToUser, Asked, AskedByUser, Request, UserRequest, decode_request,
-    decode_user_request, encode_reply, encode_user_reply,
+    Answered, AnsweredToUser, Asked, AskedByUser, decode_request, decode_user_request,
+    encode_reply, encode_user_reply,
 };
 use syn_wire::WireError;
 
@@ -29,32 +27,9 @@ impl AnyRequest {
         ensures { result ≡ message_kind (message_of self.now) }
     {
         match self {
-            AnyRequest::Session(asked) => session_kind(&asked.request),
-            AnyRequest::User(asked) => user_kind(&asked.request),
+            AnyRequest::Session(asked) => asked.request.kind(),
+            AnyRequest::User(asked) => asked.request.kind(),
         }
-    }
-}
-
-/// The kind of a session's request.
-fn session_kind(request: &Request) -> u8
-    ensures { result ≡ kind_of (request_of request.now) }
-{
-    match request {
-        Request::Begin { .. } => 0x06,
-        Request::List { .. } => 0x02,
-        Request::Fetch { .. } => 0x03,
-        Request::Stage { .. } => 0x04,
-        Request::Replace { .. } => 0x05,
-    }
-}
-
-/// The kind of a user's request.
-fn user_kind(request: &UserRequest) -> u8
-    ensures { result ≡ wish_kind (wish_of request.now) }
-{
-    match request {
-        UserRequest::Edit { .. } => 0x11,
-        UserRequest::Get { .. } => 0x12,
     }
 }
 

@@ -30,6 +30,7 @@ use Rattle.syn_scan.specs.Found.{Found}
 use Rattle.syn_session.specs.declared.answering.Carrying.TheVariants as carrying
 use Rattle.syn_session.specs.declared.course.Carried.{Carried}
 use Rattle.syn_session.specs.declared.course.Course.{Course}
+use Rattle.syn_session.specs.declared.session.Asks.TheVariants.{One}
 use Rattle.syn_session.specs.Answering.{exchange_of}
 use Rattle.syn_session.specs.Carrying.{IsCarriedOut, TakesAnswer}
 use Rattle.syn_session.specs.Plans.{Plan}
@@ -38,7 +39,7 @@ use Rattle.syn_session.specs.Stages.{IsCarriedFor, Reached, plan_in}
 use Rattle.syn_session.proofs.CarryingLemmas.{marks_of, source_other, asked_then, is_carried}
 use Rattle.syn_session.proofs.CarryingLemmas.{carries_on, carrying_more}
 use Rattle.syn_session.proofs.CourseLemmas.{no_conflict}
-use Rattle.syn_image.specs.Archives.{kept_of}
+use Rattle.syn_image.specs.Archives.{kept_for}
 
 -- ---- a request for what is carried is one for the item
 
@@ -107,7 +108,7 @@ module _ (archive : kept_in.Archive) (course : Course) (left right : Found) (all
       course_is = carrying_more course now left right before carries.course_is;
       at = carries.at;
       carries = is_carried carries.planned (carriage_of was.transfer) course.cursor for_it.carriage;
-      apart = no_conflict carries.planned carries.planned.item (kept_of was.kept) for_it.record_is;
+      apart = no_conflict carries.planned carries.planned.item (kept_for was.kept) for_it.record_is;
       asked = asked_all;
     }
 
@@ -115,7 +116,7 @@ module _ (archive : kept_in.Archive) (course : Course) (left right : Found) (all
         later.kept ≡ was.kept → (side : Side) (asks : Asked) → is_last reply ≡ false →
         TransferAsks later.transfer (all ++ taken ∷ []) (which_of side) (request_of asks) →
         TakesAnswer archive left right all before taken (record course { carried = Some later })
-        (Ok (carrying.Asks side asks))
+        (Ok (carrying.Asks (One side asks)))
     takes_on later same_carriage same_record side asks goes asks_it = (
       fault,
       (
@@ -136,9 +137,9 @@ module _ (archive : kept_in.Archive) (course : Course) (left right : Found) (all
         carries.planned,
         carried_out now,
         is_due (plan_in course left right) course.cursor carries.planned carries.at
-            (carriage_of was.transfer) for_it.carriage to number request reply (kept_of was.kept)
+            (carriage_of was.transfer) for_it.carriage to number request reply (kept_for was.kept)
             (marks_of carries.planned (carriage_of was.transfer) course.cursor
-            (kept_of was.kept) for_it.carriage for_it.record_is) for_item ends.0 ends.1 ends.2,
+            (kept_for was.kept) for_it.carriage for_it.record_is) for_item ends.0 ends.1 ends.2,
       ),
     )
 

@@ -15,7 +15,7 @@ use Rattle.syn_propagate.specs.Transfers.{carriage_of}
 use Rattle.syn_propagate.specs.declared.carriage.Carriage.{Carriage}
 use Rattle.syn_session.specs.declared.course.Carried.{Carried}
 use Rattle.syn_session.specs.declared.course.Course.{Course}
-use Rattle.syn_image.specs.Archives.{kept_of}
+use Rattle.syn_image.specs.Archives.{kept_for}
 use Rattle.syn_session.specs.Stages.{Carries, IsCarriageOf, IsCarriedFor, IsCourse, Reached}
 use Rattle.syn_session.specs.Stages.{plan_in, AreAskedBefore, IsAskedBefore}
 use Rattle.syn_headline.specs.Report.{is_carrying}
@@ -115,9 +115,9 @@ carries_on archive course left right reached is planned at carried later same_ca
         carriage =
             subst (λ c. IsCarriageOf c planned course.cursor) (sym same_carriage) carries.carriage;
         record_is =
-            subst (λ k. record_for planned planned.item ≡ Some (kept_of k))
+            subst (λ k. record_for planned planned.item ≡ Some (kept_for k))
             (sym same_record) carries.record_is;
-        can = subst (λ k. kept_refusal archive (kept_of k) ≡ None) (sym same_record) carries.can;
+        can = subst (λ k. kept_refusal archive (kept_for k) ≡ None) (sym same_record) carries.can;
       };
       asked = asked;
       is = asks;

@@ -21,11 +21,10 @@ use Rattle.syn_session.specs.declared.course.Course.{Course}
 use Rattle.syn_session.specs.declared.doing.Doing.{Doing}
 use Rattle.syn_session.specs.declared.doing.Doing.TheVariants as has
 use Rattle.syn_session.specs.inner.Items.{IsDoingFor}
-use Rattle.syn_model.specs.Archive.{IsOfItem}
-use Rattle.syn_session.specs.Doings.{IsDoing, KeepsOfItem}
+use Rattle.syn_session.specs.Doings.{IsDoing}
 use Rattle.syn_session.specs.Plans.{planned_by}
 use Rattle.syn_session.specs.Stages.{IsCarriageOf, IsCourse, Reached, plan_in}
-use Rattle.syn_image.specs.Archives.{kept_of}
+use Rattle.syn_image.specs.Archives.{kept_for}
 use Rattle.syn_session.specs.declared.error.SessionError.{SessionError}
 use Rattle.syn_session.proofs.PlanLemmas.{same_marks}
 
@@ -114,7 +113,6 @@ module _ (course : Course) (left right : Found) (reached : Reached)
       planned,
       at,
       ap is_carrying e,
-      subst IsOfItem (sym recorded) tt,
       λ taken. subst (λ k. IsDue course.cursor planned taken k)
           (ap (λ p. Recorded path (subtree left.marks p)) (ap path_of e) ∙ sym recorded)
           (same path e (same_marks is.made.0 left right is.made.1
@@ -124,24 +122,21 @@ module _ (course : Course) (left right : Found) (reached : Reached)
       planned,
       at,
       ap is_carrying e,
-      subst IsOfItem (sym recorded) tt,
       λ taken. subst (λ k. IsDue course.cursor planned taken k) (sym recorded) (directory path e),
     )
     doing_so (has.Carry carried) (inl (path, e, from)) = (
       planned,
       at,
       carried_to_left path (carriage_of carried.transfer) e from.carriage,
-      subst (λ i. record_for (planned_by left right i) i ≡ Some (kept_of carried.kept)) (sym e)
+      subst (λ i. record_for (planned_by left right i) i ≡ Some (kept_for carried.kept)) (sym e)
           (ap (λ k. Some k) (sym from.record_is)),
-      from.ready,
     )
     doing_so (has.Carry carried) (inr (path, e, from)) = (
       planned,
       at,
       carried_to_right path (carriage_of carried.transfer) e from.carriage,
-      subst (λ i. record_for (planned_by left right i) i ≡ Some (kept_of carried.kept)) (sym e)
+      subst (λ i. record_for (planned_by left right i) i ≡ Some (kept_for carried.kept)) (sym e)
           (ap (λ k. Some k) (sym from.record_is)),
-      from.ready,
     )
 
 -- whatever is answered
@@ -154,23 +149,3 @@ if_doing course left right reached is decided item there number same_number (Ok 
     doing_so course left right reached is decided item there doing
     (subst (λ n. IsDoingFor item n left right doing) same_number so)
 if_doing course left right reached is decided item there number same_number (Err e) so = tt
-
--- what it would have kept is the record of an item
-keeps_of_item : (item : model.Item) (number : ℕ) (left right : Found) (doing : Doing) →
-    IsDoingFor item number left right doing → KeepsOfItem doing
-keeps_of_item item number left right has.Nothing so = tt
-keeps_of_item item number left right (has.Conflict path) so = tt
-keeps_of_item item number left right (has.Mark kept) (inl (path, e, recorded)) =
-    subst IsOfItem (sym recorded) tt
-keeps_of_item item number left right (has.Mark kept) (inr (path, e, recorded)) =
-    subst IsOfItem (sym recorded) tt
-keeps_of_item item number left right (has.Carry carried) (inl (path, e, from)) =
-    subst IsOfItem (sym from.record_is) tt
-keeps_of_item item number left right (has.Carry carried) (inr (path, e, from)) =
-    subst IsOfItem (sym from.record_is) tt
-
-pub if_keeps : (item : model.Item) (number : ℕ) (left right : Found)
-    (result : Result Doing SessionError) → IfOk result (IsDoingFor item number left right) →
-    IfOk result KeepsOfItem
-if_keeps item number left right (Ok doing) so = keeps_of_item item number left right doing so
-if_keeps item number left right (Err e) so = tt

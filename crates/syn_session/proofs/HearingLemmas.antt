@@ -30,7 +30,7 @@ use Rattle.syn_session.specs.declared.session.Asks.{Asks}
 use Rattle.syn_session.specs.declared.session.Session.{Session}
 use Rattle.syn_session.specs.Answering.{IsAnswering, asks_of, exchange_of}
 use Rattle.syn_session.specs.inner.Listing.{IsListed, KeepsFound, KeepsRequests, ListsOn}
-use Rattle.syn_session.specs.Hearing.{EndsHearing, HasHeard, Hears, IsAsking, ScansOn, behind}
+use Rattle.syn_session.specs.Hearing.{EndsHearing, HasHeard, Hears, IsAsking, ScansOn, afterwards}
 use Rattle.syn_refusal.specs.declared.refusal.Refusal.{Refusal as Why}
 use Rattle.syn_refusal.specs.declared.refusal.Refusal.TheVariants.{Memory}
 use Rattle.syn_session.specs.Sessions.{IsSession, IsStage, Tells}
@@ -528,7 +528,7 @@ hears_next old new running side number request reply fine has both found lines o
     some none result is =
     let heard = hearing running (exchange_of side number request reply) in
     hears_refused new running side number request reply result Memory is
-    (behind fine refl (tells_heard new heard
+    (afterwards fine refl (tells_heard new heard
     (heard_new old new heard has both found lines out keeps)))
 
 pub swapped : {A B : Type 0} → A ⊎ B → B ⊎ A

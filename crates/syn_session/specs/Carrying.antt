@@ -10,14 +10,17 @@ use Rattle.syn_path.specs.Sides.{which_of}
 use Rattle.syn_model.specs.Archive.{Archive}
 use Rattle.syn_model.specs.Refusal.{Memory}
 use Rattle.syn_propagate.specs.Transfers.{Asks as TransferAsks}
+use Rattle.syn_propagate.specs.declared.transfer.Transfer.{Transfer}
 use Rattle.syn_refusal.specs.Refusals.{cause_of}
 use Rattle.syn_refusal.specs.declared.refusal.Refusal.{Refusal}
 use Rattle.syn_scan.specs.Found.{Found}
 use Rattle.syn_session.specs.Stages.{AreAskedBefore, Carries, IsCourse, Reached, plan_in}
 use Rattle.syn_session.specs.declared.answering.Carrying.{Carrying}
-use Rattle.syn_session.specs.declared.answering.Carrying.TheVariants.{Asks, Done, Refused}
+use Rattle.syn_session.specs.declared.answering.Carrying.TheVariants as has
 use Rattle.syn_session.specs.declared.course.Course.{Course}
-use Rattle.syn_image.specs.Archives.{kept_of}
+use Rattle.syn_session.specs.declared.session.Asks.{Asks}
+use Rattle.syn_session.specs.declared.session.Asks.TheVariants.{Listings, One}
+use Rattle.syn_image.specs.Archives.{kept_for}
 
 -- the item at the cursor is carried no further, and no request is out for a later one
 pub record IsCarriedOut (course : Course) (left right : Found) (all : List Exchange)
@@ -28,17 +31,23 @@ pub record IsCarriedOut (course : Course) (left right : Found) (all : List Excha
   pub apart : conflict_at planned.item ≡ None
   pub asked : AreAskedBefore (plan_in course left right) (suc course.cursor) all
 
+-- the transfer asks for this, and for no listing
+abbrev pub AsksOne : Transfer → List Exchange → Asks → Type 0
+AsksOne transfer taken (Listings left right) = ⊥
+AsksOne transfer taken (One side request) =
+    TransferAsks transfer taken (which_of side) (request_of request)
+
 module _ (archive : Archive) (left right : Found) (all : List Exchange) (before : Reached)
     (taken : Exchange) (course : Course) where
   -- what the answer comes to
   abbrev pub ComesTo : Carrying → Type 0
-  ComesTo (Asks side request) = (is_last taken.reply ≡ false)
+  ComesTo (has.Asks asks) = (is_last taken.reply ≡ false)
       × Carries archive course left right (all ++ taken ∷ []) before
-      (λ transfer. TransferAsks transfer (all ++ taken ∷ []) (which_of side) (request_of request))
-  ComesTo (Done kept) = (planned : Planned)
+      (λ transfer. AsksOne transfer (all ++ taken ∷ []) asks)
+  ComesTo (has.Done kept) = (planned : Planned)
       × IsCarriedOut course left right (all ++ taken ∷ []) before planned
-      × IsDue course.cursor planned taken (kept_of kept)
-  ComesTo (Refused why) = (planned : Planned)
+      × IsDue course.cursor planned taken (kept_for kept)
+  ComesTo (has.Refused why) = (planned : Planned)
       × IsCarriedOut course left right (all ++ taken ∷ []) before planned
       × (taken.reply ≡ model.Refused (cause_of why))
       × IsFor course.cursor planned taken.request

@@ -4,7 +4,6 @@ use Rattle.syn_headline.specs.Coordinator.{Exchange, IsDue}
 use Rattle.syn_headline.specs.Planning.{Planned}
 use Rattle.syn_headline.specs.Report.{is_carrying}
 use Rattle.syn_headline.specs.Session.{record_for}
-use Rattle.syn_model.specs.Archive.{IsOfItem}
 use Rattle.syn_model.specs.Decision.{Conflict}
 use Rattle.syn_propagate.specs.Transfers.{IsReady, carriage_of}
 use Rattle.syn_scan.specs.Found.{Found}
@@ -12,7 +11,7 @@ use Rattle.syn_session.specs.Stages.{IsCarriageOf, plan_in}
 use Rattle.syn_session.specs.declared.course.Course.{Course}
 use Rattle.syn_session.specs.declared.doing.Doing.{Doing}
 use Rattle.syn_session.specs.declared.doing.Doing.TheVariants as has
-use Rattle.syn_image.specs.Archives.{kept_of}
+use Rattle.syn_image.specs.Archives.{kept_for}
 
 -- what is to be done in the plan of a course
 abbrev pub IsDoing : Course → Found → Found → Doing → Type 0
@@ -22,16 +21,14 @@ IsDoing course left right (has.Conflict path) = (planned : Planned)
     × (planned.item ≡ Conflict path)
 IsDoing course left right (has.Mark kept) = (planned : Planned)
     × (slice_get (plan_in course left right) course.cursor ≡ Some planned)
-    × (is_carrying planned.item ≡ false) × IsOfItem (kept_of kept)
-    × ((taken : Exchange) → IsDue course.cursor planned taken (kept_of kept))
+    × (is_carrying planned.item ≡ false)
+    × ((taken : Exchange) → IsDue course.cursor planned taken (kept_for kept))
 IsDoing course left right (has.Carry carried) = (planned : Planned)
     × (slice_get (plan_in course left right) course.cursor ≡ Some planned)
     × IsCarriageOf (carriage_of carried.transfer) planned course.cursor
-    × (record_for planned planned.item ≡ Some (kept_of carried.kept))
-    × IsReady carried.transfer
+    × (record_for planned planned.item ≡ Some (kept_for carried.kept))
 
--- what it would have kept is the record of an item
-abbrev pub KeepsOfItem : Doing → Type 0
-KeepsOfItem (has.Mark kept) = IsOfItem (kept_of kept)
-KeepsOfItem (has.Carry carried) = IsOfItem (kept_of carried.kept)
-KeepsOfItem _ = Unit {0}
+-- what is to be carried has asked for nothing yet
+abbrev pub BeginsAnew : Doing → Type 0
+BeginsAnew (has.Carry carried) = IsReady carried.transfer
+BeginsAnew _ = Unit {0}

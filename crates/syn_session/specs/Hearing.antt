@@ -68,7 +68,7 @@ pub data EndsHearing (session : Session) (running : Running) (taken : Exchange) 
     : Type 0 where
   at_once : (fault_of running.taken taken.side taken.request taken.reply ≡ Some (cause_of why))
       ⊎ (cause_of why ≡ Memory) → Tells session running → EndsHearing session running taken why
-  behind : fault_of running.taken taken.side taken.request taken.reply ≡ None →
+  afterwards : fault_of running.taken taken.side taken.request taken.reply ≡ None →
       cause_of why ≡ Memory → Tells session (hearing running taken) →
       EndsHearing session running taken why
 

@@ -29,7 +29,7 @@ use Rattle.syn_session.specs.declared.course.Course.{Course}
 use Rattle.syn_session.specs.declared.line.Line.{Line}
 use Rattle.syn_session.specs.declared.requests.Waiting.{Waiting}
 use Rattle.syn_session.specs.declared.session.Session.{Session}
-use Rattle.syn_image.specs.Archives.{kept_of}
+use Rattle.syn_image.specs.Archives.{kept_for}
 
 abbrev pub outstanding_of : Waiting → Outstanding
 outstanding_of waiting = record {
@@ -162,8 +162,8 @@ pub record IsCarriageOf (carriage : Carriage) (planned : Planned) (item : ℕ) :
 pub record IsCarriedFor (archive : model.Archive) (carried : Carried) (planned : Planned)
     (item : ℕ) : Type 0 where
   pub carriage : IsCarriageOf (carriage_of carried.transfer) planned item
-  pub record_is : record_for planned planned.item ≡ Some (kept_of carried.kept)
-  pub can : kept_refusal archive (kept_of carried.kept) ≡ None
+  pub record_is : record_for planned planned.item ≡ Some (kept_for carried.kept)
+  pub can : kept_refusal archive (kept_for carried.kept) ≡ None
 
 -- the item at the cursor is carried, by a transfer of which this holds
 pub record Carries (archive : model.Archive) (course : Course) (left right : Found)

@@ -1,5 +1,5 @@
 //! What an answer for the item that is carried comes to.
-ghost use Rattle.std.specs.Prelude.{◌≡◌, ℕ, List};
+ghost use Rattle.std.specs.Prelude.{ℕ, List};
 ghost use Rattle.syn_headline.specs.Coordinator.{Exchange};
 ghost use Rattle.syn_headline.specs.Network.{Which};
 ghost use Rattle.syn_headline.specs.Side.{Request as Asked};
@@ -10,19 +10,20 @@ ghost use Rattle.syn_scan.specs.Found.{Found};
 ghost use Rattle.syn_session.specs.Answering.{exchange_of};
 
 use crate::course::{Carried, Course};
+use crate::session::Asks;
 use std::alloc::Global;
-use syn_image::Kept;
-use syn_message::{Reply, Request, Side};
+use syn_image::KeptItem;
+use syn_message::Reply;
 use syn_propagate::{Next, transfer_laws};
 use syn_refusal::Refusal;
 
 /// What an answer for the item that is carried comes to.
 #[derive(Debug, Drop)]
 pub enum Carrying {
-    /// The side is to be asked for this next.
-    Asks(Side, Request),
+    /// This is to be asked next.
+    Asks(Asks),
     /// The item is in its place on the other side, and the archive is to have this.
-    Done(Kept),
+    Done(KeptItem),
     /// A side refused what it was asked.
     Refused(Refusal),
 }
@@ -50,7 +51,7 @@ impl Course {
         match transfer.step(alloc, Some(reply)) {
             Ok(Next::Ask(side, request)) => {
                 self.carried = Some(Carried { transfer, kept });
-                Ok(Carrying::Asks(side, request))
+                Ok(Carrying::Asks(Asks::One(side, request)))
             }
             // By calls, or the prover would look here at all that each holds.
             Ok(Next::Done) => {

@@ -7,7 +7,7 @@ ghost use Rattle.syn_scan.specs.Found.{scan_of};
 
 use crate::error::SessionError;
 use std::alloc::Global;
-use syn_image::Kept;
+use syn_image::KeptItem;
 use syn_mark::MarkTree;
 use syn_path::{Path, Side};
 use syn_propagate::Transfer;
@@ -22,7 +22,7 @@ const MAX_ITEMS: usize = 0xffff_ffff;
 #[derive(Debug, Drop)]
 pub struct Carried {
     pub transfer: Transfer,
-    pub kept: Kept,
+    pub kept: KeptItem,
 }
 
 /// The plan of a session, the item that it has come to, and what became of those before.

@@ -1,13 +1,13 @@
 //! What is to be done for an item of the plan.
 ghost use Rattle.std.specs.Prelude.{◌≡◌, IfErr, IfOk};
 ghost use Rattle.syn_recon.specs.Items.{item_of};
+ghost use Rattle.syn_session.specs.Doings.{BeginsAnew};
 ghost use Rattle.syn_session.specs.inner.Items.{IsDoingFor, IsMarked};
 
-use crate::carried::{copy_marks, copy_path};
 use crate::course::{Carried, Course};
 use crate::error::SessionError;
 use std::alloc::Global;
-use syn_image::Kept;
+use syn_image::KeptItem;
 use syn_message::Side;
 use syn_model::plan_laws;
 use syn_path::Path;
@@ -22,20 +22,20 @@ pub enum Doing {
     /// Both sides changed there: nothing is done.
     Conflict(Path),
     /// The archive is to have what both sides have.
-    Mark(Kept),
+    Mark(KeptItem),
     /// A side is to have what the other has.
     Carry(Carried),
 }
 
 impl Course {
-    ghost use Rattle.syn_session.specs.Doings.{IsDoing, KeepsOfItem};
+    ghost use Rattle.syn_session.specs.Doings.{BeginsAnew, IsDoing};
     ghost use Rattle.syn_session.specs.Stages.{IsCourse, Reached};
 
     /// What is to be done for the item at the cursor. Refused 11 where memory is refused.
     pub fn doing(&self, alloc: Global, left: &Scan, right: &Scan) -> Result<Doing, SessionError>
         ensures ok { (reached : Reached) → IsCourse self.now left.now right.now reached
             → IfOk result (IsDoing self.now left.now right.now) }
-        ensures record { IfOk result KeepsOfItem }
+        ensures ready { IfOk result BeginsAnew }
         ensures memory { IfErr result (λ e. e ≡ SessionError.Memory) }
     {
         plan_laws();
@@ -58,12 +58,13 @@ pub(crate) fn doing_for(
     right: &Scan,
 ) -> Result<Doing, SessionError>
     ensures ok { IfOk result (IsDoingFor (item_of item.now) number left.now right.now) }
+    ensures ready { IfOk result BeginsAnew }
     ensures memory { IfErr result (λ e. e ≡ SessionError.Memory) }
 {
     match item {
-        Item::Conflict(path) => Ok(Doing::Conflict(copy_path(alloc, path)?)),
+        Item::Conflict(path) => Ok(Doing::Conflict(path.copy(alloc)?)),
         Item::MarkSame(path) => mark(alloc, path, left),
-        Item::MarkDir(path) => Ok(Doing::Mark(Kept::Dir(copy_path(alloc, path)?))),
+        Item::MarkDir(path) => Ok(Doing::Mark(KeptItem::Dir(path.copy(alloc)?))),
         Item::ToLeft(path) => {
             let carried = Carried::new(alloc, Side::Right, number, path, right, left)?;
             Ok(Doing::Carry(carried))
@@ -78,9 +79,9 @@ pub(crate) fn doing_for(
 /// The archive is to have what both sides have at the path. Refused 11 where memory is refused.
 fn mark(alloc: Global, path: &Path, left: &Scan) -> Result<Doing, SessionError>
     ensures ok { IfOk result (IsMarked path.now left.now) }
+    ensures ready { IfOk result BeginsAnew }
     ensures memory { IfErr result (λ e. e ≡ SessionError.Memory) }
 {
-    let marks = copy_marks(alloc, left, path)?;
-    let copy = copy_path(alloc, path)?;
-    Ok(Doing::Mark(Kept::Record(copy, marks)))
+    let marks = left.tree().copy_at(alloc, path)?;
+    Ok(Doing::Mark(KeptItem::Record(path.copy(alloc)?, marks)))
 }

@@ -9,7 +9,6 @@ use std::fmt;
 use syn_recon::PlanError;
 use syn_refusal::Refusal;
 use syn_scan::ScanError;
-use syn_wire::WireError;
 use thiserror::Error;
 
 /// Why a session does not start.
@@ -79,17 +78,6 @@ impl From<PlanError> for SessionError {
     ghost from_gives = { λ _ e. e ≡ Memory };
 
     fn from(_error: PlanError) -> SessionError {
-        SessionError::Memory
-    }
-}
-
-/// A request is not copied for lack of memory.
-impl From<WireError> for SessionError {
-    ghost use Rattle.syn_session.specs.declared.error.SessionError.TheVariants.{Memory};
-
-    ghost from_gives = { λ _ e. e ≡ Memory };
-
-    fn from(_error: WireError) -> SessionError {
         SessionError::Memory
     }
 }

@@ -1,5 +1,5 @@
 //! How a session goes past the items of its plan.
-ghost use Rattle.std.specs.Prelude.{◌≡◌, ◌+◌, ◌<◌, ◌^◌, Some, IfErr, IfOk, OnErr, OnOk, false};
+ghost use Rattle.std.specs.Prelude.{◌≡◌, ◌+◌, ◌<◌, ◌^◌, Some, IfErr, OnErr, OnOk, false};
 ghost use Rattle.std.specs.Prelude.{slice_get, true};
 ghost use Rattle.syn_headline.specs.Planning.{Planned};
 ghost use Rattle.syn_headline.specs.Report.{conflict_at, is_carrying};
@@ -9,7 +9,6 @@ ghost use Rattle.syn_model.specs.Decision.{Conflict, path_of};
 ghost use Rattle.syn_refusal.specs.Refusals.{cause_of};
 ghost use Rattle.syn_scan.specs.Found.{Found};
 
-use crate::carried::copy_path;
 use crate::course::Course;
 use crate::error::SessionError;
 use std::alloc::Global;
@@ -73,7 +72,7 @@ impl Course {
         let Some(item) = self.items.get(self.cursor) else {
             return Ok(());
         };
-        let path = copy_path(alloc, item.path())?;
+        let path = item.path().copy(alloc)?;
         self.pass_refused(why, path)
     }
 

@@ -219,7 +219,7 @@ module _ {D : Type 0} {disk : Ghosts D} (player : Player D disk) (state : State)
   below other low =
       elim (cases_lt other player.lowest) [
         | inl before ↦ is.below other before
-        | inr behind ↦ sym (is.flags other) ∙ set other behind low
+        | inr above ↦ sym (is.flags other) ∙ set other above low
       ]
 
   pub passed : IsPlayer (record player { lowest = number }) state
@@ -256,7 +256,7 @@ module _ {D : Type 0} {disk : Ghosts D} (player : Player D disk) (state : State)
       let less : number < limit = omega arith in
       elim (cases_lt number player.lowest) [
         | inl before ↦ is.below number before
-        | inr behind ↦ sym (is.flags number) ∙ (flag_is number ∙ none refl number behind less)
+        | inr above ↦ sym (is.flags number) ∙ (flag_is number ∙ none refl number above less)
       ]
   next_left_is (Some n) none limited unset set =
       lowest_left player state n is (flag_is n ∙ unset)

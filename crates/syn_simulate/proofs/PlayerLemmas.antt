@@ -18,12 +18,12 @@ use Rattle.syn_world.specs.declared.world.Disks.{Disks}
 use Rattle.syn_world.specs.declared.world.World.{World}
 
 -- the state after a step
-abbrev behind : State → Step → ModelWorld → State
-behind old step world = record { world = world; delivered = noted old step }
+abbrev after_step : State → Step → ModelWorld → State
+after_step old step world = record { world = world; delivered = noted old step }
 
 one : (old : State) (step : Step) (new : ModelWorld) → Steps old.world step new
-    → Moves old (step ∷ []) (behind old step new)
-one old step new goes = (behind old step new, record { steps = goes; delivered = refl }, refl)
+    → Moves old (step ∷ []) (after_step old step new)
+one old step new goes = (after_step old step new, record { steps = goes; delivered = refl }, refl)
 
 module _ {D : Type 0} {disk : Ghosts D} where
   -- as many were sent as the list has
@@ -76,7 +76,7 @@ module _ {D : Type 0} {disk : Ghosts D} where
           turns = turns;
         })
     step_made step player world flags turns was so are =
-        has_played (Says (step ∷ [])) (step ∷ []) (behind old step so.new) _
+        has_played (Says (step ∷ [])) (step ∷ []) (after_step old step so.new) _
         (refl, one old step so.new so.steps)
         (record {
           world = so.is;
@@ -97,7 +97,7 @@ module _ {D : Type 0} {disk : Ghosts D} where
         → HasBegun disk (Says (step ∷ [])) old disks
     step_cut step world disks so left = elim so.steps [
       | inl goes ↦
-          has_begun (Says (step ∷ [])) (step ∷ []) (behind old step so.new) disks
+          has_begun (Says (step ∷ [])) (step ∷ []) (after_step old step so.new) disks
           ([], refl, one old step so.new goes) (left so.new so.has)
       | inr same ↦
           step_none step disks

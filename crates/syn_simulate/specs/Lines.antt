@@ -9,13 +9,8 @@ use Rattle.syn_simulate.specs.declared.player.TheConstants.{MOST_DRAINED}
 use Rattle.syn_script.specs.declared.line.Line.{Line}
 use Rattle.syn_script.specs.declared.line.Line.TheVariants.{Edit, Start, Tick, Deliver, Drain}
 use Rattle.syn_script.specs.declared.line.Line.TheVariants.{Checkpoint, Fail, Stop, Open, Reopen}
-use Rattle.syn_script.specs.declared.line.Machine.{Machine}
-use Rattle.syn_script.specs.declared.line.Machine.TheVariants as machine
 use Rattle.syn_tree.specs.Edits.{edit_of}
-
-abbrev pub place_of : Machine → model.Machine
-place_of (machine.Side side) = model.At (which_of side)
-place_of machine.Coordinator = model.Coordinator
+use Rattle.syn_world.specs.Steps.{machine_of}
 
 -- the messages from the first number to the last, none if the last is lower
 abbrev pub deliveries : ℕ → ℕ → List model.Step
@@ -32,11 +27,11 @@ said (Start preference) = Says (model.Start (option_map which_of preference) ∷
 said Tick = Says (model.Tick ∷ [])
 said (Deliver first last) = Says (deliveries first last)
 said Drain = ToDrain
-said (Checkpoint at) = Says (model.Checkpoint (place_of at) ∷ [])
-said (Fail at call) = Says (model.Fail (place_of at) call ∷ [])
-said (Stop at calls leaves) = Says (model.Stop (place_of at) calls ∷ [])
-said (Open at) = Says (model.Open (place_of at) ∷ [])
-said (Reopen at) = Says (model.Reopen (place_of at) ∷ [])
+said (Checkpoint at) = Says (model.Checkpoint (machine_of at) ∷ [])
+said (Fail at call) = Says (model.Fail (machine_of at) call ∷ [])
+said (Stop at calls leaves) = Says (model.Stop (machine_of at) calls ∷ [])
+said (Open at) = Says (model.Open (machine_of at) ∷ [])
+said (Reopen at) = Says (model.Reopen (machine_of at) ∷ [])
 
 -- these steps are what is said
 abbrev pub Plays : Said → State → List model.Step → State → Type 0

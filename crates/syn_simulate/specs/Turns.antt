@@ -2,13 +2,13 @@
 use Rattle.std.specs.Prelude.{ℕ, Bool, List, Option, Some, None, is_some, length}
 use Rattle.syn_disk.specs.declared.disk.Disk.{Ghosts}
 use Rattle.syn_path.specs.declared.side.Side.TheVariants.{Left, Right}
+use Rattle.syn_script.specs.declared.line.Machine.{Machine}
+use Rattle.syn_script.specs.declared.line.Machine.TheVariants as place
 use Rattle.syn_simulate.specs.declared.player.Player.{Player}
 use Rattle.syn_simulate.specs.declared.turn.Moment.{Moment}
 use Rattle.syn_simulate.specs.declared.turn.Turn.{Turn}
 use Rattle.syn_world.specs.Worlds.{acknowledged_in, archive_in, refusals_in, replica_in}
 use Rattle.syn_world.specs.Worlds.{reports_in, sent_in}
-use Rattle.syn_world.specs.declared.step.Machine.{Machine}
-use Rattle.syn_world.specs.declared.step.Machine.TheVariants as place
 use Rattle.syn_world.specs.declared.step.Step.{Step}
 use Rattle.syn_world.specs.declared.step.Step.TheVariants.{Deliver}
 use Rattle.syn_world.specs.declared.world.World.{World}

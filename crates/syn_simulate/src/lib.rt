@@ -46,7 +46,6 @@
 mod chart;
 mod disks;
 mod error;
-mod line;
 mod notes;
 mod player;
 mod runs;

@@ -9,7 +9,6 @@ ghost use Rattle.syn_simulate.specs.Turns.{turn_of, turns_of};
 ghost use Rattle.syn_world.specs.Steps.{step_of};
 ghost use Rattle.syn_world.specs.Worlds.{IsWorld, sent_in};
 
-use crate::line::machine_of;
 use crate::notes::{lowest_unset, note_step};
 use crate::turn::{Turn, add_turn};
 use std::alloc::Global;
@@ -187,13 +186,11 @@ impl<D: SimulatedDisk> Player<D> {
             Line::Tick => self.step(alloc, Step::Tick),
             Line::Deliver(first, last) => self.deliver_all(alloc, first as usize, last as usize),
             Line::Drain => self.drain(alloc),
-            Line::Checkpoint(machine) => self.step(alloc, Step::Checkpoint(machine_of(machine))),
-            Line::Fail(machine, call) => self.step(alloc, Step::Fail(machine_of(machine), call)),
-            Line::Stop(machine, calls, _) => {
-                self.step(alloc, Step::Stop(machine_of(machine), calls))
-            }
-            Line::Open(machine) => self.step(alloc, Step::Open(machine_of(machine))),
-            Line::Reopen(machine) => self.step(alloc, Step::Reopen(machine_of(machine))),
+            Line::Checkpoint(machine) => self.step(alloc, Step::Checkpoint(machine)),
+            Line::Fail(machine, call) => self.step(alloc, Step::Fail(machine, call)),
+            Line::Stop(machine, calls, _) => self.step(alloc, Step::Stop(machine, calls)),
+            Line::Open(machine) => self.step(alloc, Step::Open(machine)),
+            Line::Reopen(machine) => self.step(alloc, Step::Reopen(machine)),
         }
     }
 

@@ -2,5 +2,5 @@ pub mod CauseLemmas
 pub mod StandingLemmas
 pub mod SinceLemmas
 pub mod AlikeLemmas
-mod SoundLemmas
-mod ReadingLemmas
+pub mod SoundLemmas
+pub mod ReadingLemmas

@@ -31,7 +31,7 @@ not_full : (position : ℕ) → first_cause (full_position position) ≡ None �
 not_full position e =
     leb-false greatest position (first_cause-none (nat_le greatest position, Full) [] e).0
 
-before_greatest : (standing : Standing) (event : Event) → refusal_at standing event ≡ None →
+pub before_greatest : (standing : Standing) (event : Event) → refusal_at standing event ≡ None →
     standing.position < greatest
 before_greatest s (Edited user edit) none =
     let position = full_position s.position in

@@ -1,5 +1,5 @@
 -- Why an event is refused in a standing, as it is found out step by step.
-use Rattle.std.proofs.Common.{◌≡◌, ◌≢◌, ◌⊎◌, ℕ, nat_le, List, [], ◌∷◌, ◌++◌, sym, ap, ◌∙◌, Option}
+use Rattle.std.proofs.Common.{◌≡◌, ◌≢◌, ◌⊎◌, ℕ, List, [], ◌∷◌, ◌++◌, sym, ap, ◌∙◌, Option}
 use Rattle.std.proofs.Common.{Some, None, inl, inr, refl, append_assoc}
 use Rattle.std.proofs.lemmas.Option.{none-some}
 use Rattle.syn_model.specs.Tree.{Tree, replace}
@@ -78,19 +78,6 @@ module _ (standing : Standing) where
   tree_at (Replaced token path since new) refusal early e =
       replaced_row token path since new early ∙ first_stays (place_causes standing.tree path
       ++ full_causes (replace standing.tree path new)) (full_position standing.position) refusal e
-
-  -- and then the position's
-  pub position_at : (event : Event) → first_cause (early_causes standing event) ≡ None →
-      tree_refusal standing.tree event ≡ None →
-      refusal_at standing event ≡ first_cause (full_position standing.position)
-  position_at (Edited user edit) early none = edit_passed standing user edit none
-  position_at (Began session) early none =
-      let old : List Cause = (nat_le session standing.session, OldSession) ∷ [] in
-      first_skips old (full_position standing.position)
-      (no_cause old (full_position standing.position) early).0
-  position_at (Replaced token path since new) early none =
-      replaced_row token path since new early ∙ first_skips (place_causes standing.tree path
-      ++ full_causes (replace standing.tree path new)) (full_position standing.position) none
 
 -- a tree refuses for lack of memory, or for a cause
 pub of_cause : (e : TreeError) (refusal : Option Refusal) →

@@ -8,7 +8,6 @@ use std::alloc::{AllocError, AllocFailed};
 use std::fmt;
 use syn_history::HistoryError;
 use syn_journal::JournalError;
-use syn_path::PathError;
 use syn_refusal::Refusal;
 use syn_tree::TreeError;
 use syn_wire::WireError;
@@ -100,17 +99,6 @@ impl From<HistoryError> for ReplicaError {
 
     fn from(error: HistoryError) -> ReplicaError {
         ReplicaError::History(error)
-    }
-}
-
-/// A path is copied here, and never made, so that memory is the only cause.
-impl From<PathError> for ReplicaError {
-    ghost use Rattle.syn_standing.specs.declared.error.ReplicaError.TheVariants.{Memory};
-
-    ghost from_gives = { λ _ e. e ≡ Memory };
-
-    fn from(_error: PathError) -> ReplicaError {
-        ReplicaError::Memory
     }
 }
 

@@ -1,5 +1,5 @@
 //! What a replica keeps of its history in memory.
-ghost use Rattle.std.specs.Prelude.{◌≡◌, ◌≢◌, ◌⊎◌, not, false, None, Some, IfOk, IfErr, IfSome};
+ghost use Rattle.std.specs.Prelude.{◌≡◌, ◌⊎◌, not, false, None, Some, IfOk, IfErr, IfSome};
 ghost use Rattle.std.specs.Prelude.{OnOk, OnErr};
 ghost use Rattle.std.specs.Option.{option_map_or};
 ghost use Rattle.syn_model.specs.Event.{is_below, is_same_token};
@@ -13,15 +13,14 @@ ghost use Rattle.syn_history.specs.Past.{past_in, standing_with};
 ghost use Rattle.syn_tree.specs.Change.{IsPreparedFor};
 ghost use Rattle.syn_standing.specs.Refusals.{refusal_in, refusal_of};
 ghost use Rattle.syn_standing.specs.Causes.{since_causes};
-ghost use Rattle.syn_standing.specs.Updates.{early_causes, tree_refusal, tree_after, IsReady, IsOf};
-ghost use Rattle.syn_tree.specs.Refusals.{refusal_of as of_tree};
+ghost use Rattle.syn_standing.specs.Updates.{early_causes, tree_after, IsReady, IsOf};
 
 use crate::error::ReplicaError;
 use std::alloc::Global;
 use std::marker::Model;
 use syn_history::{Event, HistoryError, Step, Token, Trail, trail_laws};
 use syn_path::Path;
-use syn_tree::{Change, Tree, TreeError};
+use syn_tree::{Change, Tree};
 
 /// What is kept of a history in memory: the tree that it leaves, and the trail. Contracts see it as
 /// the standing of the history.
@@ -195,25 +194,27 @@ impl Standing {
     {
         let step = self.trail.step(alloc, &event)?;
         let change = self.change_by(alloc, event)?;
-        self.check_position()?;
         Ok(Update { change, step })
     }
 
-    /// What the event changes of the tree.
-    fn change_by(&self, alloc: Global, event: Event) -> Result<Option<Change>, TreeError>
+    /// What the event changes of the tree. Of a replacement alone the position is looked at here:
+    /// of each other event `check` did.
+    fn change_by(&self, alloc: Global, event: Event) -> Result<Option<Change>, ReplicaError>
         requires { first_cause (early_causes self.now (event_of event)) ≡ None }
         ensures ready { IfOk result (λ change. IfSome change (IsPreparedFor self.now.tree)) }
         ensures gives { IfOk result (λ change. tree_after self.now.tree change
             ≡ model.after_event self.now.tree (event_of event)) }
-        ensures allowed { OnOk result (tree_refusal self.now.tree (event_of event) ≡ None) }
-        ensures refused { IfErr result (λ e. e ≢ TreeError.Memory
-            → tree_refusal self.now.tree (event_of event) ≡ Some (of_tree e)) }
+        ensures allowed { OnOk result (refusal_at self.now (event_of event) ≡ None) }
+        ensures refused { IfErr result (λ e. (refusal_of e ≡ Memory)
+            ⊎ (refusal_at self.now (event_of event) ≡ Some (refusal_of e))) }
     {
         match event {
             Event::Edited { edit, .. } => Ok(Some(self.tree.prepare_allowed(alloc, edit)?)),
             Event::Began { .. } => Ok(None),
             Event::Replaced { path, new, .. } => {
-                Ok(Some(self.tree.prepare_replace(alloc, &path, new)?))
+                let change = self.tree.prepare_replace(alloc, &path, new)?;
+                self.check_position()?;
+                Ok(Some(change))
             }
         }
     }

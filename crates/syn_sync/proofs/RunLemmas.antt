@@ -25,14 +25,14 @@ use Rattle.syn_sync.specs.inner.Calling.{Calls, Starting}
 leads_twice : (pair : ℕ) (a b c : CoordinatorMachine) (first second : Acts)
     → Leads pair a first b → Leads pair b second c → Leads pair a (first ++ second) c
 leads_twice pair a b c [] second one two = subst (λ m. Leads pair m second c) one two
-leads_twice pair a b c (done ∷ behind) second (between, step, one) two =
-    (between, step, leads_twice pair between b c behind second one two)
+leads_twice pair a b c (done ∷ onward) second (between, step, one) two =
+    (between, step, leads_twice pair between b c onward second one two)
 
 pub hears_twice : (a b c : Line) (first second : List Answering) → HearsAll a first b
     → HearsAll b second c → HearsAll a (first ++ second) c
 hears_twice a b c [] second one two = subst (λ l. HearsAll l second c) one two
-hears_twice a b c (answering ∷ behind) second (between, hears, one) two =
-    (between, hears, hears_twice between b c behind second one two)
+hears_twice a b c (answering ∷ onward) second (between, hears, one) two =
+    (between, hears, hears_twice between b c onward second one two)
 
 answers_twice : (side : Which) (first second : Acts)
     → answers_in side (first ++ second) ≡ answers_in side first ++ answers_in side second
@@ -53,8 +53,8 @@ false_is false is not_is = cc
 
 begins_more : {preference : Option Which} (first second : Acts) → Begins preference first →
     Begins preference (first ++ second)
-begins_more first second (at_once call behind) = at_once call (behind ++ second)
-begins_more first second (with_room one two behind) = with_room one two (behind ++ second)
+begins_more first second (at_once call onward) = at_once call (onward ++ second)
+begins_more first second (with_room one two onward) = with_room one two (onward ++ second)
 
 module _ {D : Type 0} {disk : Ghosts D} where
   -- its machine was stopped
@@ -125,17 +125,17 @@ module _ {D : Type 0} {disk : Ghosts D} where
       (first second : List Message) (calls : Calls middle pair machine first)
       → stops middle ≡ false → Calls new pair calls.reached second
       → Calls new pair machine (first ++ second)
-  calls_twice middle new pair machine first second calls calm behind = record {
-    acts = calls.acts ++ behind.acts;
-    reached = behind.reached;
-    leads = leads_twice pair machine calls.reached behind.reached calls.acts behind.acts
-        calls.leads behind.leads;
-    ends = behind.ends;
-    silent = λ side. answers_twice side calls.acts behind.acts
-        ∙ ap (λ x. x ++ answers_in side behind.acts) (calls.silent side) ∙ behind.silent side;
-    sends = λ still side. frames_twice side calls.acts behind.acts
-        ∙ ap (λ x. x ++ frames_in side behind.acts) (calls.sends calm side)
-        ∙ ap (λ x. frames_to side first ++ x) (behind.sends still side)
+  calls_twice middle new pair machine first second calls calm onward = record {
+    acts = calls.acts ++ onward.acts;
+    reached = onward.reached;
+    leads = leads_twice pair machine calls.reached onward.reached calls.acts onward.acts
+        calls.leads onward.leads;
+    ends = onward.ends;
+    silent = λ side. answers_twice side calls.acts onward.acts
+        ∙ ap (λ x. x ++ answers_in side onward.acts) (calls.silent side) ∙ onward.silent side;
+    sends = λ still side. frames_twice side calls.acts onward.acts
+        ∙ ap (λ x. x ++ frames_in side onward.acts) (calls.sends calm side)
+        ∙ ap (λ x. frames_to side first ++ x) (onward.sends still side)
         ∙ sym (messages_twice side first second);
   }
 
@@ -358,7 +358,7 @@ module _ {D : Type 0} {disk : Ghosts D} where
       (one.0, subst (Begins preference) (sym one.2) (at_once one.1 []))
 
   -- so does one after a checkpoint
-  pub starts_behind : (preference : Option Which) (old middle new : Coordinator D disk) (pair : ℕ)
+  pub starts_after : (preference : Option Which) (old middle new : Coordinator D disk) (pair : ℕ)
       (machine : CoordinatorMachine) (messages : List Message)
       (made : Calls middle pair machine []) (first : Call)
       → made.acts ≡ record { act = Compacts; call = first } ∷ [] → stops middle ≡ false
@@ -366,7 +366,7 @@ module _ {D : Type 0} {disk : Ghosts D} where
       kept messages
       → Starting preference new pair machine messages
   unfolding calls_twice
-  starts_behind preference old middle new pair machine messages made first is_made calm kept does =
+  starts_after preference old middle new pair machine messages made first is_made calm kept does =
       let one = calls_one middle new pair made.reached (Starts preference) kept messages does
       (λ side. refl)
       (λ call side is. ap (λ m. frames_to side m) is) in (
@@ -391,10 +391,10 @@ module _ {D : Type 0} {disk : Ghosts D} where
       (λ m. (whole : Drives m pair machine lines heard from to) × Begins preference whole.acts)
       (sym (same is)) (drives, begins)
   ends_at preference false middle new pair machine lines heard from to drives begins same calls is =
-      let behind = drives_silent new pair drives.reached heard to
+      let onward = drives_silent new pair drives.reached heard to
       (calls drives.reached (stands_of middle pair drives.reached drives.ends is)) in (
-        drives_twice middle new pair machine lines heard heard from to to drives is behind,
-        begins_more drives.acts behind.acts begins,
+        drives_twice middle new pair machine lines heard heard from to to drives is onward,
+        begins_more drives.acts onward.acts begins,
       )
 
   -- A whole session: it begins, goes on, and is given up where its machine goes on

@@ -1,6 +1,6 @@
 -- What refuses a start or a checkpoint.
 use Rattle.std.proofs.Common.{◌≡◌, ◌≢◌, ◌<◌, ◌⊎◌, ℕ, Some, Result, Ok, Err, inl, inr, refl, subst}
-use Rattle.std.proofs.Common.{sym}
+use Rattle.std.proofs.Common.{ap, sym}
 use Rattle.std.specs.Prelude.{IfErr, MatchResult, OnOk}
 use Rattle.syn_archive.specs.Refusals as kept
 use Rattle.syn_archive.specs.declared.error.ArchiveError.{ArchiveError}
@@ -9,6 +9,8 @@ use Rattle.syn_disk.specs.declared.disk.Disk.{Ghosts}
 use Rattle.syn_headline.specs.Coordinator.{Call, CoordinatorMachine, coordinator_kind}
 use Rattle.syn_headline.specs.MachineSteps.{Checkpoints}
 use Rattle.syn_journaled.specs.Endings as endings
+use Rattle.syn_journaled.proofs.Spent.{counted as grew}
+use Rattle.syn_keep.proofs.DueLemmas.{device_or_other}
 use Rattle.syn_model.specs.Refusal as why
 use Rattle.syn_model.specs.Refusal.{first_cause}
 use Rattle.syn_refusal.specs.Refusals.{cause_of}
@@ -18,7 +20,7 @@ use Rattle.syn_session.specs.Refusals.{CountsFailures, refusal_of}
 use Rattle.syn_coordinator.specs.declared.coordinator.Coordinator.{Coordinator}
 use Rattle.syn_session.specs.declared.error.SessionError.{SessionError}
 use Rattle.syn_session.specs.declared.error.SessionError.TheVariants as session
-use Rattle.syn_sync.specs.Refusals.{Refuses, fails, no_room, no_start, no_start_behind, stopped}
+use Rattle.syn_sync.specs.Refusals.{Refuses, fails, no_room, no_start, no_start_after, stopped}
 use Rattle.syn_sync.specs.Refusals.{unanswered}
 use Rattle.syn_sync.specs.inner.Calling.{IsUnended}
 
@@ -29,10 +31,6 @@ is_start_device session.Device = inl refl
 is_start_device session.Halted = inr (λ is. cc)
 is_start_device session.Memory = inr (λ is. cc)
 is_start_device session.Busy = inr (λ is. cc)
-
-pub is_archive_device : (e : ArchiveError) → (e ≡ archive.Device) ⊎ (e ≢ archive.Device)
-is_archive_device archive.Device = inl refl
-is_archive_device _ = inr (λ is. cc)
 
 -- what was done, where something was
 pub on_ok : {X E : Type 0} (P : Type 0) (result : Result X E) → P → OnOk result P
@@ -47,11 +45,6 @@ counted session.JournalFull a b is counts = cc
 counted session.Halted a b is counts = cc
 counted session.Memory a b is counts = cc
 counted session.Busy a b is counts = cc
-
-kept_counted : (e : ArchiveError) (a b : ℕ) → e ≡ archive.Device
-    → endings.CountsFailures (Some (kept.refusal_of e)) a b → a < b
-kept_counted e a b is counts =
-    subst (λ x. endings.CountsFailures (Some (kept.refusal_of x)) a b) is counts
 
 module _ {D : Type 0} {disk : Ghosts D} where
   -- how many device calls of its disk failed
@@ -76,7 +69,7 @@ module _ {D : Type 0} {disk : Ghosts D} where
   start_refused old new pair machine e counts refused =
       start_refused_at old new pair machine e (is_start_device e) counts refused
 
-  behind_refused_at : (old middle new : Coordinator D disk) (pair : ℕ)
+  after_refused_at : (old middle new : Coordinator D disk) (pair : ℕ)
       (machine between : CoordinatorMachine) (call : Call) (e : SessionError)
       → (e ≡ session.Device) ⊎ (e ≢ session.Device)
       → first_cause (all_causes pair machine) ≡ Some why.JournalFull
@@ -85,15 +78,15 @@ module _ {D : Type 0} {disk : Ghosts D} where
       → CountsFailures e (failures_of middle) (failures_of new)
       → (e ≢ session.Device → first_cause (all_causes pair between) ≡ Some (refusal_of e))
       → Refuses old new pair machine (refusal_of e)
-  behind_refused_at old middle new pair machine between call e (inl is) full made same counts
+  after_refused_at old middle new pair machine between call e (inl is) full made same counts
       refused =
       subst (λ x. Refuses old new pair machine (refusal_of x)) (sym is)
       (fails (subst (λ n. n < failures_of new) same
       (counted e (failures_of middle) (failures_of new) is counts)))
-  behind_refused_at old middle new pair machine between call e (inr is) full made same counts
-      refused = no_start_behind (refusal_of e) between call full made (refused is)
+  after_refused_at old middle new pair machine between call e (inr is) full made same counts
+      refused = no_start_after (refusal_of e) between call full made (refused is)
 
-  pub behind_refused : (old middle new : Coordinator D disk) (pair : ℕ)
+  pub after_refused : (old middle new : Coordinator D disk) (pair : ℕ)
       (machine between : CoordinatorMachine) (call : Call) (e : SessionError)
       → first_cause (all_causes pair machine) ≡ Some why.JournalFull
       → Checkpoints (coordinator_kind pair) machine between call
@@ -101,8 +94,8 @@ module _ {D : Type 0} {disk : Ghosts D} where
       → CountsFailures e (failures_of middle) (failures_of new)
       → (e ≢ session.Device → first_cause (all_causes pair between) ≡ Some (refusal_of e))
       → Refuses old new pair machine (refusal_of e)
-  behind_refused old middle new pair machine between call e full made same counts refused =
-      behind_refused_at old middle new pair machine between call e (is_start_device e) full made
+  after_refused old middle new pair machine between call e full made same counts refused =
+      after_refused_at old middle new pair machine between call e (is_start_device e) full made
       same counts refused
 
   checkpoint_refused_at : (old new : Coordinator D disk) (pair : ℕ)
@@ -114,7 +107,8 @@ module _ {D : Type 0} {disk : Ghosts D} where
       → Refuses old new pair machine (kept.refusal_of e)
   checkpoint_refused_at old new pair machine e (inl is) full counts refused =
       subst (λ x. Refuses old new pair machine (kept.refusal_of x)) (sym is)
-      (fails (kept_counted e (failures_of old) (failures_of new) is counts))
+      (fails (grew (kept.refusal_of e) (failures_of old) (failures_of new)
+      (ap kept.refusal_of is) counts))
   checkpoint_refused_at old new pair machine e (inr is) full counts refused =
       no_room (kept.refusal_of e) full (refused is)
 
@@ -125,7 +119,7 @@ module _ {D : Type 0} {disk : Ghosts D} where
       → (e ≢ archive.Device → first_cause (checkpoint_causes machine) ≡ Some (kept.refusal_of e))
       → Refuses old new pair machine (kept.refusal_of e)
   checkpoint_refused old new pair machine e full counts refused =
-      checkpoint_refused_at old new pair machine e (is_archive_device e) full counts refused
+      checkpoint_refused_at old new pair machine e (device_or_other e) full counts refused
 
   -- what was refused before any device call failed
   pub refuses_from : (old middle new : Coordinator D disk) (pair : ℕ)
@@ -136,8 +130,8 @@ module _ {D : Type 0} {disk : Ghosts D} where
   refuses_from old middle new pair machine _ same (no_room reason full is) =
       no_room reason full is
   refuses_from old middle new pair machine _ same
-      (no_start_behind reason between call full made is) =
-      no_start_behind reason between call full made is
+      (no_start_after reason between call full made is) =
+      no_start_after reason between call full made is
   refuses_from old middle new pair machine _ same (fails more) =
       fails (subst (λ n. n < failures_of new) same more)
   refuses_from old middle new pair machine _ same (stopped is) = stopped is

@@ -38,20 +38,20 @@ some_before : (a b : Option Bytes) (first second : Bytes) → AppendsSome a b fi
 some_before a b first second (done, rest, is, appends) =
     (done, rest ++ second, ap (λ x. x ++ second) is ∙ append_assoc done rest second, appends)
 
-some_behind : (a b c : Option Bytes) (first second : Bytes) → Appends a b first
+some_after : (a b c : Option Bytes) (first second : Bytes) → Appends a b first
     → AppendsSome b c second → AppendsSome a c (first ++ second)
-some_behind a b c first second appends (done, rest, is, more) = (
+some_after a b c first second appends (done, rest, is, more) = (
   first ++ done,
   rest,
   ap (λ x. first ++ x) is ∙ sym (append_assoc first done rest),
   Appends-trans a b c first done appends more,
 )
 
-adds_behind : (all : Bool) (a b c : Option Bytes) (first second : Bytes) → Appends a b first
+adds_after : (all : Bool) (a b c : Option Bytes) (first second : Bytes) → Appends a b first
     → Adds all b c second → Adds all a c (first ++ second)
-adds_behind true a b c first second appends adds =
+adds_after true a b c first second appends adds =
     Appends-trans a b c first second appends adds
-adds_behind false a b c first second appends adds = some_behind a b c first second appends adds
+adds_after false a b c first second appends adds = some_after a b c first second appends adds
 
 -- nothing is written
 pub writes_nothing : (a : Outlet) (all : Bool) → Writes a a [] all
@@ -65,7 +65,7 @@ twice_at : (goes : Bool) (a b c : Outlet) (first second : Bytes) (calm : Bool) �
     → Writes a b first goes → Writes b c second (c.goes && calm)
     → Adds (c.goes && calm) a.written c.written (first ++ second)
 twice_at true a b c first second calm is one two =
-    adds_behind (c.goes && calm) a.written b.written c.written first second one.adds two.adds
+    adds_after (c.goes && calm) a.written b.written c.written first second one.adds two.adds
 twice_at false a b c first second calm is one two =
     let same = two.closed is in
     let closed : c.goes ≡ false = ap (λ o. o.goes) same ∙ is in

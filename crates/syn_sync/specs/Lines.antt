@@ -36,5 +36,5 @@ pub record Hears (old new : Line) (answering : Answering) : Type 0 where
 -- replies came, one after another
 abbrev pub HearsAll : Line → List Answering → Line → Type 0
 HearsAll old [] new = new ≡ old
-HearsAll old (answering ∷ behind) new =
-    (between : Line) × Hears old between answering × HearsAll between behind new
+HearsAll old (answering ∷ later) new =
+    (between : Line) × Hears old between answering × HearsAll between later new

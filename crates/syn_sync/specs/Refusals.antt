@@ -17,7 +17,7 @@ pub data Refuses {D : Type 0} {disk : Ghosts D} (old new : Coordinator D disk) (
       Refuses old new pair machine why
   no_room : (why : Refusal) → first_cause (all_causes pair machine) ≡ Some JournalFull →
       first_cause (checkpoint_causes machine) ≡ Some why → Refuses old new pair machine why
-  no_start_behind : (why : Refusal) (between : CoordinatorMachine) (call : Call) →
+  no_start_after : (why : Refusal) (between : CoordinatorMachine) (call : Call) →
       first_cause (all_causes pair machine) ≡ Some JournalFull →
       Checkpoints (coordinator_kind pair) machine between call →
       first_cause (all_causes pair between) ≡ Some why →

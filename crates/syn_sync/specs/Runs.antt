@@ -47,17 +47,17 @@ step_of pair machine Ticks = CoordinatorTicks machine
 -- the acts lead from machine to machine
 abbrev pub Leads : ℕ → CoordinatorMachine → Acts → CoordinatorMachine → Type 0
 Leads pair old [] new = new ≡ old
-Leads pair old (done ∷ behind) new =
+Leads pair old (done ∷ later) new =
     (between : CoordinatorMachine) × step_of pair old done.act between done.call
-    × Leads pair between behind new
+    × Leads pair between later new
 
 -- they begin with a start that prefers this, or with a checkpoint and such a start after it
 pub data Begins (preference : Option Which) : Acts → Type 0 where
-  at_once : (call : Call) (behind : Acts) →
-      Begins preference (record { act = Starts preference; call = call } ∷ behind)
-  with_room : (first second : Call) (behind : Acts) →
+  at_once : (call : Call) (later : Acts) →
+      Begins preference (record { act = Starts preference; call = call } ∷ later)
+  with_room : (first second : Call) (later : Acts) →
       Begins preference (record { act = Compacts; call = first }
-      ∷ record { act = Starts preference; call = second } ∷ behind)
+      ∷ record { act = Starts preference; call = second } ∷ later)
 
 -- the replies of a side that the coordinator was given
 abbrev pub answer_in : Which → Act → List Answering

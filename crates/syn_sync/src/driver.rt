@@ -275,13 +275,13 @@ fn start<D: Disk>(
 {
     match coordinator.start(alloc, preference) {
         Ok(sends) => Ok(sends),
-        Err(SessionError::JournalFull) => start_behind(alloc, coordinator, preference),
+        Err(SessionError::JournalFull) => start_after(alloc, coordinator, preference),
         Err(error) => Err(error.refusal()),
     }
 }
 
 /// Starts a session after a checkpoint, which makes room for its number. It was refused 8 before.
-fn start_behind<D: Disk>(
+fn start_after<D: Disk>(
     alloc: Global,
     coordinator: &mut Coordinator<D>,
     preference: Option<Side>,

@@ -13,7 +13,7 @@ use Rattle.syn_model.specs.Path.{Bytes}
 use Rattle.syn_user.specs.Exchanges as failed
 use Rattle.syn_user.specs.Exchanges.{BreaksOff, Fails, IsHeard, IsNoReply, IsSent, IsTold}
 use Rattle.syn_user.specs.Exchanges.{IsUnheard}
-use Rattle.syn_user.specs.Exchanges.{goes_behind, number_after, wished_at}
+use Rattle.syn_user.specs.Exchanges.{goes_on_after, number_after, wished_at}
 use Rattle.syn_user.specs.Lines.{IsUnread, Line}
 use Rattle.syn_user.specs.declared.error.UserError.{UserError}
 use Rattle.syn_user.specs.declared.error.UserError.TheVariants.{BadFrame, BadMessage, Device}
@@ -163,7 +163,7 @@ fails_so old new wish why was (part.unheard error sent unheard) =
 
 module _ (A : Type 0) (old new : Line) (wish : Wish) where
   unsent_goes : (why : UserError) → BreaksOff old new (wished_at old wish) why
-      → new.goes ≡ false → new.goes ≡ goes_behind {A = A} (Err why)
+      → new.goes ≡ false → new.goes ≡ goes_on_after {A = A} (Err why)
   unsent_goes (Refused why) broken shut = absurd broken
   unsent_goes Device broken shut = shut
   unsent_goes Memory broken shut = shut
@@ -172,7 +172,7 @@ module _ (A : Type 0) (old new : Line) (wish : Wish) where
   unsent_goes BadMessage broken shut = shut
 
   unheard_goes : (why : UserError) → IsUnheard old new (wished_at old wish) why
-      → new.goes ≡ false → new.goes ≡ goes_behind {A = A} (Err why)
+      → new.goes ≡ false → new.goes ≡ goes_on_after {A = A} (Err why)
   unheard_goes (Refused why) unheard shut = absurd unheard
   unheard_goes Device unheard shut = shut
   unheard_goes Memory unheard shut = shut
@@ -182,7 +182,7 @@ module _ (A : Type 0) (old new : Line) (wish : Wish) where
 
   -- it goes on after a refusal of the replica alone
   pub fails_goes : (why : UserError) → Fails old new wish why
-      → new.goes ≡ goes_behind {A = A} (Err why)
+      → new.goes ≡ goes_on_after {A = A} (Err why)
   fails_goes why (failed.refused refusal told) = told.goes
   fails_goes why (failed.too_long was long is) = ap (λ l. l.goes) is ∙ was
   fails_goes why (failed.closed shut is) = ap (λ l. l.goes) is ∙ shut

@@ -106,11 +106,11 @@ module _ (old new : Line) (wish : Wish) where
         IsUnheard old new (wished_at old wish) error → new.goes ≡ false → Fails error
 
 -- a connection goes on after an answer and after a refusal of the replica
-abbrev pub goes_behind : {A : Type 0} → Result A UserError → Bool
-goes_behind (Ok value) = true
-goes_behind (Err (Refused why)) = true
-goes_behind (Err Device) = false
-goes_behind (Err Memory) = false
-goes_behind (Err BadFrame) = false
-goes_behind (Err TooLarge) = false
-goes_behind (Err BadMessage) = false
+abbrev pub goes_on_after : {A : Type 0} → Result A UserError → Bool
+goes_on_after (Ok value) = true
+goes_on_after (Err (Refused why)) = true
+goes_on_after (Err Device) = false
+goes_on_after (Err Memory) = false
+goes_on_after (Err BadFrame) = false
+goes_on_after (Err TooLarge) = false
+goes_on_after (Err BadMessage) = false

@@ -4,7 +4,7 @@ ghost use Rattle.syn_message.specs.UserReplies.{Edited, Got, told_of};
 ghost use Rattle.syn_message.specs.Users.{Edits, Gets, IsLawfulWished, Wish, wish_of, wished_of};
 ghost use Rattle.syn_tree.specs.Contents.{content_of};
 ghost use Rattle.syn_tree.specs.Edits.{edit_of};
-ghost use Rattle.syn_user.specs.Exchanges.{Fails, IsHeard, IsTold, IsUnheard, goes_behind};
+ghost use Rattle.syn_user.specs.Exchanges.{Fails, IsHeard, IsTold, IsUnheard, goes_on_after};
 ghost use Rattle.syn_user.specs.Exchanges.{number_after};
 ghost use Rattle.syn_user.specs.Lines.{held_by, is_open, line_of, next_of, reader_of, writer_of};
 ghost use Rattle.syn_user.specs.inner.Parts.{Breaks, IsAnswered, IsSilent};
@@ -77,7 +77,7 @@ impl<R: Read, W: Write> UserConnection<R, W> {
         ensures err { IfErr result (λ error.
             Fails (line_of R.remaining W.contents self.old)
             (line_of R.remaining W.contents self.new) (Edits user (edit_of edit)) error) }
-        ensures goes { is_open self.new ≡ goes_behind result }
+        ensures goes { is_open self.new ≡ goes_on_after result }
         ensures closed { is_open self.old ≡ false → result ≡ Err UserError.Device }
     {
         match self.ask(alloc, UserRequest::Edit { user, edit })? {
@@ -98,7 +98,7 @@ impl<R: Read, W: Write> UserConnection<R, W> {
         ensures err { IfErr result (λ error.
             Fails (line_of R.remaining W.contents self.old)
             (line_of R.remaining W.contents self.new) (Gets path.now) error) }
-        ensures goes { is_open self.new ≡ goes_behind result }
+        ensures goes { is_open self.new ≡ goes_on_after result }
         ensures closed { is_open self.old ≡ false → result ≡ Err UserError.Device }
     {
         let Ok(path) = path.copy(alloc) else {

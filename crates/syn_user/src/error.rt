@@ -5,6 +5,7 @@ ghost use Rattle.syn_refusal.specs.Refusals.{cause_of};
 ghost use Rattle.syn_user.specs.Refusals.{refusal_of};
 ghost use Rattle.syn_user.specs.inner.Parts.{is_refusal, of_link};
 
+use std::alloc::AllocError;
 use std::fmt;
 use syn_link::LinkError;
 use syn_refusal::Refusal;
@@ -72,6 +73,16 @@ impl fmt::Display for UserError {
 
     fn fmt<W: fmt::Write>(&self, f: &mut fmt::Formatter<W>) -> fmt::Result {
         write!(f, "{}", self.refusal())
+    }
+}
+
+impl From<AllocError> for UserError {
+    ghost use Rattle.syn_user.specs.declared.error.UserError.TheVariants.{Memory};
+
+    ghost from_gives = { λ _ e. e ≡ Memory };
+
+    fn from(_error: AllocError) -> UserError {
+        UserError::Memory
     }
 }
 

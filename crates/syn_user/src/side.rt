@@ -67,7 +67,7 @@ impl<R: Read, W: Write> SideConnection<R, W> {
             (IsRefusedFor (side_line R.remaining W.contents self.old)
             (side_line R.remaining W.contents self.new) (ListAt path.now)) }
     {
-        let path = copied(alloc, path)?;
+        let path = path.copy(alloc)?;
         let reply = self.ask(alloc, Request::List { path })?;
         match reply {
             Reply::Listed { .. } | Reply::NotDir { .. } => Ok(reply),
@@ -228,16 +228,6 @@ fn root(alloc: Global) -> Path
     let root = Path::root(alloc);
     let _ = root.names();
     root
-}
-
-/// The path once more. Refused 11 where memory is refused.
-fn copied(alloc: Global, path: &Path) -> Result<Path, UserError>
-    ensures lawful { IfOk result IsPath }
-    ensures same { IfOk result (λ copy. copy ≡ path.now) }
-    ensures refused { IfErr result (λ error. is_refusal error ≡ false) }
-{
-    let _ = path.names();
-    path.copy(alloc).map_err(|_| UserError::Memory)
 }
 
 /// Eight bytes spell a position, and four an offset.

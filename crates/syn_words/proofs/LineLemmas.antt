@@ -96,13 +96,13 @@ pub asks_why : (flag : Bool) (words : List Text) (top rows : List Row) (name : T
     top ≡ matches_of syn_app words → subcommand_of syn_app words ≡ Some (name, rows) →
     (IsTrue flag ↔ (IsSet top (codes "verbose") ⊎ IsSet rows (codes "verbose"))) →
     IsTrue flag ↔ AsksWhy words
-asks_why flag words top rows name before behind is_set =
+asks_why flag words top rows name before given is_set =
     let P : List Row → Type 0 = λ r. IsTrue flag
     ↔ (IsSet r (codes "verbose") ⊎ IsSet rows (codes "verbose")) in
     let Q : Option (Text × List Row) → Type 0 =
     λ f. IsTrue flag
     ↔ (IsSet (matches_of syn_app words) (codes "verbose") ⊎ IsSetIn f (codes "verbose")) in
-    subst Q (sym behind) (subst P before is_set)
+    subst Q (sym given) (subst P before is_set)
 
 -- where the getter gives none, the words name none
 pub subcommand_none : (m : ArgMatches) (app : App) (words : List Text) → app ≡ syn_app →

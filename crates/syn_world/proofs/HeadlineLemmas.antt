@@ -58,10 +58,10 @@ world_left world model is = record {
 }
 
 -- and of disks that come back with nothing new
-pub left_behind : {D : Type 0} (may_leave : D → Bytes → Type 0) (old new : Disks D)
+pub left_on_disks : {D : Type 0} (may_leave : D → Bytes → Type 0) (old new : Disks D)
     (model : ModelWorld) → ComeBack may_leave old new → AreLeft may_leave old model
     → AreLeft may_leave new model
-left_behind may_leave old new model back are = record {
+left_on_disks may_leave old new model back are = record {
   left = λ bytes left. are.left bytes (back.left bytes left);
   right = λ bytes left. are.right bytes (back.right bytes left);
   archive = λ bytes left. are.archive bytes (back.archive bytes left);

@@ -48,5 +48,6 @@ mod world;
 
 pub use headline::{recover, run, run_and_recover};
 pub use lists::{Ack, Message};
-pub use step::{Machine, Step};
+pub use step::Step;
+pub use syn_script::Machine;
 pub use world::{Disks, World};

@@ -1,14 +1,8 @@
 //! The steps of a world.
 
 use syn_message::Side;
+use syn_script::Machine;
 use syn_tree::Edit;
-
-/// A machine of the world.
-#[derive(Clone, Copy, Debug)]
-pub enum Machine {
-    Side(Side),
-    Coordinator,
-}
 
 /// A step of the world. On a machine that is down it does nothing, unless it opens it.
 #[derive(Debug, Drop)]

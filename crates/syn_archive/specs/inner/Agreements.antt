@@ -7,6 +7,7 @@ use Rattle.syn_model.specs.ArchiveImage.{ArchiveStandsFor, ArchiveStandsForIn}
 use Rattle.syn_model.specs.MarkSpelling.{IsOldArchiveImage}
 use Rattle.syn_model.specs.Version.{One}
 use Rattle.syn_mark.specs.Changes.{IsPreparedFor, after_change}
+use Rattle.syn_image.specs.declared.kept.ArchiveImage.{ArchiveImage}
 use Rattle.syn_archive.specs.Disks.{StandsForNone, StandsForNoneIn, StandsForOther}
 use Rattle.syn_archive.specs.declared.agreed.Agreed.{Agreed}
 use Rattle.syn_archive.specs.declared.agreed.Update.{Update}
@@ -14,6 +15,14 @@ use Rattle.syn_archive.specs.declared.agreed.Update.TheVariants.{Session, Marks}
 use Rattle.syn_archive.specs.declared.error.ArchiveError.{ArchiveError}
 use Rattle.syn_archive.specs.declared.error.ArchiveError.TheVariants.{Memory, Damaged, WrongPair}
 use Rattle.syn_archive.specs.declared.error.ArchiveError.TheVariants.{OldVersion}
+
+-- what was read of a disk, in memory
+abbrev pub agreed_of : ArchiveImage → Agreed
+agreed_of read = record {
+  pair = read.pair;
+  last_session = read.last_session;
+  marks = read.marks;
+}
 
 -- the archive of the model
 abbrev pub agreed_archive : Agreed → Archive

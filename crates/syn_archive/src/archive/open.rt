@@ -55,10 +55,8 @@ impl<D: Disk> Archive<D> {
             (λ refused. Reads D.Disk (Some (refusal_of refused.0)) disk refused.1) }
     {
         opening_laws();
-        match Journaled::open(alloc, disk, pair) {
-            Ok(machine) => Ok(Archive { machine }),
-            Err(refused) => Err(refused),
-        }
+        let machine = Journaled::open(alloc, disk, pair)?;
+        Ok(Archive { machine })
     }
 
     /// Opens the archive's own disk again. An archive that was halted runs again.

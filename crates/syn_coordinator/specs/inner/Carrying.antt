@@ -8,25 +8,24 @@ use Rattle.syn_coordinator.specs.inner.Settling.{AsksSo, EndsSo, IsQuiet}
 use Rattle.syn_disk.specs.declared.disk.Disk.{Ghosts}
 use Rattle.syn_headline.specs.Coordinator.{Exchange, fault_of, is_last}
 use Rattle.syn_keep.specs.Machines.{IsMachine, Journal}
-use Rattle.syn_message.specs.declared.request.Request.{Request as Asked}
-use Rattle.syn_path.specs.declared.side.Side.{Side}
 use Rattle.syn_model.specs.Refusal.{Memory}
 use Rattle.syn_refusal.specs.Refusals.{cause_of}
 use Rattle.syn_refusal.specs.declared.refusal.Refusal.{Refusal}
 use Rattle.syn_scan.specs.Found.{Found}
 use Rattle.syn_session.specs.Stages.{IsCourse, Reached}
 use Rattle.syn_session.specs.declared.course.Course.{Course}
+use Rattle.syn_session.specs.declared.session.Asks.{Asks}
 
 module _ {D : Type 0} {disk : Ghosts D} (old new : Coordinator D disk) (pair : ℕ)
     (taken : Exchange) (journal : Journal) (before : Reached) (course : Course)
     (left right : Found) (all : List Exchange) where
   -- it asks for a later item
-  pub record AsksLater (asks : Side × Asked) : Type 0 where
+  pub record AsksLater (asks : Asks) : Type 0 where
     pub asks_so : AsksSo old new pair taken journal before course left right all asks
     pub later : suc before.cursor ≤ asks_so.2.after.cursor
 
   -- the answer does not end the session, and it asks for this; after a last one, for a later item
-  pub record CarriesOn (asks : Side × Asked) : Type 0 where
+  pub record CarriesOn (asks : Asks) : Type 0 where
     pub fault : fault_of all taken.side taken.request taken.reply ≡ None
     pub asks_so : AsksSo old new pair taken journal before course left right
         (all ++ taken ∷ []) asks
@@ -39,5 +38,5 @@ module _ {D : Type 0} {disk : Ghosts D} (old new : Coordinator D disk) (pair : �
         ⊎ (cause_of why ≡ Memory) →
         written new ≡ written old → IsMachine (archive_of new) pair journal →
         IsQuiet new journal → IsCourse course left right before → EndsCarrying (Early why)
-    behind : (ended : Ended) → fault_of all taken.side taken.request taken.reply ≡ None →
+    afterwards : (ended : Ended) → fault_of all taken.side taken.request taken.reply ≡ None →
         EndsSo old new pair taken journal before course left right ended → EndsCarrying ended

@@ -1,5 +1,5 @@
 -- What a call that carries out a plan has come to, with what it wrote.
-use Rattle.std.specs.Prelude.{◌≡◌, ◌≤◌, ◌++◌, ℕ, suc, List, Option, None, Result, Ok, Err}
+use Rattle.std.specs.Prelude.{◌≡◌, ◌≤◌, ◌++◌, ℕ, suc, List, None}
 use Rattle.syn_coordinator.specs.Coordinators.{archive_of, tried_shown, written}
 use Rattle.syn_coordinator.specs.declared.coordinator.Coordinator.{Coordinator}
 use Rattle.syn_coordinator.specs.declared.ended.Ended.{Ended}
@@ -7,17 +7,11 @@ use Rattle.syn_coordinator.specs.inner.Walking.{Comes, ComesToAsk, Ends}
 use Rattle.syn_disk.specs.declared.disk.Disk.{Ghosts}
 use Rattle.syn_headline.specs.Coordinator.{Exchange}
 use Rattle.syn_keep.specs.Machines.{Journal}
-use Rattle.syn_message.specs.declared.request.Request.{Request as Asked}
-use Rattle.syn_path.specs.declared.side.Side.{Side}
 use Rattle.syn_model.specs.Archive.{Kept}
 use Rattle.syn_scan.specs.Found.{Found}
 use Rattle.syn_session.specs.Stages.{AreAskedBefore, Reached, plan_in}
 use Rattle.syn_session.specs.declared.course.Course.{Course}
-
--- it asks for nothing: it is past an item, or it ends
-abbrev pub nothing_asked : {A : Type 0} → Result A Ended → Result (Option (Side × Asked)) Ended
-nothing_asked (Ok went) = Ok None
-nothing_asked (Err ended) = Err ended
+use Rattle.syn_session.specs.declared.session.Asks.{Asks}
 
 -- nothing is being written, and nothing is remembered that was
 abbrev pub IsQuiet : {D : Type 0} → {disk : Ghosts D} → Coordinator D disk → Journal → Type 0
@@ -40,7 +34,7 @@ module _ {D : Type 0} {disk : Ghosts D} (old new : Coordinator D disk) (pair : �
       ended
 
   -- it asks for this
-  abbrev pub AsksSo : List Exchange → Side × Asked → Type 0
+  abbrev pub AsksSo : List Exchange → Asks → Type 0
   AsksSo all asks = (kept : List Kept) × (written new ≡ written old ++ kept)
       × ComesToAsk (archive_of new) pair taken journal before kept course left right all asks
       × (tried_shown new ≡ None)

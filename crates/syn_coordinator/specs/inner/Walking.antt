@@ -13,18 +13,15 @@ use Rattle.syn_headline.specs.Machine.{Down}
 use Rattle.syn_keep.specs.Machines.{IsMachine, Journal, LeavesMachine}
 use Rattle.syn_keep.specs.Tries.{Tries}
 use Rattle.syn_keep.specs.declared.tried.Tried.{Tried}
-use Rattle.syn_message.specs.Requests.{request_of}
-use Rattle.syn_path.specs.Sides.{which_of}
-use Rattle.syn_message.specs.declared.request.Request.{Request as Asked}
-use Rattle.syn_path.specs.declared.side.Side.{Side}
 use Rattle.syn_model.specs.Archive.{Kept}
 use Rattle.syn_model.specs.Refusal.{Refusal}
-use Rattle.syn_propagate.specs.Transfers.{Asks}
 use Rattle.syn_refusal.specs.Refusals.{cause_of}
 use Rattle.syn_scan.specs.Found.{Found}
+use Rattle.syn_session.specs.Carrying.{AsksOne}
 use Rattle.syn_session.specs.Plans.{Plan}
 use Rattle.syn_session.specs.Stages.{AreAskedBefore, Carries, IsCourse, Reached, plan_in}
 use Rattle.syn_session.specs.declared.course.Course.{Course}
+use Rattle.syn_session.specs.declared.session.Asks.{Asks}
 
 abbrev pub plan_at : Reached → Plan
 plan_at reached = option_map_or (λ plan. plan) reached.plan []
@@ -94,11 +91,11 @@ pub record IsAtItem (course : Course) (left right : Found) (taken : List Exchang
 -- it has come to an item that is carried, and asks a side for this
 pub record ComesToAsk {D : Type 0} {disk : Ghosts D} (new : Archive D disk) (pair : ℕ)
     (taken : Exchange) (old : Journal) (before : Reached) (kept : List Kept) (course : Course)
-    (left right : Found) (all : List Exchange) (asks : Side × Asked) : Type 0 where
+    (left right : Found) (all : List Exchange) (asks : Asks) : Type 0 where
   pub journal : Journal
   pub after : Reached
   pub passes : Passes pair taken old before journal after kept
   pub onward : before.cursor ≤ after.cursor
   pub is : IsMachine new pair journal
   pub carries : Carries journal.value course left right all after
-      (λ transfer. Asks transfer all (which_of asks.0) (request_of asks.1))
+      (λ transfer. AsksOne transfer all asks)

@@ -1,7 +1,5 @@
 //! The answers that come to a coordinator.
-ghost use Rattle.std.specs.Prelude.{◌≡◌, ◌⊎◌, [], ℕ, IfSome, None, Some, false, is_some};
-ghost use Rattle.std.specs.Prelude.{option_map};
-ghost use Rattle.std.specs.Prelude.{true};
+ghost use Rattle.std.specs.Prelude.{◌≡◌, ◌⊎◌, [], ℕ, IfSome, None, Some, false, option_map, true};
 ghost use Rattle.syn_coordinator.specs.inner.Answered.{Answered};
 ghost use Rattle.syn_coordinator.specs.inner.Taking.{TakesOn, TakesSo};
 ghost use Rattle.syn_coordinator.specs.inner.Walking.{ended_by};
@@ -30,7 +28,7 @@ use syn_refusal::Refusal;
 use syn_session::{Asks, Course, Sending, Session};
 
 impl<D: Disk> Coordinator<D> {
-    ghost use Rattle.syn_coordinator.specs.Coordinators.{Breaks, BreaksNothing, BreaksOff, Does};
+    ghost use Rattle.syn_coordinator.specs.Coordinators.{Breaks, BreaksOff, Does};
     ghost use Rattle.syn_coordinator.specs.Coordinators.{HaltsByFailure};
     ghost use Rattle.syn_coordinator.specs.Coordinators.{Stands, archive_of, broken, device_of};
     ghost use Rattle.syn_coordinator.specs.Coordinators.{report_shown, runs, tried_shown, written};
@@ -99,16 +97,11 @@ impl<D: Disk> Coordinator<D> {
             × (self.new.tried ≡ self.old.tried) }
         ensures report { self.new.report ≡ self.old.report }
     {
-        let Some(mut running) = self.running.take() else {
+        let Some(running) = &mut self.running else {
             return None;
         };
-        match running.answered(from, session, number) {
-            Some(request) => Some((running, request)),
-            None => {
-                drop(self.running.replace(running));
-                None
-            }
-        }
+        let request = running.answered(from, session, number)?;
+        Some((self.running.take()?, request))
     }
 
     /// Takes the answer to a request of the session, and gives what is asked next.
@@ -132,14 +125,19 @@ impl<D: Disk> Coordinator<D> {
         ensures report { self.new.report ≡ self.old.report }
         ensures breaks { Breaks self.old self.new result }
     {
-        if session.course.is_some() {
-            return self.take_carried(alloc, session, from, request, reply);
-        }
-        match session.hear(alloc, from, request, reply) {
-            Ok(Some(asks)) => Ok(asks),
-            Ok(None) => self.begin_course(alloc, session),
-            Err(why) => Err(Ended::Early(why)),
-        }
+        let Some(course) = &mut session.course else {
+            return match session.hear(alloc, from, request, reply) {
+                Ok(Some(asks)) => Ok(asks),
+                Ok(None) => self.begin_course(alloc, session),
+                Err(why) => Err(Ended::Early(why)),
+            };
+        };
+        transfer_laws();
+        // By a call, or the prover would look here at each kind of request.
+        drop(request);
+        let left = session.left.scan.found();
+        let right = session.right.scan.found();
+        self.on_carried(alloc, course, left, right, reply)
     }
 
     /// Makes the plan of the session, both sides of which are scanned, and goes through it.
@@ -163,45 +161,7 @@ impl<D: Disk> Coordinator<D> {
         };
         let asks = self.walk(alloc, &mut course, left, right);
         drop(session.course.replace(course));
-        match asks {
-            Ok((side, request)) => Ok(Asks::One(side, request)),
-            Err(ended) => Err(ended),
-        }
-    }
-
-    /// Takes the answer to a request for the item that the session has come to.
-    fn take_carried(
-        &mut self,
-        alloc: Global,
-        session: &mut Session,
-        from: Side,
-        request: Request,
-        reply: Reply,
-    ) -> Result<Asks, Ended>
-        ensures step { (pair number : ℕ) (journal : Journal) (before : Ran) (running : Running)
-            → IsMachine (archive_of self.old) pair journal → IsQuiet self.old journal
-            → IsSession journal.value before running
-            → IsAnswering before session.old (which_of from) number (request_of request)
-            → is_some before.course ≡ true
-            → written self.old ≡ [] → TakesSo (archive_of self.new) (tried_shown self.new) pair
-            journal running
-            (exchange_of (which_of from) number (request_of request) (reply_of reply)) session.new
-            (written self.new) result }
-        ensures report { self.new.report ≡ self.old.report }
-        ensures breaks { Breaks self.old self.new result }
-    {
-        transfer_laws();
-        drop(request);
-        let Some(course) = &mut session.course else {
-            drop(reply);
-            return Err(Ended::Early(Refusal::BadMessage));
-        };
-        let left = session.left.scan.found();
-        let right = session.right.scan.found();
-        match self.on_carried(alloc, course, left, right, reply) {
-            Ok((side, request)) => Ok(Asks::One(side, request)),
-            Err(ended) => Err(ended),
-        }
+        asks
     }
 }
 

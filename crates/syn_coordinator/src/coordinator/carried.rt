@@ -1,34 +1,32 @@
 //! How a coordinator goes on after an answer for the item that is carried.
-ghost use Rattle.std.specs.Prelude.{◌≡◌, ℕ, List, MatchResult, slice_get, Some, true};
+ghost use Rattle.std.specs.Prelude.{◌≡◌, ℕ, List, MatchResult};
 ghost use Rattle.syn_headline.specs.Coordinator.{Exchange, IsDue, IsFor};
 ghost use Rattle.syn_headline.specs.Network.{Which};
 ghost use Rattle.syn_headline.specs.Planning.{Planned};
-ghost use Rattle.syn_headline.specs.Report.{is_carrying};
 ghost use Rattle.syn_headline.specs.Side.{Request as Asked, Refused};
 ghost use Rattle.syn_keep.specs.Machines.{IsMachine, Journal};
 ghost use Rattle.syn_message.specs.Replies.{reply_of};
 ghost use Rattle.syn_propagate.specs.Transfers.{WaitsFor};
 ghost use Rattle.syn_refusal.specs.Refusals.{cause_of};
-ghost use Rattle.syn_scan.specs.Found.{Found};
 ghost use Rattle.syn_session.specs.Answering.{exchange_of};
 ghost use Rattle.syn_session.specs.Carrying.{IsCarriedOut};
-ghost use Rattle.syn_session.specs.Stages.{Carries, IsCourse, Reached, plan_in};
-ghost use Rattle.syn_image.specs.Archives.{kept_of};
+ghost use Rattle.syn_session.specs.Stages.{Carries, Reached};
+ghost use Rattle.syn_image.specs.Archives.{kept_for};
 
 use super::Coordinator;
 use crate::ended::Ended;
 use std::alloc::Global;
 use syn_disk::Disk;
-use syn_image::Kept;
-use syn_message::{Reply, Request, Side};
+use syn_image::KeptItem;
+use syn_message::Reply;
 use syn_refusal::Refusal;
 use syn_scan::Scan;
-use syn_session::{Carrying, Course};
+use syn_session::{Asks, Carrying, Course};
 
 impl<D: Disk> Coordinator<D> {
     ghost use Rattle.syn_coordinator.specs.Coordinators.{Breaks, archive_of};
     ghost use Rattle.syn_coordinator.specs.inner.Carrying.{AsksLater, CarriesOn, EndsCarrying};
-    ghost use Rattle.syn_coordinator.specs.inner.Settling.{EndsSo, IsPast, IsQuiet};
+    ghost use Rattle.syn_coordinator.specs.inner.Settling.{EndsSo, IsQuiet};
 
     /// Takes the answer for the item that the session has come to, which is carried, and goes on
     /// through the plan until it asks for something, or the session ends.
@@ -42,7 +40,7 @@ impl<D: Disk> Coordinator<D> {
         left: &Scan,
         right: &Scan,
         reply: Reply,
-    ) -> Result<(Side, Request), Ended>
+    ) -> Result<Asks, Ended>
         ensures step { (pair : ℕ) (journal : Journal) (all : List Exchange) (before : Reached)
             (to : Which) (number : ℕ) (request : Asked)
             → IsMachine (archive_of self.old) pair journal → IsQuiet self.old journal
@@ -58,8 +56,8 @@ impl<D: Disk> Coordinator<D> {
         ensures breaks { Breaks self.old self.new result }
     {
         match course.take_answer(alloc, reply) {
-            Ok(Carrying::Asks(side, request)) => Ok((side, request)),
-            Ok(Carrying::Done(kept)) => self.walk_behind(alloc, course, left, right, kept),
+            Ok(Carrying::Asks(asks)) => Ok(asks),
+            Ok(Carrying::Done(kept)) => self.walk_after(alloc, course, left, right, kept),
             Ok(Carrying::Refused(why)) => self.walk_past(alloc, course, left, right, why),
             Err(why) => Err(Ended::Early(why)),
         }
@@ -67,19 +65,19 @@ impl<D: Disk> Coordinator<D> {
 
     /// Keeps in the archive what is due for an item that is in its place on the other side, and
     /// goes on through the plan.
-    fn walk_behind(
+    fn walk_after(
         &mut self,
         alloc: Global,
         course: &mut Course,
         left: &Scan,
         right: &Scan,
-        kept: Kept,
-    ) -> Result<(Side, Request), Ended>
+        kept: KeptItem,
+    ) -> Result<Asks, Ended>
         ensures step { (pair : ℕ) (journal : Journal) (taken : Exchange) (all : List Exchange)
             (before : Reached) (planned : Planned) → IsMachine (archive_of self.old) pair journal
             → IsQuiet self.old journal
             → IsCarriedOut course.old left.now right.now all before planned
-            → IsDue course.old.cursor planned taken (kept_of kept)
+            → IsDue course.old.cursor planned taken (kept_for kept)
             → MatchResult result
             (AsksLater self.old self.new pair taken journal before course.new left.now right.now
             all)
@@ -88,10 +86,8 @@ impl<D: Disk> Coordinator<D> {
         ensures report { self.new.report ≡ self.old.report }
         ensures breaks { Breaks self.old self.new result }
     {
-        match self.settle_carried(alloc, course, kept) {
-            Ok(()) => self.walk(alloc, course, left, right),
-            Err(ended) => Err(ended),
-        }
+        self.settle(alloc, course, kept, true)?;
+        self.walk(alloc, course, left, right)
     }
 
     /// Gives up an item for which a side refused what it was asked, and goes on through the plan.
@@ -102,7 +98,7 @@ impl<D: Disk> Coordinator<D> {
         left: &Scan,
         right: &Scan,
         why: Refusal,
-    ) -> Result<(Side, Request), Ended>
+    ) -> Result<Asks, Ended>
         ensures step { (pair : ℕ) (journal : Journal) (taken : Exchange) (all : List Exchange)
             (before : Reached) (planned : Planned) → IsMachine (archive_of self.old) pair journal
             → IsQuiet self.old journal
@@ -117,40 +113,7 @@ impl<D: Disk> Coordinator<D> {
         ensures report { self.new.report ≡ self.old.report }
         ensures breaks { Breaks self.old self.new result }
     {
-        match self.give_up(alloc, course, why) {
-            Ok(()) => self.walk(alloc, course, left, right),
-            Err(ended) => Err(ended),
-        }
-    }
-
-    /// Keeps in the archive what is due for an item that was carried, and goes past the item.
-    fn settle_carried(
-        &mut self,
-        alloc: Global,
-        course: &mut Course,
-        kept: Kept,
-    ) -> Result<(), Ended>
-        ensures step { (pair : ℕ) (journal : Journal) (left right : Found) (taken : Exchange)
-            (before : Reached) (planned : Planned) → IsMachine (archive_of self.old) pair journal
-            → IsQuiet self.old journal
-            → IsCourse course.old left right before
-            → slice_get (plan_in course.old left right) course.old.cursor ≡ Some planned
-            → IsDue course.old.cursor planned taken (kept_of kept)
-            → is_carrying planned.item ≡ true
-            → MatchResult result
-            (λ _. IsPast self.old self.new pair taken journal before course.new left right)
-            (EndsSo self.old self.new pair taken journal before course.new left right) }
-        ensures running { self.new.running ≡ self.old.running }
-        ensures report { self.new.report ≡ self.old.report }
-        ensures breaks { Breaks self.old self.new result }
-    {
-        match kept {
-            // What is carried for an item is never the number of a session.
-            Kept::Session(_) => Err(Ended::Early(Refusal::BadMessage)),
-            Kept::Record(path, marks) => {
-                self.settle(alloc, course, Kept::Record(path, marks), true)
-            }
-            Kept::Dir(path) => self.settle(alloc, course, Kept::Dir(path), true),
-        }
+        self.give_up(alloc, course, why)?;
+        self.walk(alloc, course, left, right)
     }
 }

@@ -2,39 +2,36 @@
 ghost use Rattle.std.specs.Prelude.{◌≡◌, ◌++◌, ℕ, List, [], MatchResult, None, Some, slice_get};
 ghost use Rattle.std.specs.Prelude.{IfErr, IfOk, MatchOption, OnErr};
 ghost use Rattle.syn_coordinator.specs.inner.Advancing.{kept_by};
-ghost use Rattle.syn_coordinator.specs.inner.Settling.{nothing_asked};
 ghost use Rattle.syn_coordinator.specs.inner.Walking.{IsAtItem, Passes};
 ghost use Rattle.syn_headline.specs.Coordinator.{Exchange, IsDue};
 ghost use Rattle.syn_headline.specs.Planning.{Planned};
 ghost use Rattle.syn_headline.specs.Report.{conflict_at, is_carrying};
 ghost use Rattle.syn_headline.specs.Session.{record_for};
 ghost use Rattle.syn_keep.specs.Due.{Settles, TriesBy};
-ghost use Rattle.syn_model.specs.Archive.{IsOfItem, Archive as Keeping};
+ghost use Rattle.syn_model.specs.Archive.{Archive as Keeping};
 ghost use Rattle.syn_keep.specs.Machines.{IsMachine, Journal};
-ghost use Rattle.syn_message.specs.Requests.{request_of};
-ghost use Rattle.syn_path.specs.Sides.{which_of};
 ghost use Rattle.syn_model.specs.Decision.{Conflict};
-ghost use Rattle.syn_propagate.specs.Transfers.{Asks, IsReady, carriage_of};
+ghost use Rattle.syn_propagate.specs.Transfers.{IsReady, carriage_of};
 ghost use Rattle.syn_refusal.specs.Refusals.{cause_of};
 ghost use Rattle.syn_scan.specs.Found.{Found};
+ghost use Rattle.syn_session.specs.Carrying.{AsksOne};
 ghost use Rattle.syn_session.specs.Passing.{refused_at};
 ghost use Rattle.syn_session.specs.Stages.{AreAskedBefore, Carries, IsCarriedFor, IsCarriageOf};
 ghost use Rattle.syn_session.specs.Stages.{IsCourse, Reached, plan_in};
-ghost use Rattle.syn_image.specs.Archives.{kept_of};
+ghost use Rattle.syn_image.specs.Archives.{kept_for};
 
 use super::{Broken, Coordinator};
 use crate::ended::Ended;
 use std::alloc::Global;
 use syn_disk::Disk;
-use syn_image::Kept;
+use syn_image::{Kept, KeptItem};
 use syn_keep::{Due, Tried, keep_due, refusal_for};
-use syn_message::{Request, Side};
 use syn_model::plan_laws;
 use syn_path::Path;
 use syn_propagate::Next;
 use syn_refusal::Refusal;
 use syn_scan::Scan;
-use syn_session::{Carried, Course, Doing};
+use syn_session::{Asks, Carried, Course, Doing};
 
 impl<D: Disk> Coordinator<D> {
     ghost use Rattle.syn_coordinator.specs.Coordinators.{Breaks, archive_of, tried_shown, written};
@@ -48,15 +45,14 @@ impl<D: Disk> Coordinator<D> {
         &mut self,
         alloc: Global,
         course: &mut Course,
-        kept: Kept,
+        kept: KeptItem,
         was_carried: bool,
     ) -> Result<(), Ended>
-        requires { IsOfItem (kept_of kept) }
         ensures step { (pair : ℕ) (journal : Journal) (left right : Found) (taken : Exchange)
             (before : Reached) (planned : Planned) → IsMachine (archive_of self.old) pair journal
             → IsQuiet self.old journal → IsCourse course.old left right before
             → slice_get (plan_in course.old left right) course.old.cursor ≡ Some planned
-            → IsDue course.old.cursor planned taken (kept_of kept)
+            → IsDue course.old.cursor planned taken (kept_for kept)
             → is_carrying planned.item ≡ was_carried
             → MatchResult result
             (λ _. IsPast self.old self.new pair taken journal before course.new left right)
@@ -84,13 +80,12 @@ impl<D: Disk> Coordinator<D> {
 
     /// Keeps what is due in the archive, and tells it among what was written. The session ends 11
     /// where memory is refused.
-    fn keep(&mut self, alloc: Global, kept: Kept) -> Due
-        requires { IsOfItem (kept_of kept) }
+    fn keep(&mut self, alloc: Global, kept: KeptItem) -> Due
         ensures settles { (pair : ℕ) (journal : Journal)
             → IsMachine (archive_of self.old) pair journal
-            → Settles (archive_of self.new) pair journal (kept_of kept) result }
-        ensures written { written self.new ≡ written self.old ++ kept_by (kept_of kept) result }
-        ensures tried { TriesBy (archive_of self.new) (kept_of kept) (tried_shown self.old)
+            → Settles (archive_of self.new) pair journal (kept_for kept) result }
+        ensures written { written self.new ≡ written self.old ++ kept_by (kept_for kept) result }
+        ensures tried { TriesBy (archive_of self.new) (kept_for kept) (tried_shown self.old)
             (tried_shown self.new) result }
         ensures running { self.new.running ≡ self.old.running }
         ensures report { self.new.report ≡ self.old.report }
@@ -102,10 +97,10 @@ impl<D: Disk> Coordinator<D> {
         }
         let due = keep_due(alloc, &mut self.archive, &kept);
         match due {
-            Due::Recorded => self.written.push_reserved(kept),
+            Due::Recorded => self.written.push_reserved(Kept::from(kept)),
             Due::Refused(_) => drop(kept),
             Due::Ends(Refusal::Device) => {
-                self.tried = Some(Tried::new(kept, &self.archive));
+                self.tried = Some(Tried::new(Kept::from(kept), &self.archive));
                 self.broke = Broken::AsTried;
             }
             Due::Ends(_) => drop(kept),
@@ -163,28 +158,25 @@ impl<D: Disk> Coordinator<D> {
         alloc: Global,
         course: &mut Course,
         carried: Carried,
-    ) -> Result<Option<(Side, Request)>, Ended>
-        requires { IsOfItem (kept_of carried.kept) }
+    ) -> Result<Option<Asks>, Ended>
+        requires { IsReady carried.transfer }
         ensures step { (pair : ℕ) (journal : Journal) (left right : Found) (taken : Exchange)
             (all : List Exchange) (before : Reached) (planned : Planned)
             → IsMachine (archive_of self.now) pair journal → IsQuiet self.now journal
             → IsAtItem course.old left right all before
             → slice_get (plan_in course.old left right) course.old.cursor ≡ Some planned
             → IsCarriageOf (carriage_of carried.transfer) planned course.old.cursor
-            → record_for planned planned.item ≡ Some (kept_of carried.kept)
-            → IsReady carried.transfer
+            → record_for planned planned.item ≡ Some (kept_for carried.kept)
             → MatchResult result (λ next. MatchOption next
             (IsPast self.now self.now pair taken journal before course.new left right)
             (AsksSo self.now self.now pair taken journal before course.new left right all))
             (EndsSo self.now self.now pair taken journal before course.new left right) }
     {
         if let Some(why) = refusal_for(&self.archive, &carried.kept) {
-            return nothing_asked(self.give_up(alloc, course, why));
+            self.give_up(alloc, course, why)?;
+            return Ok(None);
         }
-        match ask_first(alloc, course, carried) {
-            Ok(asks) => Ok(Some(asks)),
-            Err(ended) => Err(ended),
-        }
+        Ok(Some(ask_first(alloc, course, carried)?))
     }
 
     /// Goes on through the plan, until it asks for the first piece of an item, or the session ends.
@@ -196,7 +188,7 @@ impl<D: Disk> Coordinator<D> {
         course: &mut Course,
         left: &Scan,
         right: &Scan,
-    ) -> Result<(Side, Request), Ended>
+    ) -> Result<Asks, Ended>
         ensures step { (pair : ℕ) (journal : Journal) (taken : Exchange) (all : List Exchange)
             (before : Reached) → IsMachine (archive_of self.old) pair journal
             → IsQuiet self.old journal → IsAtItem course.old left.now right.now all before
@@ -226,7 +218,7 @@ impl<D: Disk> Coordinator<D> {
         course: &mut Course,
         left: &Scan,
         right: &Scan,
-    ) -> Result<Option<(Side, Request)>, Ended>
+    ) -> Result<Option<Asks>, Ended>
         ensures step { (pair : ℕ) (journal : Journal) (taken : Exchange) (all : List Exchange)
             (before : Reached) → IsMachine (archive_of self.old) pair journal
             → IsQuiet self.old journal → IsAtItem course.old left.now right.now all before
@@ -240,34 +232,31 @@ impl<D: Disk> Coordinator<D> {
     {
         match course.doing(alloc, left, right) {
             Ok(Doing::Nothing) => Err(Ended::Settled),
-            Ok(Doing::Conflict(path)) => nothing_asked(self.pass_conflict(course, path)),
-            Ok(Doing::Mark(kept)) => nothing_asked(self.settle(alloc, course, kept, false)),
+            Ok(Doing::Conflict(path)) => {
+                self.pass_conflict(course, path)?;
+                Ok(None)
+            }
+            Ok(Doing::Mark(kept)) => {
+                self.settle(alloc, course, kept, false)?;
+                Ok(None)
+            }
             Ok(Doing::Carry(carried)) => self.carry(alloc, course, carried),
             Err(_) => Err(Ended::Early(Refusal::Memory)),
         }
     }
 }
 
-/// The session asks for nothing: it is past an item, or it ends.
-fn nothing_asked(went: Result<(), Ended>) -> Result<Option<(Side, Request)>, Ended>
-    ensures { result ≡ nothing_asked went }
-{
-    match went {
-        Ok(()) => Ok(None),
-        Err(ended) => Err(ended),
-    }
-}
-
 /// Asks for the first piece of the item that the session has come to, which is carried. The session
 /// ends 11 where memory is refused.
-fn ask_first(alloc: Global, course: &mut Course, carried: Carried) -> Result<(Side, Request), Ended>
+fn ask_first(alloc: Global, course: &mut Course, carried: Carried) -> Result<Asks, Ended>
+    requires { IsReady carried.transfer }
     ensures step { (archive : Keeping) (left right : Found) (all : List Exchange)
         (before : Reached) (planned : Planned) → IsCourse course.old left right before
         → slice_get (plan_in course.old left right) course.old.cursor ≡ Some planned
-        → IsCarriedFor archive carried planned course.old.cursor → IsReady carried.transfer
+        → IsCarriedFor archive carried planned course.old.cursor
         → AreAskedBefore (plan_in course.old left right) course.old.cursor all
         → IfOk result (λ asks. Carries archive course.new left right all before
-        (λ transfer. Asks transfer all (which_of asks.0) (request_of asks.1))) }
+        (λ transfer. AsksOne transfer all asks)) }
     ensures memory { IfErr result (λ ended. ended ≡ Ended.Early Refusal.Memory) }
     ensures stays { OnErr result (course.new ≡ course.old) }
 {
@@ -276,12 +265,12 @@ fn ask_first(alloc: Global, course: &mut Course, carried: Carried) -> Result<(Si
     match carried.transfer.step(alloc, None) {
         Ok(Next::Ask(side, request)) => {
             drop(course.carried.replace(carried));
-            Ok((side, request))
+            Ok(Asks::One(side, request))
         }
-        // A transfer that has asked for nothing yet is not done, and no side refused anything.
-        _ => {
+        Ok(_) => unreachable!(),
+        Err(error) => {
             drop(carried);
-            Err(Ended::Early(Refusal::Memory))
+            Err(Ended::Early(error.refusal()))
         }
     }
 }

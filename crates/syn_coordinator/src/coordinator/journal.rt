@@ -15,7 +15,7 @@ ghost use Rattle.syn_model.specs.Refusal.{first_cause};
 ghost use Rattle.syn_recovery.specs.Calls.{armed_at};
 
 use super::{Broken, Coordinator};
-use std::alloc::Global;
+use std::alloc::{AllocError, Global};
 use syn_archive::ArchiveError;
 use syn_disk::{Arm, Disk, Limit};
 use syn_image::Kept;
@@ -125,20 +125,16 @@ impl<D: Disk> Coordinator<D> {
         }
     }
 
-    /// What was answered 9 in the last call that could write, in memory of its own. Refused 11
-    /// where memory is refused.
-    fn copied_broken(&self, alloc: Global) -> Result<Broken, ArchiveError>
-        ensures ok { IfOk result (λ broke. (tried : Option Tried)
+    /// What was answered 9 in the last call that could write, in memory of its own. Refused where
+    /// memory is refused.
+    fn copied_broken(&self, alloc: Global) -> Result<Broken, AllocError>
+        ensures { IfOk result (λ broke. (tried : Option Tried)
             → broken_by broke tried ≡ broken self.now) }
-        ensures memory { IfErr result (λ e. e ≡ ArchiveError.Memory) }
     {
         let Some(kept) = self.last_broken() else {
             return Ok(Broken::Nothing);
         };
-        match kept.copy(alloc) {
-            Ok(copy) => Ok(Broken::Copied(copy)),
-            Err(_) => Err(ArchiveError::Memory),
-        }
+        Ok(Broken::Copied(kept.copy(alloc)?))
     }
 
     /// What was tried, where the archive has it now; and it is forgotten, but for this copy of what

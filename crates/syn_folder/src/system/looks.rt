@@ -1,10 +1,10 @@
 //! What was seen in a folder, and what changed between two readings of it.
 
-use std::alloc::Global;
+use std::alloc::{AllocError, Global};
 use std::fs::Metadata;
 use std::io;
 use std::os::unix::fs::MetadataExt;
-use syn_path::{Path, PathError};
+use syn_path::Path;
 use syn_tree::Content;
 
 /// What the system tells of a file or of a directory that differs as soon as it is written, gets
@@ -70,7 +70,7 @@ pub(super) fn note_changes(
     first: &[Seen],
     second: &[Seen],
     changed: &mut Vec<Path>,
-) -> Result<(), PathError> {
+) -> Result<(), AllocError> {
     for (index, one) in first.iter().enumerate() {
         let is_there = match second.get(index) {
             Some(other) => other.is_same(one),
@@ -93,7 +93,7 @@ pub(super) fn note_changes(
 }
 
 /// Puts the path to the changed ones, unless it is among them.
-pub(super) fn note(alloc: Global, path: &Path, changed: &mut Vec<Path>) -> Result<(), PathError> {
+pub(super) fn note(alloc: Global, path: &Path, changed: &mut Vec<Path>) -> Result<(), AllocError> {
     if !changed.iter().any(|other| other == path) {
         changed.push(path.copy(alloc)?)?;
     }

@@ -29,10 +29,7 @@ impl<D: Disk, S: State + Drop> Journaled<D, S> {
             (λ refused. Migrates D.Disk S.pair S.gives_old S.spelling (Some (S.why refused.0)) disk
             refused.1) }
     {
-        let mut machine = match Journaled::open_old(alloc, disk) {
-            Ok(machine) => machine,
-            Err(refused) => return Err(refused),
-        };
+        let mut machine = Journaled::open_old(alloc, disk)?;
         match machine.checkpoint(alloc) {
             Ok(()) => Ok(machine),
             Err(error) => Err((error, machine.into_disk())),

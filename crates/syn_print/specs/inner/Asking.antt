@@ -1,20 +1,11 @@
 -- How far the scan of a side has come.
-use Rattle.std.specs.Prelude.{◌≡◌, [], map}
+use Rattle.std.specs.Prelude.{◌≡◌, []}
 use Rattle.syn_headline.specs.Network.{Which}
-use Rattle.syn_headline.specs.Side.{ListAt, Reply}
+use Rattle.syn_headline.specs.Side.{Reply}
 use Rattle.syn_model.specs.Path.{Path}
-use Rattle.syn_print.specs.Listings.{GaveReplies, Replies}
-use Rattle.syn_session.specs.Scanning.{Exchanges, IsFoundIn, found_of, out_of}
+use Rattle.syn_print.specs.Listings.{GaveReplies, Replies, exchanges_of}
+use Rattle.syn_session.specs.Scanning.{IsFoundIn, found_of, out_of}
 use Rattle.syn_session.specs.declared.side_scan.SideScan.{SideScan}
-
--- the replies as a session has them
-abbrev pub exchanges_of : Which → Replies → Exchanges
-exchanges_of side replies = map (λ one. record {
-  side = side;
-  number = 0;
-  request = ListAt one.0;
-  reply = one.1;
-}) replies
 
 -- each reply was taken, and none is waited for
 pub record IsAsked {S : Type 0} (lists : S → Path → Reply → S → Type 0) (old : S)

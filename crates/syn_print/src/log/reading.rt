@@ -1,26 +1,36 @@
 //! Reads what a replica's disk has of its events.
-ghost use Rattle.std.specs.Prelude.{◌≡◌, ◌+◌, ◌++◌, IfOk, OnOk};
+ghost use Rattle.std.specs.Prelude.{◌≡◌, ◌≤◌, ◌+◌, ◌++◌, IfErr, IfOk, None, OnOk};
 ghost use Rattle.syn_history.specs.Events.{event_of};
-ghost use Rattle.syn_print.specs.Known.{AddsEvents, TellsLast, entries_of, touched};
+ghost use Rattle.syn_image.specs.Images.{image_of};
+ghost use Rattle.syn_model.specs.Limits.{greatest};
 ghost use Rattle.syn_model.specs.Spelling.{event_spelling};
-ghost use Rattle.syn_standing.specs.Readings.{bytes_of_each};
+ghost use Rattle.syn_model.specs.Version.{current_version};
+ghost use Rattle.syn_print.specs.Known.{AddsEvents, TellsLast, entries_of, touched};
+ghost use Rattle.syn_print.specs.inner.Damages.{AreNoEvents, HasGreatest, IsNoEvent, IsNoImage};
+ghost use Rattle.syn_print.specs.inner.Damages.{IsReadRefusal};
+ghost use Rattle.syn_replica.specs.Disks.{IsOpenRefusal};
+ghost use Rattle.syn_standing.specs.Readings.{IsImageOf, bytes_of_each};
 
 use crate::log::{Logged, What};
 use std::alloc::Global;
 use syn_disk::Disk;
 use syn_history::{Event, Touch};
-use syn_image::{decode_image, is_old_image};
+use syn_image::{Image, decode_image, image_laws, is_old_image};
 use syn_journal::Journal;
-use syn_standing::ReplicaError;
-use syn_wire::{Version, decode_event};
+use syn_standing::{ReplicaError, opening_laws};
+use syn_wire::{Version, decode_event, spelling_laws};
 
 /// What the disk of a replica has of its last events, the oldest first.
 ///
 /// Refused 9 where a device call fails, 18 where the disk holds no image, 26 where the image is of
 /// version 1, 19 where it holds no replica, and 11 where memory is refused. Nothing is written.
 pub fn read_log<D: Disk + Drop>(alloc: Global, disk: D) -> Result<Vec<Logged>, ReplicaError>
-    ensures { IfOk result (λ logged. TellsLast (D.seen disk) logged.items) }
+    ensures told { IfOk result (λ logged. TellsLast (D.seen disk) logged.items) }
+
+    // Each refusal has its cause, as where a replica is opened.
+    ensures cause { IfErr result (λ e. IsOpenRefusal e None (D.seen disk)) }
 {
+    opening_laws();
     let opened = match Journal::open(alloc, disk) {
         Ok(opened) => opened,
         Err((error, _)) => return Err(ReplicaError::Journal(error)),
@@ -28,9 +38,7 @@ pub fn read_log<D: Disk + Drop>(alloc: Global, disk: D) -> Result<Vec<Logged>, R
     if is_old_image(&opened.image) {
         return Err(ReplicaError::OldVersion);
     }
-    let Some((image, [])) = decode_image(alloc, Version::Two, &opened.image)? else {
-        return Err(ReplicaError::Damaged);
-    };
+    let image = read_image(alloc, &opened.image)?;
     let mut logged = Vec::new(alloc);
     let (older, newer) = image.trail.touches();
     push_touches(alloc, &mut logged, older)?;
@@ -39,14 +47,33 @@ pub fn read_log<D: Disk + Drop>(alloc: Global, disk: D) -> Result<Vec<Logged>, R
     Ok(logged)
 }
 
+/// The image that the bytes are. Refused 19 where they are none, and 11 where memory is refused.
+fn read_image(alloc: Global, bytes: &[u8]) -> Result<Image, ReplicaError>
+    ensures image { IfOk result (λ image.
+        IsImageOf current_version bytes.now (image_of image).0 (image_of image).1) }
+    ensures cause { IfErr result (λ e. IsReadRefusal e (IsNoImage bytes.now)) }
+{
+    image_laws();
+    let Some((image, rest)) = decode_image(alloc, Version::Two, bytes)? else {
+        return Err(ReplicaError::Damaged);
+    };
+    if !rest.is_empty() {
+        return Err(ReplicaError::Damaged);
+    }
+    Ok(image)
+}
+
 /// Puts the touches after what is there.
+///
+/// Refused 19 where one has the greatest position, and 11 where memory is refused.
 fn push_touches(
     alloc: Global,
     logged: &mut Vec<Logged>,
     touches: &[Touch],
 ) -> Result<(), ReplicaError>
-    ensures { OnOk result
+    ensures added { OnOk result
         (entries_of logged.new.items ≡ entries_of logged.old.items ++ touched touches.now) }
+    ensures cause { IfErr result (λ e. IsReadRefusal e (HasGreatest touches.now)) }
 {
     for touch in touches {
         let position = position_after(touch.position())?;
@@ -58,14 +85,19 @@ fn push_touches(
 }
 
 /// Puts the events that the payloads are after what is there, the first at the position.
+///
+/// Refused 19 where they are no events, or more than there are positions for, and 11 where memory
+/// is refused.
 fn push_events(
     alloc: Global,
     logged: &mut Vec<Logged>,
     first: u64,
     payloads: &[Vec<u8>],
 ) -> Result<(), ReplicaError>
-    ensures { OnOk result
+    ensures added { OnOk result
         (AddsEvents first (bytes_of_each payloads.now) logged.old.items logged.new.items) }
+    ensures cause { IfErr result
+        (λ e. IsReadRefusal e (AreNoEvents first (bytes_of_each payloads.now))) }
 {
     let mut position = first;
     for payload in payloads {
@@ -78,7 +110,8 @@ fn push_events(
 
 /// The position with the event that was at this one. Refused 19 where there is none.
 fn position_after(position: u64) -> Result<u64, ReplicaError>
-    ensures { IfOk result (λ next. next ≡ position + 1) }
+    ensures next { IfOk result (λ next. next ≡ position + 1) }
+    ensures cause { IfErr result (λ e. IsReadRefusal e (greatest ≤ position)) }
 {
     match position.checked_add(1) {
         Some(next) => Ok(next),
@@ -88,10 +121,15 @@ fn position_after(position: u64) -> Result<u64, ReplicaError>
 
 /// The event that the payload is. Refused 19 where it is none, and 11 where memory is refused.
 fn event_in(alloc: Global, payload: &[u8]) -> Result<Event, ReplicaError>
-    ensures { IfOk result (λ event. event_spelling (event_of event) ≡ payload.now) }
+    ensures event { IfOk result (λ event. event_spelling (event_of event) ≡ payload.now) }
+    ensures cause { IfErr result (λ e. IsReadRefusal e (IsNoEvent payload.now)) }
 {
-    match decode_event(alloc, Version::Two, payload)? {
-        Some((event, [])) => Ok(event),
-        _ => Err(ReplicaError::Damaged),
+    spelling_laws();
+    let Some((event, rest)) = decode_event(alloc, Version::Two, payload)? else {
+        return Err(ReplicaError::Damaged);
+    };
+    if !rest.is_empty() {
+        return Err(ReplicaError::Damaged);
     }
+    Ok(event)
 }

@@ -1,13 +1,15 @@
 //! What is asked of what a replica keeps in memory.
-ghost use Rattle.std.specs.Prelude.{◌≡◌, ◌⊎◌, None, Some, IfOk, IfErr, OnOk};
+ghost use Rattle.std.specs.Prelude.{◌≡◌, ◌⊎◌, None, Some, IfOk, IfErr};
 ghost use Rattle.syn_history.specs.Events.{event_of, token_of};
 ghost use Rattle.syn_model.specs.History.{History, standing_of};
 ghost use Rattle.syn_model.specs.Refusal.{Memory, first_cause};
 ghost use Rattle.syn_model.specs.Standing.{is_old, refusal_at};
 ghost use Rattle.syn_standing.specs.Causes.{since_causes};
 ghost use Rattle.syn_standing.specs.Refusals.{refusal_in, refusal_of};
-ghost use Rattle.syn_standing.specs.Updates.{IsOf, IsReady, early_causes};
+ghost use Rattle.syn_standing.specs.Updates.{IsReady, early_causes};
 ghost use Rattle.syn_replica.specs.Steps.{is_done_at};
+ghost use Rattle.syn_replica.specs.inner.Additions.{Adds};
+ghost use Rattle.syn_wire.specs.Events.{IsShort};
 
 use super::Replica;
 use std::alloc::Global;
@@ -15,6 +17,7 @@ use syn_disk::Disk;
 use syn_history::{Event, HistoryError, Token};
 use syn_path::Path;
 use syn_standing::{ReplicaError, Standing, Update};
+use syn_wire::encode_event;
 
 impl<D: Disk> Replica<D> {
     ghost use Rattle.syn_replica.specs.Replica.{standing_shown};
@@ -59,17 +62,24 @@ impl<D: Disk> Replica<D> {
         self.kept().check_untouched(path, since)
     }
 
-    /// The update that an event makes, with all memory for it.
-    pub(super) fn prepare(&self, alloc: Global, event: Event) -> Result<Update, ReplicaError>
-        requires { first_cause (early_causes (standing_shown self.now) (event_of event)) ≡ None }
-        ensures ready { IfOk result (λ update. IsReady (standing_shown self.now) update) }
-        ensures gives { IfOk result
-            (λ update. IsOf (standing_shown self.now) (event_of event) update) }
-        ensures allowed { OnOk result
-            (refusal_at (standing_shown self.now) (event_of event) ≡ None) }
+    /// The payload of an event that `check` does not refuse, and its update, with all memory for
+    /// both.
+    pub(super) fn prepare(
+        &self,
+        alloc: Global,
+        event: Event,
+    ) -> Result<(Vec<u8>, Update), ReplicaError>
+        requires checked { first_cause (early_causes (standing_shown self.now) (event_of event))
+            ≡ None }
+        requires brief { IsShort (event_of event) }
+        ensures ready { IfOk result (λ made. IsReady (standing_shown self.now) made.1) }
+        ensures adds { IfOk result
+            (λ made. Adds (standing_shown self.now) (event_of event) made.0.items made.1) }
         ensures refused { IfErr result (λ e. (refusal_of e ≡ Memory)
             ⊎ (refusal_at (standing_shown self.now) (event_of event) ≡ Some (refusal_of e))) }
     {
-        self.kept().prepare(alloc, event)
+        let payload = encode_event(alloc, &event)?;
+        let update = self.kept().prepare(alloc, event)?;
+        Ok((payload, update))
     }
 }

@@ -109,7 +109,8 @@ impl<D: Disk> Replica<D> {
         let event = Event::Began { session };
         self.check(&event)?;
         self.check_room(BEGAN_LENGTH)?;
-        self.add(alloc, event)
+        let (payload, update) = self.prepare(alloc, event)?;
+        self.commit(alloc, payload, update)
     }
 
     /// A part of what stands at the path with all below it: its spelling from the offset on, the
@@ -221,15 +222,15 @@ impl<D: Disk> Replica<D> {
         let Some(path) = self.path_to_replace(alloc, &token, path, since, new.as_ref())? else {
             return Ok(self.position());
         };
-        self.add(
-            alloc,
-            Event::Replaced {
-                token,
-                path,
-                since,
-                new,
-            },
-        )
+        let event = Event::Replaced {
+            token,
+            path,
+            since,
+            new,
+        };
+        let (payload, update) = self.prepare(alloc, event)?;
+        self.check_room(payload.len())?;
+        self.commit(alloc, payload, update)
     }
 
     /// The path, copied for the event of a replacement that may be made; none where its token is

@@ -31,27 +31,27 @@ verb_word verb.Open = codes "open"
 verb_word verb.Reopen = codes "reopen"
 
 -- the words after the first say the step
-abbrev pub SayBehind : Verb → List Text → Line → Type 0
-SayBehind verb.Edit words (has.Edit side user edit) = (number : Text) × (rest : List Text)
+abbrev pub SayAfter : Verb → List Text → Line → Type 0
+SayAfter verb.Edit words (has.Edit side user edit) = (number : Text) × (rest : List Text)
     × (words ≡ side_word side ∷ number ∷ rest) × IsNumber 32 number user × SayEdit rest edit
-SayBehind verb.Start words (has.Start None) = words ≡ []
-SayBehind verb.Start words (has.Start (Some side)) = words
+SayAfter verb.Start words (has.Start None) = words ≡ []
+SayAfter verb.Start words (has.Start (Some side)) = words
     ≡ codes "prefer" ∷ side_word side ∷ []
-SayBehind verb.Tick words has.Tick = words ≡ []
-SayBehind verb.Deliver words (has.Deliver first last) = SayRange words first last
-SayBehind verb.Drain words has.Drain = words ≡ []
-SayBehind verb.Checkpoint words (has.Checkpoint m) = words ≡ machine_word m ∷ []
-SayBehind verb.Fail words (has.Fail m call) = (number : Text)
+SayAfter verb.Tick words has.Tick = words ≡ []
+SayAfter verb.Deliver words (has.Deliver first last) = SayRange words first last
+SayAfter verb.Drain words has.Drain = words ≡ []
+SayAfter verb.Checkpoint words (has.Checkpoint m) = words ≡ machine_word m ∷ []
+SayAfter verb.Fail words (has.Fail m call) = (number : Text)
     × (words ≡ machine_word m ∷ number ∷ []) × IsNumber 64 number call
-SayBehind verb.Stop words (has.Stop m call leaves) = (number : Text)
+SayAfter verb.Stop words (has.Stop m call leaves) = (number : Text)
     × (words ≡ machine_word m ∷ number ∷ leaves_word leaves ∷ []) × IsNumber 64 number call
-SayBehind verb.Open words (has.Open m) = words ≡ machine_word m ∷ []
-SayBehind verb.Reopen words (has.Reopen m) = words ≡ machine_word m ∷ []
-SayBehind other words line = ⊥
+SayAfter verb.Open words (has.Open m) = words ≡ machine_word m ∷ []
+SayAfter verb.Reopen words (has.Reopen m) = words ≡ machine_word m ∷ []
+SayAfter other words line = ⊥
 
 -- the words after the first say no step
-abbrev pub NothingBehind : Verb → List Text → Type 0
-NothingBehind first words = (line : Line) → ¬ SayBehind first words line
+abbrev pub NothingAfter : Verb → List Text → Type 0
+NothingAfter first words = (line : Line) → ¬ SayAfter first words line
 
 -- the words say no edit
 abbrev pub NoEdit : List Text → Type 0

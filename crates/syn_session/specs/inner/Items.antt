@@ -7,12 +7,12 @@ use Rattle.syn_model.specs.Decision.{ToLeft, ToRight, MarkSame, MarkDir, Conflic
 use Rattle.syn_model.specs.Decision as model
 use Rattle.syn_model.specs.Path.{Path, parent}
 use Rattle.syn_model.specs.Tree.{subtree}
-use Rattle.syn_propagate.specs.Transfers.{IsReady, carriage_of}
+use Rattle.syn_propagate.specs.Transfers.{carriage_of}
 use Rattle.syn_scan.specs.Found.{Found, position_of}
 use Rattle.syn_session.specs.declared.course.Carried.{Carried}
 use Rattle.syn_session.specs.declared.doing.Doing.{Doing}
 use Rattle.syn_session.specs.declared.doing.Doing.TheVariants as has
-use Rattle.syn_image.specs.Archives.{kept_of}
+use Rattle.syn_image.specs.Archives.{kept_for}
 
 -- what stands at the path on the source is carried for the item with the number
 pub record IsCarriedFrom (carried : Carried) (source : Side) (item : ℕ) (path : Path)
@@ -24,8 +24,7 @@ pub record IsCarriedFrom (carried : Carried) (source : Side) (item : ℕ) (path 
     source_since = position_of from (parent path);
     target_since = position_of to (parent path);
   }
-  pub record_is : kept_of carried.kept ≡ Recorded path (subtree from.marks path)
-  pub ready : IsReady carried.transfer
+  pub record_is : kept_for carried.kept ≡ Recorded path (subtree from.marks path)
 
 -- by the item alone, and what both scans have at its path
 abbrev pub IsDoingFor : model.Item → ℕ → Found → Found → Doing → Type 0
@@ -33,8 +32,8 @@ IsDoingFor item number left right has.Nothing = ⊥
 IsDoingFor item number left right (has.Conflict path) = item ≡ Conflict path
 IsDoingFor item number left right (has.Mark kept) =
     ((path : Path) × (item ≡ MarkSame path)
-    × (kept_of kept ≡ Recorded path (subtree left.marks path)))
-    ⊎ ((path : Path) × (item ≡ MarkDir path) × (kept_of kept ≡ RecordedDir path))
+    × (kept_for kept ≡ Recorded path (subtree left.marks path)))
+    ⊎ ((path : Path) × (item ≡ MarkDir path) × (kept_for kept ≡ RecordedDir path))
 IsDoingFor item number left right (has.Carry carried) =
     ((path : Path) × (item ≡ ToLeft path)
     × IsCarriedFrom carried side.Right number path right left)
@@ -43,5 +42,5 @@ IsDoingFor item number left right (has.Carry carried) =
 
 -- the marks at the path are to be recorded
 abbrev pub IsMarked : Path → Found → Doing → Type 0
-IsMarked path left (has.Mark kept) = kept_of kept ≡ Recorded path (subtree left.marks path)
+IsMarked path left (has.Mark kept) = kept_for kept ≡ Recorded path (subtree left.marks path)
 IsMarked path left _ = ⊥

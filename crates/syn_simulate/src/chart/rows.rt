@@ -1,6 +1,5 @@
 //! What a chart says of the lines of a script.
 
-use crate::line::machine_of;
 use std::alloc::{AllocError, Global};
 use syn_path::Side;
 use syn_script::Line;
@@ -37,17 +36,11 @@ fn row_of(alloc: Global, line: &Line) -> Result<Option<Row>, AllocError> {
         Line::Start(preference) => (Machine::Coordinator, start_text(alloc, *preference)?),
         Line::Tick => (Machine::Coordinator, format!(in alloc; "tick")?),
         Line::Deliver(_, _) | Line::Drain => return Ok(None),
-        Line::Checkpoint(at) => (machine_of(*at), format!(in alloc; "checkpoint")?),
-        Line::Fail(at, call) => (
-            machine_of(*at),
-            format!(in alloc; "device call {call} is to fail")?,
-        ),
-        Line::Stop(at, calls, _) => (
-            machine_of(*at),
-            format!(in alloc; "to stop after call {calls}")?,
-        ),
-        Line::Open(at) => (machine_of(*at), format!(in alloc; "open")?),
-        Line::Reopen(at) => (machine_of(*at), format!(in alloc; "reopen")?),
+        Line::Checkpoint(at) => (*at, format!(in alloc; "checkpoint")?),
+        Line::Fail(at, call) => (*at, format!(in alloc; "device call {call} is to fail")?),
+        Line::Stop(at, calls, _) => (*at, format!(in alloc; "to stop after call {calls}")?),
+        Line::Open(at) => (*at, format!(in alloc; "open")?),
+        Line::Reopen(at) => (*at, format!(in alloc; "reopen")?),
     };
     Ok(Some(Row {
         at,

@@ -30,4 +30,4 @@ returns-clause-refused c =
     refused_as (MakesDir c.args.work.now c.args.path) c.args.work.now c.make.result
     (MakeDir c.args.path)
     (refl, λ there. true≢false (sym (c.is_directory.ensures.1 there) ∙ c.if-is_directory.false))
-    c.make.ensures.refused
+    c.make.ensures.cause

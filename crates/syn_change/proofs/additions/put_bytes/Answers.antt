@@ -65,4 +65,4 @@ returns-clause-refused c =
     let put = Put c.in_ok-copy.field-0 c.in_ok-from_slice.field-0.items in
     refused_as (PutsBytes t c.args.path.now c.args.bytes.now) t c.make.result put
     (same, λ there. true≢false (sym (c.has_bytes.ensures.1 there) ∙ c.if-has_bytes.false))
-    c.make.ensures.refused
+    c.make.ensures.cause

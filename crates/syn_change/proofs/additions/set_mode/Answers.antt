@@ -47,4 +47,4 @@ returns-clause-refused c =
     refused_as (ChangesMode c.args.work.now c.args.path mode) c.args.work.now c.make.result
     (Chmod c.args.path mode)
     (refl, λ there. true≢false (sym (c.has_mode.ensures.1 there) ∙ c.if-has_mode.false))
-    c.make.ensures.refused
+    c.make.ensures.cause

@@ -26,27 +26,27 @@ pub loop-pair-preserved : goal.loop-pair-preserved
 loop-pair-preserved c =
     let front = c.loop-pair.yielded in
     let x = c.in-Some.pair in
-    let behind = c.next.new.self in
+    let others = c.next.new.self in
     let old = c.args.work.now in
     let wanted = c.args.wanted.now in
     let work = c.loop-pair.work in
     let new = c.remove_entry.new.work in
-    let all : rooted (front ++ x ∷ behind) ≡ entries c.args.old.now =
+    let all : rooted (front ++ x ∷ others) ≡ entries c.args.old.now =
     ap rooted (ap (λ xs. front ++ xs) (sym c.in-Some.ensures.steps))
     ∙ c.loop-pair.invariant.whole in
-    let here : rooted (front ++ x ∷ behind) ≡ entries old =
+    let here : rooted (front ++ x ∷ others) ≡ entries old =
     all ∙ ap (λ (t : Tree). entries t) (sym c.requires) in
-    let none = none_in_front front x behind (rising_below old _ here).1 in
+    let none = none_in_front front x others (rising_below old _ here).1 in
     let P : Path → Type 0 = λ p. IsWithout work wanted p new in
     let Q : Path → Type 0 = λ p. GoesOn (Removes work wanted p) work c.loop-pair.edits.items new
     c.remove_entry.new.edits.items in
     let step = subst P c.in_ok-path.ensures c.in_ok-remove_entry.ensures.without in
     let on = subst Q c.in_ok-path.ensures c.in_ok-remove_entry.ensures.edits in
     let over = c.entries.ensures.tree.rooted in
-    let needed = λ (e : Edit). removal_needed old wanted work front x behind e here over
+    let needed = λ (e : Edit). removal_needed old wanted work front x others e here over
     c.loop-pair.invariant.removed in
     record {
-      whole = ap rooted (append_assoc front (x ∷ []) behind) ∙ all;
+      whole = ap rooted (append_assoc front (x ∷ []) others) ∙ all;
       removed = removed_more old wanted front work x new c.loop-pair.invariant.removed step;
       edits =
           goes_twice (IsRemovalIn old wanted front) (Removes work wanted x.0)

@@ -7,6 +7,7 @@ use Rattle.syn_model.specs.History.{IsHistory, event_refusal, standing_of}
 use Rattle.syn_replica.specs.Replica.{KeepsBeforeOrAfter, Stands, room_shown}
 use Rattle.syn_tree.specs.Edits.{edit_of}
 use Rattle.syn_command.specs.Asked.{edit_asked}
+use Rattle.syn_command.specs.declared.edit.TheConstants.{MOST_INPUT}
 use Rattle.syn_command.proofs.EditLemmas.{same_edit, before_or_after, same_refusal, not_written}
 use Rattle.syn_command.proofs.edit.make_edit.Goals as goal
 
@@ -15,7 +16,7 @@ returns-in_err-edit-clause-any_moment g c history left stands e =
     let laws = c.history_laws.ensures in
     let line = c.args.line.now in
     let edit = edit_of c.in_ok-asked.asked in
-    let is : edit ≡ edit_asked line.change c.args.path (take 16385 left) =
+    let is : edit ≡ edit_asked line.change c.args.path (take MOST_INPUT left) =
     c.in_ok-asked.ensures.edit left e in
     let asked = edit_asked line.change c.args.path left in
     leaves_weaker g.D.Disk.moment g.D.Disk.left_since _ _
@@ -30,7 +31,7 @@ returns-in_err-edit-clause-refused g c history left why stands e refused =
     let laws = c.history_laws.ensures in
     let line = c.args.line.now in
     let edit = edit_of c.in_ok-asked.asked in
-    let is : edit ≡ edit_asked line.change c.args.path (take 16385 left) =
+    let is : edit ≡ edit_asked line.change c.args.path (take MOST_INPUT left) =
     c.in_ok-asked.ensures.edit left e in
     let same =
     same_refusal laws.fits laws.put laws.steps history line.user line.change c.args.path left in
@@ -46,7 +47,7 @@ returns-clause-acknowledged g c history left stands e =
     let laws = c.history_laws.ensures in
     let line = c.args.line.now in
     let edit = edit_of c.in_ok-asked.asked in
-    let is : edit ≡ edit_asked line.change c.args.path (take 16385 left) =
+    let is : edit ≡ edit_asked line.change c.args.path (take MOST_INPUT left) =
     c.in_ok-asked.ensures.edit left e in
     let done = c.in_ok-edit.ensures.acknowledged history stands in
     let IsMade : Edit → Type 0 = λ x. IsHistory (history ++ Edited line.user x ∷ []) in
@@ -62,7 +63,7 @@ returns-clause-any_moment g c history left stands e =
     let laws = c.history_laws.ensures in
     let line = c.args.line.now in
     let edit = edit_of c.in_ok-asked.asked in
-    let is : edit ≡ edit_asked line.change c.args.path (take 16385 left) =
+    let is : edit ≡ edit_asked line.change c.args.path (take MOST_INPUT left) =
     c.in_ok-asked.ensures.edit left e in
     let asked = edit_asked line.change c.args.path left in
     leaves_weaker g.D.Disk.moment g.D.Disk.left_since _ _
@@ -77,7 +78,7 @@ returns-clause-refused g c history left why stands e refused =
     let laws = c.history_laws.ensures in
     let line = c.args.line.now in
     let edit = edit_of c.in_ok-asked.asked in
-    let is : edit ≡ edit_asked line.change c.args.path (take 16385 left) =
+    let is : edit ≡ edit_asked line.change c.args.path (take MOST_INPUT left) =
     c.in_ok-asked.ensures.edit left e in
     let same =
     same_refusal laws.fits laws.put laws.steps history line.user line.change c.args.path left in

@@ -8,7 +8,7 @@ use Rattle.syn_keep.specs.inner.Recording.{Checkpoints, ended_by, made, at_great
 use Rattle.syn_keep.specs.inner.Recording.{no_memory}
 use Rattle.syn_keep.proofs.CheckpointLemmas.{compact_ok, compact_failed}
 use Rattle.syn_keep.proofs.DueLemmas.{device_or_other, full_no_device, is_greatest, not_greatest}
-use Rattle.syn_keep.proofs.DueLemmas.{stays, when_runs}
+use Rattle.syn_keep.proofs.DueLemmas.{other_ends, stays, when_runs}
 use Rattle.syn_keep.proofs.OutcomeLemmas.{device_not_full, failed, not_halted, ok_not_full}
 use Rattle.syn_keep.proofs.due.checkpoint.Goals as goal
 
@@ -54,7 +54,7 @@ returns-in-Err-clause-made g c pair machine is =
           device c.in-Err.ensures.machine) g.met.D.Disk.counts_now
           (c.in-Err.ensures.any_moment _ was.stands) c.device_laws.ensures.broken))
       | inr other ↦ subst (λ due. Checkpoints c.checkpoint.new.self pair machine (Some due))
-          (sym other.1) (no_memory (stays c.args.archive.now c.checkpoint.new.self pair machine is
-          c.in-Err.error other.0 c.in-Err.ensures.machine.unchanged
-          c.in-Err.ensures.machine.readings))
+          (sym (other_ends c.in-Err.error other)) (no_memory (stays c.args.archive.now
+          c.checkpoint.new.self pair machine is c.in-Err.error other
+          c.in-Err.ensures.machine.unchanged c.in-Err.ensures.machine.readings))
     ])

@@ -5,7 +5,7 @@ use Rattle.syn_headline.specs.Machine.{has_room}
 use Rattle.syn_model.specs.Archive.{kept_refusal}
 use Rattle.syn_keep.specs.Due.{archive_refuses, failed_before, has_some}
 use Rattle.syn_keep.proofs.DueLemmas.{is_ready, room_is, settled, when_halted, when_runs}
-use Rattle.syn_image.specs.Archives.{kept_of}
+use Rattle.syn_image.specs.Archives.{kept_for}
 use Rattle.syn_keep.proofs.due.keep_due.Goals as goal
 
 pub returns-then-is_halted-clause-settles : goal.returns-then-is_halted-clause-settles
@@ -17,14 +17,14 @@ pub returns-in-Some-clause-settles : goal.returns-in-Some-clause-settles
 returns-in-Some-clause-settles g c pair machine is =
     let was = when_runs c.args.archive.now pair machine is
     (λ h. true≢false (sym (c.is_halted.ensures.1 h) ∙ c.if-is_halted.false)) in
-    archive_refuses _ was.up (ap (λ a. kept_refusal a (kept_of c.args.kept.now)) (sym is.remembers)
+    archive_refuses _ was.up (ap (λ a. kept_refusal a (kept_for c.args.kept.now)) (sym is.remembers)
     ∙ sym c.in-Some.ensures) is
 
 pub returns-in-None-clause-settles : goal.returns-in-None-clause-settles
 returns-in-None-clause-settles g c pair machine is =
     let was = when_runs c.args.archive.now pair machine is
     (λ h. true≢false (sym (c.is_halted.ensures.1 h) ∙ c.if-is_halted.false)) in
-    let kept = kept_of c.args.kept.now in
+    let kept = kept_for c.args.kept.now in
     let ready = is_ready c.args.archive.now pair machine is kept was c.is_lawful.ensures
     (sym c.in-None.ensures) in
     let room : has_room (archive_layout pair) machine kept ≡ true =

@@ -32,7 +32,7 @@ returns-in-Ok-clause-writes g c pair machine is ready =
         (RecordedDir c.args.path.now) ready (sym
         (idle_is c.args.archive.now c.record_dir.new.self pair machine is c.args.path.now ready)
         ∙ none) (ended false none) c.in-Ok.ensures.acknowledged c.keeps_on_disk.ensures
-        c.device_laws.ensures.made c.device_laws.ensures.behind
+        c.device_laws.ensures.made c.device_laws.ensures.after
 
 pub returns-in-Err-clause-writes : goal.returns-in-Err-clause-writes
 returns-in-Err-clause-writes g c pair machine is ready =

@@ -10,7 +10,7 @@ returns-in-Ok-clause-writes g c pair machine is ready =
     written (write_made c.args.archive.now c.record.new.self pair machine is
     (Recorded c.args.path.now (or_absent c.args.marks)) ready refl c.in-Ok.ensures.machine
     c.in-Ok.ensures.acknowledged c.keeps_on_disk.ensures c.device_laws.ensures.made
-    c.device_laws.ensures.behind)
+    c.device_laws.ensures.after)
 
 pub returns-in-Err-clause-writes : goal.returns-in-Err-clause-writes
 returns-in-Err-clause-writes g c pair machine is ready =

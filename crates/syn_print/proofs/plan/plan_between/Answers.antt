@@ -1,4 +1,5 @@
-use Rattle.std.proofs.Common.{◌∙◌, ap₂, option_map}
+use Rattle.std.proofs.Common.{◌∙◌, ap₂, inl, inr, option_map, refl}
+use Rattle.std.proofs.lemmas.Result.{err_from_is_err_and}
 use Rattle.syn_path.specs.Sides.{which_of}
 use Rattle.syn_model.specs.Plan.{plan}
 use Rattle.syn_print.proofs.AskedLemmas.{scanned}
@@ -7,7 +8,7 @@ use Rattle.syn_print.proofs.plan.plan_between.Goals as goal
 
 pub returns-clause-items : goal.returns-clause-items
 returns-clause-items g c =
-    c.in_ok-items.ensures
+    c.in_ok-items.ensures.items
     ∙ ap₂ (λ (l r : Found). plan (option_map which_of c.args.preference) (scan_of l)
     (scan_of r) c.args.archive.now) c.found.ensures.found c.found-2.ensures.found
 
@@ -22,3 +23,20 @@ returns-clause-right g c =
     scanned g.R.Side.lists c.args.right.now c.scan_side-2.new.side c.in_ok-right.right
     c.found-2.result.now c.found-2.ensures.found c.in_ok-right.ensures.asked
     (λ side taken found. c.found-2.ensures.scan side taken c.in_ok-right.ensures.whole found)
+
+pub returns-in_err-left-clause-cause : goal.returns-in_err-left-clause-cause
+returns-in_err-left-clause-cause g c =
+    let p = err_from_is_err_and c.from_residual.result c.from_residual.ensures.1 in
+    rw (p.1, p.2) (elim c.in_err-left.ensures.cause [
+      | inl memory ↦ inl memory
+      | inr cause ↦ inr (inl (cause, refl))
+    ])
+
+pub returns-in_err-right-clause-cause : goal.returns-in_err-right-clause-cause
+returns-in_err-right-clause-cause g c =
+    let p = err_from_is_err_and c.from_residual-in_err-right.result
+    c.from_residual-in_err-right.ensures.1 in
+    rw (p.1, p.2) (elim c.in_err-right.ensures.cause [
+      | inl memory ↦ inl memory
+      | inr cause ↦ inr (inr cause)
+    ])

@@ -1,5 +1,5 @@
-use Rattle.syn_print.specs.inner.Asking.{IsAsked}
+use Rattle.syn_print.proofs.AskedLemmas.{AskedTimes}
 use Rattle.syn_print.proofs.plan.scan_side.Given as goal
 
 abbrev pub invariant-loop : goal.invariant-loop
-invariant-loop g l = IsAsked g.S.Side.lists l.initial.side l.scan l.side
+invariant-loop g l = AskedTimes g.S.Side.lists l.initial.side l.scan l.side l.counter

@@ -21,5 +21,5 @@ returns-clause-bad c =
     let rest = map text (take (length words - 1) (drop 1 words)) in
     let parts = first_word text words d (omega arith)
     ∙ ap (λ (word : Text). word ∷ rest) c.in-Some.ensures.some in
-    IfErr-weaker c.read_behind.result _ _
-    (λ e bad why. rw parts (nothing_said _ _ (bad why))) c.read_behind.ensures.bad
+    IfErr-weaker c.read_after_verb.result _ _
+    (λ e bad why. rw parts (nothing_said _ _ (bad why))) c.read_after_verb.ensures.bad

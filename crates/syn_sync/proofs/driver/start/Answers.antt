@@ -36,9 +36,9 @@ returns-in-Err-JournalFull g c = λ pair machine stands.
     let told = rw is at c.in-Err-JournalFull.ensures.refused in
     let same = rw is at c.in-Err-JournalFull.ensures.failures in
     let full = told pair machine stands (λ device. cc) in
-    restarted c.start_behind.result
+    restarted c.start_after.result
     (λ sends. Starting (option_map which_of c.args.preference)
-    c.start_behind.new.coordinator pair machine (messages_of sends.items))
-    (Calls c.start_behind.new.coordinator pair machine []) c.args.coordinator.now
-    c.start.new.self c.start_behind.new.coordinator pair machine same
-    (c.start_behind.ensures pair machine full.1 full.0)
+    c.start_after.new.coordinator pair machine (messages_of sends.items))
+    (Calls c.start_after.new.coordinator pair machine []) c.args.coordinator.now
+    c.start.new.self c.start_after.new.coordinator pair machine same
+    (c.start_after.ensures pair machine full.1 full.0)

@@ -1,6 +1,7 @@
 use Rattle.std.proofs.Common.{◌∙◌, sym, ap, subst, []}
 use Rattle.syn_journal.specs.Journal as journal
 use Rattle.syn_journal.specs.Layout.{image_alone}
+use Rattle.syn_model.proofs.ExitLemmas.{if_err_of_exit}
 use Rattle.syn_model.specs.Archive.{new_archive}
 use Rattle.syn_model.specs.ArchiveImage.{ArchiveStandsFor}
 use Rattle.syn_model.specs.MarkSpelling.{archive_spelling}
@@ -10,27 +11,28 @@ use Rattle.syn_archive.specs.inner.Agreements.{agreed_archive}
 use Rattle.syn_archive.proofs.FormatLemmas.{image_fits, format_refusal}
 use Rattle.syn_archive.proofs.archive.Archive.format.Goals as goal
 
-pub returns-in-Ok-format-clause-formatted : goal.returns-in-Ok-format-clause-formatted
-returns-in-Ok-format-clause-formatted g c =
-    let machine = c.in-Ok-format.machine in
+pub returns-clause-formatted : goal.returns-clause-formatted
+returns-clause-formatted g c =
+    let machine = c.in_ok-machine.machine in
     let pair = c.args.pair in
-    let shown = ap (λ (m : Tree). record { marks = m; last_session = 0 }) c.in-Ok.ensures.ok in
+    let shown = ap (λ (m : Tree). record { marks = m; last_session = 0 }) c.in-Ok.ensures in
     let image = archive_spelling pair new_archive in
     record {
-      remembers = ap agreed_archive c.in-Ok-format.ensures.state ∙ shown;
+      remembers = ap agreed_archive c.in_ok-machine.ensures.state ∙ shown;
       value = image_alone image;
       runs = subst (λ i. journal.Stands machine.journal (image_alone i))
-          (ap (archive_spelling pair) shown) c.in-Ok-format.ensures.formatted;
+          (ap (archive_spelling pair) shown) c.in_ok-machine.ensures.formatted;
       means = subst (λ n. ArchiveStandsFor n image [] new_archive)
-          (sym (ap (λ a. a.pair) c.in-Ok-format.ensures.state))
+          (sym (ap (λ a. a.pair) c.in_ok-machine.ensures.state))
           (c.archive_laws.ensures.formatted pair);
     }
 
-pub returns-in-Err-format-clause-refusals : goal.returns-in-Err-format-clause-refusals
-returns-in-Err-format-clause-refusals g c =
-    let shown = ap (λ (m : Tree). record { marks = m; last_session = 0 }) c.in-Ok.ensures.ok in
-    let h = c.in-Err-format.ensures.refusals in
-    subst IsOfFormat (sym h.1) (format_refusal h.0 h.2
-    (λ full. image_fits c.args.pair
+pub returns-in_err-machine-clause-refusals : goal.returns-in_err-machine-clause-refusals
+returns-in_err-machine-clause-refusals g c =
+    let shown = ap (λ (m : Tree). record { marks = m; last_session = 0 }) c.in-Ok.ensures in
+    let h = c.in_err-machine.ensures.refusals in
+    if_err_of_exit c.from_residual.result c.in_err-machine.field-0.0
+    (λ refused. IsOfFormat refused.0) c.from_residual.ensures.1
+    (subst IsOfFormat (sym h.1) (format_refusal h.0 h.2 (λ full. image_fits c.args.pair
     (archive_spelling c.args.pair (record { marks = c.in-Ok.marks; last_session = 0 }))
-    (ap (archive_spelling c.args.pair) shown) (h.3 full)))
+    (ap (archive_spelling c.args.pair) shown) (h.3 full))))

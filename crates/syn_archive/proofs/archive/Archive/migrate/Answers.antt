@@ -1,14 +1,14 @@
 use Rattle.std.proofs.Common.{None, Some, inl, inr, sym, subst, arith}
 use Rattle.syn_journaled.specs.Endings.{ReadsOrBreaks}
 use Rattle.syn_journaled.specs.Migrations.{Migrated, NotMigrated}
-use Rattle.syn_journaled.proofs.Migrations.{more_made}
+use Rattle.syn_journaled.proofs.Migrations.{more_made, only_read}
 use Rattle.syn_model.specs.Version.{One, Two}
 use Rattle.syn_archive.specs.Disks.{DiskKeepsIn}
 use Rattle.syn_archive.specs.Refusals.{of_journal, refusal_of}
 use Rattle.syn_archive.specs.inner.Agreements.{GivesOld, IsUnreadOld}
 use Rattle.syn_archive.proofs.MigrateLemmas.{any_moment, image_of, kept_stands, lawful_migrate}
 use Rattle.syn_archive.proofs.MigrateLemmas.{migrate_refusal, migrated_each, migrated_image}
-use Rattle.syn_archive.proofs.MigrateLemmas.{migrated_stands, old_disk, only_read, seen_after}
+use Rattle.syn_archive.proofs.MigrateLemmas.{migrated_stands, old_disk, seen_after}
 use Rattle.syn_archive.proofs.MigrateLemmas.{was_old, whole, young_refusal}
 use Rattle.syn_archive.proofs.archive.Archive.migrate.Goals as goal
 
@@ -131,8 +131,8 @@ returns-in_default g c =
       migrated = tt;
       image = tt;
       same = λ young. found.device.untouched;
-      any_moment = λ number kept left generation fits keeps. only_read g.D.Disk.seen
-          g.D.Disk.may_leave g.D.Disk.moment g.D.Disk.left_since c.args.disk c.in-Err.refused.1 _
+      any_moment = λ number kept left generation fits keeps. only_read g.D.Disk.moment
+          g.D.Disk.left_since g.D.Disk.seen g.D.Disk.may_leave c.args.disk c.in-Err.refused.1 _
           found.device.untouched;
       seen = λ number kept left generation fits keeps. inl
           (subst (DiskKeepsIn One number kept left generation)

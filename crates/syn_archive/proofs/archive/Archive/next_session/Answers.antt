@@ -4,14 +4,14 @@ use Rattle.syn_model.specs.Archive.{Session}
 use Rattle.syn_archive.specs.Archive.{KeepsBeforeOrAfter, disk_of}
 use Rattle.syn_archive.proofs.archive.Archive.next_session.Goals as goal
 
-pub returns-in-Ok-clause-any_moment : goal.returns-in-Ok-clause-any_moment
-returns-in-Ok-clause-any_moment g c kept stands =
+pub returns-clause-any_moment : goal.returns-clause-any_moment
+returns-clause-any_moment g c kept stands =
     subst (λ n. LeavesOnly g.D.Disk.moment g.D.Disk.left_since (disk_of c.args.self.now)
     (disk_of c.keep.new.self) (KeepsBeforeOrAfter c.args.self.now kept (Session (n + 1))))
-    (ap (λ a. a.last_session) stands.remembers) (c.in-Ok.ensures.any_moment kept stands)
+    (ap (λ a. a.last_session) stands.remembers) (c.in_ok-keep.ensures.any_moment kept stands)
 
-pub returns-in-Err-clause-any_moment : goal.returns-in-Err-clause-any_moment
-returns-in-Err-clause-any_moment g c kept stands =
+pub returns-in_err-keep-clause-any_moment : goal.returns-in_err-keep-clause-any_moment
+returns-in_err-keep-clause-any_moment g c kept stands =
     subst (λ n. LeavesOnly g.D.Disk.moment g.D.Disk.left_since (disk_of c.args.self.now)
     (disk_of c.keep.new.self) (KeepsBeforeOrAfter c.args.self.now kept (Session (n + 1))))
-    (ap (λ a. a.last_session) stands.remembers) (c.in-Err.ensures.any_moment kept stands)
+    (ap (λ a. a.last_session) stands.remembers) (c.in_err-keep.ensures.any_moment kept stands)

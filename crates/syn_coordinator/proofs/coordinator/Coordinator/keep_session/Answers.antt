@@ -11,7 +11,10 @@ use Rattle.syn_model.specs.Archive.{Session}
 use Rattle.syn_session.specs.Refusals.{CountsFailures}
 use Rattle.syn_session.specs.declared.error.SessionError.TheVariants as error
 use Rattle.syn_archive.specs.Archive.{disk_of, session_shown}
-use Rattle.syn_coordinator.proofs.KeepLemmas.{counts_none, number_kept, number_failed}
+use Rattle.syn_archive.proofs.EndLemmas.{same_error}
+use Rattle.syn_archive.specs.declared.error.ArchiveError.TheVariants as archive_error
+use Rattle.syn_journaled.proofs.Spent.{none_counted}
+use Rattle.syn_coordinator.proofs.KeepLemmas.{number_kept, number_failed}
 use Rattle.syn_coordinator.proofs.coordinator.Coordinator.keep_session.Goals as goal
 
 pub returns-in-Ok-clause-ok : goal.returns-in-Ok-clause-ok
@@ -20,7 +23,7 @@ returns-in-Ok-clause-ok g c pair machine stands =
     subst (λ archive. KeepsSo archive pair machine.journal kept (kept ∷ []) Up)
     (sym c.run.ensures.archive)
     (number_kept _ _ pair machine.journal stands.journal c.requires.up c.device_laws.ensures.made
-    c.device_laws.ensures.behind c.in-Ok.ensures.machine c.in-Ok.field-0
+    c.device_laws.ensures.after c.in-Ok.ensures.machine c.in-Ok.field-0
     c.in-Ok.ensures.acknowledged c.keeps_on_disk.ensures)
 
 -- what a result refuses
@@ -53,7 +56,9 @@ returns-in-Err-clause-failures g c =
           (c.not_begun.ensures.device device).0 c.in-Err.ensures.machine.device.failures))
       | inr stays ↦ subst (λ e. CountsFailures e before after) (sym stays.0)
           (ap (λ a. g.D.Disk.failures (disk_of a)) archive
-          ∙ counts_none c.in-Err.error _ _ stays.1 c.in-Err.ensures.machine.device.failures)
+          ∙ none_counted (refusal_of c.in-Err.error) _ _
+          (λ is. stays.1 (same_error c.in-Err.error archive_error.Device is))
+          c.in-Err.ensures.machine.device.failures)
     ]
 
 pub returns-in-Err-clause-memory : goal.returns-in-Err-clause-memory

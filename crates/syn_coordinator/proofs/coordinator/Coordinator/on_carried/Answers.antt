@@ -14,7 +14,7 @@ returns-in-Ok-Asks-clause-step g c pair journal all before to number request is 
     let right = c.args.right.now in
     let taken = exchange_of to number request (reply_of c.args.reply) in
     carries_further pair taken journal before left right all c.args.self.now c.take_answer.new.self
-    is quiet c.in-Ok-Asks.side c.in-Ok-Asks.request
+    is quiet c.in-Ok-Asks.asks
     (subst (λ n. TakesAnswer journal.value left right all before taken c.take_answer.new.self
     (Ok n)) c.in-Ok-Asks.field-0-is
     (c.in-Ok-Asks.ensures.step journal.value left right all before to number request carries))
@@ -27,9 +27,9 @@ returns-in-Ok-Done-clause-step g c pair journal all before to number request is 
     let took = subst (λ n. TakesAnswer journal.value left right all before taken
     c.take_answer.new.self (Ok n)) c.in-Ok-Done.field-0-is
     (c.in-Ok-Done.ensures.step journal.value left right all before to number request carries) in
-    goes_later pair taken journal before left right all c.args.self.now c.walk_behind.new.self
-    c.walk_behind.new.course took.0 c.walk_behind.result
-    (c.walk_behind.ensures.step pair journal taken _ before took.1.0 is quiet took.1.1 took.1.2)
+    goes_later pair taken journal before left right all c.args.self.now c.walk_after.new.self
+    c.walk_after.new.course took.0 c.walk_after.result
+    (c.walk_after.ensures.step pair journal taken _ before took.1.0 is quiet took.1.1 took.1.2)
 
 pub returns-in-Ok-Refused-clause-step : goal.returns-in-Ok-Refused-clause-step
 returns-in-Ok-Refused-clause-step g c pair journal all before to number request is quiet carries =

@@ -67,9 +67,9 @@ returns-in-Err-clause-memory g c pair machine stands other =
 
 pub returns-in_err-broke-clause-memory : goal.returns-in_err-broke-clause-memory
 returns-in_err-broke-clause-memory g c pair machine stands =
-    if_err_of_exit c.from_residual.result c.in_err-broke.field-0.0 _ c.from_residual.ensures.1
+    if_err_of_exit c.from_residual.result _ _ c.from_residual.ensures.1
     (λ other. (
-      c.in_err-broke.ensures.memory,
+      refl,
       not_reopened c.args.self.now c.args.self.now pair machine stands refl refl _ _ _
           (not_down c.args.self.now.archive machine.journal stands.journal.state) (λ up. up)
           (λ calls arms failures meets. no_memory_to_reopen calls arms failures meets)

@@ -7,20 +7,20 @@ use Rattle.syn_session.proofs.CourseLemmas.{no_conflict}
 use Rattle.syn_coordinator.proofs.SettleLemmas.{ends_for_memory, is_cut_off, is_ended, is_kept}
 use Rattle.syn_coordinator.proofs.SettleLemmas.{is_refused, still_is, tries_by}
 use Rattle.syn_keep.specs.declared.due.Due.TheVariants as due
-use Rattle.syn_image.specs.Archives.{kept_of}
+use Rattle.syn_image.specs.Archives.{kept_for}
 use Rattle.syn_coordinator.proofs.BreakLemmas.{due_breaks}
 use Rattle.syn_coordinator.proofs.coordinator.Coordinator.settle.Goals as goal
 
 pub returns-then-is_cut-clause-step : goal.returns-then-is_cut-clause-step
 returns-then-is_cut-clause-step g c pair journal left right taken before planned is quiet course_is
     at is_due carries = (
-      kept_by (kept_of c.args.kept) c.keep-due.result,
+      kept_by (kept_for c.args.kept) c.keep-due.result,
       c.keep-due.ensures.written,
       is_cut_off c.keep-due.new.self.archive c.keep-due.new.self.tried pair taken journal before
           c.args.course.now left right course_is planned at
-          (kept_of c.args.kept) is_due quiet.1 c.keep-due.result
+          (kept_for c.args.kept) is_due quiet.1 c.keep-due.result
           (c.keep-due.ensures.settles pair journal is)
-          (tries_by c.keep-due.new.self.archive (kept_of c.args.kept) c.args.self.now.tried
+          (tries_by c.keep-due.new.self.archive (kept_for c.args.kept) c.args.self.now.tried
           c.keep-due.new.self.tried c.keep-due.result quiet.0 c.keep-due.ensures.tried)
           (sym c.is_cut.ensures ∙ c.if-is_cut.true) c.args.course.now (Early refusal.Device),
     )
@@ -28,7 +28,7 @@ returns-then-is_cut-clause-step g c pair journal left right taken before planned
 pub returns-in-Recorded-clause-step : goal.returns-in-Recorded-clause-step
 returns-in-Recorded-clause-step g c pair journal left right taken before planned is quiet course_is
     at is_due carries =
-    let what = kept_of c.args.kept in
+    let what = kept_for c.args.kept in
     let later = c.pass_kept.ensures.passes left right before planned what course_is at
     (record_due c.args.course.now.cursor planned taken what is_due) carries in (
       what ∷ [],
@@ -45,7 +45,7 @@ returns-in-Recorded-clause-step g c pair journal left right taken before planned
 pub returns-in-Ok-clause-step : goal.returns-in-Ok-clause-step
 returns-in-Ok-clause-step g c pair journal left right taken before planned is quiet course_is at
     is_due carries =
-    let what = kept_of c.args.kept in
+    let what = kept_for c.args.kept in
     let later = c.in-Ok.ensures.passes left right before planned course_is at (no_conflict planned
     planned.item what (record_due c.args.course.now.cursor planned taken what is_due)) in (
       [],
@@ -62,7 +62,7 @@ returns-in-Ok-clause-step g c pair journal left right taken before planned is qu
 pub returns-in-Err-clause-step : goal.returns-in-Err-clause-step
 returns-in-Err-clause-step g c pair journal left right taken before planned is quiet course_is at
     is_due carries =
-    let what = kept_of c.args.kept in (
+    let what = kept_for c.args.kept in (
       [],
       c.in-Refused.ensures.written,
       ends_for_memory c.keep-due.new.self.archive c.keep-due.new.self.tried pair taken journal
@@ -82,9 +82,9 @@ returns-in-Ends-clause-step g c pair journal left right taken before planned is 
       c.in-Ends.ensures.written,
       is_ended c.keep-due.new.self.archive c.keep-due.new.self.tried pair taken journal before
           c.args.course.now left right course_is planned at
-          (kept_of c.args.kept) is_due quiet.1 c.in-Ends.why
+          (kept_for c.args.kept) is_due quiet.1 c.in-Ends.why
           (c.in-Ends.ensures.settles pair journal is)
-          (tries_by c.keep-due.new.self.archive (kept_of c.args.kept) c.args.self.now.tried
+          (tries_by c.keep-due.new.self.archive (kept_for c.args.kept) c.args.self.now.tried
           c.keep-due.new.self.tried (due.Ends c.in-Ends.why) quiet.0 c.in-Ends.ensures.tried),
     )
 

@@ -17,7 +17,7 @@ use Rattle.syn_session.specs.Sessions.{IsSession, begin_messages, begun}
 use Rattle.syn_keep.specs.Steps.{KeepsSo}
 use Rattle.syn_keep.specs.Tries.{HoldsTried}
 use Rattle.syn_keep.proofs.DueLemmas.{when_runs}
-use Rattle.syn_coordinator.proofs.ErrorLemmas.{passed, refused_so}
+use Rattle.syn_model.proofs.ExitLemmas.{if_err_of_exit, match_of_exit}
 use Rattle.syn_coordinator.proofs.HaltLemmas.{keeps_not_halted, up_not_halted}
 use Rattle.syn_coordinator.proofs.TickLemmas.{is_none}
 use Rattle.syn_coordinator.proofs.StartLemmas.{room_for, started, start_failed, still_first}
@@ -28,15 +28,18 @@ use Rattle.syn_path.specs.Sides.{which_of}
 
 pub returns-in_err-check_start-clause-step : goal.returns-in_err-check_start-clause-step
 returns-in_err-check_start-clause-step g c pair machine stands =
-    passed (λ e. e ≡ Device → Does c.args.self.now c.args.self.now pair
-    (CoordinatorStarts pair (option_map which_of c.args.preference) machine) [] []) _
-    c.from_residual.result _ c.from_residual.ensures.1
+    match_of_exit c.from_residual.result _ _ (λ e. e ≡ Device →
+    Does c.args.self.now c.args.self.now pair
+    (CoordinatorStarts pair (option_map which_of c.args.preference) machine) [] [])
+    c.from_residual.ensures.1
     (λ e. absurd (c.in_err-check_start.ensures.no_call e))
 
 pub returns-in_err-check_start-clause-refused : goal.returns-in_err-check_start-clause-refused
 returns-in_err-check_start-clause-refused g c pair machine stands =
-    refused_so (λ e. e ≢ Device → (first_cause (all_causes pair machine) ≡ Some (refusal_of e))
-    × Stands c.args.self.now pair machine) c.from_residual.result _ c.from_residual.ensures.1
+    if_err_of_exit c.from_residual.result _ (λ e. e ≢ Device →
+    (first_cause (all_causes pair machine) ≡ Some (refusal_of e))
+    × Stands c.args.self.now pair machine)
+    c.from_residual.ensures.1
     (λ other. (
       still_first (refusals_of pair machine) ((true, why.Memory) ∷ []) _
           (c.in_err-check_start.ensures.refused pair machine stands),
@@ -45,10 +48,10 @@ returns-in_err-check_start-clause-refused g c pair machine stands =
 
 pub returns-in_err-keep_session-clause-step : goal.returns-in_err-keep_session-clause-step
 returns-in_err-keep_session-clause-step g c pair machine stands =
-    passed (λ e. e ≡ Device →
+    match_of_exit c.from_residual-in_err-keep_session.result _ _ (λ e. e ≡ Device →
     Does c.args.self.now c.keep_session.new.self pair (CoordinatorStarts pair
-    (option_map which_of c.args.preference) machine) [] []) _
-    c.from_residual-in_err-keep_session.result _ c.from_residual-in_err-keep_session.ensures.1
+    (option_map which_of c.args.preference) machine) [] [])
+    c.from_residual-in_err-keep_session.ensures.1
     (λ e. start_failed (option_map which_of c.args.preference) c.args.self.now
     c.keep_session.new.self pair machine
     c.in_ok-check_start.ensures.idle (when_runs c.args.self.now.archive pair machine.journal
@@ -65,8 +68,9 @@ returns-in_err-keep_session-clause-step g c pair machine stands =
 
 pub returns-in_err-keep_session-clause-refused : goal.returns-in_err-keep_session-clause-refused
 returns-in_err-keep_session-clause-refused g c pair machine stands =
-    refused_so (λ e. e ≢ Device → (first_cause (all_causes pair machine) ≡ Some (refusal_of e))
-    × Stands c.keep_session.new.self pair machine) c.from_residual-in_err-keep_session.result _
+    if_err_of_exit c.from_residual-in_err-keep_session.result _ (λ e. e ≢ Device →
+    (first_cause (all_causes pair machine) ≡ Some (refusal_of e))
+    × Stands c.keep_session.new.self pair machine)
     c.from_residual-in_err-keep_session.ensures.1
     (λ other. elim (c.in_err-keep_session.ensures.memory pair machine stands) [
       | inl device ↦ absurd (other device)
@@ -111,8 +115,9 @@ returns-clause-step g c pair machine stands =
 
 pub returns-in_err-session-clause-refused : goal.returns-in_err-session-clause-refused
 returns-in_err-session-clause-refused g c pair machine stands =
-    refused_so (λ e. e ≢ Device → (first_cause (all_causes pair machine) ≡ Some (refusal_of e))
-    × Stands c.args.self.now pair machine) c.from_residual-in_err-session.result _
+    if_err_of_exit c.from_residual-in_err-session.result _ (λ e. e ≢ Device →
+    (first_cause (all_causes pair machine) ≡ Some (refusal_of e))
+    × Stands c.args.self.now pair machine)
     c.from_residual-in_err-session.ensures.1
     (λ other. (
       then_memory (refusals_of pair machine)
@@ -123,8 +128,9 @@ returns-in_err-session-clause-refused g c pair machine stands =
 
 pub returns-in_err-push-clause-refused : goal.returns-in_err-push-clause-refused
 returns-in_err-push-clause-refused g c pair machine stands =
-    refused_so (λ e. e ≢ Device → (first_cause (all_causes pair machine) ≡ Some (refusal_of e))
-    × Stands c.args.self.now pair machine) c.from_residual-in_err-push.result _
+    if_err_of_exit c.from_residual-in_err-push.result _ (λ e. e ≢ Device →
+    (first_cause (all_causes pair machine) ≡ Some (refusal_of e))
+    × Stands c.args.self.now pair machine)
     c.from_residual-in_err-push.ensures.1
     (λ other. (
       then_memory (refusals_of pair machine)
@@ -138,8 +144,9 @@ returns-clause-allowed g c pair machine stands =
 
 pub returns-in_err-keep_session-clause-allowed : goal.returns-in_err-keep_session-clause-allowed
 returns-in_err-keep_session-clause-allowed g c pair machine stands =
-    passed (λ e. e ≡ Device → first_cause (refusals_of pair machine) ≡ None) _
-    c.from_residual-in_err-keep_session.result _ c.from_residual-in_err-keep_session.ensures.1
+    match_of_exit c.from_residual-in_err-keep_session.result _ _
+    (λ e. e ≡ Device → first_cause (refusals_of pair machine) ≡ None)
+    c.from_residual-in_err-keep_session.ensures.1
     (λ e. c.in_ok-check_start.ensures.refused pair machine stands)
 
 pub returns-clause-halts : goal.returns-clause-halts

@@ -1,5 +1,4 @@
-use Rattle.std.proofs.Common.{sym, ap, ◌∙◌, subst, inl}
-use Rattle.std.specs.Prelude.{is_some}
+use Rattle.std.proofs.Common.{sym, ◌∙◌, subst, inl}
 use Rattle.syn_message.specs.Replies.{reply_of}
 use Rattle.syn_message.specs.Requests.{request_of}
 use Rattle.syn_path.specs.Sides.{which_of}
@@ -7,23 +6,35 @@ use Rattle.syn_headline.specs.Coordinator.{hearing}
 use Rattle.syn_session.specs.Answering.{exchange_of}
 use Rattle.syn_session.specs.Hearing.{ScansOn}
 use Rattle.syn_session.proofs.HearingLemmas.{not_last}
-use Rattle.syn_coordinator.proofs.TickLemmas.{is_none}
+use Rattle.syn_session.specs.Stages.{reached_by}
+use Rattle.syn_coordinator.proofs.BeginLemmas.{carries_now, carries_so}
 use Rattle.syn_coordinator.proofs.TakeLemmas.{hears_end, hears_on}
 use Rattle.syn_coordinator.proofs.TriedLemmas.{tries_none}
 use Rattle.syn_coordinator.proofs.BreakLemmas.{none_breaks}
 use Rattle.syn_coordinator.proofs.coordinator.Coordinator.take.Goals as goal
 
-pub returns-then-is_some-clause-step : goal.returns-then-is_some-clause-step
-returns-then-is_some-clause-step g c =
+pub returns-clause-step : goal.returns-clause-step
+returns-clause-step g c =
     λ pair number journal before running is quiet session answers nothing.
-    c.take_carried.ensures.step pair number journal before running is quiet session answers
-    (ap is_some (sym answers.course) ∙ (sym c.is_some.ensures ∙ c.if-is_some.true)) nothing
+    let side = which_of c.args.from in
+    let request = request_of c.args.request in
+    let reply = reply_of c.args.reply in
+    let left = c.found-left.result.now in
+    let right = c.found-right.result.now in
+    let was = c.in-Some.is in
+    let same_left = c.found-left.ensures.found in
+    let same_right = c.found-right.ensures.found in
+    carries_so pair journal before c.args.session.now running side number request reply session
+    answers c.in-Some.course was left right same_left same_right c.transfer_laws.ensures
+    c.args.self.now c.on_carried.new.self nothing c.on_carried.new.course c.on_carried.result
+    (c.on_carried.ensures.step pair journal running.taken (reached_by running) side number request
+    is quiet (carries_now pair journal before c.args.session.now running side number request reply
+    session answers c.in-Some.course was left right same_left same_right))
 
 pub returns-in-Ok-Some-clause-step : goal.returns-in-Ok-Some-clause-step
 returns-in-Ok-Some-clause-step g c =
     λ pair number journal before running is quiet session answers nothing.
-    let scans = is_none before.course
-    (ap is_some (sym answers.course) ∙ (sym c.is_some.ensures ∙ c.if-is_some.false)) in
+    let scans = sym answers.course ∙ c.in_default.is in
     let heard =
     c.in-Ok-Some.ensures.step journal.value before running number session answers scans in (
       hears_on _ pair journal running (exchange_of (which_of c.args.from) number
@@ -39,8 +50,7 @@ returns-in-Ok-Some-clause-step g c =
 pub returns-in-Ok-None-clause-step : goal.returns-in-Ok-None-clause-step
 returns-in-Ok-None-clause-step g c =
     λ pair number journal before running is quiet session answers nothing.
-    let scans = is_none before.course
-    (ap is_some (sym answers.course) ∙ (sym c.is_some.ensures ∙ c.if-is_some.false)) in
+    let scans = sym answers.course ∙ c.in_default.is in
     let heard =
     c.in-Ok-None.ensures.step journal.value before running number session answers scans in
     c.begin_course.ensures.step pair journal running (exchange_of (which_of c.args.from) number
@@ -52,8 +62,7 @@ returns-in-Ok-None-clause-step g c =
 pub returns-in-Err-clause-step : goal.returns-in-Err-clause-step
 returns-in-Err-clause-step g c =
     λ pair number journal before running is quiet session answers nothing.
-    let scans = is_none before.course
-    (ap is_some (sym answers.course) ∙ (sym c.is_some.ensures ∙ c.if-is_some.false)) in
+    let scans = sym answers.course ∙ c.in_default.is in
     hears_end _ pair journal running (exchange_of (which_of c.args.from) number
     (request_of c.args.request) (reply_of c.args.reply)) c.hear.new.self is _
     (tries_none pair c.args.self.now.tried journal quiet.0 quiet.1) _ nothing c.in-Err.why

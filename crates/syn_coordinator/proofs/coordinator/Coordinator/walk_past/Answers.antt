@@ -1,14 +1,15 @@
 use Rattle.std.proofs.Common.{inl}
+use Rattle.syn_model.proofs.ExitLemmas.{match_of_exit}
 use Rattle.syn_refusal.specs.Refusals.{cause_of}
 use Rattle.syn_coordinator.proofs.OnwardLemmas.{at_next, later_so, refused_so, still_quiet}
 use Rattle.syn_coordinator.proofs.BreakLemmas.{none_breaks}
 use Rattle.syn_coordinator.proofs.coordinator.Coordinator.walk_past.Goals as goal
 
-pub returns-in-Ok-clause-step : goal.returns-in-Ok-clause-step
-returns-in-Ok-clause-step g c pair journal taken all before planned is quiet out refused asked =
+pub returns-clause-step : goal.returns-clause-step
+returns-clause-step g c pair journal taken all before planned is quiet out refused asked =
     let left = c.args.left.now in
     let right = c.args.right.now in
-    let past = c.in-Ok.ensures.step pair journal left right taken before planned is quiet
+    let past = c.in_ok-give_up.ensures.step pair journal left right taken before planned is quiet
     out.course_is out.at out.apart
     (refused_so pair taken journal before left right all c.args.course.now planned out
     (cause_of c.args.why) refused asked) in
@@ -20,12 +21,16 @@ returns-in-Ok-clause-step g c pair journal taken all before planned is quiet out
     c.give_up.new.course planned out past quiet) (at_next pair taken journal before left right all
     c.args.self.now c.args.self.now c.args.course.now c.give_up.new.course planned out past))
 
-pub returns-in-Err-clause-step : goal.returns-in-Err-clause-step
-returns-in-Err-clause-step g c pair journal taken all before planned is quiet out refused asked =
-    c.in-Err.ensures.step pair journal c.args.left.now c.args.right.now taken before planned is
-    quiet out.course_is out.at out.apart
+pub returns-in_err-give_up-clause-step : goal.returns-in_err-give_up-clause-step
+returns-in_err-give_up-clause-step g c pair journal taken all before planned is quiet out refused
+    asked =
+    match_of_exit c.from_residual.result _ _ _ c.from_residual.ensures.1
+    (c.in_err-give_up.ensures.step pair journal c.args.left.now c.args.right.now taken before
+    planned is quiet out.course_is out.at out.apart
     (refused_so pair taken journal before c.args.left.now c.args.right.now all c.args.course.now
-    planned out (cause_of c.args.why) refused asked)
+    planned out (cause_of c.args.why) refused asked))
 
-pub returns-in-Err-clause-breaks : goal.returns-in-Err-clause-breaks
-returns-in-Err-clause-breaks g c = inl (none_breaks c.args.self.now)
+pub returns-in_err-give_up-clause-breaks : goal.returns-in_err-give_up-clause-breaks
+returns-in_err-give_up-clause-breaks g c =
+    match_of_exit c.from_residual.result _ _ _ c.from_residual.ensures.1
+    (inl (none_breaks c.args.self.now))

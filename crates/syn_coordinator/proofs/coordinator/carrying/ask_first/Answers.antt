@@ -1,8 +1,8 @@
 use Rattle.std.proofs.Common.{refl, subst, sym}
 use Rattle.syn_headline.specs.Side.{Staged}
-use Rattle.syn_message.specs.Requests.{request_of}
-use Rattle.syn_path.specs.Sides.{which_of}
-use Rattle.syn_propagate.specs.Transfers.{Asks, Follows}
+use Rattle.syn_propagate.specs.Transfers.{Follows}
+use Rattle.syn_session.specs.Carrying.{AsksOne}
+use Rattle.syn_session.specs.declared.session.Asks.TheVariants.{One}
 use Rattle.syn_session.specs.Stages.{Carries, plan_in}
 use Rattle.syn_coordinator.proofs.FreshLemmas.{asked_past}
 use Rattle.syn_session.proofs.CarryingLemmas.{carries_on}
@@ -10,16 +10,16 @@ use Rattle.syn_coordinator.proofs.SettleLemmas.{fresh_for}
 use Rattle.syn_coordinator.proofs.coordinator.carrying.ask_first.Goals as goal
 
 pub returns-in-Ok-Ask-clause-step : goal.returns-in-Ok-Ask-clause-step
-returns-in-Ok-Ask-clause-step c archive left right all before planned is at carries ready asked =
+returns-in-Ok-Ask-clause-step c archive left right all before planned is at carries asked =
     let course = c.args.course.now in
     let fresh = fresh_for c.plan_laws.ensures.orderly archive course left right before is planned at
     c.args.carried carries all asked in
     subst (λ carried. Carries archive (record course { carried = carried }) left right all before
-    (λ transfer. Asks transfer all (which_of c.in-Ok-Ask.side) (request_of c.in-Ok-Ask.request)))
+    (λ transfer. AsksOne transfer all (One c.in-Ok-Ask.side c.in-Ok-Ask.request)))
     (sym c.replace.ensures.after)
     (carries_on archive course left right before is planned at c.args.carried (record c.args.carried
     { transfer = c.step.new.self }) c.step.ensures.carriage refl carries all
     (asked_past (plan_in course left right) course.cursor all asked)
-    (λ transfer. Asks transfer all (which_of c.in-Ok-Ask.side) (request_of c.in-Ok-Ask.request))
+    (λ transfer. AsksOne transfer all (One c.in-Ok-Ask.side c.in-Ok-Ask.request))
     (subst (λ next. Follows c.step.new.self all Staged next) c.in-Ok-Ask.field-0-is
-    (c.in-Ok-Ask.ensures.starts all refl ready fresh Staged)))
+    (c.in-Ok-Ask.ensures.starts all refl c.requires fresh Staged)))

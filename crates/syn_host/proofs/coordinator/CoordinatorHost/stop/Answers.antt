@@ -11,7 +11,7 @@ use Rattle.syn_coordinator.specs.Coordinators.{Stands, device_of}
 use Rattle.syn_recovery.proofs.DiskLemmas.{may_be_still}
 use Rattle.syn_recovery.specs.Machines.{of_archive}
 use Rattle.syn_host.proofs.CoordinatorLemmas.{is_not_down, same_arms, tries_stopped}
-use Rattle.syn_host.proofs.StopLemmas.{stops_behind, stops_down}
+use Rattle.syn_host.proofs.StopLemmas.{stops_after, stops_down}
 use Rattle.syn_host.proofs.coordinator.CoordinatorHost.stop.Goals as goal
 
 not_zero : (n : ℕ) → n ≢ 0 → (n == 0) ≡ false
@@ -55,7 +55,7 @@ returns-else-calls-eq0 g c pair machine is =
     with_device (coordinator_kind pair) machine machine.journal.status arms 0 in
     record {
       next = left (record machine.journal.arms { stop = c.args.calls });
-      step = stops_behind (coordinator_kind pair) machine c.args.calls some other;
+      step = stops_after (coordinator_kind pair) machine c.args.calls some other;
       is = subst (λ a. Stands c.armed_with.result pair (left a))
           (ap armed_at now
           ∙ ap (λ (a : Arms). record a { stop = c.args.calls }) stands.journal.armed)

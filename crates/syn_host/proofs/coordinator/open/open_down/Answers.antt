@@ -2,7 +2,7 @@ use Rattle.std.proofs.Common.{[], ◌∷◌, arith, subst, sym}
 use Rattle.syn_archive.specs.Refusals.{refusal_of}
 use Rattle.syn_headline.specs.Coordinator.{coordinator_kind, no_call}
 use Rattle.syn_headline.specs.MachineSteps.{OpensDown}
-use Rattle.syn_host.proofs.CauseLemmas.{archive_failed}
+use Rattle.syn_journaled.proofs.Spent.{counted}
 use Rattle.syn_host.proofs.CoordinatorOpenLemmas.{counts_by, never_less, not_nine, opening_counts}
 use Rattle.syn_host.proofs.CoordinatorOpenLemmas.{which_nine}
 use Rattle.syn_host.proofs.coordinator.open.open_down.Goals as goal
@@ -32,6 +32,6 @@ returns-in-Err g c machine rests =
           (refusal_of e ∷ [])
           (opening_counts c.args.pair machine still.next no_call (refusal_of e ∷ []) still.opens)
           (never_less (refusal_of e) _ _ c.in-Err.ensures.failures)
-          (λ nine. archive_failed (refusal_of e) _ _ (which_nine (refusal_of e) nine)
+          (λ nine. counted (refusal_of e) _ _ (which_nine (refusal_of e) nine)
           c.in-Err.ensures.failures);
     }

@@ -1,7 +1,7 @@
 use Rattle.std.proofs.Common.{[], ◌∷◌, ◌∙◌, Err, None, Some, ap, arith, inl, inr, refl, sym, subst}
 use Rattle.syn_archive.specs.Refusals.{refusal_of}
 use Rattle.syn_coordinator.specs.Coordinators.{Does, ReopensNot, heard}
-use Rattle.syn_host.proofs.CauseLemmas.{archive_failed}
+use Rattle.syn_journaled.proofs.Spent.{counted}
 use Rattle.syn_host.proofs.CoordinatorOpenLemmas.{never_less, not_nine, which_nine}
 use Rattle.syn_host.proofs.CoordinatorReopenLemmas.{reopened_so, still_heard}
 use Rattle.syn_keep.proofs.DueLemmas.{device_or_other}
@@ -23,7 +23,7 @@ returns-in-Err g c pair machine stands =
       | inl device ↦ subst (λ e. Does c.args.coordinator c.reopen.new.self pair
           (ReopensNot pair machine (refusal_of e)) [] []) (sym device)
           (c.reopen.ensures.device pair machine stands (c.in-Err.is ∙ ap Err device))
-      | inr other ↦ let memory = c.in-Err.ensures.memory pair machine stands other.0 in
+      | inr other ↦ let memory = c.in-Err.ensures.memory pair machine stands other in
           subst (λ e. Does c.args.coordinator c.reopen.new.self pair
           (ReopensNot pair machine (refusal_of e)) [] []) (sym memory.0) memory.1
     ] in
@@ -33,5 +33,5 @@ returns-in-Err g c pair machine stands =
     (λ status goes. still_heard status (refusal_of e ∷ []) goes
     ∙ ap (λ r. r ∷ []) (sym c.refusal.ensures))
     (never_less (refusal_of e) _ _ c.in-Err.ensures.failures)
-    (λ nine. archive_failed (refusal_of e) _ _ (sym c.refusal.ensures
+    (λ nine. counted (refusal_of e) _ _ (sym c.refusal.ensures
     ∙ which_nine _ nine) c.in-Err.ensures.failures) refused

@@ -3,7 +3,7 @@ use Rattle.std.specs.Prelude.{◌^◌}
 use Rattle.syn_archive.specs.Archive.{disk_of, shown}
 use Rattle.syn_archive.specs.Disks.{DiskStands}
 use Rattle.syn_archive.specs.Refusals.{refusal_of}
-use Rattle.syn_host.proofs.CauseLemmas.{archive_did_not, archive_failed}
+use Rattle.syn_journaled.proofs.Spent.{counted, none_counted}
 use Rattle.syn_host.proofs.StartLemmas.{archive_stands_for, coordinator_starts}
 use Rattle.syn_host.proofs.coordinator.open.start_coordinator.Goals as goal
 
@@ -36,9 +36,9 @@ returns-in-Err-clause-cause g c = record {
 
 pub returns-in-Err-clause-failures : goal.returns-in-Err-clause-failures
 returns-in-Err-clause-failures g c = record {
-  grew = λ device. archive_failed (refusal_of c.in-Err.error) _ _ (sym c.refusal.ensures ∙ device)
+  grew = λ device. counted (refusal_of c.in-Err.error) _ _ (sym c.refusal.ensures ∙ device)
       c.in-Err.ensures.device.failures;
-  same = λ other. archive_did_not (refusal_of c.in-Err.error) _ _
+  same = λ other. none_counted (refusal_of c.in-Err.error) _ _
       (λ device. other (c.refusal.ensures ∙ device)) c.in-Err.ensures.device.failures;
 }
 

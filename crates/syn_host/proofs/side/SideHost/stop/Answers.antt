@@ -5,7 +5,7 @@ use Rattle.syn_headline.specs.SideMachine.{side_kind}
 use Rattle.syn_host.specs.Sides.{IsHost, side_disk}
 use Rattle.syn_host.proofs.HostLemmas.{down, stays_down}
 use Rattle.syn_host.proofs.SideLemmas.{not_down}
-use Rattle.syn_host.proofs.StopLemmas.{stops_behind, stops_down}
+use Rattle.syn_host.proofs.StopLemmas.{stops_after, stops_down}
 use Rattle.syn_host.proofs.side.SideHost.stop.Goals as goal
 
 pub returns-then-calls-eq0 : goal.returns-then-calls-eq0
@@ -32,7 +32,7 @@ returns-else-calls-eq0 g c pair machine is =
       next = with_device (side_kind pair) machine machine.journal.status
           (record machine.journal.arms { stop = c.args.calls }) 0;
       events = [];
-      step = stops_behind (side_kind pair) machine c.args.calls some
+      step = stops_after (side_kind pair) machine c.args.calls some
           (not_down pair c.in-Up.side machine runs);
       acknowledges = refl;
       is = c.stop_after.ensures.runs pair machine runs;

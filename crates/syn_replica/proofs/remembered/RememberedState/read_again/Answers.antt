@@ -1,6 +1,10 @@
-use Rattle.std.proofs.Common.{◌<◌, ◌∙◌, ap, inr, refl, subst, sym}
+use Rattle.std.proofs.Common.{◌≡◌, ◌<◌, ◌∙◌, ap, inr, refl, subst, sym}
 use Rattle.syn_history.specs.Past.{Past}
+use Rattle.syn_model.proofs.ExitLemmas.{if_err_of_exit}
 use Rattle.syn_model.specs.Image.{Gives}
+use Rattle.syn_model.specs.Refusal.{Memory}
+use Rattle.syn_standing.specs.Refusals.{refusal_of}
+use Rattle.syn_replica.specs.inner.Memories.{IsUnreadAgain}
 use Rattle.syn_standing.specs.Readings.{bytes_of_each}
 use Rattle.syn_standing.specs.declared.error.ReplicaError.TheVariants.{Damaged}
 use Rattle.syn_replica.proofs.RememberedLemmas.{no_next, own_memory, same_memory}
@@ -9,15 +13,15 @@ use Rattle.syn_replica.proofs.remembered.RememberedState.read_again.Goals as goa
 pub returns-then-position-clause-unread : goal.returns-then-position-clause-unread
 returns-then-position-clause-unread c =
     let own = c.args.self.now in
-    let wanted = c.in-Ok.ensures.wanted own.pair refl in (
+    let wanted = c.in_ok-pair.ensures.wanted own.pair refl in (
       c.has_64_bits.ensures,
       inr (record {
-        standing = c.in-Ok.standing;
+        standing = c.in_ok-pair.standing;
         gives = subst (λ n. Gives n c.args.image.now (bytes_of_each c.args.payloads.now)
-            c.in-Ok.standing) (sym wanted) c.in-Ok.ensures.gives;
-        fewer = subst (λ n. c.in-Ok.standing.position < n)
-            (c.position-in-Ok.ensures ∙ ap (λ (p : Past). p.position) c.trail-in-Ok.ensures)
-            (subst (λ n. n < c.position-in-Ok.result)
+            c.in_ok-pair.standing) (sym wanted) c.in_ok-pair.ensures.gives;
+        fewer = subst (λ n. c.in_ok-pair.standing.position < n)
+            (c.position-2.ensures ∙ ap (λ (p : Past). p.position) c.trail-2.ensures)
+            (subst (λ n. n < c.position-2.result)
             (c.position.ensures ∙ ap (λ (p : Past). p.position) c.trail.ensures)
             c.if-position.true);
       }),
@@ -29,20 +33,31 @@ returns-then-position-clause-own c given =
     own_memory c.opening_laws.ensures.one Damaged c.args.self.now c.args.image.now
     (bytes_of_each c.args.payloads.now) unread.0 given unread.1
 
-pub returns-else-position-clause-one : goal.returns-else-position-clause-one
-returns-else-position-clause-one c other fits given =
-    let same = c.in-Ok.ensures.one other.pair other.standing fits given in
+pub returns-clause-one : goal.returns-clause-one
+returns-clause-one c other fits given =
+    let same = c.in_ok-pair.ensures.one other.pair other.standing fits given in
     same_memory other _ same.0 same.1
 
-pub returns-in-Err-clause-unread : goal.returns-in-Err-clause-unread
-returns-in-Err-clause-unread c = (
-  c.has_64_bits.ensures,
-  no_next c.in-Err.error c.args.self.now c.args.image.now (bytes_of_each c.args.payloads.now)
-      c.in-Err.ensures.refusals c.in-Err.ensures.damaged c.in-Err.ensures.other,
-)
+-- ---- nothing was read
 
-pub returns-in-Err-clause-own : goal.returns-in-Err-clause-own
-returns-in-Err-clause-own c given =
-    let unread = returns-in-Err-clause-unread c in
-    own_memory c.opening_laws.ensures.one c.in-Err.error c.args.self.now c.args.image.now
-    (bytes_of_each c.args.payloads.now) unread.0 given unread.1
+pub returns-in_err-pair-clause-unread : goal.returns-in_err-pair-clause-unread
+returns-in_err-pair-clause-unread c =
+    let e = c.in_err-pair.field-0.0 in
+    let told = c.in_err-pair.ensures in
+    let own = c.args.self.now in
+    let payloads = bytes_of_each c.args.payloads.now in
+    if_err_of_exit c.from_residual.result e
+    (λ e. IsUnreadAgain e own c.args.image.now payloads) c.from_residual.ensures.1 (
+      c.has_64_bits.ensures,
+      no_next e own c.args.image.now payloads told.refusals told.damaged told.other,
+    )
+
+pub returns-in_err-pair-clause-own : goal.returns-in_err-pair-clause-own
+returns-in_err-pair-clause-own c given =
+    let e = c.in_err-pair.field-0.0 in
+    let told = c.in_err-pair.ensures in
+    let own = c.args.self.now in
+    let payloads = bytes_of_each c.args.payloads.now in
+    if_err_of_exit c.from_residual.result e (λ e. refusal_of e ≡ Memory) c.from_residual.ensures.1
+    (own_memory c.opening_laws.ensures.one e own c.args.image.now payloads c.has_64_bits.ensures
+    given (no_next e own c.args.image.now payloads told.refusals told.damaged told.other))

@@ -1,13 +1,19 @@
+use Rattle.syn_model.proofs.ExitLemmas.{if_err_of_exit}
 use Rattle.syn_standing.specs.Readings.{bytes_of_each}
+use Rattle.syn_replica.specs.inner.Memories.{IsUnreadOld}
 use Rattle.syn_replica.proofs.RememberedLemmas.{same_memory, unread_old}
 use Rattle.syn_replica.proofs.remembered.RememberedState.read_old.Goals as goal
 
-pub returns-in-Ok-clause-one : goal.returns-in-Ok-clause-one
-returns-in-Ok-clause-one c other fits given =
-    let same = c.in-Ok.ensures.one other.pair other.standing fits given.0 in
+pub returns-clause-one : goal.returns-clause-one
+returns-clause-one c other fits given =
+    let same = c.in_ok-pair.ensures.one other.pair other.standing fits given.0 in
     same_memory other _ same.0 same.1
 
-pub returns-in-Err-clause-unread : goal.returns-in-Err-clause-unread
-returns-in-Err-clause-unread c =
-    unread_old c.in-Err.error c.args.image.now (bytes_of_each c.args.payloads.now)
-    c.in-Err.ensures.refusals c.in-Err.ensures.damaged c.in-Err.ensures.other
+pub returns-in_err-pair-clause-unread : goal.returns-in_err-pair-clause-unread
+returns-in_err-pair-clause-unread c =
+    let e = c.in_err-pair.field-0.0 in
+    let told = c.in_err-pair.ensures in
+    let payloads = bytes_of_each c.args.payloads.now in
+    if_err_of_exit c.from_residual.result e (λ e. IsUnreadOld e c.args.image.now payloads)
+    c.from_residual.ensures.1
+    (unread_old e c.args.image.now payloads told.refusals told.damaged told.other)

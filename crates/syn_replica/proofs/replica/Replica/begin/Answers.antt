@@ -1,8 +1,8 @@
-use Rattle.std.proofs.Common.{◌≡◌, ◌≢◌, ◌⊎◌, ◌<◌, ◌≤◌, Some, length, sym, ap, ◌∙◌, refl, subst, inl}
+use Rattle.std.proofs.Common.{◌≡◌, ◌≢◌, ◌<◌, ◌≤◌, Some, length, sym, ap, ◌∙◌, refl, subst, inl}
 use Rattle.std.proofs.Common.{None, true≢false}
 use Rattle.std.proofs.lemmas.Bool.{eq-eqb, ne_eqb}
-use Rattle.std.specs.Prelude.{IfOk, IfErr}
-use Rattle.syn_replica.specs.Refusals.{IsOneOf, outside_refusals, begin_refusals}
+use Rattle.std.specs.Prelude.{IfOk}
+use Rattle.syn_replica.specs.Refusals.{begin_refusals}
 use Rattle.syn_standing.specs.Refusals.{refusal_of, refusal_in}
 use Rattle.syn_model.specs.Event.{Began}
 use Rattle.syn_model.specs.History.{History, last_session}
@@ -10,11 +10,12 @@ use Rattle.syn_replica.specs.Replica.{Stands, pair_of, room_shown, standing_show
 use Rattle.syn_replica.proofs.RoomLemmas.{added_refusals, begun_among, refused_at, room_at}
 use Rattle.syn_replica.proofs.RoomLemmas.{room_passed}
 use Rattle.syn_replica.proofs.SessionLemmas.{begin_cause, begin_refused, begin_allowed, begun_size}
-use Rattle.syn_replica.proofs.SessionLemmas.{rest_at, not_begun, one_longer}
+use Rattle.syn_replica.proofs.SessionLemmas.{not_begun, one_longer}
 use Rattle.syn_standing.proofs.StandingLemmas.{early_at}
 use Rattle.syn_replica.proofs.StandLemmas.{keeps_now, not_written}
 use Rattle.syn_model.specs.Refusal as why
-use Rattle.syn_replica.proofs.RefusalLemmas.{inner_refusals, never, early_among}
+use Rattle.syn_replica.proofs.RefusalLemmas.{inner_refusals, never, early_among, inner_among}
+use Rattle.syn_replica.proofs.RefusalLemmas.{or_outside}
 use Rattle.syn_replica.proofs.RefusalLemmas.{not_full_device, not_full_halted}
 use Rattle.syn_replica.proofs.CallLemmas.{done_before, exits_early, refused_early}
 use Rattle.syn_replica.specs.Calls.{Writes, unless}
@@ -28,9 +29,14 @@ returns-clause-acknowledged g c history stands =
     ∙ ap (λ s. s.session) stands.remembers.standing in
     let other : session ≢ last_session history =
     λ same. c.if-session-last_session.false (same ∙ sym last) in
-    subst (λ (h : History). IfOk c.add.result (λ position. (position ≡ length h)
-    × Stands c.add.new.self h)) (sym (not_begun history session other))
-    (one_longer c.add.result history (Began session) _ (c.add.ensures.acknowledged history stands))
+    subst (λ (h : History). IfOk c.commit.result (λ position. (position ≡ length h)
+    × Stands c.commit.new.self h)) (sym (not_begun history session other))
+    (one_longer c.commit.result history (Began session) _ (c.commit.ensures.acknowledged history
+    (Began session) stands c.in_ok-payload.ensures.adds))
+
+pub returns-clause-any_moment : goal.returns-clause-any_moment
+returns-clause-any_moment g c history stands =
+    c.commit.ensures.any_moment history (Began c.args.session) stands c.in_ok-payload.ensures.adds
 
 pub returns-then-is_halted-clause-any_moment : goal.returns-then-is_halted-clause-any_moment
 returns-then-is_halted-clause-any_moment g c history stands =
@@ -106,11 +112,7 @@ returns-in_err-check_room-clause-refused g c history why stands =
 
 pub returns-clause-cause : goal.returns-clause-cause
 returns-clause-cause g c history stands =
-    subst (λ r. IfErr c.add.result (λ e. IsOneOf outside_refusals e ⊎ (r ≡ Some (refusal_of e))))
-    (sym (rest_at (room_shown c.args.self.now) (pair_of c.args.self.now) history c.args.pair
-    c.args.session (standing_shown c.args.self.now) c.last_session.result
-    stands.remembers.standing (c.if-pair.false ∙ c.pair.ensures) c.last_session.ensures
-    c.if-session-last_session.false)) c.add.ensures.cause
+    or_outside _ c.commit.result c.commit.ensures.refusals
 
 pub returns-clause-refused : goal.returns-clause-refused
 returns-clause-refused g c history why stands e =
@@ -126,7 +128,8 @@ returns-clause-refused g c history why stands e =
 pub returns-clause-refusals : goal.returns-clause-refusals
 returns-clause-refusals g c =
     added_refusals begin_refusals refl refl _ (begun_among (room_shown c.args.self.now)
-    (standing_shown c.args.self.now) c.args.session) c.add.result c.add.ensures.cause
+    (standing_shown c.args.self.now) c.args.session) c.commit.result
+    (or_outside _ c.commit.result c.commit.ensures.refusals)
 
 -- ---- the machine
 
@@ -165,10 +168,19 @@ returns-in_err-check_room-clause-machine g c =
     (λ h. true≢false (sym (c.is_halted.ensures.1 h) ∙ c.if-is_halted.false))
     (λ halted. not_full_halted (sym full ∙ halted)) (λ device. not_full_device (sym full ∙ device))
 
+pub returns-in_err-payload-clause-machine : goal.returns-in_err-payload-clause-machine
+returns-in_err-payload-clause-machine g c =
+    let among = inner_among (standing_shown c.args.self.now) (Began c.args.session) _
+    c.in_err-payload.ensures.refused in
+    exits_early c.args.self.now c.from_residual-in_err-payload.result _ _
+    c.from_residual-in_err-payload.ensures.1
+    (λ h. true≢false (sym (c.is_halted.ensures.1 h) ∙ c.if-is_halted.false))
+    (never inner_refusals why.Halted refl _ among) (never inner_refusals why.Device refl _ among)
+
 pub returns-clause-machine : goal.returns-clause-machine
 returns-clause-machine g c =
-    subst (λ b. Writes c.args.self.now c.add.new.self (unless b (Began c.args.session))
-    (ended refusal_of c.add.result))
+    subst (λ b. Writes c.args.self.now c.commit.new.self (unless b (Began c.args.session))
+    (ended refusal_of c.commit.result))
     (sym (ne_eqb c.args.session _
     (λ same. c.if-session-last_session.false (same ∙ sym c.last_session.ensures))))
-    c.add.ensures.machine
+    (c.commit.ensures.machine (Began c.args.session) c.in_ok-payload.ensures.adds)

@@ -11,6 +11,7 @@ use Rattle.syn_replica.specs.Replica.{KeepsBeforeOrAfter, Stands, disk_of, posit
 use Rattle.syn_replica.specs.declared.replica.Replica.{Replica}
 use Rattle.syn_replica.proofs.GrowthLemmas.{added, broken, kept, of_write, one_more, stands_still}
 use Rattle.syn_disk.proofs.LeftLemmas.{seen_is_left}
+use Rattle.syn_replica.proofs.StandLemmas.{allowed_after}
 use Rattle.syn_replica.proofs.WriteLemmas.{refused_call, written_call, written_moment}
 use Rattle.syn_replica.proofs.WriteLemmas.{written_stands}
 use Rattle.syn_replica.proofs.replica.Replica.commit.Goals as goal
@@ -18,14 +19,15 @@ use Rattle.syn_replica.proofs.replica.Replica.commit.Goals as goal
 -- ---- a device call failed
 
 pub returns-then-is_halted-clause-any_moment : goal.returns-then-is_halted-clause-any_moment
-returns-then-is_halted-clause-any_moment g c history event stands allowed e =
+returns-then-is_halted-clause-any_moment g c history event stands adds =
     written_moment c.args.self.now
     (record c.args.self.now { machine = c.write.new.self; tried = Some c.args.payload })
-    c.deref.result.now _ c.write.ensures.journal event (c.deref.ensures.value ∙ e)
-    c.history_laws.ensures.payload c.layout_laws.ensures.left history stands allowed
+    c.deref.result.now _ c.write.ensures.journal event (c.deref.ensures.value ∙ adds.spelled)
+    c.history_laws.ensures.payload c.layout_laws.ensures.left history stands
+    (allowed_after _ history event stands.remembers.standing adds.allowed)
 
 pub returns-then-is_halted-clause-machine : goal.returns-then-is_halted-clause-machine
-returns-then-is_halted-clause-machine g c event allowed e of =
+returns-then-is_halted-clause-machine g c event adds =
     let old = c.args.self.now in
     let new : Replica _ _ =
     record old { machine = c.write.new.self; tried = Some c.args.payload } in
@@ -43,26 +45,27 @@ returns-then-is_halted-clause-machine g c event allowed e of =
     λ history stands. seen_is_left g.D.Disk.seen g.D.Disk.may_leave g.D.Disk.moment
     g.D.Disk.left_since g.met.D.Disk.seen_may_stay g.met.D.Disk.counts_now _ _
     (KeepsBeforeOrAfter old history event) (returns-then-is_halted-clause-any_moment g c history
-    event stands (allowed history stands) e) in
+    event stands adds) in
     let grown : IsGrown old new = broken old new (ap (λ m. m.pair) same) (ap (λ m. m.standing) same)
     c.requires.running (inl halted)
-    (λ _ history stands. of_write old history event _ _ (ap (λ x. Some x) e)
+    (λ _ history stands. of_write old history event _ _ (ap (λ x. Some x) adds.spelled)
     (seen history stands)) in
-    refused_call old new c.deref.result.now event (c.deref.ensures.value ∙ e) grown seen
+    refused_call old new c.deref.result.now event (c.deref.ensures.value ∙ adds.spelled) grown seen
     (refusal_of c.in-Err.error) c.in-Err.ensures.journal same
-    (inl (device, ap (λ x. Some x) e))
+    (inl (device, ap (λ x. Some x) adds.spelled))
 
 -- ---- nothing was written
 
 pub returns-else-is_halted-clause-any_moment : goal.returns-else-is_halted-clause-any_moment
-returns-else-is_halted-clause-any_moment g c history event stands allowed e =
+returns-else-is_halted-clause-any_moment g c history event stands adds =
     written_moment c.args.self.now
     (record c.args.self.now { machine = c.write.new.self }) c.deref.result.now _
-    c.write.ensures.journal event (c.deref.ensures.value ∙ e) c.history_laws.ensures.payload
-    c.layout_laws.ensures.left history stands allowed
+    c.write.ensures.journal event (c.deref.ensures.value ∙ adds.spelled)
+    c.history_laws.ensures.payload c.layout_laws.ensures.left history stands
+    (allowed_after _ history event stands.remembers.standing adds.allowed)
 
 pub returns-else-is_halted-clause-machine : goal.returns-else-is_halted-clause-machine
-returns-else-is_halted-clause-machine g c event allowed e of =
+returns-else-is_halted-clause-machine g c event adds =
     let old = c.args.self.now in
     let new : Replica _ _ = record old { machine = c.write.new.self } in
     let same = c.in-Err.ensures.state in
@@ -77,38 +80,41 @@ returns-else-is_halted-clause-machine g c event allowed e of =
     λ history stands. seen_is_left g.D.Disk.seen g.D.Disk.may_leave g.D.Disk.moment
     g.D.Disk.left_since g.met.D.Disk.seen_may_stay g.met.D.Disk.counts_now _ _
     (KeepsBeforeOrAfter old history event) (returns-else-is_halted-clause-any_moment g c history
-    event stands (allowed history stands) e) in
+    event stands adds) in
     let grown : IsGrown old new = elim told.unchanged [
       | inl none ↦ absurd (none-some _ (sym none))
       | inr (inl device) ↦ absurd (not (same_Some _ _ device))
       | inr (inr still) ↦ kept old new pair standing c.requires.running
           (stands_still old new pair standing still)
     ] in
-    refused_call old new c.deref.result.now event (c.deref.ensures.value ∙ e) grown seen
+    refused_call old new c.deref.result.now event (c.deref.ensures.value ∙ adds.spelled) grown seen
     (refusal_of c.in-Err.error) told same (inr (not, refl))
 
 -- ---- it was written
 
 pub returns-clause-acknowledged : goal.returns-clause-acknowledged
-returns-clause-acknowledged g c history event stands allowed e of =
+returns-clause-acknowledged g c history event stands adds =
     let old = c.args.self.now in
     let written = c.in_default.ensures in (
-      c.position.ensures ∙ (ap (λ s. s.position) (written.state.standing event of)
+      c.position.ensures ∙ (ap (λ s. s.position) (written.state.standing event adds.gives)
           ∙ ap (λ s. s.position + 1) stands.remembers.standing),
-      written_stands old _ c.deref.result.now _ written.journal event (c.deref.ensures.value ∙ e)
+      written_stands old _ c.deref.result.now _ written.journal event
+          (c.deref.ensures.value ∙ adds.spelled)
           c.history_laws.ensures.goes_on c.history_laws.ensures.steps c.history_laws.ensures.payload
-          c.args.update refl written.state of history stands allowed,
+          c.args.update refl written.state adds.gives history stands
+          (allowed_after _ history event stands.remembers.standing adds.allowed),
     )
 
 pub returns-clause-any_moment : goal.returns-clause-any_moment
-returns-clause-any_moment g c history event stands allowed e =
+returns-clause-any_moment g c history event stands adds =
     written_moment c.args.self.now
     (record c.args.self.now { machine = c.write.new.self; tried = Some c.args.payload })
-    c.deref.result.now _ c.write.ensures.journal event (c.deref.ensures.value ∙ e)
-    c.history_laws.ensures.payload c.layout_laws.ensures.left history stands allowed
+    c.deref.result.now _ c.write.ensures.journal event (c.deref.ensures.value ∙ adds.spelled)
+    c.history_laws.ensures.payload c.layout_laws.ensures.left history stands
+    (allowed_after _ history event stands.remembers.standing adds.allowed)
 
 pub returns-clause-machine : goal.returns-clause-machine
-returns-clause-machine g c event allowed e of =
+returns-clause-machine g c event adds =
     let old = c.args.self.now in
     let new : Replica _ _ =
     record old { machine = c.write.new.self; tried = Some c.args.payload } in
@@ -118,11 +124,10 @@ returns-clause-machine g c event allowed e of =
     λ history stands. seen_is_left g.D.Disk.seen g.D.Disk.may_leave g.D.Disk.moment
     g.D.Disk.left_since g.met.D.Disk.seen_may_stay g.met.D.Disk.counts_now _ _
     (KeepsBeforeOrAfter old history event) (returns-clause-any_moment g c history
-    event stands (allowed history stands) e) in
+    event stands adds) in
     let grown : IsGrown old new = added old new (event ∷ []) makes.pair
     (subst (λ (s : Standing). position_shown old ≤ s.position)
-    (sym (makes.standing event of)) (one_more (position_shown old))) c.requires.running
-    (λ history stands. (returns-clause-acknowledged g c history event stands
-    (allowed history stands) e of).1) in
-    written_call old new c.deref.result.now event (c.deref.ensures.value ∙ e) grown seen
+    (sym (makes.standing event adds.gives)) (one_more (position_shown old))) c.requires.running
+    (λ history stands. (returns-clause-acknowledged g c history event stands adds).1) in
+    written_call old new c.deref.result.now event (c.deref.ensures.value ∙ adds.spelled) grown seen
     c.in_default.ensures.journal makes.pair (ap (λ x. Some x) (sym c.deref.ensures.value))

@@ -9,8 +9,9 @@ use Rattle.syn_replica.specs.Steps.{add_refusal}
 use Rattle.syn_replica.specs.inner.Additions.{add_refusal_at}
 use Rattle.syn_model.specs.Refusal as why
 use Rattle.syn_replica.proofs.RefusalLemmas.{inner_refusals, never, edit_among, same_refusal}
-use Rattle.syn_replica.proofs.RefusalLemmas.{early_among, not_full_device, not_full_halted}
-use Rattle.syn_replica.proofs.CallLemmas.{exits_early, refused_early}
+use Rattle.syn_replica.proofs.RefusalLemmas.{early_among, inner_among, not_full_device}
+use Rattle.syn_replica.proofs.RefusalLemmas.{not_full_halted, or_outside}
+use Rattle.syn_replica.proofs.CallLemmas.{exits_early, refused_early, still_stands}
 use Rattle.syn_standing.proofs.StandingLemmas.{early_at}
 use Rattle.syn_replica.proofs.RoomLemmas.{added_refusals, edited_among, refused_at, room_at}
 use Rattle.syn_replica.proofs.RoomLemmas.{room_refused, room_passed}
@@ -62,8 +63,8 @@ returns-in_err-check_room-clause-refused g c history why stands e =
     (ap (λ s. add_refusal_at (room_shown old) s event) (sym stands.remembers.standing)
     ∙ (full ∙ sym (ap (λ e. Some (refusal_of e)) c.in_err-check_room.ensures.refused.0))) e)
 
-pub add-requires-clause-brief : goal.add-requires-clause-brief
-add-requires-clause-brief g c =
+pub prepare-requires-clause-brief : goal.prepare-requires-clause-brief
+prepare-requires-clause-brief g c =
     let none = sym c.check.ensures ∙ ap refusal_in c.in_ok-check.was in
     c.opening_laws.ensures.short (standing_shown c.args.self.now)
     (event_by c.args.user c.args.edit) none
@@ -95,11 +96,25 @@ returns-in_err-check_room-clause-cause g c history stands =
     (sym c.check.ensures ∙ ap refusal_in c.in_ok-check.was)
     (c.edit_length-length.ensures c.args.user) c.in_err-check_room.ensures.refused)
 
+pub returns-clause-acknowledged : goal.returns-clause-acknowledged
+returns-clause-acknowledged g c history stands =
+    c.commit.ensures.acknowledged history (event_by c.args.user c.args.edit) stands
+    c.in_ok-payload.ensures.adds
+
+pub returns-clause-any_moment : goal.returns-clause-any_moment
+returns-clause-any_moment g c history stands =
+    c.commit.ensures.any_moment history (event_by c.args.user c.args.edit) stands
+    c.in_ok-payload.ensures.adds
+
+pub returns-clause-unchanged : goal.returns-clause-unchanged
+returns-clause-unchanged g c history stands =
+    still_stands c.args.self.now _ _ c.commit.result
+    (c.commit.ensures.machine (event_by c.args.user c.args.edit) c.in_ok-payload.ensures.adds)
+    history stands
+
 pub returns-clause-cause : goal.returns-clause-cause
 returns-clause-cause g c history stands =
-    subst (λ s. IfErr c.add.result (λ e. IsOneOf outside_refusals e ⊎ (add_refusal_at
-    (room_shown c.args.self.now) s (event_by c.args.user c.args.edit) ≡ Some (refusal_of e))))
-    stands.remembers.standing c.add.ensures.cause
+    or_outside _ c.commit.result c.commit.ensures.refusals
 
 -- where it was added, there was no cause
 pub returns-clause-refused : goal.returns-clause-refused
@@ -115,7 +130,7 @@ pub returns-clause-refusals : goal.returns-clause-refusals
 returns-clause-refusals g c =
     added_refusals edit_refusals refl refl _
     (edited_among (room_shown c.args.self.now) (standing_shown c.args.self.now) c.args.user
-    (edit_of c.args.edit)) c.add.result c.add.ensures.cause
+    (edit_of c.args.edit)) c.commit.result (or_outside _ c.commit.result c.commit.ensures.refusals)
 
 -- ---- the machine
 
@@ -139,3 +154,17 @@ returns-in_err-check_room-clause-machine g c =
     (Some (event_by c.args.user c.args.edit)) c.from_residual-in_err-check_room.ensures.1
     (λ h. true≢false (sym (c.is_halted.ensures.1 h) ∙ c.if-is_halted.false))
     (λ halted. not_full_halted (sym full ∙ halted)) (λ device. not_full_device (sym full ∙ device))
+
+pub returns-in_err-payload-clause-machine : goal.returns-in_err-payload-clause-machine
+returns-in_err-payload-clause-machine g c =
+    let event = event_by c.args.user c.args.edit in
+    let among = inner_among (standing_shown c.args.self.now) event _
+    c.in_err-payload.ensures.refused in
+    exits_early c.args.self.now c.from_residual-in_err-payload.result _ (Some event)
+    c.from_residual-in_err-payload.ensures.1
+    (λ h. true≢false (sym (c.is_halted.ensures.1 h) ∙ c.if-is_halted.false))
+    (never inner_refusals why.Halted refl _ among) (never inner_refusals why.Device refl _ among)
+
+pub returns-clause-machine : goal.returns-clause-machine
+returns-clause-machine g c =
+    c.commit.ensures.machine (event_by c.args.user c.args.edit) c.in_ok-payload.ensures.adds

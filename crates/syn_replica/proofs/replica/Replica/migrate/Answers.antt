@@ -1,5 +1,5 @@
 use Rattle.std.proofs.Common.{None, Some, inl, inr, sym, subst, arith}
-use Rattle.syn_journaled.proofs.Migrations.{more_made}
+use Rattle.syn_journaled.proofs.Migrations.{more_made, only_read}
 use Rattle.syn_journaled.specs.Migrations.{Migrated, NotMigrated}
 use Rattle.syn_model.specs.Version.{One, Two}
 use Rattle.syn_standing.specs.Refusals.{refusal_of}
@@ -10,7 +10,7 @@ use Rattle.syn_replica.specs.Replica.{pair_of, standing_shown}
 use Rattle.syn_replica.specs.inner.Memories.{GivesOld, IsUnreadOld, image_of}
 use Rattle.syn_replica.proofs.MigrateCauses.{migrates_greatest, migrates_lawful}
 use Rattle.syn_replica.proofs.MigrateLemmas.{any_moment, migrate_refusal, migrated_each}
-use Rattle.syn_replica.proofs.MigrateLemmas.{migrated_gives, not_both, old_disk, only_read}
+use Rattle.syn_replica.proofs.MigrateLemmas.{migrated_gives, not_both, old_disk}
 use Rattle.syn_replica.proofs.MigrateLemmas.{seen_after}
 use Rattle.syn_replica.proofs.MigrateLemmas.{was_old, whole, young_refusal}
 use Rattle.syn_replica.proofs.replica.Replica.migrate.Goals as goal
@@ -130,8 +130,8 @@ returns-in_default g c =
       gives = tt;
       image = λ value generation has old. tt;
       same = λ young. found.device.untouched;
-      any_moment = λ number history left generation small keeps. only_read g.D.Disk.seen
-          g.D.Disk.may_leave g.D.Disk.moment g.D.Disk.left_since c.args.disk c.in-Err.refused.1 _
+      any_moment = λ number history left generation small keeps. only_read g.D.Disk.moment
+          g.D.Disk.left_since g.D.Disk.seen g.D.Disk.may_leave c.args.disk c.in-Err.refused.1 _
           found.device.untouched;
       seen = λ number history left generation small keeps. inl
           (subst (DiskKeepsIn One number history left generation)

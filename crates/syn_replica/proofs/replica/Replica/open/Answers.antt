@@ -1,13 +1,18 @@
+use Rattle.syn_model.proofs.ExitLemmas.{is_err_of_exit}
+use Rattle.syn_replica.specs.Refusals.{IsOneOf, hiding_refusals}
 use Rattle.syn_replica.proofs.MeaningLemmas.{hidden, open_refusal}
 use Rattle.syn_replica.proofs.StandLemmas.{opened_each}
 use Rattle.syn_replica.proofs.replica.Replica.open.Goals as goal
 
-pub returns-in-Ok-clause-each : goal.returns-in-Ok-clause-each
-returns-in-Ok-clause-each g c number history fits stands =
-    opened_each _ (g.D.Disk.seen c.args.disk) number history c.in-Ok.ensures.opened fits stands
+pub returns-clause-each : goal.returns-clause-each
+returns-clause-each g c number history fits stands =
+    opened_each _ (g.D.Disk.seen c.args.disk) number history c.in_ok-machine.ensures.opened fits
+    stands
 
-pub returns-in-Err-clause-wrong_pair : goal.returns-in-Err-clause-wrong_pair
-returns-in-Err-clause-wrong_pair g c other =
+pub returns-in_err-machine-clause-wrong_pair : goal.returns-in_err-machine-clause-wrong_pair
+returns-in_err-machine-clause-wrong_pair g c other =
+    let refused = c.in_err-machine.field-0.0 in
     let seen = g.D.Disk.seen c.args.disk in
-    hidden c.in-Err.refused.0 c.args.pair seen
-    (open_refusal c.in-Err.refused.0 c.args.pair seen c.in-Err.ensures.refused) other
+    is_err_of_exit c.from_residual.result refused (λ refused. IsOneOf hiding_refusals refused.0)
+    c.from_residual.ensures.1 (hidden refused.0 c.args.pair seen
+    (open_refusal refused.0 c.args.pair seen c.in_err-machine.ensures.refused) other)

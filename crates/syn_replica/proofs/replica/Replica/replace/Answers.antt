@@ -1,26 +1,28 @@
-use Rattle.std.proofs.Common.{◌≡◌, ◌⊎◌, ◌++◌, ◌∷◌, [], Some, None, inl, length, refl, true≢false}
-use Rattle.std.proofs.Common.{sym, ap, ◌∙◌, subst}
-use Rattle.std.specs.Prelude.{IfOk, IfErr, OnOk}
+use Rattle.std.proofs.Common.{◌≡◌, ◌⊎◌, ◌<◌, ◌++◌, ◌∷◌, [], Some, None, inl, inr, length}
+use Rattle.std.proofs.Common.{refl, true≢false, sym, ap, ◌∙◌, subst}
+use Rattle.std.specs.Prelude.{IfOk, IfErr}
 use Rattle.syn_disk.specs.Stops.{LeavesOnly}
 use Rattle.syn_model.specs.Event.{Replaced}
 use Rattle.syn_model.specs.History.{History}
 use Rattle.syn_model.specs.Refusal.{Device}
 use Rattle.syn_model.specs.Refusal as refusal
-use Rattle.syn_model.specs.Standing.{is_old}
 use Rattle.syn_history.specs.Events.{token_of}
 use Rattle.syn_tree.specs.Nodes.{part_of}
 use Rattle.syn_replica.specs.Refusals.{IsOneOf, outside_refusals, replace_refusals}
 use Rattle.syn_standing.specs.Refusals.{refusal_of}
 use Rattle.syn_replica.specs.Replica.{Stands, KeepsBeforeOrAfter, room_shown}
 use Rattle.syn_replica.specs.Replica.{standing_shown, disk_of}
-use Rattle.syn_replica.specs.Steps.{add_refusal, is_done_at, replace_refusal}
-use Rattle.syn_replica.specs.inner.Additions.{add_refusal_at, checking_refusals}
-use Rattle.syn_replica.proofs.RoomLemmas.{added_refusals, replaced_among}
-use Rattle.syn_replica.proofs.RefusalLemmas.{never, refused_by}
-use Rattle.syn_replica.proofs.CallLemmas.{done_before, exits_halted, not_refused}
+use Rattle.syn_replica.specs.Steps.{is_done_at}
+use Rattle.syn_replica.specs.inner.Additions.{checking_refusals}
+use Rattle.syn_replica.proofs.RoomLemmas.{added_refusals, refused_at, replaced_among, room_at}
+use Rattle.syn_replica.proofs.RoomLemmas.{update_refused}
+use Rattle.syn_replica.proofs.RefusalLemmas.{inner_among, inner_refusals, never, not_full_device}
+use Rattle.syn_replica.proofs.RefusalLemmas.{not_full_halted, or_outside, same_refusal}
+use Rattle.syn_model.proofs.ExitLemmas.{is_err_of_exit}
+use Rattle.syn_replica.proofs.CallLemmas.{done_before, exits_early, exits_halted, not_refused}
 use Rattle.syn_replica.specs.Calls.{Writes, unless}
 use Rattle.syn_journaled.specs.Endings.{ended}
-use Rattle.syn_replica.proofs.SessionLemmas.{replaced_rest, one_longer, not_done, in_some}
+use Rattle.syn_replica.proofs.SessionLemmas.{replaced_as, one_longer, not_done, in_some}
 use Rattle.syn_replica.proofs.StandLemmas.{keeps_now, not_written}
 use Rattle.syn_replica.proofs.replica.Replica.replace.Goals as goal
 
@@ -34,10 +36,11 @@ returns-clause-acknowledged g c history stands =
     let done = ap (λ s. is_done_at s token) (sym stands.remembers.standing) ∙ found.1.not_done in
     let after = ap (λ q. history ++ Replaced token q since new ∷ []) found.0
     ∙ sym (not_done history token c.args.path.now since new done) in
-    subst (λ (h : History). IfOk c.add.result
-    (λ position. (position ≡ length h) × Stands c.add.new.self h)) after
-    (one_longer c.add.result history (Replaced token c.in-Some.path since new) _
-    (c.add.ensures.acknowledged history stands))
+    let event = Replaced token c.in-Some.path since new in
+    subst (λ (h : History). IfOk c.commit.result
+    (λ position. (position ≡ length h) × Stands c.commit.new.self h)) after
+    (one_longer c.commit.result history event _
+    (c.commit.ensures.acknowledged history event stands c.in_ok-payload.ensures.adds))
 
 pub returns-clause-any_moment : goal.returns-clause-any_moment
 returns-clause-any_moment g c history stands =
@@ -45,49 +48,125 @@ returns-clause-any_moment g c history stands =
     let found =
     in_some _ c.in_ok-path.field-0 c.in-Some.path c.in_ok-path.ensures.found c.in-Some.is in
     subst (λ q. LeavesOnly g.D.Disk.moment g.D.Disk.left_since (disk_of c.args.self.now)
-    (disk_of c.add.new.self) (KeepsBeforeOrAfter c.args.self.now history
+    (disk_of c.commit.new.self) (KeepsBeforeOrAfter c.args.self.now history
     (Replaced token q c.args.since (part_of c.args.new))))
-    found.0 (c.add.ensures.any_moment history stands)
+    found.0 (c.commit.ensures.any_moment history
+    (Replaced token c.in-Some.path c.args.since (part_of c.args.new)) stands
+    c.in_ok-payload.ensures.adds)
+
+-- ---- it was not made ready
+
+pub returns-in_err-payload-clause-cause : goal.returns-in_err-payload-clause-cause
+returns-in_err-payload-clause-cause g c history stands =
+    let room = room_shown c.args.self.now in
+    let token = token_of c.args.token in
+    let new = part_of c.args.new in
+    let same = stands.remembers.standing in
+    let found =
+    in_some _ c.in_ok-path.field-0 c.in-Some.path c.in_ok-path.ensures.found c.in-Some.is in
+    let none = in_some _ c.in_ok-path.field-0 c.in-Some.path
+    (c.in_ok-path.ensures.untouched history same) c.in-Some.is in
+    let rest = replaced_as room history token c.args.path.now c.args.since new
+    (standing_shown c.args.self.now) c.in-Some.path same found.0 found.1.not_old none in
+    let event = Replaced token c.in-Some.path c.args.since new in
+    subst (λ r. IfErr c.from_residual-in_err-payload.result
+    (λ e. IsOneOf outside_refusals e ⊎ (r ≡ Some (refusal_of e)))) rest
+    (update_refused room (standing_shown c.args.self.now) event
+    c.from_residual-in_err-payload.result _ c.from_residual-in_err-payload.ensures.1
+    c.in_err-payload.ensures.refused)
+
+pub returns-in_err-payload-clause-refused : goal.returns-in_err-payload-clause-refused
+returns-in_err-payload-clause-refused g c history why stands done e =
+    let room = room_shown c.args.self.now in
+    let token = token_of c.args.token in
+    let new = part_of c.args.new in
+    let same = stands.remembers.standing in
+    let found =
+    in_some _ c.in_ok-path.field-0 c.in-Some.path c.in_ok-path.ensures.found c.in-Some.is in
+    let none = in_some _ c.in_ok-path.field-0 c.in-Some.path
+    (c.in_ok-path.ensures.untouched history same) c.in-Some.is in
+    let rest = replaced_as room history token c.args.path.now c.args.since new
+    (standing_shown c.args.self.now) c.in-Some.path same found.0 found.1.not_old none in
+    let event = Replaced token c.in-Some.path c.args.since new in
+    let error = c.in_err-payload.field-0.0 in
+    is_err_of_exit c.from_residual-in_err-payload.result error
+    (λ x. (refusal_of x ≡ why) ⊎ (refusal_of x ≡ refusal.Memory))
+    c.from_residual-in_err-payload.ensures.1 (elim c.in_err-payload.ensures.refused
+    as (λ _. (refusal_of error ≡ why) ⊎ (refusal_of error ≡ refusal.Memory)) [
+      | inl memory ↦ inr memory
+      | inr cause ↦ inl (same_refusal error why _ (sym rest
+          ∙ refused_at room (standing_shown c.args.self.now) event _ cause) e)
+    ])
+
+pub returns-in_err-payload-clause-refusals : goal.returns-in_err-payload-clause-refusals
+returns-in_err-payload-clause-refusals g c =
+    let room = room_shown c.args.self.now in
+    let standing = standing_shown c.args.self.now in
+    let new = part_of c.args.new in
+    added_refusals replace_refusals refl refl _ (replaced_among room standing
+    (token_of c.args.token) c.in-Some.path c.args.since new)
+    c.from_residual-in_err-payload.result (update_refused room standing
+    (Replaced (token_of c.args.token) c.in-Some.path c.args.since new)
+    c.from_residual-in_err-payload.result _ c.from_residual-in_err-payload.ensures.1
+    c.in_err-payload.ensures.refused)
+
+pub returns-in_err-payload-clause-machine : goal.returns-in_err-payload-clause-machine
+returns-in_err-payload-clause-machine g c =
+    let event = Replaced (token_of c.args.token) c.in-Some.path c.args.since
+    (part_of c.args.new) in
+    let among = inner_among (standing_shown c.args.self.now) event _
+    c.in_err-payload.ensures.refused in
+    exits_early c.args.self.now c.from_residual-in_err-payload.result _ _
+    c.from_residual-in_err-payload.ensures.1
+    (λ h. not_refused _ _ (c.in_ok-path.ensures.halted.1 h))
+    (never inner_refusals refusal.Halted refl _ among)
+    (never inner_refusals refusal.Device refl _ among)
+
+-- ---- there was no room
+
+pub returns-in_err-check_room-clause-any_moment : goal.returns-in_err-check_room-clause-any_moment
+returns-in_err-check_room-clause-any_moment g c history stands =
+    not_written g.met.D.Disk.only_now c.args.self.now history stands _
+    (inl (keeps_now c.args.self.now history stands))
+
+pub returns-in_err-check_room-clause-refused : goal.returns-in_err-check_room-clause-refused
+returns-in_err-check_room-clause-refused g c history why stands done e =
+    let room = room_shown c.args.self.now in
+    let token = token_of c.args.token in
+    let new = part_of c.args.new in
+    let same = stands.remembers.standing in
+    let found =
+    in_some _ c.in_ok-path.field-0 c.in-Some.path c.in_ok-path.ensures.found c.in-Some.is in
+    let none = in_some _ c.in_ok-path.field-0 c.in-Some.path
+    (c.in_ok-path.ensures.untouched history same) c.in-Some.is in
+    let rest = replaced_as room history token c.args.path.now c.args.since new
+    (standing_shown c.args.self.now) c.in-Some.path same found.0 found.1.not_old none in
+    let event = Replaced token c.in-Some.path c.args.since new in
+    let adds = c.in_ok-payload.ensures.adds in
+    let told = c.in_err-check_room.ensures.refused in
+    let long = subst (λ n. room < n) (c.len.ensures ∙ (c.in_ok-payload.payload.ok.0
+    ∙ ap length adds.spelled)) told.1 in
+    let full = room_at room (standing_shown c.args.self.now) event adds.allowed.not_refused long in
+    let error = c.in_err-check_room.field-0.0 in
+    is_err_of_exit c.from_residual-in_err-check_room.result error
+    (λ x. (refusal_of x ≡ why) ⊎ (refusal_of x ≡ refusal.Memory))
+    c.from_residual-in_err-check_room.ensures.1
+    (inl (same_refusal error why _ (sym rest ∙ (full ∙ sym (ap (λ x. Some (refusal_of x)) told.0)))
+    e))
+
+pub returns-in_err-check_room-clause-machine : goal.returns-in_err-check_room-clause-machine
+returns-in_err-check_room-clause-machine g c =
+    let full = ap refusal_of c.in_err-check_room.ensures.refused.0 in
+    exits_early c.args.self.now c.from_residual-in_err-check_room.result _ _
+    c.from_residual-in_err-check_room.ensures.1
+    (λ h. not_refused _ _ (c.in_ok-path.ensures.halted.1 h))
+    (λ halted. not_full_halted (sym full ∙ halted)) (λ device. not_full_device (sym full ∙ device))
+
+-- ---- it was sent to the disk
 
 pub returns-clause-cause : goal.returns-clause-cause
 returns-clause-cause g c history stands =
-    let room = room_shown c.args.self.now in
-    let token = token_of c.args.token in
-    let since = c.args.since in
-    let new = part_of c.args.new in
-    let same = stands.remembers.standing in
-    let found =
-    in_some _ c.in_ok-path.field-0 c.in-Some.path c.in_ok-path.ensures.found c.in-Some.is in
-    let current = ap (λ s. is_old s.session s.token token) (sym same) ∙ found.1.not_old in
-    let none = in_some _ c.in_ok-path.field-0 c.in-Some.path
-    (c.in_ok-path.ensures.untouched history same) c.in-Some.is in
-    let rest = ap (λ s. add_refusal_at room s (Replaced token c.in-Some.path since new)) same
-    ∙ (ap (λ q. add_refusal room history (Replaced token q since new)) found.0
-    ∙ sym (replaced_rest room history token c.args.path.now since new current none)) in
-    subst (λ r. IfErr c.add.result (λ e. IsOneOf outside_refusals e ⊎ (r ≡ Some (refusal_of e))))
-    rest c.add.ensures.cause
-
-pub returns-clause-refused : goal.returns-clause-refused
-returns-clause-refused g c history why stands done e =
-    let room = room_shown c.args.self.now in
-    let token = token_of c.args.token in
-    let since = c.args.since in
-    let new = part_of c.args.new in
-    let same = stands.remembers.standing in
-    let found =
-    in_some _ c.in_ok-path.field-0 c.in-Some.path c.in_ok-path.ensures.found c.in-Some.is in
-    let current = ap (λ s. is_old s.session s.token token) (sym same) ∙ found.1.not_old in
-    let none = in_some _ c.in_ok-path.field-0 c.in-Some.path
-    (c.in_ok-path.ensures.untouched history same) c.in-Some.is in
-    let rest = ap (λ s. add_refusal_at room s (Replaced token c.in-Some.path since new)) same
-    ∙ (ap (λ q. add_refusal room history (Replaced token q since new)) found.0
-    ∙ sym (replaced_rest room history token c.args.path.now since new current none)) in
-    refused_by c.add.result (replace_refusal room history token c.args.path.now since new) why e
-    (subst (λ r. OnOk c.add.result (r ≡ None)) rest c.add.ensures.allowed)
-    (subst (λ r. IfErr c.add.result (λ e. refusal_of e ≡ Device → r ≡ None)) rest
-    c.add.ensures.device)
-    (subst (λ r. IfErr c.add.result (λ e. IsOneOf outside_refusals e ⊎ (r ≡ Some (refusal_of e))))
-    rest c.add.ensures.cause)
+    or_outside _ c.commit.result c.commit.ensures.refusals
 
 pub returns-in_default-clause-any_moment : goal.returns-in_default-clause-any_moment
 returns-in_default-clause-any_moment g c history stands =
@@ -111,7 +190,8 @@ pub returns-clause-refusals : goal.returns-clause-refusals
 returns-clause-refusals g c =
     added_refusals replace_refusals refl refl _ (replaced_among (room_shown c.args.self.now)
     (standing_shown c.args.self.now) (token_of c.args.token) c.in-Some.path c.args.since
-    (part_of c.args.new)) c.add.result c.add.ensures.cause
+    (part_of c.args.new)) c.commit.result
+    (or_outside _ c.commit.result c.commit.ensures.refusals)
 
 -- ---- the machine
 
@@ -136,9 +216,10 @@ returns-clause-machine g c =
     let new = part_of c.args.new in
     let found =
     in_some _ c.in_ok-path.field-0 c.in-Some.path c.in_ok-path.ensures.found c.in-Some.is in
-    subst (λ b. Writes c.args.self.now c.add.new.self
-    (unless b (Replaced token c.args.path.now c.args.since new)) (ended refusal_of c.add.result))
+    subst (λ b. Writes c.args.self.now c.commit.new.self
+    (unless b (Replaced token c.args.path.now c.args.since new)) (ended refusal_of c.commit.result))
     (sym found.1.not_done)
-    (subst (λ q. Writes c.args.self.now c.add.new.self
-    (Some (Replaced token q c.args.since new)) (ended refusal_of c.add.result)) found.0
-    c.add.ensures.machine)
+    (subst (λ q. Writes c.args.self.now c.commit.new.self
+    (Some (Replaced token q c.args.since new)) (ended refusal_of c.commit.result)) found.0
+    (c.commit.ensures.machine (Replaced token c.in-Some.path c.args.since new)
+    c.in_ok-payload.ensures.adds))

@@ -2,7 +2,7 @@ use Rattle.std.proofs.Common.{ap, sym, refl, ◌∙◌}
 use Rattle.std.specs.Prelude.{option_map, slice_get}
 use Rattle.std.proofs.lemmas.Option.{slice_get-map, slice_get_past, slice_get_read}
 use Rattle.syn_recon.specs.Items.{item_of}
-use Rattle.syn_session.proofs.DoingLemmas.{nothing_left, if_doing, if_keeps}
+use Rattle.syn_session.proofs.DoingLemmas.{nothing_left, if_doing}
 use Rattle.syn_session.proofs.course.Course.doing.Goals as goal
 
 pub returns-clause-ok : goal.returns-clause-ok
@@ -20,8 +20,3 @@ returns-in_default-clause-ok c reached is =
     (slice_get-map item_of c.args.self.now.items.items c.args.self.now.cursor ∙ ap
     (option_map item_of) (ap (λ l. slice_get l c.args.self.now.cursor) (sym c.deref.ensures.value)
     ∙ slice_get_past _ _ c.in_default.ensures.lookup.3))
-
-pub returns-clause-record : goal.returns-clause-record
-returns-clause-record c =
-    if_keeps (item_of c.in-Some.item.now) c.in-Ok.number c.args.left.now c.args.right.now
-    c.doing_for.result c.doing_for.ensures.ok

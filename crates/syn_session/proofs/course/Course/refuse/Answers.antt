@@ -13,4 +13,4 @@ returns-clause-passes c left right reached planned is at none =
     let here = stands_at left right c.args.self.now.items.items cursor planned at c.in-Some.item.now
     less there in
     c.pass_refused.ensures.passes left right reached planned is at
-    (ap path_of here ∙ (sym c.path.ensures ∙ sym c.in_ok-path.ensures.ok)) none
+    (ap path_of here ∙ (sym c.path.ensures ∙ sym c.in_ok-path.ensures)) none

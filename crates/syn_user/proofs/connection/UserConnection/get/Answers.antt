@@ -32,4 +32,4 @@ returns-in-Refused-clause-err g c =
     let why = c.in-Refused.cause in
     let told = rw c.in-Refused.is at c.in_ok-found.ensures.told in
     refused why (subst (λ p. IsTold (line c.args.self.now) (line c.ask.new.self) (Gets p)
-    (Refused (cause_of why))) c.in-Ok.ensures.ok told)
+    (Refused (cause_of why))) c.in-Ok.ensures told)

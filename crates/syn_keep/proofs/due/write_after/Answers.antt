@@ -6,22 +6,22 @@ use Rattle.syn_keep.specs.declared.due.Due.TheVariants.{Ends}
 use Rattle.syn_keep.specs.Due.{Settles, makes_some, no_room_left}
 use Rattle.syn_keep.specs.inner.Recording.{MakesRoomNow, has_made}
 use Rattle.syn_keep.proofs.DueLemmas.{ready_still, room_is, settled, when_up, without_room}
-use Rattle.syn_image.specs.Archives.{kept_of}
-use Rattle.syn_keep.proofs.due.write_behind.Goals as goal
+use Rattle.syn_image.specs.Archives.{kept_for}
+use Rattle.syn_keep.proofs.due.write_after.Goals as goal
 
 pub returns-in-Some-clause-settles : goal.returns-in-Some-clause-settles
 returns-in-Some-clause-settles g c pair machine is ready no_room =
     without_room c.make_room.new.archive pair machine
-    (kept_of c.args.kept.now) ready no_room c.in-Some.due (c.in-Some.ensures.room pair machine is)
+    (kept_for c.args.kept.now) ready no_room c.in-Some.due (c.in-Some.ensures.room pair machine is)
 
 pub returns-in-None-clause-settles : goal.returns-in-None-clause-settles
 returns-in-None-clause-settles g c pair machine is ready no_room =
     by (c.in-None.ensures.room pair machine is)
   where
     by : MakesRoomNow c.make_room.new.archive pair machine None →
-        Settles c.write.new.archive pair machine (kept_of c.args.kept.now) c.write.result
+        Settles c.write.new.archive pair machine (kept_for c.args.kept.now) c.write.result
     by (has_made between less compacts up now) =
-        let kept = kept_of c.args.kept.now in
+        let kept = kept_for c.args.kept.now in
         let was = when_up c.make_room.new.archive pair between now up in
         let room : has_room (archive_layout pair) between kept ≡ true =
         sym (room_is c.make_room.new.archive pair between now kept was)
@@ -36,9 +36,9 @@ returns-in-None-2-clause-settles g c pair machine is ready no_room =
     by (c.in-None-2.ensures.room pair machine is)
   where
     by : MakesRoomNow c.make_room.new.archive pair machine None → Settles c.make_room.new.archive
-        pair machine (kept_of c.args.kept.now) (Ends refusal.JournalFull)
+        pair machine (kept_for c.args.kept.now) (Ends refusal.JournalFull)
     by (has_made between less compacts up now) =
-        let kept = kept_of c.args.kept.now in
+        let kept = kept_for c.args.kept.now in
         let was = when_up c.make_room.new.archive pair between now up in
         let room : has_room (archive_layout pair) between kept ≡ false =
         sym (room_is c.make_room.new.archive pair between now kept was)

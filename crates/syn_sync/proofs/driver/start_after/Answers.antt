@@ -1,12 +1,12 @@
 use Rattle.std.proofs.Common.{◌∙◌, [], ap, refl, subst, sym, option_map}
 use Rattle.syn_archive.specs.declared.error.ArchiveError.TheVariants as archive
+use Rattle.syn_keep.proofs.DueLemmas.{device_or_other}
 use Rattle.syn_session.specs.Sendings.{messages_of}
 use Rattle.syn_session.specs.declared.error.SessionError.TheVariants as session
 use Rattle.syn_sync.proofs.RunLemmas.{calls_one, calls_refused, calls_twice, stands_of}
-use Rattle.syn_sync.proofs.RunLemmas.{starts_behind}
-use Rattle.syn_sync.proofs.StartLemmas.{behind_refused, checkpoint_refused, is_archive_device}
-use Rattle.syn_sync.proofs.StartLemmas.{is_start_device}
-use Rattle.syn_sync.proofs.driver.start_behind.Goals as goal
+use Rattle.syn_sync.proofs.RunLemmas.{starts_after}
+use Rattle.syn_sync.proofs.StartLemmas.{after_refused, checkpoint_refused, is_start_device}
+use Rattle.syn_sync.proofs.driver.start_after.Goals as goal
 use Rattle.syn_sync.specs.Refusals.{Refuses, stopped}
 use Rattle.syn_sync.specs.Runs.{Compacts, Starts, frames_to}
 use Rattle.syn_path.specs.Sides.{which_of}
@@ -14,7 +14,7 @@ use Rattle.syn_path.specs.Sides.{which_of}
 pub returns-in-Err : goal.returns-in-Err
 returns-in-Err g c = λ pair machine stands full. (
   calls_refused c.args.coordinator.now c.checkpoint.new.self pair machine Compacts
-      archive.Device c.in-Err.error (is_archive_device c.in-Err.error)
+      archive.Device c.in-Err.error (device_or_other c.in-Err.error)
       (c.in-Err.ensures.step pair machine stands)
       (λ other. (c.in-Err.ensures.refused pair machine stands other).1) (λ side. refl)
       (λ call side is. ap (frames_to side) is),
@@ -40,7 +40,7 @@ returns-in-Ok g c = λ pair machine stands full.
     (λ call side is. ap (frames_to side) is) in
     let now = (made.0).reached in
     let here = stands_of c.checkpoint.new.self pair now (made.0).ends calm in
-    starts_behind (option_map which_of c.args.preference) c.args.coordinator.now
+    starts_after (option_map which_of c.args.preference) c.args.coordinator.now
     c.checkpoint.new.self c.start.new.self pair machine
     (messages_of c.in-Ok.sends.items) made.0 made.1 made.2 calm _
     (c.in-Ok.ensures.step pair now here)
@@ -62,7 +62,7 @@ returns-in-Err-start g c = λ pair machine stands full.
           (λ call side is. ap (frames_to side) is)),
       subst (Refuses c.args.coordinator.now c.start.new.self pair machine)
           (sym c.refusal-in-Err-start.ensures)
-          (behind_refused c.args.coordinator.now c.checkpoint.new.self c.start.new.self pair
+          (after_refused c.args.coordinator.now c.checkpoint.new.self c.start.new.self pair
           machine now made.1 c.in-Err-start.error full made.3 c.in_default.ensures.failures
           c.in-Err-start.ensures.failures
           (λ other. (c.in-Err-start.ensures.refused pair now here other).0)),
