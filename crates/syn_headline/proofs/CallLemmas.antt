@@ -2,7 +2,7 @@
 use Rattle.std.proofs.Common.{◌≡◌, ◌≢◌, ℕ, Bool, ◌&&◌, true≢false, List, ◌∷◌, ◌++◌, map, filter_map}
 use Rattle.std.proofs.Common.{length, refl, sym, ap, ◌∙◌, subst, Option, Some, None, is_some}
 use Rattle.std.proofs.Common.{append-nil, inl, inr, slice_get, take, option_map, [], ◌⊎◌}
-use Rattle.std.specs.Prelude.{Contains, All, Any, IfSome, IsSome}
+use Rattle.std.specs.Prelude.{Contains, All, IfSome, IsSome}
 use Rattle.std.proofs.lemmas.List.Elements.{All-nil, All-contains_itself, Contains-append_left}
 use Rattle.std.proofs.lemmas.List.Elements.{All-append, All-weaker, All-contains}
 use Rattle.std.proofs.lemmas.List.Elements.{Contains-append_right, Contains-push}
@@ -41,11 +41,12 @@ use Rattle.syn_headline.proofs.Invariant.{Plans, histories_of, IsHarmless, IsKep
 use Rattle.syn_headline.proofs.SideSteps.{if_some}
 use Rattle.syn_headline.proofs.Sessions.{IsHeard}
 use Rattle.syn_headline.specs.Reported.{EndsSo, IsRefusedFor, with_answer, in_plan, out_of_memory}
-use Rattle.syn_headline.proofs.RefusedItems.{advances_refused, more_taken, none_refused}
-use Rattle.syn_headline.proofs.Tells.{Tells, ends_still, more_logged}
+use Rattle.syn_headline.proofs.RefusedItems.{advances_refused}
+use Rattle.syn_headline.proofs.HeardPlans.{logged_as, logged_then, refused_before, settled_before}
+use Rattle.syn_headline.proofs.Tells.{Tells, ends_still}
 use Rattle.syn_headline.proofs.HeardLemmas.{list_of, has_plan, request_of_plan, due_of}
-use Rattle.syn_headline.proofs.HeardLemmas.{session_keeps, whole_parts, all_settled, any_left}
-use Rattle.syn_headline.proofs.HeardLemmas.{any_last, all_asked, nowhere}
+use Rattle.syn_headline.proofs.HeardLemmas.{session_keeps, whole_parts, all_settled}
+use Rattle.syn_headline.proofs.HeardLemmas.{all_asked, nowhere}
 
 -- A call
 
@@ -243,57 +244,16 @@ module _ (plans : Plans) (old : fine_world.World) (k : IsKept plans (picture_of 
     kept_then : kept_in_session (old.acknowledged ++ map Kept_by kept) ≡ r.kept ++ kept
     kept_then = session_keeps old.acknowledged r.kept (list_of plan) exchange kept h.kept due
 
-    -- what was settled, in a plan that is made just now too
-    settled_before : (plan : Option (List Planned)) (logged : Log) →
-        fine.HasPlan old.coordinator.journal.value (hearing r exchange) plan logged →
-        AllSettled (list_of plan) r.kept (fine.start_of old.coordinator r)
-    settled_before _ _ fine.stays = h.settled
-    settled_before _ _ (fine.makes made none makes) =
-        subst (λ n. All (IsSettledBy r.kept r.refused) (take n made.plan))
-        (sym (h.unplanned none).1) (All-nil (IsSettledBy r.kept r.refused))
-
-    -- what was refused has its cause, and nothing was before the plan
-    refused_before : (plan : Option (List Planned)) (logged : Log) →
-        fine.HasPlan old.coordinator.journal.value (hearing r exchange) plan logged →
-        All (IsRefusedFor (list_of plan) (r.taken ++ exchange ∷ [])) r.refused
-    refused_before _ _ fine.stays =
-        All-weaker (IsRefusedFor (list_of r.plan) r.taken)
-        (IsRefusedFor (list_of r.plan) (r.taken ++ exchange ∷ []))
-        (more_taken (list_of r.plan) r.taken (exchange ∷ [])) r.refused h.refused
-    refused_before _ _ (fine.makes made none makes) =
-        All-weaker (IsRefusedFor [] r.taken)
-        (IsRefusedFor made.plan (r.taken ++ exchange ∷ []))
-        (none_refused r.taken (r.taken ++ exchange ∷ []) made.plan) r.refused
-        (subst (λ o. All (IsRefusedFor (list_of o) r.taken) r.refused) none h.refused)
-
     refused_then : All (IsRefusedFor (list_of plan) (r.taken ++ exchange ∷ [])) walk.refused
     refused_then =
         advances_refused old.pair (list_of plan) exchange (r.taken ++ exchange ∷ [])
         (Contains-push r.taken exchange) (fine.start_of old.coordinator r) walk kept
-        (refused_before plan logged has) advances
-
-    -- its plan is the one that is logged
-    logged_as : (plan : Option (List Planned)) (logged : Log) →
-        fine.HasPlan old.coordinator.journal.value (hearing r exchange) plan logged →
-        IfSome plan (λ plan. Any (λ made. (made.session ≡ r.session) × (made.plan ≡ plan))
-        (old.log ++ logged))
-    logged_as _ _ fine.stays = more_logged old.log [] r.session r.plan h.logged
-    logged_as _ _ (fine.makes made none makes) =
-        any_last (λ one. (one.session ≡ r.session) × (one.plan ≡ made.plan)) old.log made
-        (makes.of_session, refl)
+        (refused_before old r h exchange plan logged has) advances
 
     settled_then : AllSettled (list_of plan) (r.kept ++ kept) walk
     settled_then =
         advances_settled old.pair (list_of plan) exchange (fine.start_of old.coordinator r) walk
-        r.kept kept (settled_before plan logged has) advances
-
-    logged_then : (plan : Option (List Planned)) (logged : Log) →
-        fine.HasPlan old.coordinator.journal.value (hearing r exchange) plan logged → IsSome plan →
-        Any (λ made. made.session ≡ r.session) (old.log ++ logged)
-    logged_then _ _ fine.stays some =
-        any_left (λ made. made.session ≡ r.session) old.log [] (h.planned some)
-    logged_then _ _ (fine.makes made none makes) some =
-        any_last (λ made. made.session ≡ r.session) old.log made makes.of_session
+        r.kept kept (settled_before old r h exchange plan logged has) advances
 
     stops_so : Follows (picture_of old)
         (picture_of (coordinator_goes old (record { journal = walk.journal; running = None })
@@ -336,7 +296,7 @@ module _ (plans : Plans) (old : fine_world.World) (k : IsKept plans (picture_of 
               Contains-append_left old.sent [] _ was.0,
               Contains-append_left old.sent [] _ was.1,
             );
-        logged = logged_as plan logged has;
+        logged = logged_as old r h exchange plan logged has;
         kept_is = ap kept_in_session (take-length (old.acknowledged ++ map Kept_by kept))
             ∙ kept_then;
         settled = settled_then;
@@ -368,7 +328,7 @@ module _ (plans : Plans) (old : fine_world.World) (k : IsKept plans (picture_of 
           record {
             session_is = refl;
             complete = whole_parts later why;
-            made = λ none. logged_then plan logged has (whole why ends none).0;
+            made = λ none. logged_then old r h exchange plan logged has (whole why ends none).0;
             settled =
                 λ none. subst (λ ks. All
                 (λ planned. IsSettled ks (report_of later why) planned.item) (list_of plan))
@@ -507,8 +467,8 @@ module _ (plans : Plans) (old : fine_world.World) (k : IsKept plans (picture_of 
             (advanced_in_order old.sent (hearing r exchange) plan walk kept in_order_then) m
             k.sound.known asks_left asks_right shown_on;
         unplanned = unplanned_on plan logged has advances;
-        planned = logged_then plan logged has;
-        logged = logged_as plan logged has;
+        planned = logged_then old r h exchange plan logged has;
+        logged = logged_as old r h exchange plan logged has;
         kept = kept_then;
         settled = settled_then;
         refused = refused_then;

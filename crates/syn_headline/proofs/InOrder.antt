@@ -23,7 +23,8 @@ use Rattle.syn_headline.specs.Coordinator.{without, numbered, asked_count, asked
 use Rattle.syn_headline.specs.Coordinator.{hearing, advanced, WasTaken, IsShown, MakesPlan}
 use Rattle.syn_headline.specs.Coordinator.{messages_to, sent_now}
 use Rattle.syn_headline.proofs.Heard.{number_within, sent_to}
-use Rattle.syn_headline.proofs.Remembers.{Remembers, waited, asked_waits}
+use Rattle.syn_headline.proofs.Remembers.{Remembers, waited}
+use Rattle.syn_headline.proofs.WaitingLemmas.{asked_waits}
 use Rattle.syn_headline.proofs.PlanLemmas.{found_unstable, parent-child}
 
 -- the position of a listing

@@ -42,12 +42,14 @@ pub mod MachineLemmas
 pub mod Walks
 pub mod Heard
 pub mod Rising
+pub mod WaitingLemmas
 pub mod Remembers
 pub mod InOrder
 pub mod Sessions
 pub mod HeardLemmas
 pub mod RefusedItems
 pub mod Tells
+pub mod HeardPlans
 pub mod CallLemmas
 pub mod StartLemmas
 pub mod TickLemmas

@@ -1,7 +1,7 @@
 -- What the transcript of a session has to do with the messages that were sent, as it takes answers
 -- and asks on.
-use Rattle.std.proofs.Common.{◌≡◌, ◌≤◌, ◌<◌, ◌+◌, ◌⊎◌, ℕ, zero, suc, Bool, true, false, not, ◌==◌}
-use Rattle.std.proofs.Common.{true≢false, if◌then◌else◌, List, [], ◌∷◌, ◌++◌, length, get_or, refl}
+use Rattle.std.proofs.Common.{◌≡◌, ◌≤◌, ◌<◌, ◌+◌, ◌⊎◌, ℕ, Bool, true, false, ◌==◌}
+use Rattle.std.proofs.Common.{if◌then◌else◌, List, [], ◌∷◌, ◌++◌, length, get_or, refl}
 use Rattle.std.proofs.Common.{sym, ap, ◌∙◌, subst, Option, Some, arith, inl, inr}
 use Rattle.std.specs.Prelude.{Contains, All}
 use Rattle.std.specs.List.{count_by}
@@ -10,19 +10,19 @@ use Rattle.std.proofs.lemmas.List.{length-append}
 use Rattle.std.proofs.lemmas.List.Elements.{Contains-push, Contains-push_cases}
 use Rattle.std.proofs.lemmas.List.Elements.{Contains-append_left, Contains-append_right}
 use Rattle.std.proofs.lemmas.List.Elements.{Contains-append_cases, All-contains_itself}
-use Rattle.std.proofs.lemmas.Option.{none-some, same_Some}
 use Rattle.syn_model.specs.Archive.{Kept}
 use Rattle.syn_headline.specs.Side.{Request, Reply}
 use Rattle.syn_headline.specs.Network.{Which, Left, Right, other, is_side, Asks, Answers, Sent}
 use Rattle.syn_headline.specs.Network.{NumbersTell, AsksNothingTwice}
 use Rattle.syn_headline.specs.Planning.{Planned}
 use Rattle.syn_headline.specs.Coordinator.{Exchange, Outstanding, Running, Walk, outstanding}
-use Rattle.syn_headline.specs.Coordinator.{without, asked_in, asked_of, asked_count, numbered}
+use Rattle.syn_headline.specs.Coordinator.{without, asked_of, asked_count, numbered}
 use Rattle.syn_headline.specs.Coordinator.{asking, hearing, advanced, WasAsked, AsksOnce}
 use Rattle.syn_headline.specs.Coordinator.{messages_to, sent_now, AreRising}
 use Rattle.std.proofs.lemmas.List.Sums.{sum_by-append}
 use Rattle.syn_headline.proofs.Rising.{without-rising, one_less, numbered-rising}
 use Rattle.syn_headline.proofs.StagedLemmas.{on_both}
+use Rattle.syn_headline.proofs.WaitingLemmas.{kept_in-filter, was_in-filter, asked_waits}
 use Rattle.syn_headline.proofs.Heard.{TakenWas, number_within, same_number, numbered-length}
 use Rattle.syn_headline.proofs.Heard.{sent_to, waits_sent}
 
@@ -78,56 +78,6 @@ module _ (sent : Sent) (r : Running) (plan : Option (List Planned)) (walk : Walk
   }
 
 -- An answer is taken
-
-kept_in-filter : (number : ℕ) (waiting : List Outstanding) (one : Outstanding) →
-    Contains waiting one → (one.number == number) ≡ false → Contains (without number waiting) one
-kept_in-filter number [] one c off = absurd (omega (arith, c.1))
-kept_in-filter number (first ∷ waiting) one (zero, h, e) off =
-    elim (first.number == number) as (λ b. (first.number == number) ≡ b →
-    Contains (if not b then first ∷ without number waiting else without number waiting) one) [
-      | true ↦ λ on. absurd (true≢false (sym on ∙ (ap (λ o. o.number == number) e ∙ off)))
-      | false ↦ λ _. (0, omega arith, e)
-    ] refl
-kept_in-filter number (first ∷ waiting) one (suc k, h, e) off =
-    let rest = kept_in-filter number waiting one (k, omega (arith, h), e) off in
-    elim (first.number == number) as (λ b. Contains
-    (if not b then first ∷ without number waiting else without number waiting) one) [
-      | true ↦ rest
-      | false ↦ (suc rest.0, let w = rest.1 in omega (arith, w), rest.2)
-    ]
-
-one_later : (first : Outstanding) (waiting : List Outstanding) (one : Outstanding) →
-    Contains waiting one → Contains (first ∷ waiting) one
-one_later first waiting one c = Contains-append_right (first ∷ []) waiting one c
-
-was_in-filter : (number : ℕ) (waiting : List Outstanding) (one : Outstanding) →
-    Contains (without number waiting) one → Contains waiting one
-was_in-filter number [] one c = c
-was_in-filter number (first ∷ waiting) one c =
-    elim (first.number == number) as (λ b. Contains (if not b then first ∷ without number waiting
-    else without number waiting) one → Contains (first ∷ waiting) one) [
-      | true ↦ λ c. one_later first waiting one (was_in-filter number waiting one c)
-      | false ↦ λ c. elim (Contains-append_cases (first ∷ []) (without number waiting) one c)
-          as (λ _. Contains (first ∷ waiting) one) [
-            | inl here ↦ Contains-append_left (first ∷ []) waiting one here
-            | inr there ↦ one_later first waiting one (was_in-filter number waiting one there)
-          ]
-    ] c
-
--- the request that waits under a number
-pub asked_waits : (waiting : List Outstanding) (number : ℕ) (request : Request) →
-    asked_in waiting number ≡ Some request →
-    (one : Outstanding) × Contains waiting one × (one.number ≡ number) × (one.request ≡ request)
-asked_waits [] number request e = absurd (none-some _ e)
-asked_waits (first ∷ waiting) number request e =
-    elim (first.number == number) as (λ b. (first.number == number) ≡ b → (if b
-    then Some first.request else asked_in waiting number) ≡ Some request → (one : Outstanding)
-    × Contains (first ∷ waiting) one × (one.number ≡ number) × (one.request ≡ request)) [
-      | true ↦ λ on is.
-          (first, (0, omega arith, refl), eqb-true first.number number on, same_Some _ _ is)
-      | false ↦ λ _ is. let rest = asked_waits waiting number request is in
-          (rest.0, (suc rest.1.0, let w = rest.1.1 in omega (arith, w), rest.1.2), rest.2, rest.3)
-    ] refl e
 
 -- one, if so
 abbrev one_if : Bool → ℕ

@@ -1,20 +1,24 @@
 -- The result that a plan has to leave at one path stays where what is there stays.
 use Rattle.std.proofs.Common.{◌≡◌, true, ◌&&◌, ◌++◌, refl, sym, ap, ap₂, ◌∙◌, subst, Option}
-use Rattle.std.proofs.Common.{option_map, Some, None, true≢false, append-nil, []}
+use Rattle.std.proofs.Common.{option_map, Some, None, true≢false, append-nil, [], ◌∷◌, false}
+use Rattle.std.proofs.Common.{if◌then◌else◌}
 use Rattle.std.specs.FinMap.{get}
 use Rattle.std.proofs.lemmas.Option.{none-some}
 use Rattle.sha2.specs.Sha256.{sha256}
-use Rattle.syn_model.specs.Path.{Path, Bytes}
+use Rattle.syn_model.specs.Path.{Path, Bytes, Name, child, root}
 use Rattle.syn_model.specs.Contents.{Contents}
 use Rattle.syn_model.specs.Tree.{Tree, Content, Directory, File, subtree}
-use Rattle.syn_model.specs.Tree.{is_directory_content}
+use Rattle.syn_model.specs.Tree.{is_directory_content, HasParents, empty_directory, is_directory}
+use Rattle.syn_model.specs.Tree.{replace}
 use Rattle.syn_model.specs.Mark.{mark, mark_of, AreApart}
 use Rattle.syn_model.specs.Dirty.{dirty}
 use Rattle.syn_model.specs.Reconcile.{is_relevant, IsSyncedAt, IsReconciledAt, ConflictLeaves}
-use Rattle.syn_model.specs.Plan.{Trees, scan_of}
-use Rattle.syn_model.proofs.TreeLemmas.{same_tree, get-subtree}
+use Rattle.syn_model.specs.Decision.{MarkDir}
+use Rattle.syn_model.specs.Plan.{Trees, after_item, scan_of, with_directory}
+use Rattle.syn_model.proofs.TreeLemmas.{same_tree, get-subtree, subtree-replace}
+use Rattle.syn_model.proofs.HistoryLemmas.{get-at_root}
 use Rattle.syn_model.proofs.MarkLemmas.{get-mark, mark-subtree}
-use Rattle.syn_model.proofs.DirectoryLemmas.{moved-directory}
+use Rattle.syn_model.proofs.DirectoryLemmas.{below_new_directory, moved-directory, root_content}
 use Rattle.syn_model.proofs.CarryLemmas.{SameAt, same-deeper}
 use Rattle.syn_model.specs.Which.{Which, Left, Right}
 use Rattle.syn_model.proofs.ContentsLemmas.{same_contents}
@@ -80,6 +84,16 @@ moved_conflict (Some Left) a b s' s p h c =
 moved_conflict (Some Right) a b s' s p h c =
     record { left_has = h.left ∙ c.left_has; right_has = h.right ∙ c.right_has }
 
+-- where both sides had one part at a path and still have it, this is what any preference leaves
+pub equal_parts : (preference : Option Which) (a b c d : Tree) (p : Path) →
+    subtree a p ≡ subtree b p → subtree c p ≡ subtree a p → subtree d p ≡ subtree b p →
+    ConflictLeaves preference a b c d p
+equal_parts None a b c d p same on_left on_right = (on_left, on_right)
+equal_parts (Some Left) a b c d p same on_left on_right =
+    record { left_has = on_left; right_has = on_right ∙ sym same }
+equal_parts (Some Right) a b c d p same on_left on_right =
+    record { left_has = on_left ∙ same; right_has = on_right }
+
 -- a result at a path stays where what is there stays
 moved-result : (preference : Option Which) (a b o : Tree) (s' s : Trees) (p : Path) →
     SameAt s' s p → Result preference a b o s p → Result preference a b o s' p
@@ -118,6 +132,31 @@ moved-result preference a b o s' s p h r = record {
 
 abbrev pub start : Tree → Tree → Tree → Trees
 start a b o = record { left = a; right = b; archive = o }
+
+module _ (a b o : Tree) where
+  -- where the archive has no directory it has nothing below either, as after the directory is
+  -- recorded
+  pub recorded_directory : HasParents o → (s : Trees) (p : Path) (n : Name) →
+      SameAt s (start a b o) p → is_directory o p ≡ false →
+      SameAt (after_item s (MarkDir p)) (start a b o) (child p n)
+  recorded_directory archive_parents s p n h none =
+      let is : is_directory s.archive p ≡ false = moved-directory s.archive o p h.archive ∙ none in
+      let deeper = same-deeper s (start a b o) p (n ∷ []) h in
+      record {
+        left = deeper.left;
+        right = deeper.right;
+        archive =
+            ap (λ w. subtree (if w then s.archive else replace s.archive p empty_directory)
+            (child p n)) is ∙ below_new_directory s.archive o p n [] archive_parents none;
+      }
+
+  pub recorded_here : (s : Trees) (p : Path) → SameAt s (start a b o) p → is_directory o p ≡ false →
+      get (with_directory s.archive p) p ≡ Some Directory
+  recorded_here s p h none =
+      ap (λ w. get (if w then s.archive else replace s.archive p empty_directory) p)
+      (moved-directory s.archive o p h.archive ∙ none)
+      ∙ (sym (root_content (replace s.archive p empty_directory) p) ∙ (ap (λ w. get w root)
+      (subtree-replace s.archive p empty_directory) ∙ get-at_root Directory root))
 
 module _ (preference : Option Which) (a b o : Tree) where
   -- each relevant path at or below this one has its result

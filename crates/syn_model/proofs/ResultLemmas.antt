@@ -1,23 +1,22 @@
 -- What carrying out a plan gives, path by path.
 use Rattle.std.proofs.Common.{◌≡◌, true, ◌&&◌, ◌++◌, refl, sym, ap, ap₂, ◌∙◌, subst, option_map}
 use Rattle.std.proofs.Common.{Some, true≢false, append-nil, ℕ, zero, suc, Bool, false, not, Option}
-use Rattle.std.proofs.Common.{if◌then◌else◌, ◌||◌, List, ◌∷◌, append_assoc, [], None, is_some}
+use Rattle.std.proofs.Common.{◌||◌, List, ◌∷◌, append_assoc, [], None, is_some}
 use Rattle.std.specs.FinMap.{get}
 use Rattle.syn_model.specs.Path.{Path, Name, name_cmp, root, child, strip_prefix}
 use Rattle.syn_model.specs.Tree.{Tree, Directory, subtree, is_directory_content, HasParents}
-use Rattle.syn_model.specs.Tree.{replace, is_directory, empty_directory}
+use Rattle.syn_model.specs.Tree.{is_directory}
 use Rattle.syn_model.specs.Mark.{mark, mark_of, AreApart}
 use Rattle.syn_model.specs.Dirty.{is_same_tree}
 use Rattle.syn_model.specs.Reconcile.{is_relevant, IsSyncedAt, IsReconciledAt, is_directory_in_both}
 use Rattle.syn_model.specs.Reconcile.{is_alike, is_resolved, ConflictLeaves}
 use Rattle.syn_model.specs.Plan.{Trees, scan_of, names_below, with_items_below, items_from}
-use Rattle.syn_model.specs.Plan.{most_names, with_directory, after_item, carried_out, CanBePlanned}
-use Rattle.syn_model.specs.Plan.{after_plan, PlanSynchronizes, PlanReconciles}
+use Rattle.syn_model.specs.Plan.{most_names, after_item, carried_out, CanBePlanned, after_plan}
+use Rattle.syn_model.specs.Plan.{PlanSynchronizes, PlanReconciles}
 use Rattle.syn_model.proofs.TreeLemmas.{subtree-replace, subtree-append}
 use Rattle.syn_model.proofs.MarkLemmas.{get-mark, mark-subtree}
-use Rattle.syn_model.proofs.DirectoryLemmas.{moved-directory, root_content, same_content_at}
-use Rattle.syn_model.proofs.DirectoryLemmas.{from_names, none_of, not_there, absent_below}
-use Rattle.syn_model.proofs.DirectoryLemmas.{mark_none, below_new_directory}
+use Rattle.syn_model.proofs.DirectoryLemmas.{moved-directory, same_content_at, from_names, none_of}
+use Rattle.syn_model.proofs.DirectoryLemmas.{not_there, absent_below, mark_none}
 use Rattle.syn_model.proofs.CarryLemmas.{SameAt, same-deeper, SameContent, same_itself, same-then}
 use Rattle.syn_model.proofs.CarryLemmas.{untouched, beside_items}
 use Rattle.syn_model.proofs.PlanOrder.{below, decision-fits, items-at, prefix-append, siblings}
@@ -30,7 +29,6 @@ use Rattle.std.proofs.lemmas.List.Sums.{fold-append}
 use Rattle.syn_model.specs.Decision.{Item, ToLeft, ToRight, MarkSame, MarkDir, Decision, decision}
 use Rattle.syn_model.specs.Decision.{path_of, contested}
 use Rattle.syn_model.proofs.PathLemmas.{name_itself, same_name}
-use Rattle.syn_model.proofs.HistoryLemmas.{get-at_root}
 use Rattle.syn_model.proofs.DirtyLemmas.{same_tree_is, tree_itself, dirty-closed, dirty-safe}
 use Rattle.syn_model.proofs.SyncLemmas.{directory_is, child_relevant}
 use Rattle.syn_model.proofs.QuietLemmas.{directory_of_mark}
@@ -39,24 +37,12 @@ use Rattle.syn_model.proofs.DecisionLemmas.{clean_nothing, nothing_relevant, IsS
 use Rattle.syn_model.proofs.DecisionLemmas.{shallow_below}
 use Rattle.syn_model.proofs.PlanNames.{Apart, names_apart}
 use Rattle.syn_model.proofs.PlaceLemmas.{same_by_mark, Result, moved-mark, start, Good, moved-good}
-use Rattle.syn_model.proofs.PlaceLemmas.{good-here}
+use Rattle.syn_model.proofs.PlaceLemmas.{equal_parts, good-here, recorded_directory, recorded_here}
 use Rattle.syn_model.specs.Which.{Which, Left, Right}
 
--- where both sides had one part at a path and still have it, this is what any preference leaves
-equal_parts : (preference : Option Which) (a b c d : Tree) (p : Path) →
-    subtree a p ≡ subtree b p → subtree c p ≡ subtree a p → subtree d p ≡ subtree b p →
-    ConflictLeaves preference a b c d p
-equal_parts None a b c d p same on_left on_right = (on_left, on_right)
-equal_parts (Some Left) a b c d p same on_left on_right =
-    record { left_has = on_left; right_has = on_right ∙ sym same }
-equal_parts (Some Right) a b c d p same on_left on_right =
-    record { left_has = on_left ∙ same; right_has = on_right }
-
 -- A plan from a path on, where both sides and the archive are still as they were
-
 module _ (preference : Option Which) (a b o : Tree) (left_parents : HasParents a)
-    (right_parents : HasParents b)
-    (archive_parents : HasParents o) where
+    (right_parents : HasParents b) (archive_parents : HasParents o) where
   clean_here : (s : Trees) (p : Path) → SameAt s (start a b o) p → left_dirty a b o p ≡ false →
       right_dirty a b o p ≡ false → Result preference a b o s p
   clean_here s p h x y =
@@ -92,9 +78,8 @@ module _ (preference : Option Which) (a b o : Tree) (left_parents : HasParents a
       clean_here s (p ++ q) (same-deeper s (start a b o) p q h) (clean_below o a p q x)
       (clean_below o b p q y)
 
-  only_here : (s : Trees) (p : Path) → is_directory_in_both a b p ≡ false → Result preference a b o
-      s p →
-      Good preference a b o s p
+  only_here : (s : Trees) (p : Path) → is_directory_in_both a b p ≡ false →
+      Result preference a b o s p → Good preference a b o s p
   only_here s p z r [] _ = subst (Result preference a b o s) (sym (append-nil p)) r
   only_here s p z r (n ∷ q) relevant =
       absurd (nothing_relevant a b left_parents right_parents p n q z relevant)
@@ -463,29 +448,6 @@ module _ (preference : Option Which) (a b o : Tree) (left_parents : HasParents a
             (mark_none b (child p n) nowhere.on_right)) in_archive)
       ] refl)
 
-  -- where the archive has no directory it has nothing below either, as after the directory is
-  -- recorded
-  recorded_directory : (s : Trees) (p : Path) (n : Name) → SameAt s (start a b o) p →
-      is_directory o p ≡ false → SameAt (after_item s (MarkDir p)) (start a b o) (child p n)
-  recorded_directory s p n h none =
-      let is : is_directory s.archive p ≡ false = moved-directory s.archive o p h.archive ∙ none in
-      let deeper = same-deeper s (start a b o) p (n ∷ []) h in
-      record {
-        left = deeper.left;
-        right = deeper.right;
-        archive =
-            ap (λ w. subtree (if w then s.archive else replace s.archive p empty_directory)
-            (child p n)) is ∙ below_new_directory s.archive o p n [] archive_parents none;
-      }
-
-  recorded_here : (s : Trees) (p : Path) → SameAt s (start a b o) p → is_directory o p ≡ false →
-      get (with_directory s.archive p) p ≡ Some Directory
-  recorded_here s p h none =
-      ap (λ w. get (if w then s.archive else replace s.archive p empty_directory) p)
-      (moved-directory s.archive o p h.archive ∙ none)
-      ∙ (sym (root_content (replace s.archive p empty_directory) p) ∙ (ap (λ w. get w root)
-      (subtree-replace s.archive p empty_directory) ∙ get-at_root Directory root))
-
   items_good : (levels : ℕ) (p : Path) (s : Trees) → SameAt s (start a b o) p →
       IsShallow levels p a → IsShallow levels p b → IsShallow levels p o →
       Good preference a b o (carried_out s (items levels p)) p
@@ -507,12 +469,12 @@ module _ (preference : Option Which) (a b o : Tree) (left_parents : HasParents a
       get s.right p ≡ Some Directory = λ z. same_content_at s.right b p h.right
       ∙ directory_is (get b p) (and_parts (is_directory a p) (is_directory b p) z).1 in
       by_decision a b o preference (λ d. Good preference a b o
-      (carried_out s (with_items_below d under)) p) p
-      (λ x y. good_clean s p h x y)
+      (carried_out s (with_items_below d under)) p) p (λ x y. good_clean s p h x y)
       (λ z w. names_good levels p s z one (λ n. same-deeper s (start a b o) p (n ∷ []) h) (left_has
       z) (right_has z) (same_content_at s.archive o p h.archive ∙ directory_is (get o p) w))
       (λ z w. names_good levels p (after_item s (MarkDir p)) z one
-      (λ n. recorded_directory s p n h w) (left_has z) (right_has z) (recorded_here s p h w))
+      (λ n. recorded_directory a b o archive_parents s p n h w) (left_has z) (right_has z)
+      (recorded_here a b o s p h w))
       (λ z v. only_here (after_item s (MarkSame p)) p z (mark_same s p h z v))
       (λ z v x y. only_here (after_item s (ToRight p)) p z (to_right s p h z x y))
       (λ z v x y. only_here (after_item s (ToLeft p)) p z (to_left s p h z x y))
@@ -527,12 +489,11 @@ plan_good preference found on_left on_right in_archive =
     in_archive.parents (suc most_names) root found
     (same_itself found root) on_left.depth on_right.depth in_archive.depth
 
--- a plan that is carried out leaves a synchronization, where files are apart
+-- a plan that is carried out leaves a synchronization, where files are apart, and its archive
 pub plan_synchronizes : PlanSynchronizes
 plan_synchronizes preference found on_left on_right in_archive apart path relevant =
     (plan_good preference found on_left on_right in_archive path relevant).sides apart
 
--- and its archive
 pub plan_reconciles : PlanReconciles
 plan_reconciles preference found on_left on_right in_archive path relevant =
     (plan_good preference found on_left on_right in_archive path relevant).marks

@@ -14,7 +14,7 @@ use Rattle.syn_headline.specs.Network.{Which, Left, Right, other, is_side}
 use Rattle.syn_headline.specs.Session.{Exchange, WasAsked}
 use Rattle.syn_headline.specs.Side.{Request}
 use Rattle.syn_headline.specs.Side as model
-use Rattle.syn_headline.proofs.Remembers.{asked_waits}
+use Rattle.syn_headline.proofs.WaitingLemmas.{asked_waits}
 use Rattle.syn_headline.proofs.Rising.{one_less, without-rising}
 use Rattle.syn_model.specs.Archive as archive
 use Rattle.syn_session.specs.declared.session.Session.{Session}

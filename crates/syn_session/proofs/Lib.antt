@@ -6,6 +6,7 @@ pub mod SessionLemmas
 pub mod AnswerLemmas
 pub mod HearLemmas
 pub mod TellingLemmas
+pub mod HeardNext
 pub mod HearingLemmas
 pub mod CourseLemmas
 pub mod DoingLemmas

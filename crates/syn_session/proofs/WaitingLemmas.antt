@@ -22,7 +22,7 @@ use Rattle.syn_headline.specs.Coordinator.{messages_to, without}
 use Rattle.syn_headline.specs.Network.{Asks, Which}
 use Rattle.syn_headline.specs.Side.{ListAt, Request}
 use Rattle.syn_headline.proofs.Heard.{number_within, numbered-length}
-use Rattle.syn_headline.proofs.Remembers.{asked_waits}
+use Rattle.syn_headline.proofs.WaitingLemmas.{asked_waits}
 use Rattle.syn_headline.proofs.Rising.{all_stay, later_above, later_rise}
 use Rattle.syn_message.specs.Requests.{request_of}
 use Rattle.syn_model.specs.Path.{Path, path_cmp}

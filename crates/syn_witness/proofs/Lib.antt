@@ -14,6 +14,7 @@ pub mod WitnessPlan
 pub mod WitnessSession
 pub mod ExchangeScans
 pub mod ExchangeSides
+pub mod ExchangeListings
 pub mod ExchangeLemmas
 pub mod MarkedScans
 pub mod MarkedLemmas

@@ -1,6 +1,6 @@
 use Rattle.std.proofs.Common.{◌≡◌, ◌-◌, ◌+◌, ◌++◌, ◌∙◌, [], length, refl, sym, arith, ap, replicate}
 use Rattle.std.proofs.Common.{length-append}
-use Rattle.syn_path.proofs.KeyLemmas.{spelling_short, key_of_spelling}
+use Rattle.syn_path.proofs.DerivedKeyLemmas.{spelling_short, key_of_spelling}
 use Rattle.syn_path.proofs.key.of_bytes.Goals as goal
 
 pub put_at-requires : goal.put_at-requires

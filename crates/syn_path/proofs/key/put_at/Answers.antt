@@ -1,5 +1,5 @@
 use Rattle.std.proofs.Common.{◌≡◌, ◌-◌, ◌+◌, ◌++◌, ◌∙◌, length, arith, ap, replicate}
-use Rattle.syn_path.proofs.KeyLemmas.{put_after}
+use Rattle.syn_path.proofs.DerivedKeyLemmas.{put_after}
 use Rattle.syn_path.proofs.key.put_at.Goals as goal
 
 pub returns : goal.returns

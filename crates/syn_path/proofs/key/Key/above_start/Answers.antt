@@ -1,7 +1,7 @@
 use Rattle.std.proofs.Common.{rules, ◌-◌, take, length, eqb}
 use Rattle.std.proofs.lemmas.Iterator.{items_from_drains}
 use Rattle.std.proofs.lemmas.Iterator.Splits.{YieldsList-from_slice_split}
-use Rattle.syn_path.proofs.KeyLemmas.{last_start}
+use Rattle.syn_path.proofs.DerivedKeyLemmas.{last_start}
 use Rattle.syn_path.proofs.key.Key.above_start.Goals as goal
 
 pub returns-in-Some : goal.returns-in-Some

@@ -2,7 +2,9 @@ use Rattle.std.proofs.Common.{◌-◌, ◌∙◌, append-nil, drop, length, sym,
 use Rattle.std.proofs.Common.{Some, length-append}
 use Rattle.syn_model.specs.Path.{path_key, parent, strip_prefix}
 use Rattle.syn_model.proofs.PathLemmas.{is_prefix-is, strip_prefix-append}
-use Rattle.syn_path.proofs.KeyLemmas.{is_spelling, names_of-key, key-append, rest_of_prefix}
+use Rattle.syn_path.proofs.KeyLemmas.{key-append}
+use Rattle.syn_path.proofs.DerivedKeyLemmas.{is_spelling, rest_of_prefix}
+use Rattle.syn_path.proofs.KeyLemmas.{names_of-key}
 use Rattle.syn_path.proofs.key.Key.below.Goals as goal
 
 pub split_at-requires : goal.split_at-requires

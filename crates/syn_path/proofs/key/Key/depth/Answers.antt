@@ -2,7 +2,7 @@ use Rattle.std.proofs.Common.{rules, ◌≡◌, ◌∙◌, ap, eqb, subst, ◌�
 use Rattle.std.specs.Prelude.{count_by}
 use Rattle.std.proofs.lemmas.List.Elements.{recursion_from_All}
 use Rattle.syn_model.specs.Path.{IsName}
-use Rattle.syn_path.proofs.KeyLemmas.{count_names}
+use Rattle.syn_path.proofs.DerivedKeyLemmas.{count_names}
 use Rattle.syn_path.proofs.key.Key.depth.Goals as goal
 
 pub returns : goal.returns

@@ -1,6 +1,6 @@
 use Rattle.std.proofs.Common.{◌+◌, ◌≤◌, length, subst, sym, ap₂, arith}
 use Rattle.std.proofs.lemmas.Bool.{leb-true, le-leb}
-use Rattle.syn_path.proofs.KeyLemmas.{under_is_path, under_is_short}
+use Rattle.syn_path.proofs.DerivedKeyLemmas.{under_is_path, under_is_short}
 use Rattle.syn_path.proofs.key.Key.fits_under.Goals as goal
 
 pub returns-then-short : goal.returns-then-short

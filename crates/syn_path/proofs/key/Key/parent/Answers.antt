@@ -1,5 +1,6 @@
 use Rattle.std.proofs.Common.{◌∙◌, append-nil}
-use Rattle.syn_path.proofs.KeyLemmas.{is_spelling, names_of-key}
+use Rattle.syn_path.proofs.DerivedKeyLemmas.{is_spelling}
+use Rattle.syn_path.proofs.KeyLemmas.{names_of-key}
 use Rattle.syn_path.proofs.key.Key.parent.Goals as goal
 
 pub of_bytes-requires : goal.of_bytes-requires

@@ -1,7 +1,8 @@
 use Rattle.std.proofs.Common.{◌∙◌, [], refl, arith}
 use Rattle.std.proofs.lemmas.List.Elements.{All-nil}
 use Rattle.syn_model.specs.Path.{IsName, IsPath}
-use Rattle.syn_path.proofs.KeyLemmas.{is_spelling, names_of-key}
+use Rattle.syn_path.proofs.DerivedKeyLemmas.{is_spelling}
+use Rattle.syn_path.proofs.KeyLemmas.{names_of-key}
 use Rattle.syn_path.proofs.key.Key.root.Goals as goal
 
 root_is_path : IsPath []

@@ -1,6 +1,6 @@
 use Rattle.std.proofs.Common.{◌∙◌, ap, ap₂, ◌+◌, sym, length}
 use Rattle.syn_model.specs.Path.{path_key}
-use Rattle.syn_path.proofs.KeyLemmas.{start_at_root, start_below}
+use Rattle.syn_path.proofs.DerivedKeyLemmas.{start_at_root, start_below}
 use Rattle.syn_path.proofs.key.Key.start_under.Goals as goal
 
 pub returns-then-is_root : goal.returns-then-is_root

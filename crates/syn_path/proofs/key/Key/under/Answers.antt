@@ -1,6 +1,8 @@
 use Rattle.std.proofs.Common.{◌++◌, ◌∙◌, sym, ap₂, subst}
 use Rattle.syn_model.specs.Path.{IsPath}
-use Rattle.syn_path.proofs.KeyLemmas.{is_spelling, names_of-key, key-append}
+use Rattle.syn_path.proofs.KeyLemmas.{key-append}
+use Rattle.syn_path.proofs.DerivedKeyLemmas.{is_spelling}
+use Rattle.syn_path.proofs.KeyLemmas.{names_of-key}
 use Rattle.syn_path.proofs.key.Key.under.Goals as goal
 
 pub of_bytes-requires : goal.of_bytes-requires

@@ -8,7 +8,8 @@ use Rattle.syn_session.specs.Answering.{asks_of, exchange_of}
 use Rattle.syn_session.specs.Hearing.{at_once}
 use Rattle.syn_session.specs.declared.session.Asks.TheVariants.{Listings}
 use Rattle.syn_session.proofs.HearingLemmas.{begun_heard, begun_lines, begun_out, both_begun}
-use Rattle.syn_session.proofs.HearingLemmas.{found_begun, hears_next, hears_refused, tells_before}
+use Rattle.syn_session.proofs.HearingLemmas.{found_begun, tells_before}
+use Rattle.syn_session.proofs.HeardNext.{hears_next, hears_refused}
 use Rattle.syn_session.proofs.HearingLemmas.{waits_on}
 use Rattle.syn_session.proofs.WaitingLemmas.{none_wait, some_wait}
 use Rattle.syn_session.proofs.session.Session.hear_begun.Goals as goal

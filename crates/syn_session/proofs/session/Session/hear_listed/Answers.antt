@@ -4,9 +4,10 @@ use Rattle.syn_message.specs.Replies.{reply_of}
 use Rattle.syn_path.specs.Sides.{which_of}
 use Rattle.syn_session.specs.Hearing.{at_once}
 use Rattle.std.specs.Prelude.{◌||◌}
-use Rattle.syn_session.proofs.HearingLemmas.{found_before, hears_next, hears_refused, listed_begun}
+use Rattle.syn_session.proofs.HearingLemmas.{found_before, listed_begun}
+use Rattle.syn_session.proofs.HeardNext.{hears_next, hears_refused}
 use Rattle.syn_session.proofs.HearingLemmas.{listed_found, listed_heard, listed_lines, listed_out}
-use Rattle.syn_session.proofs.HearingLemmas.{swapped}
+use Rattle.syn_session.proofs.HeardNext.{swapped}
 use Rattle.syn_session.proofs.HearingLemmas.{tells_before, waits_for}
 use Rattle.syn_session.proofs.session.Session.hear_listed.Goals as goal
 

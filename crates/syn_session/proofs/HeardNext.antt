@@ -1,0 +1,109 @@
+-- What is heard where an answer is refused, where a listing goes on, and of which request it is.
+use Rattle.std.proofs.Common.{◌≡◌, ◌≢◌, ◌≤◌, ◌<◌, ◌^◌, ◌⊎◌, ◌==◌, ℕ, Bool, true, false, option_map}
+use Rattle.std.proofs.Common.{true≢false, not, ◌||◌, if◌then◌else◌, [], ◌++◌, length, map}
+use Rattle.std.proofs.Common.{Option, Some, None, refl, sym, ap, ◌∙◌, subst, inl, inr, arith}
+use Rattle.std.proofs.Common.{append-nil}
+use Rattle.std.specs.Prelude.{All, AllPairs, Contains, IfNone, IfOk, IfSome, IsErrAnd, MatchResult}
+use Rattle.std.specs.Prelude.{Result, Ok, Err}
+use Rattle.std.proofs.lemmas.List.{length-map}
+use Rattle.std.proofs.lemmas.List.Elements.{Contains-append_left, Contains-push}
+use Rattle.std.proofs.lemmas.List.Elements.{Contains-push_cases}
+use Rattle.std.proofs.lemmas.Option.{same_Some}
+use Rattle.syn_headline.specs.Coordinator.{AreRising, Exchange, MayWait, Outstanding, Running}
+use Rattle.syn_headline.specs.Coordinator.{asked_in, hearing, is_last, is_not_dir}
+use Rattle.syn_headline.specs.Coordinator.{numbered, without}
+use Rattle.syn_headline.specs.Network.{IsRepeat, Left, Right, Which, is_side, other}
+use Rattle.syn_headline.specs.Session.{BothBegun, WasAsked, WasTaken, entries_in, fault_of}
+use Rattle.syn_headline.specs.Side.{Begin, Begun, Fetch, ListAt, Replace, Request, Stage}
+use Rattle.syn_headline.specs.Side as model
+use Rattle.syn_headline.proofs.WaitingLemmas.{asked_waits}
+use Rattle.syn_message.specs.Requests.{request_of}
+use Rattle.syn_message.specs.declared.request.Request.{Request as Asked}
+use Rattle.syn_message.specs.declared.request.Request.TheVariants as has
+use Rattle.syn_model.specs.Archive as archive
+use Rattle.syn_model.specs.Path.{Path}
+use Rattle.syn_scan.specs.Asked.{is_out}
+use Rattle.syn_scan.specs.Asked.{without as without_path}
+use Rattle.syn_session.specs.Scanning.{IsFoundIn, WaitsFor, found_of, out_of}
+use Rattle.syn_session.specs.declared.line.Line.{Line}
+use Rattle.syn_session.specs.declared.session.Asks.{Asks}
+use Rattle.syn_session.specs.declared.session.Session.{Session}
+use Rattle.syn_session.specs.Answering.{IsAnswering, asks_of, exchange_of}
+use Rattle.syn_session.specs.inner.Listing.{IsListed, KeepsFound, KeepsRequests, ListsOn}
+use Rattle.syn_session.specs.Hearing.{EndsHearing, HasHeard, Hears, IsAsking, ScansOn, afterwards}
+use Rattle.syn_refusal.specs.declared.refusal.Refusal.{Refusal as Why}
+use Rattle.syn_refusal.specs.declared.refusal.Refusal.TheVariants.{Memory}
+use Rattle.syn_session.specs.Sessions.{IsSession, IsStage, Tells}
+use Rattle.syn_session.specs.Stages.{AreOfScan, IsBeginningOrListing, IsOfScan, IsScanning}
+use Rattle.syn_session.specs.Stages.{IsToBegin, IsToList, begins, lists, found_on}
+use Rattle.syn_session.specs.Stages.{line_of, outstanding_of, reached_by, requests_on, waiting_of}
+use Rattle.syn_session.proofs.AnswerLemmas.{heard_so, unstable_then}
+use Rattle.syn_session.proofs.HearLemmas.{found_still, heard_new, scans_either}
+use Rattle.syn_session.proofs.WaitingLemmas.{alone_is, asked_has, first_is, from_map, in_filter}
+use Rattle.syn_session.proofs.WaitingLemmas.{in_map, its_number, only_in, other_number, out_before}
+use Rattle.syn_session.proofs.WaitingLemmas.{out_still, same_directory, still_in-filter}
+use Rattle.syn_session.proofs.TellingLemmas.{by_sides, list_not_begin, or_false}
+use Rattle.syn_session.proofs.TellingLemmas.{either_nothing, not_across, other_side, tells_nothing}
+use Rattle.syn_session.proofs.TellingLemmas.{scans_further, tells_heard}
+use Rattle.syn_path.specs.Sides.{which_of}
+use Rattle.syn_path.specs.declared.side.Side.{Side}
+
+-- where it is refused
+pub hears_refused : (session : Session) (running : Running) (side : Which) (number : ℕ)
+    (request : Request) (reply : model.Reply) (result : Result (Option Asks) Why) (why : Why) →
+    IsErrAnd result (λ e. e ≡ why) →
+    EndsHearing session running (exchange_of side number request reply) why →
+    Hears session running side number request reply result
+hears_refused session running side number request reply (Ok next) why e ends = absurd e
+hears_refused session running side number request reply (Err is) why e ends =
+    subst (λ w. EndsHearing session running (exchange_of side number request reply) w) (sym e) ends
+
+-- what is listed next is what comes of an answer, or that memory is refused for it
+pub hears_next : {E : Type 0} (old new : Session) (running : Running) (side : Which) (number : ℕ)
+    (request : Request) (reply : model.Reply) →
+    let heard = hearing running (exchange_of side number request reply) in
+    fault_of running.taken side request reply ≡ None → HasHeard old heard →
+    BothBegun heard.taken →
+    ((on : Which) → IsFoundIn (found_on old on) on heard.taken) →
+    ((on : Which) → IsToList old on) →
+    ((on : Which) (path : Path) → WaitsFor (line_of old on).scan path →
+    Contains (requests_on (line_of old on)) (ListAt path)) → KeepsFound old new →
+    (went : Result (Option Asks) E) → IfOk went (λ next. IfSome next (ListsOn old new)) →
+    IfOk went (λ next. IfNone next (IsListed old new)) → (result : Result (Option Asks) Why) →
+    MatchResult went (λ next. result ≡ Ok next) (λ _. IsErrAnd result (λ why. why ≡ Memory)) →
+    Hears new running side number request reply result
+hears_next old new running side number request reply fine has both found lines out keeps (Ok next)
+    some none result is =
+    let heard = hearing running (exchange_of side number request reply) in
+    subst (Hears new running side number request reply) (sym is) (
+      fine,
+      heard_new old new heard has both found lines out keeps,
+      scans_either old new heard has both found lines out keeps next some none,
+    )
+hears_next old new running side number request reply fine has both found lines out keeps (Err e)
+    some none result is =
+    let heard = hearing running (exchange_of side number request reply) in
+    hears_refused new running side number request reply result Memory is
+    (afterwards fine refl (tells_heard new heard
+    (heard_new old new heard has both found lines out keeps)))
+
+pub swapped : {A B : Type 0} → A ⊎ B → B ⊎ A
+swapped (inl a) = inr a
+swapped (inr b) = inl b
+
+-- which requests these are
+pub no_begin_in : (asked : Asked) (pair : ℕ) → ((x : ℕ) → asked ≡ has.Begin x → ⊥) →
+    request_of asked ≡ Begin pair → ⊥
+no_begin_in (has.Begin x) pair no_such e = no_such x refl
+no_begin_in (has.List path) pair no_such e = cc
+no_begin_in (has.Fetch path since offset) pair no_such e = cc
+no_begin_in (has.Stage item offset bytes) pair no_such e = cc
+no_begin_in (has.Replace item path since size) pair no_such e = cc
+
+pub no_list_in : (asked : Asked) (path : Path) → ((x : Path) → asked ≡ has.List x → ⊥) →
+    request_of asked ≡ ListAt path → ⊥
+no_list_in (has.Begin x) path no_such e = cc
+no_list_in (has.List at) path no_such e = no_such at refl
+no_list_in (has.Fetch at since offset) path no_such e = cc
+no_list_in (has.Stage item offset bytes) path no_such e = cc
+no_list_in (has.Replace item at since size) path no_such e = cc
