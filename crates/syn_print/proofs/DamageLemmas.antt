@@ -1,6 +1,6 @@
 -- Why no events are told of a disk: then no replica is opened of it either.
 use Rattle.std.proofs.Common.{◌≡◌, ◌≤◌, ◌<◌, ◌+◌, ◌++◌, ◌∷◌, [], ℕ, zero, suc, List, length, map}
-use Rattle.std.proofs.Common.{arith, ap, get_or, subst, sym, take, ◌∙◌}
+use Rattle.std.proofs.Common.{arith, ap, get_or, refl, subst, sym, take, ◌∙◌}
 use Rattle.std.proofs.lemmas.List.{length-map, length-take-le}
 use Rattle.std.proofs.lemmas.List.Elements.{All-contains, Contains-append_left}
 use Rattle.std.proofs.lemmas.List.Elements.{Contains-append_right}
@@ -20,11 +20,10 @@ use Rattle.syn_model.specs.Standing.{AllAllowedIn, Standing, Touch, standing_aft
 use Rattle.syn_model.specs.Version.{current_version}
 use Rattle.syn_print.proofs.KnownLemmas.{AddsUpTo}
 use Rattle.syn_print.specs.declared.log.Logged.{Logged}
-use Rattle.syn_print.specs.inner.Damages.{AreNoEvents, HasGreatest, IsNoEvent, IsNoImage}
-use Rattle.syn_print.specs.inner.Damages.{IsReadRefusal}
+use Rattle.syn_print.specs.inner.Damages.{AreNoEvents, HasGreatest, IsReadRefusal}
 use Rattle.syn_replica.specs.Disks.{IsOpenRefusal, IsUnlawful}
 use Rattle.syn_standing.specs.Readings.{AllowedIsSpelled, GivesNothing, IsImageOf, OneIsGiven}
-use Rattle.syn_standing.specs.Readings.{bytes_of_each}
+use Rattle.syn_standing.specs.Readings.{IsEventOf, IsOfPayload, bytes_of_each}
 use Rattle.syn_standing.specs.declared.error.ReplicaError.{ReplicaError}
 use Rattle.syn_standing.specs.declared.error.ReplicaError.TheVariants.{Damaged, Journal, Memory}
 use Rattle.syn_standing.proofs.ReadingLemmas.{same_image}
@@ -48,6 +47,13 @@ pub by_reading : (e : ReplicaError) (P : Type 0) (bytes : List ℕ) → (P → I
 by_reading Memory P bytes to h = tt
 by_reading Damaged P bytes to h = to h
 by_reading _ P bytes to h = absurd h
+
+-- and what is read of the image alone
+pub by_image : (e : ReplicaError) (bytes : List ℕ) → IsOfPayload e
+    → (e ≡ Damaged → IsUnlawful bytes) → IsOpenRefusal e None bytes
+by_image Memory bytes h to = tt
+by_image Damaged bytes h to = to refl
+by_image _ bytes h to = absurd h
 
 pub reading_weaker : (e : ReplicaError) (P Q : Type 0) → (P → Q) → IsReadRefusal e P
     → IsReadRefusal e Q
@@ -81,8 +87,8 @@ event_at (payload ∷ payloads) (event ∷ events) (suc i) d within are all =
 
 -- a payload is no event
 pub no_event : (first i : ℕ) (payloads : List (Vec ℕ)) (payload : Vec ℕ)
-    → i < length payloads → payload ≡ get_or payloads i payload → IsNoEvent payload.items
-    → AreNoEvents first (bytes_of_each payloads)
+    → i < length payloads → payload ≡ get_or payloads i payload
+    → IsEventOf current_version payload.items None → AreNoEvents first (bytes_of_each payloads)
 no_event first i payloads payload within is none events all fits are =
     let at = event_at payloads events i payload within are all in
     none at.0 at.1 (ap (λ (p : Vec ℕ). p.items) is ∙ at.2)
@@ -124,7 +130,8 @@ all_numbered standing (event ∷ events) fits all =
 
 module _ (image : Bytes) (payloads : List Bytes) where
   -- no image
-  pub nothing_of_image : IsNoImage image → GivesNothing image payloads
+  pub nothing_of_image : ((pair : ℕ) (standing : Standing)
+      → ¬ IsImageOf current_version image pair standing) → GivesNothing image payloads
   nothing_of_image none pair standing fits gives =
       none pair gives.first
       (record { fits = fits; sound = gives.sound; spelled = gives.image_is })

@@ -20,6 +20,8 @@
 //!   hold it (`sound`). It is refused 19 only where they give none (`damaged`), and 20 only where
 //!   they give another pair than the wanted one (`other`). The index of its trail is built once,
 //!   after the last payload (`build_index`).
+//! - `read_image` and `read_event` read the parts alone: the image that bytes are, and the event
+//!   that a payload is.
 #![tactic(auto)]
 
 mod error;
@@ -29,5 +31,5 @@ mod standing;
 
 pub use error::ReplicaError;
 pub use laws::opening_laws;
-pub use reading::read_replica;
+pub use reading::{read_event, read_image, read_replica};
 pub use standing::{Standing, Update};

@@ -9,6 +9,7 @@ ghost use Rattle.syn_model.specs.Standing as model_standing;
 ghost use Rattle.syn_model.specs.Standing.{AllAllowedIn, IsAllowedIn};
 ghost use Rattle.syn_model.specs.Tree.{IsTree};
 ghost use Rattle.syn_history.specs.Events.{event_of};
+ghost use Rattle.syn_image.specs.Images.{image_of};
 ghost use Rattle.syn_wire.specs.Versions.{version_of};
 ghost use Rattle.syn_standing.specs.Readings.{GivesOtherPairIn};
 ghost use Rattle.syn_standing.specs.Refusals.{refusal_of};
@@ -56,7 +57,8 @@ pub fn read_replica(
         → IsErrAnd result (λ e. (e ≡ ReplicaError.Memory) ⊎ (e ≡ ReplicaError.WrongPair)) }
 {
     opening_laws();
-    let (pair, first) = read_image(alloc, version, image)?;
+    let Image { pair, tree, trail } = read_image(alloc, version, image)?;
+    let first = Standing::of(tree, trail);
     let standing = replayed(alloc, version, first, payloads)?;
     is_whole(&standing);
     if is_other(wanted, pair) {
@@ -84,30 +86,25 @@ fn is_other(wanted: Option<u64>, pair: u64) -> bool
     }
 }
 
-/// The pair and the standing of which it is the image.
+/// The image that the bytes are.
 ///
-/// Refused 19 where it is of none, and 11 where memory is refused.
-fn read_image(
-    alloc: Global,
-    version: Version,
-    image: &[u8],
-) -> Result<(u64, Standing), ReplicaError>
-    ensures read { IfOk result
-        (λ read. IsImageOf (version_of version) image.now read.0 read.1) }
+/// Refused 19 where they are none, and 11 where memory is refused.
+pub fn read_image(alloc: Global, version: Version, bytes: &[u8]) -> Result<Image, ReplicaError>
+    ensures read { IfOk result (λ image. IsImageOf (version_of version) bytes.now
+        (image_of image).0 (image_of image).1) }
     ensures refusals { IfErr result IsOfPayload }
     ensures damaged { IfErr result (λ e. e ≡ ReplicaError.Damaged
         → (pair : ℕ) (standing : model_standing.Standing)
-        → ¬ IsImageOf (version_of version) image.now pair standing) }
+        → ¬ IsImageOf (version_of version) bytes.now pair standing) }
 {
     image_laws();
-    let Some((read, rest)) = decode_image(alloc, version, image)? else {
+    let Some((image, rest)) = decode_image(alloc, version, bytes)? else {
         return Err(ReplicaError::Damaged);
     };
     if !rest.is_empty() {
         return Err(ReplicaError::Damaged);
     }
-    let Image { pair, tree, trail } = read;
-    Ok((pair, Standing::of(tree, trail)))
+    Ok(image)
 }
 
 /// The standing after each payload in turn, each of which has to be an event that is allowed.
@@ -162,7 +159,11 @@ fn add_payload(
 }
 
 /// The event that the payload is; none where it is none. Refused 11 where memory is refused.
-fn read_event(alloc: Global, version: Version, payload: &[u8]) -> Result<Option<Event>, WireError>
+pub fn read_event(
+    alloc: Global,
+    version: Version,
+    payload: &[u8],
+) -> Result<Option<Event>, WireError>
     ensures { IfOk result
         (λ read. IsEventOf (version_of version) payload.now (option_map event_of read)) }
 {

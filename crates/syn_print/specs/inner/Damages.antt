@@ -5,9 +5,7 @@ use Rattle.syn_model.specs.Event.{Event}
 use Rattle.syn_model.specs.Limits.{greatest}
 use Rattle.syn_model.specs.Path.{Bytes}
 use Rattle.syn_model.specs.Spelling.{event_spelling}
-use Rattle.syn_model.specs.Standing.{Standing, Touch}
-use Rattle.syn_model.specs.Version.{current_version}
-use Rattle.syn_standing.specs.Readings.{IsImageOf}
+use Rattle.syn_model.specs.Standing.{Touch}
 use Rattle.syn_standing.specs.declared.error.ReplicaError.{ReplicaError}
 use Rattle.syn_standing.specs.declared.error.ReplicaError.TheVariants.{Damaged, Memory}
 use Rattle.syn_wire.specs.Events.{IsSpelledEvent}
@@ -18,17 +16,9 @@ IsReadRefusal Memory damage = Unit {0}
 IsReadRefusal Damaged damage = damage
 IsReadRefusal _ damage = ⊥
 
--- they are the image of no pair with no standing
-abbrev pub IsNoImage : Bytes → Type 0
-IsNoImage bytes = (pair : ℕ) (standing : Standing) → ¬ IsImageOf current_version bytes pair standing
-
 -- a touch has the greatest position, so that there is none with its event
 abbrev pub HasGreatest : List Touch → Type 0
 HasGreatest touches = (touch : Touch) × Contains touches touch × (greatest ≤ touch.position)
-
--- they spell no event
-abbrev pub IsNoEvent : Bytes → Type 0
-IsNoEvent payload = (event : Event) → IsSpelledEvent event → payload ≢ event_spelling event
 
 -- they spell no events that have positions after the first
 abbrev pub AreNoEvents : ℕ → List Bytes → Type 0

@@ -1,24 +1,19 @@
 //! Reads what a replica's disk has of its events.
 ghost use Rattle.std.specs.Prelude.{◌≡◌, ◌≤◌, ◌+◌, ◌++◌, IfErr, IfOk, None, OnOk};
-ghost use Rattle.syn_history.specs.Events.{event_of};
-ghost use Rattle.syn_image.specs.Images.{image_of};
 ghost use Rattle.syn_model.specs.Limits.{greatest};
-ghost use Rattle.syn_model.specs.Spelling.{event_spelling};
-ghost use Rattle.syn_model.specs.Version.{current_version};
 ghost use Rattle.syn_print.specs.Known.{AddsEvents, TellsLast, entries_of, touched};
-ghost use Rattle.syn_print.specs.inner.Damages.{AreNoEvents, HasGreatest, IsNoEvent, IsNoImage};
-ghost use Rattle.syn_print.specs.inner.Damages.{IsReadRefusal};
+ghost use Rattle.syn_print.specs.inner.Damages.{AreNoEvents, HasGreatest, IsReadRefusal};
 ghost use Rattle.syn_replica.specs.Disks.{IsOpenRefusal};
-ghost use Rattle.syn_standing.specs.Readings.{IsImageOf, bytes_of_each};
+ghost use Rattle.syn_standing.specs.Readings.{bytes_of_each};
 
 use crate::log::{Logged, What};
 use std::alloc::Global;
 use syn_disk::Disk;
-use syn_history::{Event, Touch};
-use syn_image::{Image, decode_image, image_laws, is_old_image};
+use syn_history::Touch;
+use syn_image::is_old_image;
 use syn_journal::Journal;
-use syn_standing::{ReplicaError, opening_laws};
-use syn_wire::{Version, decode_event, spelling_laws};
+use syn_standing::{ReplicaError, opening_laws, read_event, read_image};
+use syn_wire::Version;
 
 /// What the disk of a replica has of its last events, the oldest first.
 ///
@@ -38,29 +33,13 @@ pub fn read_log<D: Disk + Drop>(alloc: Global, disk: D) -> Result<Vec<Logged>, R
     if is_old_image(&opened.image) {
         return Err(ReplicaError::OldVersion);
     }
-    let image = read_image(alloc, &opened.image)?;
+    let image = read_image(alloc, Version::Two, &opened.image)?;
     let mut logged = Vec::new(alloc);
     let (older, newer) = image.trail.touches();
     push_touches(alloc, &mut logged, older)?;
     push_touches(alloc, &mut logged, newer)?;
     push_events(alloc, &mut logged, image.trail.position(), &opened.records)?;
     Ok(logged)
-}
-
-/// The image that the bytes are. Refused 19 where they are none, and 11 where memory is refused.
-fn read_image(alloc: Global, bytes: &[u8]) -> Result<Image, ReplicaError>
-    ensures image { IfOk result (λ image.
-        IsImageOf current_version bytes.now (image_of image).0 (image_of image).1) }
-    ensures cause { IfErr result (λ e. IsReadRefusal e (IsNoImage bytes.now)) }
-{
-    image_laws();
-    let Some((image, rest)) = decode_image(alloc, Version::Two, bytes)? else {
-        return Err(ReplicaError::Damaged);
-    };
-    if !rest.is_empty() {
-        return Err(ReplicaError::Damaged);
-    }
-    Ok(image)
 }
 
 /// Puts the touches after what is there.
@@ -102,7 +81,10 @@ fn push_events(
     let mut position = first;
     for payload in payloads {
         position = position_after(position)?;
-        let what = What::Whole(event_in(alloc, payload)?);
+        let Some(event) = read_event(alloc, Version::Two, payload)? else {
+            return Err(ReplicaError::Damaged);
+        };
+        let what = What::Whole(event);
         logged.push(Logged { position, what })?;
     }
     Ok(())
@@ -117,19 +99,4 @@ fn position_after(position: u64) -> Result<u64, ReplicaError>
         Some(next) => Ok(next),
         None => Err(ReplicaError::Damaged),
     }
-}
-
-/// The event that the payload is. Refused 19 where it is none, and 11 where memory is refused.
-fn event_in(alloc: Global, payload: &[u8]) -> Result<Event, ReplicaError>
-    ensures event { IfOk result (λ event. event_spelling (event_of event) ≡ payload.now) }
-    ensures cause { IfErr result (λ e. IsReadRefusal e (IsNoEvent payload.now)) }
-{
-    spelling_laws();
-    let Some((event, rest)) = decode_event(alloc, Version::Two, payload)? else {
-        return Err(ReplicaError::Damaged);
-    };
-    if !rest.is_empty() {
-        return Err(ReplicaError::Damaged);
-    }
-    Ok(event)
 }

@@ -4,10 +4,13 @@ use Rattle.syn_image.specs.Images.{image_of}
 use Rattle.syn_journal.specs.Layout.{meaning}
 use Rattle.syn_journal.specs.Opened.{payloads_of, value_read}
 use Rattle.syn_model.specs.Image.{IsOldImage}
-use Rattle.syn_print.proofs.DamageLemmas.{by_journal, by_reading, none_in_newer, none_in_older}
+use Rattle.syn_print.proofs.DamageLemmas.{by_image, by_journal, by_reading}
+use Rattle.syn_print.proofs.DamageLemmas.{none_in_newer, none_in_older}
 use Rattle.syn_print.proofs.DamageLemmas.{nothing_of_events, nothing_of_image, unlawful}
 use Rattle.syn_print.proofs.KnownLemmas.{told_in_all}
-use Rattle.syn_print.specs.inner.Damages.{AreNoEvents, HasGreatest, IsNoImage}
+use Rattle.syn_print.specs.inner.Damages.{AreNoEvents, HasGreatest}
+use Rattle.std.specs.Prelude.{ℕ}
+use Rattle.syn_model.specs.Standing.{Standing}
 use Rattle.syn_model.specs.Version.{current_version}
 use Rattle.syn_standing.specs.Readings.{IsImageOf, bytes_of_each}
 use Rattle.syn_print.proofs.log.reading.read_log.Goals as goal
@@ -38,10 +41,12 @@ returns-in_err-image-clause-cause g c =
     ∙ c.if-is_old_image.false) in
     let bytes = g.D.Disk.seen c.args.disk in
     let payloads = payloads_of opened.records in
-    rw (p.1, p.2) (by_reading c.in_err-image.field-0.0 (IsNoImage c.deref-2.result.now) bytes
-    (λ none. unlawful bytes opened.image.items payloads means young
-    (nothing_of_image opened.image.items payloads (subst IsNoImage c.deref-2.ensures.value none)))
-    c.in_err-image.ensures.cause)
+    rw (p.1, p.2) (by_image c.in_err-image.field-0.0 bytes c.in_err-image.ensures.refusals
+    (λ damaged. unlawful bytes opened.image.items payloads means young
+    (nothing_of_image opened.image.items payloads
+    (subst (λ image. (pair : ℕ) (standing : Standing)
+    → ¬ IsImageOf current_version image pair standing) c.deref-2.ensures.value
+    (c.in_err-image.ensures.damaged damaged)))))
 
 pub returns-in_err-push_touches-clause-cause : goal.returns-in_err-push_touches-clause-cause
 returns-in_err-push_touches-clause-cause g c =
@@ -50,7 +55,7 @@ returns-in_err-push_touches-clause-cause g c =
     let older = c.touches.result.0.now in
     rw (p.1, p.2) (by_reading c.in_err-push_touches.field-0.0 (HasGreatest older)
     (g.D.Disk.seen c.args.disk)
-    (λ has. absurd (none_in_older (image_of c.in_ok-image.image).1 c.in_ok-image.ensures.image.sound
+    (λ has. absurd (none_in_older (image_of c.in_ok-image.image).1 c.in_ok-image.ensures.read.sound
     older c.touches.result.1.now c.touches.ensures.all has)) c.in_err-push_touches.ensures.cause)
 
 pub returns-in_err-push_touches-2-clause-cause : goal.returns-in_err-push_touches-2-clause-cause
@@ -60,7 +65,7 @@ returns-in_err-push_touches-2-clause-cause g c =
     let newer = c.touches.result.1.now in
     rw (p.1, p.2) (by_reading c.in_err-push_touches-2.field-0.0 (HasGreatest newer)
     (g.D.Disk.seen c.args.disk)
-    (λ has. absurd (none_in_newer (image_of c.in_ok-image.image).1 c.in_ok-image.ensures.image.sound
+    (λ has. absurd (none_in_newer (image_of c.in_ok-image.image).1 c.in_ok-image.ensures.read.sound
     c.touches.result.0.now newer c.touches.ensures.all has)) c.in_err-push_touches-2.ensures.cause)
 
 pub returns-in_err-push_events-clause-cause : goal.returns-in_err-push_events-clause-cause
@@ -78,7 +83,7 @@ returns-in_err-push_events-clause-cause g c =
     let bytes = g.D.Disk.seen c.args.disk in
     let payloads = payloads_of opened.records in
     let is = subst (λ b. IsImageOf current_version b image.pair (image_of image).1)
-    c.deref-2.ensures.value c.in_ok-image.ensures.image in
+    c.deref-2.ensures.value c.in_ok-image.ensures.read in
     rw (p.1, p.2) (by_reading c.in_err-push_events.field-0.0
     (AreNoEvents c.position.result (bytes_of_each c.deref-3.result.now)) bytes
     (λ none. unlawful bytes opened.image.items payloads means young
@@ -91,7 +96,7 @@ pub returns-clause-told : goal.returns-clause-told
 returns-clause-told g c =
     let opened = c.in-Ok.opened in
     let image = c.in_ok-image.image in
-    let read = c.in_ok-image.ensures.image in
+    let read = c.in_ok-image.ensures.read in
     let adds = c.in_ok-push_events.ensures.added in
     record {
       value = value_read opened.image opened.records;
