@@ -18,13 +18,17 @@ use Rattle.syn_model.specs.History.{position_causes}
 use Rattle.syn_replica.specs.Refusals.{IsOneOf, outside_refusals}
 use Rattle.syn_replica.specs.Steps.{add_refusal, room_causes, replace_refusal, begin_refusal}
 use Rattle.syn_replica.specs.Steps.{is_done, replaced, begun}
-use Rattle.syn_replica.specs.inner.Additions.{add_refusal_at}
+use Rattle.syn_replica.specs.inner.Additions.{MayReplace, add_refusal_at}
 use Rattle.syn_standing.specs.Causes.{since_causes}
 use Rattle.syn_standing.specs.Refusals.{refusal_of}
 use Rattle.syn_tree.specs.Lists.{replace_refusal as tree_refusal}
 use Rattle.syn_standing.specs.declared.error.ReplicaError.{ReplicaError}
 use Rattle.syn_standing.proofs.CauseLemmas.{first_skips, first_stays}
 use Rattle.syn_standing.proofs.SinceLemmas.{first_false}
+
+-- what a clause says of a value that is there
+pub in_some : {X : Type 0} (P : X → Type 0) (o : Option X) (x : X) → IfSome o P → o ≡ Some x → P x
+in_some P o x h e = subst (λ o. IfSome o P) e h
 
 -- ---- the causes of a replacement in a row
 
@@ -65,7 +69,7 @@ module _ (room : ℕ) (history : History) (token : Token) (path : Path) (since :
       ((place ++ (full ++ position)) ++ last) current))
 
   -- and so of what a replica remembers, with a copy of the path
-  pub replaced_as : (standing : Standing) (copy : Path) → standing ≡ standing_of history →
+  replaced_as : (standing : Standing) (copy : Path) → standing ≡ standing_of history →
       copy ≡ path → is_old standing.session standing.token token ≡ false →
       first_cause (since_causes history path since) ≡ None →
       add_refusal_at room standing (Replaced token copy since new)
@@ -74,6 +78,17 @@ module _ (room : ℕ) (history : History) (token : Token) (path : Path) (since :
       ap (λ s. add_refusal_at room s (Replaced token copy since new)) same
       ∙ (ap (λ q. add_refusal room history (Replaced token q since new)) is
       ∙ sym (replaced_rest (ap (λ s. is_old s.session s.token token) (sym same) ∙ current) none))
+
+  -- and so with the path that was found
+  pub found_as : (given : Tree) (standing : Standing) (found : Option Path) (copy : Path) →
+      standing ≡ standing_of history →
+      IfSome found (λ q. (q ≡ path) × MayReplace standing token given) →
+      IfSome found (λ q. first_cause (since_causes history path since) ≡ None) →
+      found ≡ Some copy → add_refusal_at room standing (Replaced token copy since new)
+      ≡ replace_refusal room history token path since new
+  found_as given standing found copy same may untouched is =
+      let put = in_some _ found copy may is in
+      replaced_as standing copy same put.0 put.1.not_old (in_some _ found copy untouched is)
 
   -- where the tree refuses what is put, that is answered
   refused_place : is_old_token history token ≡ false →
@@ -164,10 +179,6 @@ module _ (room own : ℕ) (history : History) (pair session : ℕ) where
         is_err_of_exit r e (λ e. refusal_of e ≡ why) at_exit (same_Some _ _ (sym answered ∙ cause))
 
 -- ---- what is answered
-
--- what a clause says of a value that is there
-pub in_some : {X : Type 0} (P : X → Type 0) (o : Option X) (x : X) → IfSome o P → o ≡ Some x → P x
-in_some P o x h e = subst (λ o. IfSome o P) e h
 
 pub one_longer : (r : Result ℕ ReplicaError) (history : History) (event : Event) (P : Type 0) →
     IfOk r (λ position. (position ≡ length history + 1) × P) →

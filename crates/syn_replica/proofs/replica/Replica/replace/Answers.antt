@@ -22,7 +22,7 @@ use Rattle.syn_model.proofs.ExitLemmas.{is_err_of_exit}
 use Rattle.syn_replica.proofs.CallLemmas.{done_before, exits_early, exits_halted, not_refused}
 use Rattle.syn_replica.specs.Calls.{Writes, unless}
 use Rattle.syn_journaled.specs.Endings.{ended}
-use Rattle.syn_replica.proofs.SessionLemmas.{replaced_as, one_longer, not_done, in_some}
+use Rattle.syn_replica.proofs.SessionLemmas.{found_as, in_some, not_done, one_longer}
 use Rattle.syn_replica.proofs.StandLemmas.{keeps_now, not_written}
 use Rattle.syn_replica.proofs.replica.Replica.replace.Goals as goal
 
@@ -62,12 +62,9 @@ returns-in_err-payload-clause-cause g c history stands =
     let token = token_of c.args.token in
     let new = part_of c.args.new in
     let same = stands.remembers.standing in
-    let found =
-    in_some _ c.in_ok-path.field-0 c.in-Some.path c.in_ok-path.ensures.found c.in-Some.is in
-    let none = in_some _ c.in_ok-path.field-0 c.in-Some.path
-    (c.in_ok-path.ensures.untouched history same) c.in-Some.is in
-    let rest = replaced_as room history token c.args.path.now c.args.since new
-    (standing_shown c.args.self.now) c.in-Some.path same found.0 found.1.not_old none in
+    let rest = found_as room history token c.args.path.now c.args.since new _
+    (standing_shown c.args.self.now) c.in_ok-path.field-0 c.in-Some.path same
+    c.in_ok-path.ensures.found (c.in_ok-path.ensures.untouched history same) c.in-Some.is in
     let event = Replaced token c.in-Some.path c.args.since new in
     subst (λ r. IfErr c.from_residual-in_err-payload.result
     (λ e. IsOneOf outside_refusals e ⊎ (r ≡ Some (refusal_of e)))) rest
@@ -81,12 +78,9 @@ returns-in_err-payload-clause-refused g c history why stands done e =
     let token = token_of c.args.token in
     let new = part_of c.args.new in
     let same = stands.remembers.standing in
-    let found =
-    in_some _ c.in_ok-path.field-0 c.in-Some.path c.in_ok-path.ensures.found c.in-Some.is in
-    let none = in_some _ c.in_ok-path.field-0 c.in-Some.path
-    (c.in_ok-path.ensures.untouched history same) c.in-Some.is in
-    let rest = replaced_as room history token c.args.path.now c.args.since new
-    (standing_shown c.args.self.now) c.in-Some.path same found.0 found.1.not_old none in
+    let rest = found_as room history token c.args.path.now c.args.since new _
+    (standing_shown c.args.self.now) c.in_ok-path.field-0 c.in-Some.path same
+    c.in_ok-path.ensures.found (c.in_ok-path.ensures.untouched history same) c.in-Some.is in
     let event = Replaced token c.in-Some.path c.args.since new in
     let error = c.in_err-payload.field-0.0 in
     is_err_of_exit c.from_residual-in_err-payload.result error
@@ -135,12 +129,9 @@ returns-in_err-check_room-clause-refused g c history why stands done e =
     let token = token_of c.args.token in
     let new = part_of c.args.new in
     let same = stands.remembers.standing in
-    let found =
-    in_some _ c.in_ok-path.field-0 c.in-Some.path c.in_ok-path.ensures.found c.in-Some.is in
-    let none = in_some _ c.in_ok-path.field-0 c.in-Some.path
-    (c.in_ok-path.ensures.untouched history same) c.in-Some.is in
-    let rest = replaced_as room history token c.args.path.now c.args.since new
-    (standing_shown c.args.self.now) c.in-Some.path same found.0 found.1.not_old none in
+    let rest = found_as room history token c.args.path.now c.args.since new _
+    (standing_shown c.args.self.now) c.in_ok-path.field-0 c.in-Some.path same
+    c.in_ok-path.ensures.found (c.in_ok-path.ensures.untouched history same) c.in-Some.is in
     let event = Replaced token c.in-Some.path c.args.since new in
     let adds = c.in_ok-payload.ensures.adds in
     let told = c.in_err-check_room.ensures.refused in
