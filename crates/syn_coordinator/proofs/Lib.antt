@@ -14,6 +14,7 @@ pub mod ReplyLemmas
 pub mod TakeLemmas
 pub mod WalkLemmas
 pub mod SettleLemmas
+pub mod EndedLemmas
 pub mod FreshLemmas
 pub mod CarryLemmas
 pub mod PassLemmas

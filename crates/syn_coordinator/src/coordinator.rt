@@ -3,6 +3,7 @@ ghost use Rattle.std.specs.Prelude.{◌≡◌, ◌≢◌, ◌∷◌, [], ℕ, is
 ghost use Rattle.std.specs.Prelude.{IfErr, IfOk, MatchResult, OnErr, OnOk, false, map, option_map};
 ghost use Rattle.std.specs.Prelude.{◌+◌, ◌<◌, ◌^◌, ◌⊎◌, ◌&&◌, not};
 ghost use Rattle.syn_archive.specs.Archive.{IsHalted, session_shown};
+ghost use Rattle.syn_coordinator.specs.inner.Walking.{ended_by};
 ghost use Rattle.syn_disk.specs.Arms.{is_stopped};
 ghost use Rattle.syn_headline.specs.Coordinator.{CoordinatorMachine, CoordinatorStarts};
 ghost use Rattle.syn_headline.specs.Coordinator.{CoordinatorTicks, Running, report_of};
@@ -12,7 +13,6 @@ ghost use Rattle.syn_keep.specs.Steps.{KeepsSo};
 ghost use Rattle.syn_path.specs.Sides.{which_of};
 ghost use Rattle.syn_model.specs.Archive.{Archive as Keeping, Session as Begun};
 ghost use Rattle.syn_model.specs.Refusal.{Memory, first_cause};
-ghost use Rattle.syn_refusal.specs.Refusals.{cause_of};
 ghost use Rattle.syn_session.specs.Refusals.{CountsFailures, refusal_of};
 ghost use Rattle.syn_session.specs.Reports.{report_model};
 ghost use Rattle.syn_session.specs.Sendings.{messages_of};
@@ -20,12 +20,13 @@ ghost use Rattle.syn_session.specs.Sessions.{IsSession, Tells, begin_messages, b
 ghost use Rattle.syn_session.specs.declared.session.Session.{Session as Ran};
 ghost use Rattle.syn_image.specs.Archives.{kept_of};
 
+use crate::ended::Ended;
 use std::alloc::Global;
 use syn_archive::{Archive, ArchiveError};
 use syn_disk::Disk;
 use syn_image::Kept;
 use syn_keep::Tried;
-use syn_message::Side;
+use syn_path::Side;
 use syn_recovery::device_laws;
 use syn_refusal::Refusal;
 use syn_session::{Report, Sending, Session, SessionError};
@@ -388,7 +389,7 @@ impl<D: Disk> Coordinator<D> {
             return Vec::new(alloc);
         };
         if session.is_worn() {
-            self.end(alloc, Some(Refusal::NoAnswer));
+            self.end(alloc, Ended::Early(Refusal::NoAnswer));
             return Vec::new(alloc);
         }
         match session.waiting(alloc) {
@@ -397,25 +398,24 @@ impl<D: Disk> Coordinator<D> {
                 sends
             }
             Err(_) => {
-                self.end(alloc, Some(Refusal::Memory));
+                self.end(alloc, Ended::Early(Refusal::Memory));
                 Vec::new(alloc)
             }
         }
     }
 
     /// Ends the session that runs, if one does, and keeps its report. It takes no memory.
-    fn end(&mut self, alloc: Global, ended: Option<Refusal>)
+    fn end(&mut self, alloc: Global, ended: Ended)
         ensures running { self.new.running ≡ None }
         ensures archive { self.new.archive ≡ self.old.archive }
         ensures kept { (self.new.written ≡ self.old.written) × (self.new.broke ≡ self.old.broke)
             × (self.new.tried ≡ self.old.tried) }
         ensures report { (session : Ran) (running : Running) → self.old.running ≡ Some session
             → Tells session running
-            → report_shown self.new ≡ Some (report_of running (option_map cause_of ended)) }
+            → report_shown self.new ≡ Some (report_of running (ended_by ended)) }
     {
         if let Some(session) = self.running.take() {
-            let report = session.into_report(alloc, ended);
-            drop(self.report.replace(report));
+            self.finish(alloc, session, ended);
         }
     }
 }

@@ -1,6 +1,7 @@
 -- A record that is due is what its machine does.
 use Rattle.std.proofs.Common.{◌≡◌, ◌≢◌, ◌⊎◌, ◌≤◌, ◌<◌, ◌+◌, ◌^◌, ℕ, Bool, true, false, nat_le, ◌||◌}
 use Rattle.std.proofs.Common.{if◌then◌else◌, List, [], ◌∷◌, ◌++◌, Some, None, is_some, refl, sym}
+use Rattle.std.proofs.Common.{Ok, Err}
 use Rattle.std.proofs.Common.{ap, ap₂, ◌∙◌, subst, inl, inr, arith}
 use Rattle.std.proofs.lemmas.Bool.{false≢true, true≢false}
 use Rattle.std.proofs.lemmas.Bool.Decides.{nat_tests}
@@ -261,11 +262,11 @@ module _ {D : Type 0} {disk : Ghosts D} (new : Archive D disk) (pair : ℕ) (mac
       }
 
   module _ (no_room : has_room (archive_layout pair) machine kept ≡ false) where
-    pub without_room : (due : Due) → MakesRoomNow new pair machine (Some due) →
+    pub without_room : (due : Due) → MakesRoomNow new pair machine (Err due) →
         Settles new pair machine kept due
     without_room due (made_none due' checkpoint) = by due' checkpoint
       where
-        by : (due : Due) → Checkpoints new pair machine (Some due) →
+        by : (due : Due) → Checkpoints new pair machine (Err due) →
             Settles new pair machine kept due
         by due (at_greatest last is) = no_checkpoint ready no_room last is
         by due (step.breaks less moves) = checkpoint_breaks ready no_room less moves
@@ -274,14 +275,15 @@ module _ {D : Type 0} {disk : Ghosts D} (new : Archive D disk) (pair : ℕ) (mac
 -- after a checkpoint the machine goes on, or was stopped
 module _ {D : Type 0} {disk : Ghosts D} (new : Archive D disk) (pair : ℕ) (machine : Journal) where
   pub stopped_after : is_stopped (disk.arms (disk_of new)) ≡ true →
-      Checkpoints new pair machine None → Checkpoints new pair machine (Some (Ends refusal.Device))
+      Checkpoints new pair machine (Ok tt) →
+      Checkpoints new pair machine (Err (Ends refusal.Device))
   stopped_after stopped (step.made less (moves_on between compacts up is)) =
       absurd (false≢true (sym is.goes ∙ stopped))
   stopped_after stopped (step.made less (moves_down between compacts cut down leaves)) =
       step.breaks less (moves_down between compacts cut down leaves)
 
   pub goes_on_after : is_stopped (disk.arms (disk_of new)) ≡ false →
-      Checkpoints new pair machine None → MakesRoomNow new pair machine None
+      Checkpoints new pair machine (Ok tt) → MakesRoomNow new pair machine (Ok tt)
   goes_on_after goes (step.made less (moves_on between (compacts, _) up is)) =
       has_made between less compacts up is
   goes_on_after goes (step.made less (moves_down between compacts cut down leaves)) =

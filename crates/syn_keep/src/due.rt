@@ -1,5 +1,5 @@
 //! A record that is due for an item of the plan.
-ghost use Rattle.std.specs.Prelude.{◌≡◌, ◌≢◌, ◌||◌, ◌<◌, ◌^◌, ℕ, nat_le, None, Some};
+ghost use Rattle.std.specs.Prelude.{◌≡◌, ◌≢◌, ◌||◌, ◌<◌, ◌^◌, ℕ, nat_le, IfErr, MatchResult};
 ghost use Rattle.std.specs.Prelude.{false, option_map};
 ghost use Rattle.syn_archive.specs.Archive.{disk_of, left_shown, marks_shown, pair_of, shown};
 ghost use Rattle.syn_archive.specs.Disks.{kept_size};
@@ -81,10 +81,13 @@ fn write_after<D: Disk>(alloc: Global, archive: &mut Archive<D>, kept: &KeptItem
         → IsAsItWas archive.old archive.new }
     ensures pair { pair_of archive.new ≡ pair_of archive.old }
 {
-    match make_room(alloc, archive) {
-        Some(due) => due,
-        None if has_room(archive, kept) => write(alloc, archive, kept),
-        None => Due::Ends(Refusal::JournalFull),
+    if let Err(due) = make_room(alloc, archive) {
+        return due;
+    }
+    if has_room(archive, kept) {
+        write(alloc, archive, kept)
+    } else {
+        Due::Ends(Refusal::JournalFull)
     }
 }
 
@@ -120,10 +123,10 @@ pub fn refusal_for<D: Disk>(archive: &Archive<D>, kept: &KeptItem) -> Option<Ref
     ensures { option_map cause_of result ≡ kept_refusal (shown archive.now) (kept_for kept.now) }
 {
     match kept {
-        KeptItem::Record(path, marks) => match archive.fits(path, marks.as_ref()) {
-            Ok(()) => None,
-            Err(error) => Some(error.refusal()),
-        },
+        KeptItem::Record(path, marks) => {
+            let fits = archive.fits(path, marks.as_ref());
+            fits.err().map(|error| error.refusal())
+        }
         KeptItem::Dir(path) => refusal_for_dir(archive, path),
     }
 }
@@ -138,10 +141,8 @@ fn refusal_for_dir<D: Disk>(archive: &Archive<D>, path: &Path) -> Option<Refusal
     if has_dir(archive, path) {
         return None;
     }
-    match archive.tree().check_dir(path) {
-        Ok(()) => None,
-        Err(error) => Some(error.refusal()),
-    }
+    let fits = archive.tree().check_dir(path);
+    fits.err().map(|error| error.refusal())
 }
 
 /// Whether a directory is recorded at the path.
@@ -162,37 +163,36 @@ fn has_room<D: Disk>(archive: &Archive<D>, kept: &KeptItem) -> bool
     }
 }
 
-/// Writes a checkpoint, so that the journal has room again, and answers nothing; or how what is due
-/// ends without one.
-fn make_room<D: Disk>(alloc: Global, archive: &mut Archive<D>) -> Option<Due>
+/// Writes a checkpoint, so that the journal has room again. Without one, the error is how what is
+/// due ends.
+fn make_room<D: Disk>(alloc: Global, archive: &mut Archive<D>) -> Result<(), Due>
     ensures room { (pair : ℕ) (machine : Journal) → IsMachine archive.old pair machine
         → MakesRoomNow archive.new pair machine result }
-    ensures failures { (due : Due) → result ≡ Some due → CountsFailuresOrStops due
-        (is_stopped (D.Disk.arms (disk_of archive.new)))
-        (D.Disk.failures (disk_of archive.old)) (D.Disk.failures (disk_of archive.new)) }
-    ensures none { result ≡ None
-        → D.Disk.failures (disk_of archive.new) ≡ D.Disk.failures (disk_of archive.old) }
-    ensures refused { (why : Refusal) → result ≡ Some (Due.Refused why)
-        → IsAsItWas archive.old archive.new }
+    ensures failures { MatchResult result
+        (λ _. D.Disk.failures (disk_of archive.new) ≡ D.Disk.failures (disk_of archive.old))
+        (λ due. CountsFailuresOrStops due (is_stopped (D.Disk.arms (disk_of archive.new)))
+        (D.Disk.failures (disk_of archive.old)) (D.Disk.failures (disk_of archive.new))) }
+    ensures refused { IfErr result (λ due. (why : Refusal) → due ≡ Due.Refused why
+        → IsAsItWas archive.old archive.new) }
     ensures pair { pair_of archive.new ≡ pair_of archive.old }
 {
-    match checkpoint(alloc, archive) {
-        Some(due) => Some(due),
-        None if archive.is_cut() => Some(Due::Ends(Refusal::Device)),
-        None => None,
+    checkpoint(alloc, archive)?;
+    if archive.is_cut() {
+        return Err(Due::Ends(Refusal::Device));
     }
+    Ok(())
 }
 
-/// Writes a checkpoint, and answers nothing; or how what is due ends without one.
-fn checkpoint<D: Disk>(alloc: Global, archive: &mut Archive<D>) -> Option<Due>
+/// Writes a checkpoint. Without one, the error is how what is due ends.
+fn checkpoint<D: Disk>(alloc: Global, archive: &mut Archive<D>) -> Result<(), Due>
     ensures made { (pair : ℕ) (machine : Journal) → IsMachine archive.old pair machine
         → Checkpoints archive.new pair machine result }
-    ensures failures { (due : Due) → result ≡ Some due → CountsFailures due
-        (D.failures (disk_of archive.old)) (D.failures (disk_of archive.new)) }
-    ensures none { result ≡ None
-        → D.failures (disk_of archive.new) ≡ D.failures (disk_of archive.old) }
-    ensures refused { (why : Refusal) → result ≡ Some (Due.Refused why)
-        → IsAsItWas archive.old archive.new }
+    ensures failures { MatchResult result
+        (λ _. D.failures (disk_of archive.new) ≡ D.failures (disk_of archive.old))
+        (λ due. CountsFailures due (D.failures (disk_of archive.old))
+        (D.failures (disk_of archive.new))) }
+    ensures refused { IfErr result (λ due. (why : Refusal) → due ≡ Due.Refused why
+        → IsAsItWas archive.old archive.new) }
     ensures pair { pair_of archive.new ≡ pair_of archive.old }
 {
     device_laws();
@@ -201,10 +201,10 @@ fn checkpoint<D: Disk>(alloc: Global, archive: &mut Archive<D>) -> Option<Due>
     match archive.checkpoint(alloc) {
         Ok(()) => {
             archive.keeps_on_disk();
-            None
+            Ok(())
         }
-        Err(ArchiveError::Full) => Some(Due::Refused(Refusal::Full)),
-        Err(error) => Some(ending(error)),
+        Err(ArchiveError::Full) => Err(Due::Refused(Refusal::Full)),
+        Err(error) => Err(ending(error)),
     }
 }
 

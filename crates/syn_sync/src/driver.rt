@@ -26,7 +26,8 @@ use std::alloc::Global;
 use std::io::{Read, Write};
 use syn_coordinator::Coordinator;
 use syn_disk::Disk;
-use syn_message::{Answered, Side};
+use syn_message::Answered;
+use syn_path::Side;
 use syn_refusal::Refusal;
 use syn_session::{Sending, SessionError};
 
@@ -112,6 +113,7 @@ impl<R: Read, W: Write> Driver<R, W> {
         readiness: &mut S,
         watch: &mut V,
     )
+        requires goes { is_stopped (D.Disk.arms (device_of coordinator.old)) ≡ false }
         ensures { (pair : ℕ) (machine : CoordinatorMachine)
             → Stands coordinator.old pair machine
             → (heard : Lines) × Drives coordinator.new pair machine
@@ -119,9 +121,6 @@ impl<R: Read, W: Write> Driver<R, W> {
             (outlets_of W.contents self.old) (outlets_of W.contents self.new) }
     {
         for _ in 0..u64::MAX {
-            if coordinator.is_cut() {
-                return;
-            }
             if !coordinator.is_running() {
                 return;
             }
@@ -324,9 +323,6 @@ fn give_up<D: Disk>(alloc: Global, coordinator: &mut Coordinator<D>) -> Result<(
     }
     for _ in 0..MOST_TICKS {
         tick(alloc, coordinator);
-    }
-    if coordinator.is_cut() {
-        return Err(Refusal::Device);
     }
     if coordinator.is_running() {
         return Err(Refusal::NoAnswer);

@@ -12,10 +12,9 @@ use syn_path::Path;
 pub(crate) fn has_body(asked: &Asked) -> bool
     ensures { result ≡ true → IsLawfulAsking (asking_of asked.now) }
 {
-    is_long(asked.session)
-        && asked.session > 0
-        && is_short(asked.number)
-        && is_lawful(&asked.request)
+    is_long(asked.session);
+    is_short(asked.number);
+    asked.session > 0 && is_lawful(&asked.request)
 }
 
 /// Whether the fields of the request are within their limits.
@@ -23,49 +22,67 @@ fn is_lawful(request: &Request) -> bool
     ensures { result ≡ true → IsLawfulBody (request_of request.now) }
 {
     match request {
-        Request::Begin { pair } => is_long(*pair),
-        Request::List { path } => is_path(path),
+        Request::Begin { pair } => {
+            is_long(*pair);
+            true
+        }
+        Request::List { path } => {
+            is_path(path);
+            true
+        }
         Request::Fetch {
             path,
             since,
             offset,
-        } => is_path(path) && is_long(*since) && is_short(*offset),
+        } => {
+            is_path(path);
+            is_long(*since);
+            is_short(*offset);
+            true
+        }
         Request::Stage {
             item,
             offset,
             bytes,
-        } => is_short(*item) && is_short(*offset) && is_piece(bytes),
+        } => {
+            is_short(*item);
+            is_short(*offset);
+            is_piece(bytes)
+        }
         Request::Replace {
             item,
             path,
             since,
             length,
-        } => is_short(*item) && is_path(path) && is_long(*since) && is_short(*length),
+        } => {
+            is_short(*item);
+            is_path(path);
+            is_long(*since);
+            is_short(*length);
+            true
+        }
     }
 }
 
 /// Each path is lawful.
-fn is_path(path: &Path) -> bool
-    ensures { result ≡ true → IsPath path.now }
+fn is_path(path: &Path)
+    ensures { IsPath path.now }
 {
     let _ = path.names();
-    true
 }
 
 /// Eight bytes spell it.
-fn is_long(number: u64) -> bool
-    ensures { result ≡ true → number < 2 ^ 64 }
+fn is_long(number: u64)
+    ensures { number < 2 ^ 64 }
 {
     let _ = number;
-    true
 }
 
 /// Four bytes spell it.
-fn is_short(number: u32) -> bool
-    ensures { result ≡ true → number < 2 ^ 32 }
+fn is_short(number: u32)
+    ensures { number < 2 ^ 32 }
 {
     let _ = number;
-    true
 }
 
 /// Whether so many bytes are staged at a time.

@@ -7,8 +7,8 @@ use crate::watch::Watch;
 use std::alloc::{AllocError, Global};
 use std::io::Write;
 use syn_image::Kept;
-use syn_message::{Answered, Reply, Request, Side};
-use syn_path::Path;
+use syn_message::{Answered, Reply, Request};
+use syn_path::{Path, Side};
 use syn_refusal::Refusal;
 use syn_session::{Report, Sending};
 

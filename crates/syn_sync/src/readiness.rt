@@ -1,6 +1,6 @@
 //! Which of two sides is to be read.
 
-use syn_message::Side;
+use syn_path::Side;
 
 /// Tells which of two sides has something to read. No clause says what it answers: a driver takes
 /// what each side replies in order, whichever it reads first.

@@ -1,7 +1,8 @@
 //! Who is told how a session goes.
 
 use syn_image::Kept;
-use syn_message::{Answered, Side};
+use syn_message::Answered;
+use syn_path::Side;
 use syn_session::Sending;
 
 /// Is told what happens in a session, as it happens. It sees the session, and changes nothing of

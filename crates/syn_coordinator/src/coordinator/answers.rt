@@ -22,7 +22,8 @@ use super::{Broken, Coordinator};
 use crate::ended::Ended;
 use std::alloc::Global;
 use syn_disk::Disk;
-use syn_message::{Reply, Request, Side};
+use syn_message::{Reply, Request};
+use syn_path::Side;
 use syn_propagate::transfer_laws;
 use syn_refusal::Refusal;
 use syn_session::{Asks, Course, Sending, Session};
@@ -126,10 +127,9 @@ impl<D: Disk> Coordinator<D> {
         ensures breaks { Breaks self.old self.new result }
     {
         let Some(course) = &mut session.course else {
-            return match session.hear(alloc, from, request, reply) {
-                Ok(Some(asks)) => Ok(asks),
-                Ok(None) => self.begin_course(alloc, session),
-                Err(why) => Err(Ended::Early(why)),
+            return match session.hear(alloc, from, request, reply)? {
+                Some(asks) => Ok(asks),
+                None => self.begin_course(alloc, session),
             };
         };
         transfer_laws();
@@ -156,9 +156,7 @@ impl<D: Disk> Coordinator<D> {
         let right = session.right.scan.found();
         let archive = self.archive.tree();
         let preference = session.preference;
-        let Ok(mut course) = Course::new(alloc, left, right, archive, preference) else {
-            return Err(Ended::Early(Refusal::Memory));
-        };
+        let mut course = Course::new(alloc, left, right, archive, preference)?;
         let asks = self.walk(alloc, &mut course, left, right);
         drop(session.course.replace(course));
         asks
@@ -194,7 +192,7 @@ impl<D: Disk> Coordinator<D> {
     }
 
     /// Ends the session, and keeps its report. It takes no memory.
-    fn finish(&mut self, alloc: Global, session: Session, ended: Ended)
+    pub(super) fn finish(&mut self, alloc: Global, session: Session, ended: Ended)
         ensures running { self.new.running ≡ None }
         ensures archive { self.new.archive ≡ self.old.archive }
         ensures kept { (self.new.written ≡ self.old.written) × (self.new.broke ≡ self.old.broke)

@@ -55,11 +55,10 @@ impl<D: Disk> Coordinator<D> {
         ensures report { self.new.report ≡ self.old.report }
         ensures breaks { Breaks self.old self.new result }
     {
-        match course.take_answer(alloc, reply) {
-            Ok(Carrying::Asks(asks)) => Ok(asks),
-            Ok(Carrying::Done(kept)) => self.walk_after(alloc, course, left, right, kept),
-            Ok(Carrying::Refused(why)) => self.walk_past(alloc, course, left, right, why),
-            Err(why) => Err(Ended::Early(why)),
+        match course.take_answer(alloc, reply)? {
+            Carrying::Asks(asks) => Ok(asks),
+            Carrying::Done(kept) => self.walk_after(alloc, course, left, right, kept),
+            Carrying::Refused(why) => self.walk_past(alloc, course, left, right, why),
         }
     }
 

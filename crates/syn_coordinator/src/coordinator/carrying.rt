@@ -70,10 +70,7 @@ impl<D: Disk> Coordinator<D> {
                 course.pass_kept(was_carried);
                 Ok(())
             }
-            Due::Refused(why) => match course.refuse(alloc, why) {
-                Ok(()) => Ok(()),
-                Err(_) => Err(Ended::Early(Refusal::Memory)),
-            },
+            Due::Refused(why) => Ok(course.refuse(alloc, why)?),
             Due::Ends(why) => Err(Ended::Early(why)),
         }
     }
@@ -120,10 +117,7 @@ impl<D: Disk> Coordinator<D> {
             (λ _. IsPast self.now self.now pair taken journal before course.new left right)
             (EndsSo self.now self.now pair taken journal before course.new left right) }
     {
-        match course.pass_conflict(path) {
-            Ok(()) => Ok(()),
-            Err(_) => Err(Ended::Early(Refusal::Memory)),
-        }
+        Ok(course.pass_conflict(path)?)
     }
 
     /// Goes past the item that the session has come to, which is refused so. The session ends 11
@@ -144,10 +138,7 @@ impl<D: Disk> Coordinator<D> {
             (λ _. IsPast self.now self.now pair taken journal before course.new left right)
             (EndsSo self.now self.now pair taken journal before course.new left right) }
     {
-        match course.refuse(alloc, why) {
-            Ok(()) => Ok(()),
-            Err(_) => Err(Ended::Early(Refusal::Memory)),
-        }
+        Ok(course.refuse(alloc, why)?)
     }
 
     /// Asks for the first piece of the item that the session has come to, which is carried; or goes
@@ -200,10 +191,8 @@ impl<D: Disk> Coordinator<D> {
         ensures breaks { Breaks self.old self.new result }
     {
         for _ in 0..u64::MAX {
-            match self.pass(alloc, course, left, right) {
-                Ok(Some(asks)) => return Ok(asks),
-                Ok(None) => {}
-                Err(ended) => return Err(ended),
+            if let Some(asks) = self.pass(alloc, course, left, right)? {
+                return Ok(asks);
             }
         }
         Err(Ended::Early(Refusal::Memory))
@@ -230,18 +219,17 @@ impl<D: Disk> Coordinator<D> {
         ensures report { self.new.report ≡ self.old.report }
         ensures breaks { Breaks self.old self.new result }
     {
-        match course.doing(alloc, left, right) {
-            Ok(Doing::Nothing) => Err(Ended::Settled),
-            Ok(Doing::Conflict(path)) => {
+        match course.doing(alloc, left, right)? {
+            Doing::Nothing => Err(Ended::Settled),
+            Doing::Conflict(path) => {
                 self.pass_conflict(course, path)?;
                 Ok(None)
             }
-            Ok(Doing::Mark(kept)) => {
+            Doing::Mark(kept) => {
                 self.settle(alloc, course, kept, false)?;
                 Ok(None)
             }
-            Ok(Doing::Carry(carried)) => self.carry(alloc, course, carried),
-            Err(_) => Err(Ended::Early(Refusal::Memory)),
+            Doing::Carry(carried) => self.carry(alloc, course, carried),
         }
     }
 }

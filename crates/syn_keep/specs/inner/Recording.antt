@@ -1,5 +1,5 @@
 -- The steps of recording what is due: a write, and the checkpoint that makes room for it.
-use Rattle.std.specs.Prelude.{◌≡◌, ℕ, true, false, nat_le, [], ◌∷◌, Option, Some, None}
+use Rattle.std.specs.Prelude.{◌≡◌, ℕ, true, false, nat_le, [], ◌∷◌, Result, Ok, Err}
 use Rattle.syn_archive.specs.declared.archive.Archive.{Archive}
 use Rattle.syn_archive.specs.declared.error.ArchiveError.{ArchiveError}
 use Rattle.syn_archive.specs.declared.error.ArchiveError.TheVariants.{Device}
@@ -27,25 +27,25 @@ pub data Writes {D : Type 0} {disk : Ghosts D} (new : Archive D disk) (pair : �
       Writes new pair machine kept (Ends refusal.Device)
   no_memory : IsMachine new pair machine → Writes new pair machine kept (Ends refusal.Memory)
 
--- What becomes of a checkpoint for it: this status where nothing refuses it, else how it ends
+-- What becomes of a checkpoint for it: it is made where nothing refuses it, else how it ends
 pub data Checkpoints {D : Type 0} {disk : Ghosts D} (new : Archive D disk) (pair : ℕ)
-    (machine : Journal) : Option Due → Type 0 where
+    (machine : Journal) : Result (Unit {0}) Due → Type 0 where
   made : nat_le greatest machine.generation ≡ false →
       CompactsSo new pair machine Up →
-      Checkpoints new pair machine None
+      Checkpoints new pair machine (Ok tt)
   at_greatest : nat_le greatest machine.generation ≡ true → IsMachine new pair machine →
-      Checkpoints new pair machine (Some (Refused refusal.Full))
+      Checkpoints new pair machine (Err (Refused refusal.Full))
   breaks : nat_le greatest machine.generation ≡ false →
       CompactsSo new pair machine Halted →
-      Checkpoints new pair machine (Some (Ends refusal.Device))
+      Checkpoints new pair machine (Err (Ends refusal.Device))
   no_memory : IsMachine new pair machine →
-      Checkpoints new pair machine (Some (Ends refusal.Memory))
+      Checkpoints new pair machine (Err (Ends refusal.Memory))
 
 -- and the machine was not stopped after it
 pub data MakesRoomNow {D : Type 0} {disk : Ghosts D} (new : Archive D disk) (pair : ℕ)
-    (machine : Journal) : Option Due → Type 0 where
+    (machine : Journal) : Result (Unit {0}) Due → Type 0 where
   has_made : (between : Journal) → nat_le greatest machine.generation ≡ false →
       Compacts (archive_layout pair) machine between → between.status ≡ Up →
-      IsMachine new pair between → MakesRoomNow new pair machine None
-  made_none : (due : Due) → Checkpoints new pair machine (Some due) →
-      MakesRoomNow new pair machine (Some due)
+      IsMachine new pair between → MakesRoomNow new pair machine (Ok tt)
+  made_none : (due : Due) → Checkpoints new pair machine (Err due) →
+      MakesRoomNow new pair machine (Err due)

@@ -1,4 +1,4 @@
-use Rattle.std.proofs.Common.{◌<◌, ◌^◌, ◌∙◌, nat_le, Some, inl, inr, ap, refl, subst, sym}
+use Rattle.std.proofs.Common.{◌<◌, ◌^◌, ◌∙◌, nat_le, Err, Some, inl, inr, ap, refl, subst, sym}
 use Rattle.std.proofs.lemmas.Option.{none-some}
 use Rattle.syn_archive.specs.Refusals.{refusal_of}
 use Rattle.syn_archive.specs.Calls.{Compacts}
@@ -37,15 +37,15 @@ returns-in-Err-Full-clause-made g c pair machine is =
 
 pub returns-in-Err-clause-made : goal.returns-in-Err-clause-made
 returns-in-Err-clause-made g c pair machine is =
-    subst (λ due. Checkpoints c.checkpoint.new.self pair machine (Some due))
+    subst (λ due. Checkpoints c.checkpoint.new.self pair machine (Err due))
     (sym c.ending.ensures.ended)
     (elim (device_or_other c.in-Err.error)
-    as (λ _. Checkpoints c.checkpoint.new.self pair machine (Some (ended_by c.in-Err.error))) [
+    as (λ _. Checkpoints c.checkpoint.new.self pair machine (Err (ended_by c.in-Err.error))) [
       | inl device ↦
           let fits = subst (λ n. n < 2 ^ 64) c.generation-generation.ensures c.is_long.ensures in
           let was = when_runs c.args.archive.now pair machine is (λ h. not_halted c.in-Err.error
           Device (ap refusal_of device) (λ is. cc) (c.in-Err.ensures.machine.halted.1 h)) in
-          subst (λ x. Checkpoints c.checkpoint.new.self pair machine (Some (ended_by x)))
+          subst (λ x. Checkpoints c.checkpoint.new.self pair machine (Err (ended_by x)))
           (sym device)
           (breaks (not_greatest c.args.archive.now c.checkpoint.new.self pair machine is fits was
           (λ e. device_not_full _ _ device ((c.in-Err.ensures.greatest _ was.stands).1 e)))
@@ -53,7 +53,7 @@ returns-in-Err-clause-made g c pair machine is =
           (subst (λ x. Compacts c.args.archive.now c.checkpoint.new.self (Some (refusal_of x)))
           device c.in-Err.ensures.machine) g.met.D.Disk.counts_now
           (c.in-Err.ensures.any_moment _ was.stands) c.device_laws.ensures.broken))
-      | inr other ↦ subst (λ due. Checkpoints c.checkpoint.new.self pair machine (Some due))
+      | inr other ↦ subst (λ due. Checkpoints c.checkpoint.new.self pair machine (Err due))
           (sym (other_ends c.in-Err.error other)) (no_memory (stays c.args.archive.now
           c.checkpoint.new.self pair machine is c.in-Err.error other
           c.in-Err.ensures.machine.unchanged c.in-Err.ensures.machine.readings))

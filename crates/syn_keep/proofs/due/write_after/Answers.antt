@@ -1,4 +1,4 @@
-use Rattle.std.proofs.Common.{◌≡◌, ◌∙◌, true, false, None, sym}
+use Rattle.std.proofs.Common.{◌≡◌, ◌∙◌, true, false, Ok, sym}
 use Rattle.syn_headline.specs.Coordinator.{archive_layout}
 use Rattle.syn_headline.specs.Machine.{has_room}
 use Rattle.syn_refusal.specs.declared.refusal.Refusal.TheVariants as refusal
@@ -9,16 +9,16 @@ use Rattle.syn_keep.proofs.DueLemmas.{ready_still, room_is, settled, when_up, wi
 use Rattle.syn_image.specs.Archives.{kept_for}
 use Rattle.syn_keep.proofs.due.write_after.Goals as goal
 
-pub returns-in-Some-clause-settles : goal.returns-in-Some-clause-settles
-returns-in-Some-clause-settles g c pair machine is ready no_room =
+pub returns-in-Err-clause-settles : goal.returns-in-Err-clause-settles
+returns-in-Err-clause-settles g c pair machine is ready no_room =
     without_room c.make_room.new.archive pair machine
-    (kept_for c.args.kept.now) ready no_room c.in-Some.due (c.in-Some.ensures.room pair machine is)
+    (kept_for c.args.kept.now) ready no_room c.in-Err.due (c.in-Err.ensures.room pair machine is)
 
-pub returns-in-None-clause-settles : goal.returns-in-None-clause-settles
-returns-in-None-clause-settles g c pair machine is ready no_room =
-    by (c.in-None.ensures.room pair machine is)
+pub returns-then-has_room-clause-settles : goal.returns-then-has_room-clause-settles
+returns-then-has_room-clause-settles g c pair machine is ready no_room =
+    by (c.in_default.ensures.room pair machine is)
   where
-    by : MakesRoomNow c.make_room.new.archive pair machine None →
+    by : MakesRoomNow c.make_room.new.archive pair machine (Ok tt) →
         Settles c.write.new.archive pair machine (kept_for c.args.kept.now) c.write.result
     by (has_made between less compacts up now) =
         let kept = kept_for c.args.kept.now in
@@ -31,11 +31,11 @@ returns-in-None-clause-settles g c pair machine is ready no_room =
         (c.write.ensures.writes pair between now
         (ready_still c.write.new.archive pair machine kept ready between compacts up))
 
-pub returns-in-None-2-clause-settles : goal.returns-in-None-2-clause-settles
-returns-in-None-2-clause-settles g c pair machine is ready no_room =
-    by (c.in-None-2.ensures.room pair machine is)
+pub returns-else-has_room-clause-settles : goal.returns-else-has_room-clause-settles
+returns-else-has_room-clause-settles g c pair machine is ready no_room =
+    by (c.in_default.ensures.room pair machine is)
   where
-    by : MakesRoomNow c.make_room.new.archive pair machine None → Settles c.make_room.new.archive
+    by : MakesRoomNow c.make_room.new.archive pair machine (Ok tt) → Settles c.make_room.new.archive
         pair machine (kept_for c.args.kept.now) (Ends refusal.JournalFull)
     by (has_made between less compacts up now) =
         let kept = kept_for c.args.kept.now in

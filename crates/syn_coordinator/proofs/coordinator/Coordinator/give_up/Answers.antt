@@ -2,13 +2,14 @@ use Rattle.std.proofs.Common.{sym, []}
 use Rattle.std.proofs.lemmas.List.{append-nil}
 use Rattle.syn_refusal.specs.Refusals.{cause_of}
 use Rattle.syn_session.specs.Passing.{refused_at}
+use Rattle.syn_coordinator.proofs.EndedLemmas.{match_of_memory}
 use Rattle.syn_coordinator.proofs.SettleLemmas.{ends_for_memory}
 use Rattle.syn_coordinator.proofs.coordinator.Coordinator.give_up.Goals as goal
 
-pub returns-in-Ok : goal.returns-in-Ok
-returns-in-Ok g c = record {
+pub returns : goal.returns
+returns g c = record {
   step = λ pair journal left right taken before planned is quiet course_is at none passes.
-      let later = c.in-Ok.ensures.passes left right before planned course_is at none in (
+      let later = c.in_ok-refuse.ensures.passes left right before planned course_is at none in (
         [],
         sym (append-nil _),
         later.cursor,
@@ -23,13 +24,15 @@ returns-in-Ok g c = record {
       );
 }
 
-pub returns-in-Err : goal.returns-in-Err
-returns-in-Err g c = record {
-  step = λ pair journal left right taken before planned is quiet course_is at none passes. (
-    [],
-    sym (append-nil _),
-    ends_for_memory c.args.self.now.archive c.args.self.now.tried pair
-        taken journal before c.refuse.new.self left right is quiet.0 quiet.1
-        (c.in-Err.ensures.stays left right before course_is),
-  );
+pub returns-in_err-refuse : goal.returns-in_err-refuse
+returns-in_err-refuse g c = record {
+  step = λ pair journal left right taken before planned is quiet course_is at none passes.
+      match_of_memory c.from_residual.result _ _ _ c.from_residual.ensures.1
+      c.in_err-refuse.ensures.memory (
+        [],
+        sym (append-nil _),
+        ends_for_memory c.args.self.now.archive c.args.self.now.tried pair
+            taken journal before c.refuse.new.self left right is quiet.0 quiet.1
+            (c.in_err-refuse.ensures.stays left right before course_is),
+      );
 }

@@ -1,14 +1,16 @@
 use Rattle.std.proofs.Common.{sym, []}
 use Rattle.std.proofs.lemmas.List.{append-nil}
 use Rattle.syn_session.specs.Passing.{past_at}
+use Rattle.syn_coordinator.proofs.EndedLemmas.{match_of_memory}
 use Rattle.syn_coordinator.proofs.SettleLemmas.{at_walk, ends_for_memory}
 use Rattle.syn_coordinator.proofs.WalkLemmas.{passes_conflict}
 use Rattle.syn_coordinator.proofs.coordinator.Coordinator.pass_conflict.Goals as goal
 
-pub returns-in-Ok : goal.returns-in-Ok
-returns-in-Ok g c = record {
+pub returns : goal.returns
+returns g c = record {
   step = λ pair journal left right taken before planned is quiet course_is at conflict.
-      let later = c.in-Ok.ensures.passes left right before planned course_is at conflict in (
+      let later = c.in_ok-pass_conflict.ensures.passes left right before planned course_is at
+      conflict in (
         [],
         sym (append-nil _),
         later.cursor,
@@ -26,13 +28,15 @@ returns-in-Ok g c = record {
       );
 }
 
-pub returns-in-Err : goal.returns-in-Err
-returns-in-Err g c = record {
-  step = λ pair journal left right taken before planned is quiet course_is at conflict. (
-    [],
-    sym (append-nil _),
-    ends_for_memory c.args.self.now.archive c.args.self.now.tried pair
-        taken journal before c.pass_conflict.new.self left right is quiet.0 quiet.1
-        (c.in-Err.ensures.stays left right before course_is),
-  );
+pub returns-in_err-pass_conflict : goal.returns-in_err-pass_conflict
+returns-in_err-pass_conflict g c = record {
+  step = λ pair journal left right taken before planned is quiet course_is at conflict.
+      match_of_memory c.from_residual.result _ _ _ c.from_residual.ensures.1
+      c.in_err-pass_conflict.ensures.memory (
+        [],
+        sym (append-nil _),
+        ends_for_memory c.args.self.now.archive c.args.self.now.tried pair
+            taken journal before c.pass_conflict.new.self left right is quiet.0 quiet.1
+            (c.in_err-pass_conflict.ensures.stays left right before course_is),
+      );
 }

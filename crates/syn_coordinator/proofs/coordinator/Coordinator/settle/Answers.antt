@@ -4,6 +4,7 @@ use Rattle.syn_coordinator.specs.declared.ended.Ended.TheVariants.{Early}
 use Rattle.syn_coordinator.specs.inner.Advancing.{kept_by}
 use Rattle.syn_coordinator.proofs.AdvanceLemmas.{record_due}
 use Rattle.syn_session.proofs.CourseLemmas.{no_conflict}
+use Rattle.syn_coordinator.proofs.EndedLemmas.{match_of_memory}
 use Rattle.syn_coordinator.proofs.SettleLemmas.{ends_for_memory, is_cut_off, is_ended, is_kept}
 use Rattle.syn_coordinator.proofs.SettleLemmas.{is_refused, still_is, tries_by}
 use Rattle.syn_keep.specs.declared.due.Due.TheVariants as due
@@ -42,12 +43,13 @@ returns-in-Recorded-clause-step g c pair journal left right taken before planned
       c.in-Recorded.ensures.tried ∙ quiet.0,
     )
 
-pub returns-in-Ok-clause-step : goal.returns-in-Ok-clause-step
-returns-in-Ok-clause-step g c pair journal left right taken before planned is quiet course_is at
-    is_due carries =
+pub returns-in_ok-refuse-in-Refused-clause-step : goal.returns-in_ok-refuse-in-Refused-clause-step
+returns-in_ok-refuse-in-Refused-clause-step g c pair journal left right taken before planned is
+    quiet course_is at is_due carries =
     let what = kept_for c.args.kept in
-    let later = c.in-Ok.ensures.passes left right before planned course_is at (no_conflict planned
-    planned.item what (record_due c.args.course.now.cursor planned taken what is_due)) in (
+    let later = c.in_ok-refuse-in-Refused.ensures.passes left right before planned course_is at
+    (no_conflict planned planned.item what (record_due c.args.course.now.cursor planned taken what
+    is_due)) in (
       [],
       c.in-Refused.ensures.written,
       later.cursor,
@@ -59,10 +61,13 @@ returns-in-Ok-clause-step g c pair journal left right taken before planned is qu
       c.in-Refused.ensures.tried ∙ quiet.0,
     )
 
-pub returns-in-Err-clause-step : goal.returns-in-Err-clause-step
-returns-in-Err-clause-step g c pair journal left right taken before planned is quiet course_is at
-    is_due carries =
-    let what = kept_for c.args.kept in (
+pub returns-in_err-refuse-in-Refused-clause-step :
+    goal.returns-in_err-refuse-in-Refused-clause-step
+returns-in_err-refuse-in-Refused-clause-step g c pair journal left right taken before planned is
+    quiet course_is at is_due carries =
+    let what = kept_for c.args.kept in
+    match_of_memory c.from_residual.result _ _ _ c.from_residual.ensures.1
+    c.in_err-refuse-in-Refused.ensures.memory (
       [],
       c.in-Refused.ensures.written,
       ends_for_memory c.keep-due.new.self.archive c.keep-due.new.self.tried pair taken journal
@@ -72,7 +77,7 @@ returns-in-Err-clause-step g c pair journal left right taken before planned is q
           (sym c.is_cut.ensures ∙ c.if-is_cut.false)
           c.in-Refused.why (c.in-Refused.ensures.settles pair journal is)
           (c.in-Refused.ensures.tried ∙ quiet.0)) (c.in-Refused.ensures.tried ∙ quiet.0) quiet.1
-          (c.in-Err.ensures.stays left right before course_is),
+          (c.in_err-refuse-in-Refused.ensures.stays left right before course_is),
     )
 
 pub returns-in-Ends-clause-step : goal.returns-in-Ends-clause-step
@@ -95,11 +100,15 @@ returns-then-is_cut-clause-breaks g c = due_breaks c.args.self.now c.keep-due.ne
 pub returns-in-Recorded-clause-breaks : goal.returns-in-Recorded-clause-breaks
 returns-in-Recorded-clause-breaks g c = c.in-Recorded.ensures.breaks
 
-pub returns-in-Ok-clause-breaks : goal.returns-in-Ok-clause-breaks
-returns-in-Ok-clause-breaks g c = c.in-Refused.ensures.breaks
+pub returns-in_ok-refuse-in-Refused-clause-breaks :
+    goal.returns-in_ok-refuse-in-Refused-clause-breaks
+returns-in_ok-refuse-in-Refused-clause-breaks g c = c.in-Refused.ensures.breaks
 
-pub returns-in-Err-clause-breaks : goal.returns-in-Err-clause-breaks
-returns-in-Err-clause-breaks g c = inl c.in-Refused.ensures.breaks
+pub returns-in_err-refuse-in-Refused-clause-breaks :
+    goal.returns-in_err-refuse-in-Refused-clause-breaks
+returns-in_err-refuse-in-Refused-clause-breaks g c =
+    match_of_memory c.from_residual.result _ _ _ c.from_residual.ensures.1
+    c.in_err-refuse-in-Refused.ensures.memory (inl c.in-Refused.ensures.breaks)
 
 pub returns-in-Ends-clause-breaks : goal.returns-in-Ends-clause-breaks
 returns-in-Ends-clause-breaks g c = due_breaks c.args.self.now c.keep-due.new.self

@@ -7,6 +7,9 @@ use Rattle.syn_session.specs.Answering.{exchange_of}
 use Rattle.syn_session.specs.Hearing.{ScansOn}
 use Rattle.syn_session.proofs.HearingLemmas.{not_last}
 use Rattle.syn_session.specs.Stages.{reached_by}
+use Rattle.syn_model.proofs.ExitLemmas.{exit_is, match_of_exit}
+use Rattle.syn_coordinator.specs.Coordinators.{written}
+use Rattle.syn_coordinator.specs.inner.Taking.{TakesSo}
 use Rattle.syn_coordinator.proofs.BeginLemmas.{carries_now, carries_so}
 use Rattle.syn_coordinator.proofs.TakeLemmas.{hears_end, hears_on}
 use Rattle.syn_coordinator.proofs.TriedLemmas.{tries_none}
@@ -31,45 +34,51 @@ returns-clause-step g c =
     is quiet (carries_now pair journal before c.args.session.now running side number request reply
     session answers c.in-Some.course was left right same_left same_right))
 
-pub returns-in-Ok-Some-clause-step : goal.returns-in-Ok-Some-clause-step
-returns-in-Ok-Some-clause-step g c =
+pub returns-in-Some-2-clause-step : goal.returns-in-Some-2-clause-step
+returns-in-Some-2-clause-step g c =
     λ pair number journal before running is quiet session answers nothing.
     let scans = sym answers.course ∙ c.in_default.is in
     let heard =
-    c.in-Ok-Some.ensures.step journal.value before running number session answers scans in (
+    c.in_ok-asks.ensures.step journal.value before running number session answers scans in (
       hears_on _ pair journal running (exchange_of (which_of c.args.from) number
           (request_of c.args.request) (reply_of c.args.reply)) c.hear.new.self is _ nothing
-          c.in-Ok-Some.asks heard.0 heard.1 (subst
+          c.in-Some-2.asks heard.0 heard.1 (subst
           (ScansOn c.hear.new.self (hearing running (exchange_of (which_of c.args.from) number
-          (request_of c.args.request) (reply_of c.args.reply)))) c.in-Ok-Some.field-0-is heard.2)
+          (request_of c.args.request) (reply_of c.args.reply)))) c.in-Some-2.is heard.2)
           (not_last journal.value before c.args.session.now running (which_of c.args.from) number
           (request_of c.args.request) (reply_of c.args.reply) session answers scans heard.0),
       quiet.0,
     )
 
-pub returns-in-Ok-None-clause-step : goal.returns-in-Ok-None-clause-step
-returns-in-Ok-None-clause-step g c =
+pub returns-in-None-clause-step : goal.returns-in-None-clause-step
+returns-in-None-clause-step g c =
     λ pair number journal before running is quiet session answers nothing.
     let scans = sym answers.course ∙ c.in_default.is in
     let heard =
-    c.in-Ok-None.ensures.step journal.value before running number session answers scans in
+    c.in_ok-asks.ensures.step journal.value before running number session answers scans in
     c.begin_course.ensures.step pair journal running (exchange_of (which_of c.args.from) number
     (request_of c.args.request) (reply_of c.args.reply)) is quiet heard.0 heard.1
     (subst (ScansOn c.hear.new.self (hearing running (exchange_of (which_of c.args.from) number
-    (request_of c.args.request) (reply_of c.args.reply)))) c.in-Ok-None.field-0-is heard.2)
+    (request_of c.args.request) (reply_of c.args.reply)))) c.in-None.is heard.2)
     nothing
 
-pub returns-in-Err-clause-step : goal.returns-in-Err-clause-step
-returns-in-Err-clause-step g c =
+pub returns-in_err-asks-clause-step : goal.returns-in_err-asks-clause-step
+returns-in_err-asks-clause-step g c =
     λ pair number journal before running is quiet session answers nothing.
     let scans = sym answers.course ∙ c.in_default.is in
-    hears_end _ pair journal running (exchange_of (which_of c.args.from) number
+    subst (λ r. TakesSo c.args.self.now.archive c.args.self.now.tried pair journal running
+    (exchange_of (which_of c.args.from) number (request_of c.args.request)
+    (reply_of c.args.reply)) c.hear.new.self (written c.args.self.now) r)
+    (sym (exit_is c.from_residual.result _ c.from_residual.ensures.1))
+    (hears_end _ pair journal running (exchange_of (which_of c.args.from) number
     (request_of c.args.request) (reply_of c.args.reply)) c.hear.new.self is _
-    (tries_none pair c.args.self.now.tried journal quiet.0 quiet.1) _ nothing c.in-Err.why
-    (c.in-Err.ensures.step journal.value before running number session answers scans)
+    (tries_none pair c.args.self.now.tried journal quiet.0 quiet.1) _ nothing _
+    (c.in_err-asks.ensures.step journal.value before running number session answers scans))
 
-pub returns-in-Ok-Some-clause-breaks : goal.returns-in-Ok-Some-clause-breaks
-returns-in-Ok-Some-clause-breaks g c = none_breaks c.args.self.now
+pub returns-in-Some-2-clause-breaks : goal.returns-in-Some-2-clause-breaks
+returns-in-Some-2-clause-breaks g c = none_breaks c.args.self.now
 
-pub returns-in-Err-clause-breaks : goal.returns-in-Err-clause-breaks
-returns-in-Err-clause-breaks g c = inl (none_breaks c.args.self.now)
+pub returns-in_err-asks-clause-breaks : goal.returns-in_err-asks-clause-breaks
+returns-in_err-asks-clause-breaks g c =
+    match_of_exit c.from_residual.result _ _ _ c.from_residual.ensures.1
+    (inl (none_breaks c.args.self.now))

@@ -1,6 +1,7 @@
 use Rattle.std.proofs.Common.{refl, subst, ◌∙◌, inl}
 use Rattle.std.specs.Prelude.{MatchOption}
 use Rattle.syn_coordinator.specs.inner.Settling.{AsksSo, PassesOn}
+use Rattle.syn_model.proofs.ExitLemmas.{match_of_exit}
 use Rattle.syn_coordinator.proofs.PassLemmas.{at_turn, no_turn, no_turn_left, still_quiet}
 use Rattle.syn_coordinator.proofs.PassLemmas.{turn_asks, turn_ends, turn_past}
 use Rattle.syn_coordinator.proofs.BreakLemmas.{none_breaks, then_ends, then_nothing}
@@ -22,7 +23,7 @@ loop-preserved g c = record {
       let left = c.args.left.now in
       let right = c.args.right.now in
       let come = c.loop.invariant.come pair journal taken all before is quiet at in
-      let turn = c.in-Ok-None.ensures.step pair come.2.journal taken all come.2.after come.2.is
+      let turn = c.in_ok-asks.ensures.step pair come.2.journal taken all come.2.after come.2.is
       (still_quiet pair taken journal before left right all c.args.self.now c.loop.self
       c.loop.course come quiet.1) (at_turn pair taken journal before left right all
       c.args.self.now c.loop.self c.loop.course come) in
@@ -30,40 +31,41 @@ loop-preserved g c = record {
       come c.pass.new.self c.pass.new.course
       (subst (λ o. MatchOption o (PassesOn c.loop.self c.pass.new.self pair taken come.2.journal
       come.2.after c.pass.new.course left right all) (AsksSo c.loop.self c.pass.new.self pair
-      taken come.2.journal come.2.after c.pass.new.course left right all)) c.in-Ok-None.field-0-is
+      taken come.2.journal come.2.after c.pass.new.course left right all)) c.in_default.is
       turn);
-  running = c.in-Ok-None.ensures.running ∙ c.loop.invariant.running;
-  report = c.in-Ok-None.ensures.report ∙ c.loop.invariant.report;
+  running = c.in_ok-asks.ensures.running ∙ c.loop.invariant.running;
+  report = c.in_ok-asks.ensures.report ∙ c.loop.invariant.report;
   breaks = then_nothing c.args.self.now c.loop.self c.pass.new.self c.loop.invariant.breaks
-      c.in-Ok-None.ensures.breaks;
+      c.in_ok-asks.ensures.breaks;
 }
 
-pub returns-in-Ok-Some-clause-step : goal.returns-in-Ok-Some-clause-step
-returns-in-Ok-Some-clause-step g c pair journal taken all before is quiet at =
+pub returns-in-Some-clause-step : goal.returns-in-Some-clause-step
+returns-in-Some-clause-step g c pair journal taken all before is quiet at =
     let left = c.args.left.now in
     let right = c.args.right.now in
     let come = c.loop.invariant.come pair journal taken all before is quiet at in
-    let turn = c.in-Ok-Some.ensures.step pair come.2.journal taken all come.2.after come.2.is
+    let turn = c.in_ok-asks.ensures.step pair come.2.journal taken all come.2.after come.2.is
     (still_quiet pair taken journal before left right all c.args.self.now c.loop.self
     c.loop.course come quiet.1) (at_turn pair taken journal before left right all c.args.self.now
     c.loop.self c.loop.course come) in
     turn_asks pair taken journal before left right all c.args.self.now c.loop.self c.loop.course
-    come c.pass.new.self c.pass.new.course c.in-Ok-Some.asks
+    come c.pass.new.self c.pass.new.course c.in-Some.asks
     (subst (λ o. MatchOption o (PassesOn c.loop.self c.pass.new.self pair taken come.2.journal
     come.2.after c.pass.new.course left right all) (AsksSo c.loop.self c.pass.new.self pair taken
-    come.2.journal come.2.after c.pass.new.course left right all)) c.in-Ok-Some.field-0-is turn)
+    come.2.journal come.2.after c.pass.new.course left right all)) c.in-Some.is turn)
 
-pub returns-in-Err-clause-step : goal.returns-in-Err-clause-step
-returns-in-Err-clause-step g c pair journal taken all before is quiet at =
+pub returns-in_err-asks-clause-step : goal.returns-in_err-asks-clause-step
+returns-in_err-asks-clause-step g c pair journal taken all before is quiet at =
     let left = c.args.left.now in
     let right = c.args.right.now in
     let come = c.loop.invariant.come pair journal taken all before is quiet at in
-    turn_ends pair taken journal before left right all c.args.self.now c.loop.self c.loop.course
-    come c.pass.new.self c.pass.new.course c.in-Err.ended
-    (c.in-Err.ensures.step pair come.2.journal taken all come.2.after come.2.is (still_quiet pair
-    taken journal before left right all c.args.self.now c.loop.self c.loop.course come quiet.1)
+    match_of_exit c.from_residual.result _ _ _ c.from_residual.ensures.1
+    (turn_ends pair taken journal before left right all c.args.self.now c.loop.self c.loop.course
+    come c.pass.new.self c.pass.new.course _
+    (c.in_err-asks.ensures.step pair come.2.journal taken all come.2.after come.2.is (still_quiet
+    pair taken journal before left right all c.args.self.now c.loop.self c.loop.course come quiet.1)
     (at_turn pair taken journal before left right all c.args.self.now c.loop.self c.loop.course
-    come))
+    come)))
 
 pub returns-clause-step : goal.returns-clause-step
 returns-clause-step g c pair journal taken all before is quiet at =
@@ -71,13 +73,15 @@ returns-clause-step g c pair journal taken all before is quiet at =
     c.args.self.now c.loop.self c.loop.course
     (c.loop.invariant.come pair journal taken all before is quiet at) quiet.1 _ refl
 
-pub returns-in-Ok-Some-clause-breaks : goal.returns-in-Ok-Some-clause-breaks
-returns-in-Ok-Some-clause-breaks g c = then_nothing c.args.self.now c.loop.self c.pass.new.self
-    c.loop.invariant.breaks c.in-Ok-Some.ensures.breaks
+pub returns-in-Some-clause-breaks : goal.returns-in-Some-clause-breaks
+returns-in-Some-clause-breaks g c = then_nothing c.args.self.now c.loop.self c.pass.new.self
+    c.loop.invariant.breaks c.in_ok-asks.ensures.breaks
 
-pub returns-in-Err-clause-breaks : goal.returns-in-Err-clause-breaks
-returns-in-Err-clause-breaks g c = then_ends c.args.self.now c.loop.self c.pass.new.self
-    c.loop.invariant.breaks c.in-Err.ensures.breaks
+pub returns-in_err-asks-clause-breaks : goal.returns-in_err-asks-clause-breaks
+returns-in_err-asks-clause-breaks g c =
+    match_of_exit c.from_residual.result _ _ _ c.from_residual.ensures.1
+    (then_ends c.args.self.now c.loop.self c.pass.new.self c.loop.invariant.breaks
+    c.in_err-asks.ensures.breaks)
 
 pub returns-clause-breaks : goal.returns-clause-breaks
 returns-clause-breaks g c = inl c.loop.invariant.breaks

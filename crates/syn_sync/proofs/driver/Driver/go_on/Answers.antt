@@ -12,21 +12,24 @@ use Rattle.syn_sync.specs.Outlets.{Writes}
 use Rattle.syn_sync.specs.Runs.{frames_to}
 
 pub loop-init : goal.loop-init
-loop-init g c = λ pair machine stands.
-    let outlets = outlets_of {R = g.row.R.Denot} {W = g.row.W.Denot} g.W.Write.contents
-    c.args.self.now in
-    let lines = lines_of {R = g.row.R.Denot} {W = g.row.W.Denot} g.R.Read.remaining
-    c.args.self.now in
-    drives_none c.args.coordinator.now pair machine lines outlets outlets stands
-    stands.journal.goes (λ side. writes_nothing (outlets side) (outlets side).goes)
+loop-init g c = record {
+  drives = λ pair machine stands.
+      let outlets = outlets_of {R = g.row.R.Denot} {W = g.row.W.Denot} g.W.Write.contents
+      c.args.self.now in
+      let lines = lines_of {R = g.row.R.Denot} {W = g.row.W.Denot} g.R.Read.remaining
+      c.args.self.now in
+      drives_none c.args.coordinator.now pair machine lines outlets outlets stands
+      stands.journal.goes (λ side. writes_nothing (outlets side) (outlets side).goes);
+  calm = c.requires.goes;
+}
 
 -- nothing is heard more
 pub returns-in_default-receive : goal.returns-in_default-receive
 returns-in_default-receive g c = λ pair machine stands.
     let outlets = outlets_of {R = g.row.R.Denot} {W = g.row.W.Denot} g.W.Write.contents in
     let lines = lines_of {R = g.row.R.Denot} {W = g.row.W.Denot} g.R.Read.remaining in
-    let here = c.loop.invariant pair machine stands in
-    let calm = sym c.is_cut.ensures ∙ c.if-is_cut.false in (
+    let here = c.loop.invariant.drives pair machine stands in
+    let calm = c.loop.invariant.calm in (
       lines c.loop.self,
       drives_twice c.loop.coordinator c.loop.coordinator pair machine (lines c.args.self.now)
           (lines c.loop.self) (lines c.loop.self) (outlets c.args.self.now)
@@ -38,12 +41,12 @@ returns-in_default-receive g c = λ pair machine stands.
     )
 
 -- the machine is stopped as it takes a reply
-pub returns-then-is_cut-2 : goal.returns-then-is_cut-2
-returns-then-is_cut-2 g c = λ pair machine stands.
+pub returns-then-is_cut : goal.returns-then-is_cut
+returns-then-is_cut g c = λ pair machine stands.
     let outlets = outlets_of {R = g.row.R.Denot} {W = g.row.W.Denot} g.W.Write.contents in
     let lines = lines_of {R = g.row.R.Denot} {W = g.row.W.Denot} g.R.Read.remaining in
-    let here = c.loop.invariant pair machine stands in
-    let calm = sym c.is_cut.ensures ∙ c.if-is_cut.false in
+    let here = c.loop.invariant.drives pair machine stands in
+    let calm = c.loop.invariant.calm in
     let new = c.hear-sends.new.coordinator in (
       lines c.receive.new.self,
       drives_twice c.loop.coordinator new pair machine (lines c.args.self.now)
@@ -56,31 +59,34 @@ returns-then-is_cut-2 g c = λ pair machine stands.
           (c.hear-sends.ensures pair here.reached
           (stands_of c.loop.coordinator pair here.reached here.ends calm))
           c.in-Some-receive.ensures.heard c.receive.ensures.written
-          (sym c.is_cut-in-loop.ensures ∙ c.if-is_cut-2.true)),
+          (sym c.is_cut.ensures ∙ c.if-is_cut.true)),
     )
 
 -- a reply is taken, and what that sends is written
 pub loop-preserved : goal.loop-preserved
-loop-preserved g c = λ pair machine stands.
-    let outlets = outlets_of {R = g.row.R.Denot} {W = g.row.W.Denot} g.W.Write.contents in
-    let lines = lines_of {R = g.row.R.Denot} {W = g.row.W.Denot} g.R.Read.remaining in
-    let here = c.loop.invariant pair machine stands in
-    let calm = sym c.is_cut.ensures ∙ c.if-is_cut.false in
-    let new = c.hear-sends.new.coordinator in
-    let to = c.send_all.new.self in
-    drives_twice c.loop.coordinator new pair machine (lines c.args.self.now)
-    (lines c.loop.self) (lines to) (outlets c.args.self.now)
-    (outlets c.loop.self) (outlets to) here calm
-    (drives_take c.loop.coordinator new pair here.reached (which_of c.in-Some.from)
-    (answering_of c.in-Some-receive.answered) (written new)
-    (messages_of c.hear-sends.result.items) (lines c.loop.self)
-    (lines c.receive.new.self) (lines to) (outlets c.loop.self)
-    (outlets c.receive.new.self) (outlets to)
-    (c.hear-sends.ensures pair here.reached
-    (stands_of c.loop.coordinator pair here.reached here.ends calm))
-    c.in-Some-receive.ensures.heard c.receive.ensures.written
-    (sym c.is_cut-in-loop.ensures ∙ c.if-is_cut-2.false)
-    c.send_all.ensures.lines
-    (λ side. subst (λ sends. Writes (outlets c.receive.new.self side) (outlets to side)
-    (frames_to side (messages_of sends)) (outlets to side).goes) c.deref.ensures.value
-    (c.send_all.ensures.written side)))
+loop-preserved g c = record {
+  drives = λ pair machine stands.
+      let outlets = outlets_of {R = g.row.R.Denot} {W = g.row.W.Denot} g.W.Write.contents in
+      let lines = lines_of {R = g.row.R.Denot} {W = g.row.W.Denot} g.R.Read.remaining in
+      let here = c.loop.invariant.drives pair machine stands in
+      let calm = c.loop.invariant.calm in
+      let new = c.hear-sends.new.coordinator in
+      let to = c.send_all.new.self in
+      drives_twice c.loop.coordinator new pair machine (lines c.args.self.now)
+      (lines c.loop.self) (lines to) (outlets c.args.self.now)
+      (outlets c.loop.self) (outlets to) here calm
+      (drives_take c.loop.coordinator new pair here.reached (which_of c.in-Some.from)
+      (answering_of c.in-Some-receive.answered) (written new)
+      (messages_of c.hear-sends.result.items) (lines c.loop.self)
+      (lines c.receive.new.self) (lines to) (outlets c.loop.self)
+      (outlets c.receive.new.self) (outlets to)
+      (c.hear-sends.ensures pair here.reached
+      (stands_of c.loop.coordinator pair here.reached here.ends calm))
+      c.in-Some-receive.ensures.heard c.receive.ensures.written
+      (sym c.is_cut.ensures ∙ c.if-is_cut.false)
+      c.send_all.ensures.lines
+      (λ side. subst (λ sends. Writes (outlets c.receive.new.self side) (outlets to side)
+      (frames_to side (messages_of sends)) (outlets to side).goes) c.deref.ensures.value
+      (c.send_all.ensures.written side)));
+  calm = sym c.is_cut.ensures ∙ c.if-is_cut.false;
+}

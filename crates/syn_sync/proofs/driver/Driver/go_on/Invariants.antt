@@ -1,6 +1,7 @@
-use Rattle.std.proofs.Common.{ℕ}
+use Rattle.std.proofs.Common.{◌≡◌, ℕ, false}
+use Rattle.syn_disk.specs.Arms.{is_stopped}
 use Rattle.syn_headline.specs.Coordinator.{CoordinatorMachine}
-use Rattle.syn_coordinator.specs.Coordinators.{Stands}
+use Rattle.syn_coordinator.specs.Coordinators.{Stands, device_of}
 use Rattle.syn_sync.proofs.driver.Driver.go_on.Given as goal
 use Rattle.syn_sync.specs.Drivers.{lines_of, outlets_of}
 use Rattle.syn_sync.specs.Runs.{Drives}
@@ -9,7 +10,9 @@ use Rattle.syn_sync.specs.Runs.{Drives}
 abbrev pub invariant-loop : goal.invariant-loop
 invariant-loop g l =
     let outlets = outlets_of g.W.Write.contents in
-    let lines = lines_of g.R.Read.remaining in
-    (pair : ℕ) (machine : CoordinatorMachine) → Stands l.fn.coordinator pair machine
-    → Drives l.coordinator pair machine (lines l.fn.self) (lines l.self) (outlets l.fn.self)
-    (outlets l.self)
+    let lines = lines_of g.R.Read.remaining in record {
+      drives : (pair : ℕ) (machine : CoordinatorMachine) → Stands l.fn.coordinator pair machine
+          → Drives l.coordinator pair machine (lines l.fn.self) (lines l.self)
+          (outlets l.fn.self) (outlets l.self);
+      calm : is_stopped (g.D.Disk.arms (device_of l.coordinator)) ≡ false;
+    }
