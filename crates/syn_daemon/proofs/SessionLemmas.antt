@@ -1,11 +1,10 @@
 -- A coordinator that nobody called, and refusals of one that was driven.
-use Rattle.std.proofs.Common.{◌≡◌, ℕ, [], false, refl, sym, subst, inl, Option}
+use Rattle.std.proofs.Common.{ℕ, [], false, refl, inl, Option}
 use Rattle.std.specs.Prelude.{IfErr, None, Result, Ok, Err}
 use Rattle.syn_daemon.specs.Sessions.{DrivesSession, RefusesRun, RefusesSync, drive_refused}
-use Rattle.syn_daemon.specs.Sessions.{no_port, run_refused, unreached}
+use Rattle.syn_daemon.specs.Sessions.{run_refused}
 use Rattle.syn_disk.specs.declared.disk.Disk.{Ghosts}
 use Rattle.syn_headline.specs.Coordinator.{CoordinatorMachine}
-use Rattle.syn_model.specs.Refusal.{Device, Refusal}
 use Rattle.syn_refusal.specs.Refusals.{cause_of}
 use Rattle.syn_refusal.specs.declared.refusal.Refusal.{Refusal as Answer}
 use Rattle.syn_coordinator.specs.Coordinators.{Stands}
@@ -38,18 +37,6 @@ module _ {D : Type 0} {disk : Ghosts D} where
         };
         begins = tt;
       }
-
-  pub sync_unreached : (coordinator : Coordinator D disk) (pair : ℕ)
-      (machine : CoordinatorMachine) (why : Refusal) → why ≡ Device
-      → RefusesSync coordinator coordinator pair machine why
-  sync_unreached coordinator pair machine why is =
-      subst (λ w. RefusesSync coordinator coordinator pair machine w) (sym is) (unreached refl)
-
-  pub run_unreached : (coordinator : Coordinator D disk) (pair : ℕ)
-      (machine : CoordinatorMachine) (why : Refusal) → why ≡ Device
-      → RefusesRun coordinator coordinator pair machine why
-  run_unreached coordinator pair machine why is =
-      subst (λ w. RefusesRun coordinator coordinator pair machine w) (sym is) (no_port refl)
 
   module _ (old new : Coordinator D disk) (pair : ℕ) (machine : CoordinatorMachine) where
     pub sync_driven : (result : Result Unit Answer)

@@ -11,7 +11,7 @@ use syn_disk::Disk;
 use syn_lock::{Naming, Pass};
 use syn_refusal::Refusal;
 use syn_replica::Replica;
-use syn_serve::{Kept, SHORT_JOURNAL_ROOM, keep_up};
+use syn_serve::{SHORT_JOURNAL_ROOM, UpkeepStep, keep_up};
 use syn_shared::{SharedError, SharedReplica};
 
 /// Makes a step for each ring of the bell, until it is told to end. In a quiet moment after that
@@ -34,8 +34,8 @@ pub(crate) fn keep<H: Wait + Clock + Log, D: Disk, L: Naming<Replica<D>>>(
             Wake::Quiet => SHORT_JOURNAL_ROOM,
             Wake::Over => return,
         };
-        let kept = keep_up(server.alloc, server.shared, &mut pass, least);
-        tell(server, &mut pass, kept);
+        let step = keep_up(server.alloc, server.shared, &mut pass, least);
+        tell(server, &mut pass, step);
     }
 }
 
@@ -43,21 +43,21 @@ pub(crate) fn keep<H: Wait + Clock + Log, D: Disk, L: Naming<Replica<D>>>(
 fn tell<H: Wait + Log, D: Disk, L: Naming<Replica<D>>>(
     server: &Server<'_, H, D, L>,
     pass: &mut Pass<Replica<D>>,
-    kept: Kept,
+    step: UpkeepStep,
 )
     requires { IsFor server.now.shared.now pass.old }
     ensures { IsFor server.now.shared.now pass.new }
 {
-    match kept {
-        Kept::Busy => {}
-        Kept::Rested => {}
-        Kept::Checkpointed(Ok(())) => {
+    match step {
+        UpkeepStep::Busy => {}
+        UpkeepStep::Rested => {}
+        UpkeepStep::Checkpointed(Ok(())) => {
             let generation = generation_of(server.rt, server.shared, pass);
             info!(server.rt; "checkpoint {generation}");
         }
-        Kept::Reopened(Ok(())) => info!(server.rt; "reopened"),
-        Kept::Checkpointed(Err(error)) => tell_refused(server, error),
-        Kept::Reopened(Err(error)) => tell_failed(server, error),
+        UpkeepStep::Reopened(Ok(())) => info!(server.rt; "reopened"),
+        UpkeepStep::Checkpointed(Err(error)) => tell_refused(server, error),
+        UpkeepStep::Reopened(Err(error)) => tell_failed(server, error),
     }
 }
 

@@ -13,6 +13,7 @@
 //!   of `syn_sync` does (`drives`). Ok says that a session was started, with the preference that
 //!   was asked for, and that none runs now (`ended`). Refused 9 where a side is not reached, and
 //!   `run` also 11 where a server has no thread: then the coordinator is as it was (`refused`).
+//! - `reach` is the connection to a server, for a session and for a user.
 //! - Within, each connection is served to its end by exchanges with a pass of the replica's lock,
 //!   with nothing staged at its start (`serve_over`: `WasServedWhole`).
 #![tactic(auto)]
@@ -31,3 +32,4 @@ pub use console::Plain;
 pub use gates::{Gates, OpenGate, OpenGates};
 pub use server::{Bounds, serve, serve_within};
 pub use sessions::{run, sync};
+pub use streams::reach;

@@ -86,7 +86,7 @@ pub fn serve<H: Threads + Wait + Clock + Log + Sync, D: Disk + Send, G: Gates>(
     serve_within(rt, alloc, shared, listener, bounds, gates)
 }
 
-/// The same within other bounds.
+/// The same within other bounds, refused as `serve` is.
 pub fn serve_within<H: Threads + Wait + Clock + Log + Sync, D: Disk + Send, G: Gates>(
     rt: &H,
     alloc: Global,

@@ -5,21 +5,20 @@ ghost use Rattle.syn_daemon.specs.Sessions.{DrivesSession, RefusesRun, RefusesSy
 ghost use Rattle.syn_daemon.specs.inner.Started.{RunsSession};
 ghost use Rattle.syn_disk.specs.Arms.{is_stopped};
 ghost use Rattle.syn_headline.specs.Coordinator.{CoordinatorMachine};
-ghost use Rattle.syn_model.specs.Refusal.{Device};
 ghost use Rattle.syn_refusal.specs.Refusals.{cause_of};
 ghost use Rattle.syn_coordinator.specs.Coordinators.{Stands, device_of, runs};
 ghost use Rattle.syn_sync.specs.Refusals.{Refuses};
 
 use crate::gates::Gates;
 use crate::server::serve;
-use crate::streams::{MOST_SECONDS, Streams};
+use crate::streams::{Streams, reach};
 use log::{Log, warn};
 use std::alloc::Global;
-use std::net::{Net, OpenListener, TcpListener, TcpStream, ToSocketAddrs};
+use std::net::{Net, OpenListener, TcpListener, TcpStream};
 use std::sync::Wait;
-use std::thread;
 use std::thread::{Scope, Threads};
-use std::time::{Clock, Duration};
+use std::time::Clock;
+use std::{io, thread};
 use syn_coordinator::Coordinator;
 use syn_disk::Disk;
 use syn_path::Side;
@@ -52,13 +51,11 @@ pub fn sync<H: Net<Listener = TcpListener, Stream = TcpStream>, C: Disk, V: Watc
     ensures ended { OnOk result (runs coordinator.new ≡ false) }
     ensures goes { OnOk result (is_stopped (C.Disk.arms (device_of coordinator.new)) ≡ false) }
 {
-    let left = match reach(rt, left) {
-        Ok(stream) => stream,
-        Err(why) => return Err(why),
+    let Ok(left) = reach(rt, left) else {
+        return Err(Refusal::Device);
     };
-    let right = match reach(rt, right) {
-        Ok(stream) => stream,
-        Err(why) => return Err(why),
+    let Ok(right) = reach(rt, right) else {
+        return Err(Refusal::Device);
     };
     if are_of_one(&left, &right) {
         return Err(Refusal::Busy);
@@ -99,13 +96,11 @@ where
     ensures ended { OnOk result.1 (runs result.0 ≡ false) }
     ensures goes { OnOk result.1 (is_stopped (C.Disk.arms (device_of result.0)) ≡ false) }
 {
-    let (left_port, left_line) = match open_port(rt) {
-        Ok(opened) => opened,
-        Err(why) => return (coordinator, Err(why)),
+    let Ok((left_port, left_line)) = open_port(rt) else {
+        return (coordinator, Err(Refusal::Device));
     };
-    let (right_port, right_line) = match open_port(rt) {
-        Ok(opened) => opened,
-        Err(why) => return (coordinator, Err(why)),
+    let Ok((right_port, right_line)) = open_port(rt) else {
+        return (coordinator, Err(Refusal::Device));
     };
     thread::scope(
         thread::scope_env(),
@@ -210,19 +205,12 @@ fn drive<C: Disk, V: Watch>(
 }
 
 /// A port of this machine alone that the system picks, with a connection to it that waits to be
-/// accepted. Refused 9 where that cannot be had.
+/// accepted. Refused as the system refuses it, where that cannot be had.
 fn open_port<H: Net<Listener = TcpListener, Stream = TcpStream>>(
     rt: &H,
-) -> Result<(TcpListener, TcpStream), Refusal>
-    ensures { IfErr result (λ why. cause_of why ≡ Device) }
-{
-    let Ok(listener) = TcpListener::bind(rt, "127.0.0.1:0") else {
-        return Err(Refusal::Device);
-    };
-    let Ok(address) = listener.local_addr() else {
-        return Err(Refusal::Device);
-    };
-    let stream = reach(rt, address)?;
+) -> io::Result<(TcpListener, TcpStream)> {
+    let listener = TcpListener::bind(rt, "127.0.0.1:0")?;
+    let stream = reach(rt, listener.local_addr()?)?;
     Ok((listener, stream))
 }
 
@@ -232,18 +220,4 @@ fn are_of_one(left: &TcpStream, right: &TcpStream) -> bool {
         (Ok(left), Ok(right)) => left == right,
         _ => false,
     }
-}
-
-/// A connection to the address, which sends each frame at once, and waits for bytes no longer than
-/// a minute. Refused 9 where the address cannot be resolved or reached.
-fn reach<H: Net<Listener = TcpListener, Stream = TcpStream>, A: ToSocketAddrs>(
-    rt: &H,
-    address: A,
-) -> Result<TcpStream, Refusal>
-    ensures { IfErr result (λ why. cause_of why ≡ Device) }
-{
-    let stream = TcpStream::connect(rt, address).map_err(|_| Refusal::Device)?;
-    let _ = stream.set_nodelay(true);
-    let _ = stream.set_read_timeout(Some(Duration::from_secs(MOST_SECONDS.into())));
-    Ok(stream)
 }

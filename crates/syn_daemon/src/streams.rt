@@ -1,15 +1,32 @@
-//! The connections of a session.
+//! Connections to servers, and the two of a session.
 ghost use Rattle.std.specs.Prelude.{◌≡◌};
 
 use libc::net::{POLLIN, poll};
 use libc::types::pollfd;
-use std::net::TcpStream;
+use std::io;
+use std::net::{Net, TcpStream, ToSocketAddrs};
 use std::os::fd::AsRawFd;
-use syn_message::Side;
+use std::time::Duration;
+use syn_path::Side;
 use syn_sync::Readiness;
 
-/// How long a session waits for a side that sends nothing. Then the side counts as gone.
-pub(crate) const MOST_SECONDS: u16 = 60;
+/// How long a server that sends nothing is waited for. Then it counts as gone.
+const MOST_SECONDS: u16 = 60;
+
+/// A connection to the server at the address, which sends each frame at once, and waits for bytes
+/// no longer than a minute.
+///
+/// Refused as the system refuses it, where the address cannot be resolved or reached, or where the
+/// connection cannot be set so.
+pub fn reach<H: Net<Stream = TcpStream>, A: ToSocketAddrs>(
+    rt: &H,
+    address: A,
+) -> io::Result<TcpStream> {
+    let stream = TcpStream::connect(rt, address)?;
+    stream.set_nodelay(true)?;
+    stream.set_read_timeout(Some(Duration::from_secs(MOST_SECONDS.into())))?;
+    Ok(stream)
+}
 
 /// The connections to both sides of a session. The system tells which has something to read.
 #[derive(Clone, Copy, Debug)]

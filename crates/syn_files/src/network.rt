@@ -8,9 +8,9 @@ use std::io::{Read, Write};
 use std::net::{Net, TcpListener, TcpStream};
 use std::sync::Wait;
 use std::thread::Threads;
-use std::time::{Clock, Duration};
+use std::time::Clock;
 use syn_command::{CommandError, read_edit, show_path};
-use syn_daemon::{OpenGates, Plain, serve};
+use syn_daemon::{OpenGates, Plain, reach, serve};
 use syn_disk::Disk;
 use syn_path::Path;
 use syn_print::show_served;
@@ -19,9 +19,6 @@ use syn_shared::SharedReplica;
 use syn_tree::{Content, Edit, Tree};
 use syn_user::{SideConnection, UserConnection};
 use syn_words::EditLine;
-
-/// How long a user waits for the answer of a server.
-const MOST_SECONDS: u64 = 60;
 
 /// Serves the replica of that name at the address, `HOST:PORT`, until so many connections were
 /// opened and served; with none it serves on. It logs to the handle's standard error.
@@ -78,7 +75,7 @@ pub fn edit_served<H: Net<Stream = TcpStream>, I: Read>(
     path: Path,
     input: &mut I,
 ) -> Result<u64, CommandError> {
-    let edit = read_edit(alloc, line.change, path, input)?;
+    let edit = read_edit(alloc, line.kind, path, input)?;
     edit_over(rt, alloc, address, line.user, edit)
 }
 
@@ -141,14 +138,4 @@ pub fn show_path_served<H: Net<Stream = TcpStream>, O: Write>(
 /// the server refuses it.
 pub fn tree_over(alloc: Global, stream: &TcpStream) -> Result<(u64, Tree), CommandError> {
     Ok(SideConnection::new(alloc, stream, stream).tree(alloc)?)
-}
-
-/// A connection to the address, which waits for an answer no longer than a minute.
-///
-/// Refused 9 where it cannot be reached.
-pub fn reach<H: Net<Stream = TcpStream>>(rt: &H, address: &str) -> Result<TcpStream, CommandError> {
-    let stream = TcpStream::connect(rt, address)?;
-    stream.set_nodelay(true)?;
-    stream.set_read_timeout(Some(Duration::from_secs(MOST_SECONDS)))?;
-    Ok(stream)
 }

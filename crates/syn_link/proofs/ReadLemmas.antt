@@ -1,6 +1,6 @@
 -- What came from a reader after what was held.
 use Rattle.std.proofs.Common.{◌≡◌, [], ◌∷◌, ◌++◌, length, Option, None, refl, sym, ap, subst, ◌∙◌}
-use Rattle.std.proofs.Common.{append-nil, arith}
+use Rattle.std.proofs.Common.{◌⊎◌, append-nil, arith, inl, inr}
 use Rattle.std.specs.Io.KnownBytes.{Consumes, IsAtEnd}
 use Rattle.std.proofs.KnownBytes.{Consumes-trans}
 use Rattle.syn_link.specs.Frames.{Bytes, IsFront, ClaimsNothing, ClaimsTooMuch}
@@ -37,6 +37,14 @@ module _ (given left : Option Bytes) (held kept now came : Bytes) (e : now ≡ h
       { came = came; consumed = tt; whole = same ∙ e; fault = tt }
   at_fault Memory consumed same bad large = record
       { came = came; consumed = tt; whole = same ∙ e; fault = tt }
+
+  -- a read failed, or what it gave met no memory, and what was held is kept
+  pub at_failure : (error : LinkError) → (error ≡ Device) ⊎ (error ≡ Memory) → kept ≡ now
+      → ComesAtFault given left held kept error
+  at_failure error (inl is) same = subst (ComesAtFault given left held kept) (sym is)
+      (record { came = came; consumed = tt; whole = same ∙ e; fault = tt })
+  at_failure error (inr is) same = subst (ComesAtFault given left held kept) (sym is)
+      (record { came = came; consumed = tt; whole = same ∙ e; fault = tt })
 
 nothing : (bytes : Bytes) → length bytes ≡ 0 → bytes ≡ []
 nothing [] e = refl

@@ -40,10 +40,7 @@ pub fn write_frame<W: Write>(writer: &mut W, body: &[u8]) -> Result<(), LinkErro
     let (front, rest) = body.split_at(body.len().min(MOST_JOINED));
     write_front(writer, body.len(), front)?;
     write_whole(writer, rest)?;
-    match writer.flush() {
-        Ok(()) => Ok(()),
-        Err(_) => Err(LinkError::Device),
-    }
+    writer.flush().map_err(|_| LinkError::Device)
 }
 
 /// Writes the length of a body and its first bytes.
@@ -137,15 +134,11 @@ pub fn read_body<R: Read>(
         (ComesAtFault (R.remaining reader.old) (R.remaining reader.new) framer.old framer.new) }
 {
     for _ in 0..u64::MAX {
-        match framer.next(alloc) {
-            Ok(Some(body)) => return Ok(Some(body)),
-            Ok(None) => {}
-            Err(fault) => return Err(fault),
+        if let Some(body) = framer.next(alloc)? {
+            return Ok(Some(body));
         }
-        match read_some(reader, framer) {
-            Ok(0) => return Ok(None),
-            Ok(_) => {}
-            Err(error) => return Err(error),
+        if read_some(reader, framer)? == 0 {
+            return Ok(None);
         }
     }
     Err(LinkError::Device)

@@ -8,9 +8,9 @@
 //!
 //! - **An image**: `show_replica` and `show_archive`, over any disk, and `show_served`, of a
 //!   replica that is served (`replica_shown`, `archive_shown`, `served_shown`). A line says which
-//!   image it is, with its pair and its numbers. Then each path has a line, in path order:
-//!   `d PATH` is a directory, `f PATH MODE LENGTH DIGEST` a file of a replica, and
-//!   `f PATH MODE DIGEST` a file that an archive keeps. The mode has three octal digits, and the
+//!   image it is, with its pair and its numbers. Then each path has a line, in path order. Of a
+//!   directory it is `d PATH`, of a file of a replica `f PATH MODE LENGTH DIGEST`, and of a file
+//!   that an archive keeps `f PATH MODE DIGEST`. The mode has three octal digits, and the
 //!   SHA-256 digest is in hexadecimal ones. `show_below` prints the paths below one directory
 //!   (`lines_below`).
 //! - **A session that ended**: `show_report` (`report_lines`). A line says how it ended, and one
@@ -23,9 +23,9 @@
 //!   before, the image has which path each changed, for the last 4,096 of them. It is refused only
 //!   for a cause for which the disk is opened as no replica (`cause`: `IsOpenRefusal`). `show_log`
 //!   prints the last of them, so many at most, the newest first.
-//! - **What a session would do**: `plan_between` lists both sides as a session lists them (`Side`:
-//!   a replica that is open, or a connection). It answers the plan of the two scans and the marks,
-//!   by a session's own course (`items`). Nothing begins, nothing is carried, and nothing is
+//! - **What a session would do**: `plan_between` lists both sides as a session lists them: replicas
+//!   that are open, or connections (`ListedSide`). It answers the plan of the two scans and the
+//!   marks, by a session's own course (`items`). Nothing begins, nothing is carried, and nothing is
 //!   recorded. Each scan is by what its side replied, one listing after another (`left`, `right`:
 //!   `IsScanned`). It is refused for lack of memory, or where a side was not scanned (`cause`:
 //!   `NotScanned`). Then a listing was refused, or the reply to it ends a session, or more were
@@ -43,5 +43,5 @@ mod report;
 pub use error::PrintError;
 pub use image::{show_archive, show_below, show_replica, show_served};
 pub use log::{Logged, What, read_log, show_log};
-pub use plan::{Counts, Planned, Side, counts_of, plan_between, plan_of_replicas, show_plan};
+pub use plan::{Counts, ListedSide, Planned, counts_of, plan_between, plan_of_replicas, show_plan};
 pub use report::show_report;

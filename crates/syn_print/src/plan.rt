@@ -16,7 +16,7 @@ use crate::plan::side::ReplicaSide;
 use std::alloc::Global;
 use syn_disk::Disk;
 use syn_mark::{MOST_NODES, MarkTree};
-use syn_path::Side as Preferred;
+use syn_path::Side;
 use syn_recon::Item;
 use syn_refusal::Refusal;
 use syn_replica::Replica;
@@ -29,7 +29,7 @@ mod side;
 
 pub use counts::{Counts, counts_of};
 pub use lines::show_plan;
-pub use side::Side;
+pub use side::ListedSide;
 
 /// What a session would do, and what both sides showed.
 #[derive(Debug, Drop)]
@@ -46,12 +46,12 @@ pub struct Planned {
 /// Refused as a session that scans the sides ends early: with what a side refuses a listing, 22
 /// where one has more than 4,096 nodes, 23 where its answers are none, and 11 where memory is
 /// refused.
-pub fn plan_between<L: Side, R: Side>(
+pub fn plan_between<L: ListedSide, R: ListedSide>(
     alloc: Global,
     left: &mut L,
     right: &mut R,
     archive: &MarkTree,
-    preference: Option<Preferred>,
+    preference: Option<Side>,
 ) -> Result<Planned, Refusal>
     ensures items { IfOk result (λ planned. items_of planned.items.items
         ≡ plan (option_map which_of preference) (scan_of (found_of planned.left))
@@ -77,7 +77,7 @@ pub fn plan_of_replicas<L: Disk, R: Disk>(
     left: &Replica<L>,
     right: &Replica<R>,
     archive: &MarkTree,
-    preference: Option<Preferred>,
+    preference: Option<Side>,
 ) -> Result<Planned, Refusal>
     ensures items { (on_left on_right : History) → Stands left.now on_left
         → Stands right.now on_right → IfOk result (λ planned. items_of planned.items.items
@@ -97,7 +97,7 @@ fn items_between(
     left: &Scan,
     right: &Scan,
     archive: &MarkTree,
-    preference: Option<Preferred>,
+    preference: Option<Side>,
 ) -> Result<Vec<Item>, Refusal>
     ensures items { IfOk result (λ items. items_of items.items
         ≡ plan (option_map which_of preference) (scan_of left.now) (scan_of right.now)
@@ -109,7 +109,7 @@ fn items_between(
 }
 
 /// What the side shows, once each of its directories was listed.
-fn scan_side<S: Side>(alloc: Global, side: &mut S) -> Result<SideScan, Refusal>
+fn scan_side<S: ListedSide>(alloc: Global, side: &mut S) -> Result<SideScan, Refusal>
     ensures asked { IfOk result (λ scan. IsAsked S.lists side.old scan side.new) }
     ensures whole { IfOk result (λ scan. IsWhole (found_of scan)) }
     ensures cause { IfErr result (λ why. (cause_of why ≡ Memory)

@@ -1,9 +1,9 @@
 -- Exchanges, one after another.
-use Rattle.std.proofs.Common.{◌≡◌, ◌<◌, Option, Some, arith, length, refl, subst, sym}
+use Rattle.std.proofs.Common.{◌≡◌, ◌<◌, Option, Some, arith, inl, length, refl, subst, sym}
 use Rattle.syn_agent.specs.declared.agent.Agent.{Agent}
 use Rattle.syn_disk.specs.declared.disk.Disk.{Ghosts}
 use Rattle.syn_link.specs.Frames.{AppendsSome, Bytes, IsBody, frame_of}
-use Rattle.syn_link.specs.Streams.{Comes}
+use Rattle.syn_link.specs.Streams.{Comes, ComesAtFault}
 use Rattle.syn_link.specs.declared.error.LinkError.{LinkError}
 use Rattle.syn_link.specs.declared.error.LinkError.TheVariants as link
 use Rattle.syn_lock.specs.History.{end_of}
@@ -14,7 +14,7 @@ use Rattle.syn_replica.specs.Growing.{grown_twice, itself}
 use Rattle.syn_replica.specs.declared.replica.Replica.{Replica}
 use Rattle.syn_serve.specs.Exchanges.{IsAnswered, moment}
 use Rattle.syn_serve.specs.Holds.{Responds}
-use Rattle.syn_serve.specs.Lines.{BreaksOff, IsSilent, Line}
+use Rattle.syn_serve.specs.Lines.{BreaksOff, ClosesFor, IsSilent, Line}
 use Rattle.syn_serve.specs.Messages.{Message, Response, message_spelling}
 use Rattle.syn_serve.specs.inner.Parts.{ReceivesMessage, of_link}
 use Rattle.syn_shared.specs.Shared.{IsLater, own_of}
@@ -31,6 +31,14 @@ breaks_off link.TooLarge old new body is bad large memory some =
     let more = large refl in absurd (omega (arith, more, is.1))
 breaks_off link.Device old new body is bad large memory some = some
 breaks_off link.Memory old new body is bad large memory some = absurd (memory refl)
+
+-- a frame's fault closes a connection
+pub closes_for : (error : LinkError) (old new : Line)
+    → ComesAtFault old.given new.given old.held new.held error → ClosesFor (of_link error) old new
+closes_for link.BadFrame old new fault = fault
+closes_for link.TooLarge old new fault = fault
+closes_for link.Device old new fault = fault
+closes_for link.Memory old new fault = inl fault
 
 module _ {D : Type 0} {disk : Ghosts D} (shared : SharedReplica D disk) where
   pub later_same : (pass : Pass (Replica D disk)) → IsLater shared pass pass

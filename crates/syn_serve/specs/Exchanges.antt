@@ -7,8 +7,8 @@ use Rattle.syn_serve.specs.Holds.{Responds}
 use Rattle.syn_serve.specs.Lines.{BreaksOff, ClosesFor, Ends, IsSilent, Line, Receives, Sends}
 use Rattle.syn_serve.specs.Messages.{IsLawfulMessage, Message, Response, message_spelling}
 use Rattle.syn_serve.specs.Messages.{response_spelling}
-use Rattle.syn_serve.specs.declared.connection.Progress.{Progress}
-use Rattle.syn_serve.specs.declared.connection.Progress.TheVariants.{Answered, Ended}
+use Rattle.syn_serve.specs.declared.connection.Exchanged.{Exchanged}
+use Rattle.syn_serve.specs.declared.connection.Exchanged.TheVariants.{Answered, Ended}
 use Rattle.syn_serve.specs.declared.error.ServeError.{ServeError}
 use Rattle.syn_shared.specs.declared.shared.SharedReplica.{SharedReplica}
 
@@ -31,7 +31,7 @@ module _ {D : Type 0} {disk : Ghosts D} (shared : SharedReplica D disk) where
 
   -- The reply to a message was written; or the other side closed. Or the connection is to be
   -- closed, and nothing was answered; or the reply was not written whole
-  pub data Exchanges (old new : Moment D disk) : Result Progress ServeError → Type 0 where
+  pub data Exchanges (old new : Moment D disk) : Result Exchanged ServeError → Type 0 where
     answers : (message : Message) (response : Response) → IsAnswered old new message response →
         Sends old.line.written new.line.written (response_spelling response) →
         Exchanges old new (Ok Answered)

@@ -2,7 +2,7 @@
 use Rattle.std.specs.Prelude.{Result, Ok, Err}
 use Rattle.syn_disk.specs.declared.disk.Disk.{Ghosts}
 use Rattle.syn_serve.specs.Exchanges.{Exchanges, Moment}
-use Rattle.syn_serve.specs.declared.connection.Progress.TheVariants.{Answered, Ended}
+use Rattle.syn_serve.specs.declared.connection.Exchanged.TheVariants.{Answered, Ended}
 use Rattle.syn_serve.specs.declared.error.ServeError.{ServeError}
 use Rattle.syn_shared.specs.declared.shared.SharedReplica.{SharedReplica}
 

@@ -4,8 +4,8 @@ use Rattle.syn_disk.specs.declared.disk.Disk.{Ghosts}
 use Rattle.syn_lock.specs.declared.own.Pass.{Pass}
 use Rattle.syn_replica.specs.Replica.{IsHalted, room_shown}
 use Rattle.syn_replica.specs.declared.replica.Replica.{Replica}
-use Rattle.syn_serve.specs.declared.upkeep.Kept.{Kept}
-use Rattle.syn_serve.specs.declared.upkeep.Kept.TheVariants as kept
+use Rattle.syn_serve.specs.declared.upkeep.UpkeepStep.{UpkeepStep}
+use Rattle.syn_serve.specs.declared.upkeep.UpkeepStep.TheVariants as step
 use Rattle.syn_serve.specs.declared.upkeep.Look.{Look}
 use Rattle.syn_shared.specs.Refusals.{answer_in}
 use Rattle.syn_shared.specs.Shared.{FoundBusy, HeldOnce}
@@ -23,19 +23,19 @@ module _ {D : Type 0} {disk : Ghosts D} where
   module _ (shared : SharedReplica D disk) (least : ℕ) (old new : Pass (Replica D disk)) where
     -- it found the lock taken; or it looked once, and rested where there was room; or it looked and
     -- made a checkpoint for lack of room, or reopened what was halted, each if the lock was free
-    pub data KeepsUp : Kept → Type 0 where
-      busy : FoundBusy old new → KeepsUp kept.Busy
+    pub data KeepsUp : UpkeepStep → Type 0 where
+      busy : FoundBusy old new → KeepsUp step.Busy
       rests : (look : Look) → HeldOnce shared old new (Shows look) →
-          ¬ IsTrue look.is_halted → least ≤ look.room → KeepsUp kept.Rested
+          ¬ IsTrue look.is_halted → least ≤ look.room → KeepsUp step.Rested
       compacts : (look : Look) (middle : Pass (Replica D disk))
           (answer : Result Unit SharedError) → HeldOnce shared old middle (Shows look) →
           ¬ IsTrue look.is_halted → look.room < least →
           MatchOption (answer_in answer) (FoundBusy middle new)
           (λ made. HeldOnce shared middle new (Checkpoints made)) →
-          KeepsUp (kept.Checkpointed answer)
+          KeepsUp (step.Checkpointed answer)
       reopens : (look : Look) (middle : Pass (Replica D disk))
           (answer : Result Unit SharedError) → HeldOnce shared old middle (Shows look) →
           IsTrue look.is_halted →
           MatchOption (answer_in answer) (FoundBusy middle new)
           (λ made. HeldOnce shared middle new (Reopens made)) →
-          KeepsUp (kept.Reopened answer)
+          KeepsUp (step.Reopened answer)

@@ -11,7 +11,7 @@ ghost use Rattle.syn_serve.specs.inner.Parts.{IsOnlyWritten, ReceivesMessage};
 ghost use Rattle.syn_shared.specs.Shared.{IsFor, IsLater};
 
 use crate::answering::answer;
-use crate::error::{ServeError, closed_by};
+use crate::error::ServeError;
 use crate::gate::{Gate, Point};
 use crate::message::{AnyReply, AnyRequest, decode_any_request, encode_any_reply};
 use std::alloc::Global;
@@ -34,9 +34,9 @@ pub struct Connection<R, W> {
     agent: Agent,
 }
 
-/// What became of an exchange.
+/// How an exchange ended.
 #[derive(Clone, Copy, Debug, PartialEq, Eq)]
-pub enum Progress {
+pub enum Exchanged {
     /// A request was answered, and the reply was written.
     Answered,
     /// The other side closed the connection.
@@ -79,7 +79,7 @@ impl<R: Read, W: Write> Connection<R, W> {
         shared: &SharedReplica<D>,
         pass: &mut Pass<Replica<D>>,
         gate: &mut G,
-    ) -> Result<Progress, ServeError>
+    ) -> Result<Exchanged, ServeError>
         requires { IsFor shared.now pass.old }
         ensures of { IsFor shared.now pass.new }
         ensures exchanges { Exchanges shared.now
@@ -87,19 +87,15 @@ impl<R: Read, W: Write> Connection<R, W> {
             (moment (line_of R.remaining W.contents self.new) pass.new) result }
         ensures later { IsLater shared.now pass.old pass.new }
     {
-        let request = match self.receive(alloc) {
-            Ok(Some(request)) => request,
-            Ok(None) => return Ok(Progress::Ended),
-            Err(error) => return Err(error),
+        let Some(request) = self.receive(alloc)? else {
+            return Ok(Exchanged::Ended);
         };
         let kind = request.kind();
         gate.pass(Point::Before(kind));
         let reply = answer(rt, alloc, shared, pass, &mut self.agent, request);
         gate.pass(Point::After(kind));
-        match self.send(alloc, &reply) {
-            Ok(()) => Ok(Progress::Answered),
-            Err(error) => Err(error),
-        }
+        self.send(alloc, &reply)?;
+        Ok(Exchanged::Answered)
     }
 
     /// Serves the connection until the other side closes it, one request after another.
@@ -122,10 +118,8 @@ impl<R: Read, W: Write> Connection<R, W> {
         ensures later { IsLater shared.now pass.old pass.new }
     {
         for _ in rt.forever() {
-            match self.serve_next(rt, alloc, shared, pass, gate) {
-                Ok(Progress::Answered) => {}
-                Ok(Progress::Ended) => return Ok(()),
-                Err(error) => return Err(error),
+            if let Exchanged::Ended = self.serve_next(rt, alloc, shared, pass, gate)? {
+                return Ok(());
             }
         }
         unreachable!()
@@ -145,15 +139,12 @@ impl<R: Read, W: Write> Connection<R, W> {
         ensures silent { IsSilent (line_of R.remaining W.contents self.old)
             (line_of R.remaining W.contents self.new) }
     {
-        let body = match read_body(alloc, &mut self.reader, &mut self.framer) {
-            Ok(Some(body)) => body,
-            Ok(None) => return Ok(None),
-            Err(error) => return Err(closed_by(error)),
+        let Some(body) = read_body(alloc, &mut self.reader, &mut self.framer)? else {
+            return Ok(None);
         };
-        match decode_any_request(alloc, &body) {
-            Ok(Some(request)) => Ok(Some(request)),
-            Ok(None) => Err(ServeError::BadMessage),
-            Err(_) => Err(ServeError::Memory),
+        match decode_any_request(alloc, &body)? {
+            Some(request) => Ok(Some(request)),
+            None => Err(ServeError::BadMessage),
         }
     }
 
@@ -167,12 +158,7 @@ impl<R: Read, W: Write> Connection<R, W> {
         ensures rest { IsOnlyWritten (line_of R.remaining W.contents self.old)
             (line_of R.remaining W.contents self.new) }
     {
-        let Ok(body) = encode_any_reply(alloc, reply) else {
-            return Err(ServeError::Memory);
-        };
-        match write_frame(&mut self.writer, &body) {
-            Ok(()) => Ok(()),
-            Err(error) => Err(closed_by(error)),
-        }
+        let body = encode_any_reply(alloc, reply)?;
+        Ok(write_frame(&mut self.writer, &body)?)
     }
 }

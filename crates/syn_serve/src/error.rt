@@ -8,6 +8,7 @@ ghost use Rattle.syn_serve.specs.inner.Parts.{of_link};
 use std::fmt;
 use syn_link::LinkError;
 use syn_refusal::Refusal;
+use syn_wire::WireError;
 use thiserror::Error;
 
 /// Why a connection is closed by this side.
@@ -56,14 +57,27 @@ impl fmt::Display for ServeError {
     }
 }
 
-/// What a frame's error is to the connection.
-pub(crate) fn closed_by(error: LinkError) -> ServeError
-    ensures { result ≡ of_link error }
-{
-    match error {
-        LinkError::BadFrame => ServeError::BadFrame,
-        LinkError::TooLarge => ServeError::TooLarge,
-        LinkError::Device => ServeError::Device,
-        LinkError::Memory => ServeError::Memory,
+/// A frame was neither read nor written.
+impl From<LinkError> for ServeError {
+    ghost from_gives = { λ error e. e ≡ of_link error };
+
+    fn from(error: LinkError) -> ServeError {
+        match error {
+            LinkError::BadFrame => ServeError::BadFrame,
+            LinkError::TooLarge => ServeError::TooLarge,
+            LinkError::Device => ServeError::Device,
+            LinkError::Memory => ServeError::Memory,
+        }
+    }
+}
+
+/// A message was neither decoded nor encoded, for lack of memory.
+impl From<WireError> for ServeError {
+    ghost use Rattle.syn_serve.specs.declared.error.ServeError.TheVariants.{Memory};
+
+    ghost from_gives = { λ _ e. e ≡ Memory };
+
+    fn from(_error: WireError) -> ServeError {
+        ServeError::Memory
     }
 }

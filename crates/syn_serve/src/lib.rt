@@ -5,9 +5,6 @@
 //!
 //! # What it promises
 //!
-//! It answers what comes over one connection, to any reader and writer, from a shared replica. A
-//! body is a session's request or a user's.
-//!
 //! - `decode_any_request` gives the message that a body spells, and none exactly where it spells
 //!   none of either. `encode_any_reply` gives the body of a reply.
 //! - A connection is a `Line` to its contracts: what the reader is to give, what came and was not
@@ -54,9 +51,9 @@ mod message;
 mod serving;
 mod upkeep;
 
-pub use connection::{Connection, Progress};
+pub use connection::{Connection, Exchanged};
 pub use error::ServeError;
 pub use gate::{Gate, Point};
 pub use message::{AnyReply, AnyRequest, decode_any_request, encode_any_reply};
 pub use serving::Serving;
-pub use upkeep::{Kept, Look, SHORT_JOURNAL_ROOM, keep_up, look_at};
+pub use upkeep::{Look, SHORT_JOURNAL_ROOM, UpkeepStep, keep_up, look_at};

@@ -24,7 +24,7 @@ pub struct Look {
 
 /// What a step of the checkpointer did.
 #[derive(Clone, Copy, Debug, PartialEq, Eq)]
-pub enum Kept {
+pub enum UpkeepStep {
     /// The lock was taken, and the replica was not looked at.
     Busy,
     /// There was room, and nothing was done.
@@ -63,20 +63,20 @@ pub fn keep_up<D: Disk>(
     shared: &SharedReplica<D>,
     pass: &mut Pass<Replica<D>>,
     least: usize,
-) -> Kept
+) -> UpkeepStep
     requires { IsFor shared.now pass.old }
     ensures of { IsFor shared.now pass.new }
     ensures keeps { KeepsUp shared.now least pass.old pass.new result }
     ensures later { IsLater shared.now pass.old pass.new }
 {
     let Some(look) = look_at(shared, pass) else {
-        return Kept::Busy;
+        return UpkeepStep::Busy;
     };
     if look.is_halted {
-        return Kept::Reopened(shared.try_reopen(alloc, pass));
+        return UpkeepStep::Reopened(shared.try_reopen(alloc, pass));
     }
     if look.room < least {
-        return Kept::Checkpointed(shared.try_checkpoint(alloc, pass));
+        return UpkeepStep::Checkpointed(shared.try_checkpoint(alloc, pass));
     }
-    Kept::Rested
+    UpkeepStep::Rested
 }

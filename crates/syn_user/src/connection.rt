@@ -9,7 +9,7 @@ ghost use Rattle.syn_user.specs.Exchanges.{number_after};
 ghost use Rattle.syn_user.specs.Lines.{held_by, is_open, line_of, next_of, reader_of, writer_of};
 ghost use Rattle.syn_user.specs.inner.Parts.{Breaks, IsAnswered, IsSilent};
 
-use crate::error::{UserError, closed_by};
+use crate::error::UserError;
 use crate::lawful::body_of;
 use crate::reply::reply_to;
 use std::alloc::Global;
@@ -182,16 +182,13 @@ impl<R: Read, W: Write> UserConnection<R, W> {
             (line_of R.remaining W.contents self.new) }
     {
         message_laws();
-        let body = match read_body(alloc, &mut self.reader, &mut self.framer) {
-            Ok(Some(body)) => body,
-            Ok(None) => return Err(UserError::Device),
-            Err(error) => return Err(closed_by(error)),
+        let Some(body) = read_body(alloc, &mut self.reader, &mut self.framer)? else {
+            return Err(UserError::Device);
         };
-        match decode_user_reply(alloc, &body) {
-            Ok(Some(answered)) => reply_to(asked, answered).ok_or(UserError::BadMessage),
-            Ok(None) => Err(UserError::BadMessage),
-            Err(_) => Err(UserError::Memory),
-        }
+        let Some(answered) = decode_user_reply(alloc, &body)? else {
+            return Err(UserError::BadMessage);
+        };
+        reply_to(asked, answered).ok_or(UserError::BadMessage)
     }
 }
 

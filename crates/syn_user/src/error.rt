@@ -9,6 +9,7 @@ use std::alloc::AllocError;
 use std::fmt;
 use syn_link::LinkError;
 use syn_refusal::Refusal;
+use syn_wire::WireError;
 use thiserror::Error;
 
 /// Why a user's request is not answered as it was wanted.
@@ -86,14 +87,27 @@ impl From<AllocError> for UserError {
     }
 }
 
-/// What a frame's error is to the user.
-pub(crate) fn closed_by(error: LinkError) -> UserError
-    ensures { result ≡ of_link error }
-{
-    match error {
-        LinkError::BadFrame => UserError::BadFrame,
-        LinkError::TooLarge => UserError::TooLarge,
-        LinkError::Device => UserError::Device,
-        LinkError::Memory => UserError::Memory,
+/// A frame was neither read nor written.
+impl From<LinkError> for UserError {
+    ghost from_gives = { λ error e. e ≡ of_link error };
+
+    fn from(error: LinkError) -> UserError {
+        match error {
+            LinkError::BadFrame => UserError::BadFrame,
+            LinkError::TooLarge => UserError::TooLarge,
+            LinkError::Device => UserError::Device,
+            LinkError::Memory => UserError::Memory,
+        }
+    }
+}
+
+/// A message was neither decoded nor encoded, for lack of memory.
+impl From<WireError> for UserError {
+    ghost use Rattle.syn_user.specs.declared.error.UserError.TheVariants.{Memory};
+
+    ghost from_gives = { λ _ e. e ≡ Memory };
+
+    fn from(_error: WireError) -> UserError {
+        UserError::Memory
     }
 }

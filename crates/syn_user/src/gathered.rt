@@ -70,10 +70,9 @@ impl Gathered {
     pub(crate) fn tree(&self, alloc: Global) -> Result<Tree, UserError>
         ensures { IfOk result (λ tree. spelling tree ≡ self.now.bytes.items) }
     {
-        match decode_tree(alloc, Version::Two, &self.bytes) {
-            Ok(Some((tree, []))) => Ok(tree),
-            Ok(_) => Err(UserError::BadMessage),
-            Err(_) => Err(UserError::Memory),
+        match decode_tree(alloc, Version::Two, &self.bytes)? {
+            Some((tree, [])) => Ok(tree),
+            _ => Err(UserError::BadMessage),
         }
     }
 }

@@ -34,9 +34,7 @@ pub(crate) fn body_of(alloc: Global, asked: &AskedByUser) -> Result<Vec<u8>, Use
     if !has_body(asked) {
         return Err(UserError::Refused(Refusal::Full));
     }
-    let Ok(body) = encode_user_request(alloc, asked) else {
-        return Err(UserError::Memory);
-    };
+    let body = encode_user_request(alloc, asked)?;
     if body.len() > MAX_BODY {
         return Err(UserError::Refused(Refusal::Full));
     }

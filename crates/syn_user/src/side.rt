@@ -11,7 +11,7 @@ ghost use Rattle.syn_user.specs.Sides.{root_from, side_line};
 ghost use Rattle.syn_user.specs.inner.Parts.{is_refusal};
 
 use crate::connection::number_after;
-use crate::error::{UserError, closed_by};
+use crate::error::UserError;
 use crate::gathered::Gathered;
 use std::alloc::Global;
 use std::io::{Read, Write};
@@ -188,17 +188,14 @@ impl<R: Read, W: Write> SideConnection<R, W> {
     {
         let number = self.next;
         self.next = number_after(number);
-        let body = match read_body(alloc, &mut self.reader, &mut self.framer) {
-            Ok(Some(body)) => body,
-            Ok(None) => return Err(UserError::Device),
-            Err(error) => return Err(closed_by(error)),
+        let Some(body) = read_body(alloc, &mut self.reader, &mut self.framer)? else {
+            return Err(UserError::Device);
         };
-        match decode_reply(alloc, &body) {
-            Ok(Some(answered)) if answered.session == SESSION && answered.number == number => {
+        match decode_reply(alloc, &body)? {
+            Some(answered) if answered.session == SESSION && answered.number == number => {
                 Ok(answered.reply)
             }
-            Ok(_) => Err(UserError::BadMessage),
-            Err(_) => Err(UserError::Memory),
+            _ => Err(UserError::BadMessage),
         }
     }
 }
@@ -217,7 +214,7 @@ fn body_of(alloc: Global, number: u32, request: Request) -> Result<Vec<u8>, User
         number,
         request,
     };
-    encode_request(alloc, &asked).map_err(|_| UserError::Memory)
+    Ok(encode_request(alloc, &asked)?)
 }
 
 /// The root, whose path is lawful.

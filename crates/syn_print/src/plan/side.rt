@@ -17,7 +17,7 @@ use syn_replica::Replica;
 use syn_user::SideConnection;
 
 /// A side that can be listed.
-pub trait Side {
+pub trait ListedSide {
     /// Holds of a side, a path, a reply to its listing, and the side once it gave that.
     ghost lists: { Self → Names → Told → Self → Type 0 };
 
@@ -53,7 +53,7 @@ impl<'a, D: Disk> ReplicaSide<'a, D> {
     }
 }
 
-impl<D: Disk> Side for ReplicaSide<'_, D> {
+impl<D: Disk> ListedSide for ReplicaSide<'_, D> {
     ghost use Rattle.syn_model.specs.History.{History};
     ghost use Rattle.syn_print.specs.Listings.{RepliesBy};
     ghost use Rattle.syn_replica.specs.Replica.{Stands};
@@ -71,7 +71,7 @@ impl<D: Disk> Side for ReplicaSide<'_, D> {
 }
 
 /// A replica that a server has.
-impl<R: Read, W: Write> Side for SideConnection<R, W> {
+impl<R: Read, W: Write> ListedSide for SideConnection<R, W> {
     ghost use Rattle.syn_print.specs.Listings.{IsUnlisted};
     ghost use Rattle.syn_user.specs.Sides.{IsReplied, side_line};
 

@@ -1,26 +1,22 @@
-use Rattle.syn_daemon.proofs.SessionLemmas.{sync_driven, sync_unreached, untouched}
-use Rattle.syn_daemon.proofs.sessions.sync.Goals as goal
-use Rattle.syn_daemon.specs.Sessions.{same_server}
-use Rattle.syn_refusal.specs.Refusals.{cause_of}
-use Rattle.syn_refusal.specs.declared.refusal.Refusal.TheVariants.{Busy}
 use Rattle.std.proofs.Common.{refl}
+use Rattle.syn_daemon.proofs.SessionLemmas.{sync_driven, untouched}
+use Rattle.syn_daemon.proofs.sessions.sync.Goals as goal
+use Rattle.syn_daemon.specs.Sessions.{same_server, unreached}
+use Rattle.syn_refusal.specs.declared.refusal.Refusal.TheVariants.{Busy, Device}
 
-pub returns-in-Err-clause-drives : goal.returns-in-Err-clause-drives
-returns-in-Err-clause-drives g c = λ pair machine stands.
-    untouched c.args.coordinator.now pair machine c.in-Err.why stands
+pub returns-in_default-clause-drives : goal.returns-in_default-clause-drives
+returns-in_default-clause-drives g c = λ pair machine stands.
+    untouched c.args.coordinator.now pair machine Device stands
 
-pub returns-in-Err-clause-refused : goal.returns-in-Err-clause-refused
-returns-in-Err-clause-refused g c = λ pair machine stands.
-    sync_unreached c.args.coordinator.now pair machine (cause_of c.in-Err.why) c.in-Err.ensures
+pub returns-in_default-clause-refused : goal.returns-in_default-clause-refused
+returns-in_default-clause-refused g c = λ pair machine stands. unreached refl
 
-pub returns-in-Err-reach-clause-drives : goal.returns-in-Err-reach-clause-drives
-returns-in-Err-reach-clause-drives g c = λ pair machine stands.
-    untouched c.args.coordinator.now pair machine c.in-Err-reach.why stands
+pub returns-in_default-reach-clause-drives : goal.returns-in_default-reach-clause-drives
+returns-in_default-reach-clause-drives g c = λ pair machine stands.
+    untouched c.args.coordinator.now pair machine Device stands
 
-pub returns-in-Err-reach-clause-refused : goal.returns-in-Err-reach-clause-refused
-returns-in-Err-reach-clause-refused g c = λ pair machine stands.
-    sync_unreached c.args.coordinator.now pair machine (cause_of c.in-Err-reach.why)
-    c.in-Err-reach.ensures
+pub returns-in_default-reach-clause-refused : goal.returns-in_default-reach-clause-refused
+returns-in_default-reach-clause-refused g c = λ pair machine stands. unreached refl
 
 pub returns-clause-refused : goal.returns-clause-refused
 returns-clause-refused g c = λ pair machine stands.

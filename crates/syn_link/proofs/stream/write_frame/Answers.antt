@@ -25,12 +25,12 @@ returns-in_err-write_whole-clause-beginning g c =
     (some_of_second _ _ _ _ _ c.in_ok-write_front.ensures.written
     c.in_err-write_whole.ensures.beginning))
 
-pub returns-in-Err-clause-beginning : goal.returns-in-Err-clause-beginning
-returns-in-Err-clause-beginning g c =
+pub returns-clause-beginning : goal.returns-clause-beginning
+returns-clause-beginning g c =
     let body = c.args.body.now in
-    subst (AppendsSome (g.W.Write.contents c.args.writer.now)
+    on_err _ (subst (AppendsSome (g.W.Write.contents c.args.writer.now)
     (g.W.Write.contents c.flush.new.self))
     (cut_frame (to_be_bytes w32 (length body)) body _ _ _ c.split_at.ensures.front
     c.split_at.ensures.back)
     (some_of_all _ _ _ _ (Appends-trans _ _ _ _ _ c.in_ok-write_front.ensures.written
-    c.in_ok-write_whole.ensures.written) c.in-Err.ensures.bytes)
+    c.in_ok-write_whole.ensures.written) c.flush.ensures.bytes))

@@ -14,13 +14,13 @@ returns-clause-items g c =
 
 pub returns-clause-left : goal.returns-clause-left
 returns-clause-left g c =
-    scanned g.L.Side.lists c.args.left.now c.scan_side.new.side c.in_ok-left.left
+    scanned g.L.ListedSide.lists c.args.left.now c.scan_side.new.side c.in_ok-left.left
     c.found.result.now c.found.ensures.found c.in_ok-left.ensures.asked
     (λ side taken found. c.found.ensures.scan side taken c.in_ok-left.ensures.whole found)
 
 pub returns-clause-right : goal.returns-clause-right
 returns-clause-right g c =
-    scanned g.R.Side.lists c.args.right.now c.scan_side-2.new.side c.in_ok-right.right
+    scanned g.R.ListedSide.lists c.args.right.now c.scan_side-2.new.side c.in_ok-right.right
     c.found-2.result.now c.found-2.ensures.found c.in_ok-right.ensures.asked
     (λ side taken found. c.found-2.ensures.scan side taken c.in_ok-right.ensures.whole found)
 

@@ -7,14 +7,14 @@ use Rattle.syn_print.proofs.plan.scan_side.Goals as goal
 
 pub loop-init : goal.loop-init
 loop-init g c =
-    none_asked g.S.Side.lists c.args.side.now c.in-Ok.scan c.in-Ok.ensures.found
+    none_asked g.S.ListedSide.lists c.args.side.now c.in-Ok.scan c.in-Ok.ensures.found
     c.in-Ok.ensures.out
 
 pub loop-preserved : goal.loop-preserved
 loop-preserved g c =
     let path = c.in-Ok-Some.path in
     let out = rw c.in-Ok-Some.field-0-is at c.in-Ok-Some.ensures.out in
-    one_asked g.S.Side.lists c.args.side.now c.loop.side c.list.new.self c.loop.scan
+    one_asked g.S.ListedSide.lists c.args.side.now c.loop.side c.list.new.self c.loop.scan
     c.next.new.self c.take.new.self path _ c.loop.counter c.loop.invariant
     c.in-Ok-Some.ensures.found out c.in_ok-reply-in-Ok-Some.ensures.listed
     (λ side before waits found. (c.in_ok-take-in-Ok-Some.ensures.step side before 0 waits found).1)
@@ -23,8 +23,8 @@ loop-preserved g c =
 pub returns-in_err-reply-in-Ok-Some-clause-cause : goal.returns-in_err-reply-in-Ok-Some-clause-cause
 returns-in_err-reply-in-Ok-Some-clause-cause g c =
     let p = err_from_is_err_and c.from_residual.result c.from_residual.ensures.1 in
-    rw (p.1, p.2) (inr (refused_so g.S.Side.lists g.S.Side.refuses c.args.side.now c.loop.side
-    c.list.new.self c.loop.scan c.loop.counter c.loop.invariant _ c.in-Ok-Some.path
+    rw (p.1, p.2) (inr (refused_so g.S.ListedSide.lists g.S.ListedSide.refuses c.args.side.now
+    c.loop.side c.list.new.self c.loop.scan c.loop.counter c.loop.invariant _ c.in-Ok-Some.path
     c.in_err-reply-in-Ok-Some.ensures.refused))
 
 pub returns-in_err-take-in-Ok-Some-clause-cause : goal.returns-in_err-take-in-Ok-Some-clause-cause
@@ -33,7 +33,7 @@ returns-in_err-take-in-Ok-Some-clause-cause g c =
     c.from_residual-in_err-take-in-Ok-Some.ensures.1 in
     let out = rw c.in-Ok-Some.field-0-is at c.in-Ok-Some.ensures.out in
     let has = c.loop.invariant in
-    rw (p.1, p.2) (ended_so g.S.Side.lists g.S.Side.refuses c.args.side.now c.loop.side
+    rw (p.1, p.2) (ended_so g.S.ListedSide.lists g.S.ListedSide.refuses c.args.side.now c.loop.side
     c.list.new.self c.loop.scan c.loop.counter has _ c.next.new.self c.in-Ok-Some.path _
     c.in-Ok-Some.ensures.found out c.in_ok-reply-in-Ok-Some.ensures.listed
     (λ waits found. c.in_err-take-in-Ok-Some.ensures.step Left
@@ -41,5 +41,6 @@ returns-in_err-take-in-Ok-Some-clause-cause g c =
 
 pub returns-clause-cause : goal.returns-clause-cause
 returns-clause-cause g c =
-    inr (endless_so g.S.Side.lists g.S.Side.refuses c.args.side.now c.loop.side c.loop.side
-    c.loop.scan c.loop.counter c.loop.invariant _ refl (omega (arith, c.loop-test.false)) refl)
+    inr (endless_so g.S.ListedSide.lists g.S.ListedSide.refuses c.args.side.now c.loop.side
+    c.loop.side c.loop.scan c.loop.counter c.loop.invariant _ refl
+    (omega (arith, c.loop-test.false)) refl)

@@ -1,13 +1,11 @@
 use Rattle.std.proofs.Common.{◌∙◌}
 use Rattle.syn_user.proofs.connection.UserConnection.hear.Goals as goal
 
-pub returns-in-Ok-None-decode_user_reply-clause-unheard :
-    goal.returns-in-Ok-None-decode_user_reply-clause-unheard
-returns-in-Ok-None-decode_user_reply-clause-unheard g c =
-    let came = rw c.in-Ok-Some.field-0-is at c.in-Ok-Some.ensures.body in
-    let none = rw c.in-Ok-None-decode_user_reply.field-0-is at
-    c.in-Ok-None-decode_user_reply.ensures in (
-      c.in-Ok-Some.body.items,
+pub returns-in_default-2-clause-unheard : goal.returns-in_default-2-clause-unheard
+returns-in_default-2-clause-unheard g c =
+    let came = rw c.in-Some.is at c.in_ok-body.ensures.body in
+    let none = rw c.in_default-2.is at c.in_ok-answered.ensures in (
+      c.in-Some.body.items,
       came,
       λ what answers fits is.
           none (record { number = c.args.asked.now.number; told = what })

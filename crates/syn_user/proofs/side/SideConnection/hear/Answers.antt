@@ -5,14 +5,14 @@ use Rattle.syn_user.specs.Sides.{side_line}
 use Rattle.syn_user.specs.declared.side.TheConstants.{SESSION}
 use Rattle.syn_user.proofs.side.SideConnection.hear.Goals as goal
 
-pub returns-in-Ok-Some-decode_reply-clause-heard : goal.returns-in-Ok-Some-decode_reply-clause-heard
-returns-in-Ok-Some-decode_reply-clause-heard g c =
-    let came = rw c.in-Ok-Some.field-0-is at c.in-Ok-Some.ensures.body in
-    let read = rw c.in-Ok-Some-decode_reply.field-0-is at c.in-Ok-Some-decode_reply.ensures in
+pub returns-in-Some-2-clause-heard : goal.returns-in-Some-2-clause-heard
+returns-in-Some-2-clause-heard g c =
+    let came = rw c.in-Some.is at c.in_ok-body.ensures.body in
+    let read = rw c.in-Some-2.is at c.in_ok-answered.ensures in
     let old = side_line g.R.Read.remaining g.W.Write.contents c.args.self.now in
-    let told = c.in-Ok-Some-decode_reply.answered in
-    let session : told.session ≡ SESSION = c.if-decode_reply-eq-SESSION.true in
-    let number : told.number ≡ old.next = c.if-decode_reply-number.true in
+    let told = c.in-Some-2.answered in
+    let session : told.session ≡ SESSION = c.if-branch-eq-SESSION.true in
+    let number : told.number ≡ old.next = c.if-branch-number.true in
     let spelled : answering_spelling (answering_of told) ≡ answering_spelling
     (record { session = SESSION; number = old.next; reply = reply_of told.reply }) =
     ap₂ (λ s n. answering_spelling
