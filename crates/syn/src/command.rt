@@ -17,8 +17,8 @@ use std::time::Clock;
 use syn_command::{CommandError, EditsTold, Failure, Outcome, Status, print_meanings, report};
 use syn_file::HostFile;
 use syn_files::{
-    Between, NamedDisks, Pairing, Telling, chmod, edit, export, import, migrate, print_image,
-    print_log, print_numbers, print_plan, run_session, serve_named, show,
+    Between, NamedDisks, Pairing, Telling, edit, export, import, migrate, print_image, print_log,
+    print_numbers, print_plan, run_session, serve_named, show,
 };
 use syn_words::{Line, LineError, read_words};
 
@@ -228,10 +228,6 @@ where
         }
         Line::Edit(line) => {
             let position = edit(rt, alloc, line, disks, input)?;
-            writeln!(output, "ok {position}")?;
-        }
-        Line::Chmod(line) => {
-            let position = chmod(rt, alloc, line, disks)?;
             writeln!(output, "ok {position}")?;
         }
         Line::Show { place } => print_image(rt, alloc, disks, *place, output)?,

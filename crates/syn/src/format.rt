@@ -1,12 +1,11 @@
 //! Makes a file an image.
-ghost use Rattle.std.specs.Prelude.{OnOk};
 
 use std::alloc::Global;
-use std::fs::{Files, OpenFile, OpenOptions, TryLockError};
+use std::fs::{Files, OpenFile, OpenOptions};
 use std::io;
 use syn_command::{CommandError, format_image};
 use syn_disk::DISK_SIZE;
-use syn_file::{Access, FileDisk, HostFile, OpenError};
+use syn_file::{Access, FileDisk, HostFile, take_lock};
 use syn_words::ImageKind;
 
 /// Makes the file an image of the kind, for the pair. Where that is refused, the file is as long as
@@ -25,7 +24,7 @@ where
     F::File: HostFile,
 {
     let (file, is_new) = open_or_make(files, name)?;
-    lock(&file)?;
+    take_lock(&file, Access::Write)?;
     let before = file.metadata()?.len();
     if before > DISK_SIZE as u64 {
         return Err(CommandError::Longer);
@@ -51,17 +50,6 @@ fn open_or_make<F: Files>(files: &F, name: &str) -> Result<(F::File, bool), Comm
             Ok((options.create_new(true).open(files, name)?, true))
         }
         opened => Ok((opened?, false)),
-    }
-}
-
-/// Locks the file, so that no other process can open it as an image.
-fn lock<H: HostFile>(file: &H) -> Result<(), CommandError>
-    ensures held { OnOk result (H.is_held file.now Access.Write) }
-{
-    match file.try_lock(Access::Write) {
-        Ok(()) => Ok(()),
-        Err(TryLockError::WouldBlock) => Err(CommandError::Open(OpenError::Busy)),
-        Err(TryLockError::Error(error)) => Err(CommandError::from(error)),
     }
 }
 

@@ -1,11 +1,11 @@
 //! A crash-safe synchronizer of file trees: the program.
 //!
 //! `syn format KIND PAIR FILE` makes a replica or an archive. `syn put FILE USER PATH` puts
-//! standard input into a replica, `syn mkdir FILE USER PATH` and `syn rm FILE USER PATH` make a
-//! directory and remove what is there, and `syn chmod FILE USER PATH MODE` changes a file's mode.
-//! `syn show FILE [PATH]` prints an image, `syn check FILE` its numbers, and `syn log FILE [N]` its
-//! last events. `syn migrate FILE` makes an image of version 1 one of version 2.
-//! `syn export FILE DIR [PATH]` writes a replica into a folder, and
+//! standard input into a replica. `syn mkdir FILE USER PATH` makes a directory,
+//! `syn rm FILE USER PATH` removes what is there, and `syn chmod FILE USER PATH MODE` changes a
+//! file's mode. `syn show FILE [PATH]` prints an image, `syn check FILE` its numbers, and
+//! `syn log FILE [N]` its last events. `syn migrate FILE` makes an image of version 1 one of
+//! version 2. `syn export FILE DIR [PATH]` writes a replica into a folder, and
 //! `syn import FILE USER DIR [PATH]` makes it what a folder is.
 //!
 //! `syn serve FILE ADDR` serves a replica to users, who give `--served` and its address in the
@@ -14,9 +14,9 @@
 //! what it would do. `syn simulate SCRIPT` runs the steps of a script on machines in memory, and
 //! prints what comes of them.
 //!
-//! The exit status is 0 where the command was done, 1 where it was refused, 2 where the words are
-//! no command, 3 where a session is incomplete and 4 where it is complete with conflicts. It is 5
-//! where the session that is planned has something to do.
+//! The exit status is 0 where the command was done, 1 where it was refused, and 2 where the words
+//! are no command. It is 3 where a session is incomplete, and 4 where it is complete with
+//! conflicts. It is 5 where the session that is planned has something to do.
 //!
 //! # What it promises
 //!
@@ -24,12 +24,13 @@
 //!   they ask for none.
 //! - `read_words` gives a line only where `clap` finds no fault and the values are the line's
 //!   (`ok`). A refusal by `clap` has a kind that `clap` states of the words (`usage`). The only
-//!   other mistakes, with all values given, are three. A KIND is neither `replica` nor `archive`, a
-//!   PAIR is no number below 2^64, or a USER is none below 2^32. The one that is told is the wrong
+//!   other mistakes, with all values given, are wrong values. A KIND is neither `replica` nor
+//!   `archive`, or a SIDE neither `left` nor `right`. A PAIR or an N is no number below 2^64, a
+//!   USER is none below 2^32, or a MODE is no three octal digits. The one that is told is the wrong
 //!   one (`wrong`).
 //! - The disks of its lines are disks in files, and the lock of each is the system's on its file
 //!   (`is_held` of `DisksInFiles`). `format` changes the length of no file to a disk's before it
-//!   has the lock to write (`lock`, `format_file`: `held`).
+//!   has the lock to write (`take_lock` of `syn_file`, `format_file`: `held`).
 //! - That the file of the line is the one that is opened, and that a refusal is one line on
 //!   standard error, is shown by tests alone.
 #![tactic(auto)]

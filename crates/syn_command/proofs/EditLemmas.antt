@@ -22,8 +22,8 @@ use Rattle.syn_replica.specs.Replica.{generation_shown}
 use Rattle.syn_replica.specs.declared.replica.Replica.{Replica}
 use Rattle.syn_command.specs.Asked.{edit_asked}
 use Rattle.syn_command.specs.declared.edit.TheConstants.{MOST_INPUT as most}
-use Rattle.syn_words.specs.declared.line.Change.{Change}
-use Rattle.syn_words.specs.declared.line.Change.TheVariants as change
+use Rattle.syn_words.specs.declared.line.EditKind.{EditKind}
+use Rattle.syn_words.specs.declared.line.EditKind.TheVariants as kind
 
 -- a fact of what is left, where that is known
 pub known : (o : Option Bytes) (left : Bytes) (P : Bytes → Type 0) → o ≡ Some left → IfSome o P →
@@ -94,34 +94,36 @@ module _ (fits : HistoryFits) (put : PutFits) (steps : StandingSteps) where
       ]
 
   -- an edit that came into a history is the one that was asked for
-  pub same_edit : (history : History) (user : ℕ) (change : Change) (path : Path) (left : Bytes)
-      → IsHistory (history ++ Edited user (edit_asked change path (take most left)) ∷ [])
-      → edit_asked change path (take most left) ≡ edit_asked change path left
-  same_edit history user change.Put path left h =
+  pub same_edit : (history : History) (user : ℕ) (kind : EditKind) (path : Path) (left : Bytes)
+      → IsHistory (history ++ Edited user (edit_asked kind path (take most left)) ∷ [])
+      → edit_asked kind path (take most left) ≡ edit_asked kind path left
+  same_edit history user kind.Put path left h =
       ap (Put path) (read_whole history user path (take most left) left refl h)
-  same_edit history user change.MakeDir path left h = refl
-  same_edit history user change.Remove path left h = refl
+  same_edit history user kind.MakeDir path left h = refl
+  same_edit history user kind.Remove path left h = refl
+  same_edit history user (kind.Chmod mode) path left h = refl
 
   pub before_or_after : {D : Type 0} {disk : Ghosts D} (replica : Replica D disk)
-      (history : History) (user : ℕ) (change : Change) (path : Path) (left : Bytes) (edit : Edit) →
-      edit ≡ edit_asked change path (take most left) → (c : List ℕ) →
+      (history : History) (user : ℕ) (kind : EditKind) (path : Path) (left : Bytes) (edit : Edit) →
+      edit ≡ edit_asked kind path (take most left) → (c : List ℕ) →
       KeepsBeforeOrAfter replica history (Edited user edit) c →
-      KeepsBeforeOrAfter replica history (Edited user (edit_asked change path left)) c
-  before_or_after replica history user change path left edit is c (inl before) = inl before
-  before_or_after replica history user change path left edit is c (inr after) =
+      KeepsBeforeOrAfter replica history (Edited user (edit_asked kind path left)) c
+  before_or_after replica history user kind path left edit is c (inl before) = inl before
+  before_or_after replica history user kind path left edit is c (inr after) =
       let Keeps : Edit → Type 0 = λ e. DiskKeeps (pair_of replica) (history ++ Edited user e ∷ [])
       (left_shown replica - event_size (Edited user e)) (generation_shown replica) c in
       let cut = subst Keeps is after in
-      inr (subst Keeps (same_edit history user change path left cut.stands.lawful) cut)
+      inr (subst Keeps (same_edit history user kind path left cut.stands.lawful) cut)
 
   -- what is asked for is refused as what was read of it is
-  pub same_refusal : (history : History) (user : ℕ) (change : Change) (path : Path) (left : Bytes)
-      → event_refusal history (Edited user (edit_asked change path (take most left)))
-      ≡ event_refusal history (Edited user (edit_asked change path left))
-  same_refusal history user change.Put path left =
+  pub same_refusal : (history : History) (user : ℕ) (kind : EditKind) (path : Path) (left : Bytes)
+      → event_refusal history (Edited user (edit_asked kind path (take most left)))
+      ≡ event_refusal history (Edited user (edit_asked kind path left))
+  same_refusal history user kind.Put path left =
       put_refusal history user path (take most left) left refl
-  same_refusal history user change.MakeDir path left = refl
-  same_refusal history user change.Remove path left = refl
+  same_refusal history user kind.MakeDir path left = refl
+  same_refusal history user kind.Remove path left = refl
+  same_refusal history user (kind.Chmod mode) path left = refl
 
 -- a stop of a replica to which nothing was done leaves what it keeps
 pub not_written : {D : Type 0} {disk : Ghosts D} (only_now : (d : D) (c : List ℕ)

@@ -19,7 +19,7 @@ use syn_model::history_laws;
 use syn_path::Path;
 use syn_replica::Replica;
 use syn_tree::{Edit, LONGEST_FILE};
-use syn_words::{Change, EditLine};
+use syn_words::{EditKind, EditLine};
 
 /// How many bytes of the input are read at most: one more than a file may have.
 const MOST_INPUT: u64 = LONGEST_FILE as u64 + 1;
@@ -41,45 +41,48 @@ pub fn make_edit<D: Disk, I: Read>(
 ) -> Result<u64, CommandError>
     requires { NamesPath line.now.path.now path }
     ensures acknowledged { (history : History) (left : Bytes)
-        → Stands replica.old history → IsInput line.entry.now.change (I.remaining input.old) left
+        → Stands replica.old history → IsInput line.entry.now.kind (I.remaining input.old) left
         → IfOk result (λ position. (position ≡ length history + 1)
         × Stands replica.new (history ++ event_asked line.entry.now path left ∷ [])) }
     ensures any_moment { (history : History) (left : Bytes)
-        → Stands replica.old history → IsInput line.entry.now.change (I.remaining input.old) left
+        → Stands replica.old history → IsInput line.entry.now.kind (I.remaining input.old) left
         → LeavesOnly D.moment D.left_since (disk_of replica.old) (disk_of replica.new)
         (KeepsBeforeOrAfter replica.old history (event_asked line.entry.now path left)) }
 
     // An edit that the history refuses is refused so, unless the input cannot be read.
     ensures refused { (history : History) (left : Bytes) (why : Why)
-        → Stands replica.old history → IsInput line.entry.now.change (I.remaining input.old) left
+        → Stands replica.old history → IsInput line.entry.now.kind (I.remaining input.old) left
         → event_refusal history (event_asked line.entry.now path left) ≡ Some why
         → IsErrAnd result (λ e. (refusal_of e ≡ why) ⊎ IsOfStream e) }
     ensures unchanged { (history : History) → Stands replica.old history
         → IfErr result (λ e. (refusal_of e ≡ Device) ⊎ Stands replica.new history) }
 {
     history_laws();
-    let asked = read_edit(alloc, line.change, path, input)?;
+    let asked = read_edit(alloc, line.kind, path, input)?;
     Ok(replica.edit(alloc, line.user, asked)?)
 }
 
 /// The edit, with the bytes of the input where it is a put.
+///
+/// Refused 9 where the input cannot be read, and 11 where memory is refused.
 pub fn read_edit<I: Read>(
     alloc: Global,
-    change: Change,
+    kind: EditKind,
     path: Path,
     input: &mut I,
 ) -> Result<Edit, CommandError>
-    ensures edit { IfOk result (λ edit. (left : Bytes) → IsInput change (I.remaining input.old) left
-        → edit_of edit ≡ edit_asked change path (take MOST_INPUT left)) }
+    ensures edit { IfOk result (λ edit. (left : Bytes) → IsInput kind (I.remaining input.old) left
+        → edit_of edit ≡ edit_asked kind path (take MOST_INPUT left)) }
     ensures stream { IfErr result IsOfStream }
 {
-    match change {
-        Change::Put => {
+    match kind {
+        EditKind::Put => {
             let bytes = read_input(alloc, input)?;
             Ok(Edit::Put(path, bytes))
         }
-        Change::MakeDir => Ok(Edit::MakeDir(path)),
-        Change::Remove => Ok(Edit::Remove(path)),
+        EditKind::MakeDir => Ok(Edit::MakeDir(path)),
+        EditKind::Remove => Ok(Edit::Remove(path)),
+        EditKind::Chmod(mode) => Ok(Edit::Chmod(path, mode)),
     }
 }
 

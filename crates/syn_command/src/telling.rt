@@ -77,7 +77,6 @@ fn explain<E: Write>(line: &Line<'_>, error: &CommandError, errors: &mut E) {
         | Line::Log { file, .. } => write!(errors, "syn: {file}"),
         Line::Show { place } => write!(errors, "syn: {}", place.as_str()),
         Line::Edit(edit) => write!(errors, "syn: {} in {}", edit.path, edit.place.as_str()),
-        Line::Chmod(line) => write!(errors, "syn: {} in {}", line.path, line.place.as_str()),
         Line::ShowPath { place, path } => write!(errors, "syn: {path} in {}", place.as_str()),
         Line::Export(line) => write!(errors, "syn: {} into {}", line.place.as_str(), line.folder),
         Line::Import(line) => write!(errors, "syn: {} into {}", line.folder, line.place.as_str()),

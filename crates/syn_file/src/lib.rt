@@ -1,8 +1,5 @@
 //! A disk in a file of the system.
 //!
-//! `FileDisk` is the disk of the product, over any `DiskFile`. `MirroredFile` is such a file: a
-//! file of the operating system, with its bytes in memory.
-//!
 //! # What it promises
 //!
 //! The disk of the product is `FileDisk`, over any `DiskFile`. That trait says what each call on a
@@ -12,9 +9,10 @@
 //! `DiskFile` over a file of the system, with its bytes in memory.
 //!
 //! `LockedFile::open` opens a file and takes the system's lock on it, for the access that is named
-//! (`locked`). Nothing is read. `into_disk` reads it, and needs no `Files`, so that it may run in
-//! another thread. Where a disk is opened, that lock is held (`held`, of `into_disk` and of
-//! `of_file`). A read, a write and a sync of a `DiskFile` let no lock go (`lock` of each).
+//! (`locked`). Nothing is read. `take_lock` takes the lock on a file that its caller opened
+//! (`held`). `into_disk` reads the file, and needs no `Files`, so that it may run in another
+//! thread. Where a disk is opened, that lock is held (`held`, of `into_disk` and of `of_file`). A
+//! read, a write and a sync of a `DiskFile` let no lock go (`lock` of each).
 //! `HostFile` says of a file which lock is held on it (`is_held`). An opening beside a writer is
 //! refused 12, and so is one to write beside readers. Two things are taken as given: what the
 //! system's lock keeps out, and that the system's file follows the memory. Which file a path opens
@@ -25,7 +23,7 @@ mod error;
 mod file;
 
 pub use error::OpenError;
-pub use file::host::{Access, HostFile};
+pub use file::host::{Access, HostFile, take_lock};
 pub use file::locked::{LockedDisk, LockedFile};
 pub use file::mirror::MirroredFile;
 pub use file::{DiskFile, FileDisk};

@@ -5,7 +5,7 @@ ghost use Rattle.syn_model.specs.Path.{Path as ModelPath};
 ghost use Rattle.syn_command.specs.Errors.{IsOfPath};
 
 use crate::named::{NamedDisks, replica_in, replica_to_read};
-use crate::network::{reach, tree_over};
+use crate::network::tree_over;
 use std::alloc::Global;
 use std::fs::Files;
 use std::io::Write;
@@ -13,11 +13,12 @@ use std::net::{Net, TcpStream};
 use syn_command::{
     CommandError, EditsTold, export_part, import_folder, part_of, plan_import, send_edits,
 };
+use syn_daemon::reach;
 use syn_folder::{Folder, FolderError, SystemFolder};
 use syn_path::Path;
 use syn_tree::Tree;
 use syn_user::UserConnection;
-use syn_words::{ExportLine, ImportLine, Place};
+use syn_words::{ExportLine, ImportLine, ReplicaPlace};
 
 /// Writes what the directory at the line's path has into its folder, and answers the position of
 /// the replica.
@@ -36,12 +37,12 @@ pub fn export<H: Net<Stream = TcpStream>, N: NamedDisks, F: Files>(
 {
     let path = path_of(alloc, line.path)?;
     match line.place {
-        Place::File(name) => {
+        ReplicaPlace::File(name) => {
             let replica = replica_to_read(alloc, disks, name)?;
             export_into(alloc, files, replica.tree(), &path, line)?;
             Ok(replica.position())
         }
-        Place::Served(address) => {
+        ReplicaPlace::Served(address) => {
             let stream = reach(rt, address)?;
             let (position, tree) = tree_over(alloc, &stream)?;
             export_into(alloc, files, &tree, &path, line)?;
@@ -73,7 +74,7 @@ pub fn import<H: Net<Stream = TcpStream>, N: NamedDisks, F: Files, E: Write>(
     let folder = SystemFolder::open(alloc, files, line.folder, &path)?;
     let (user, is_skipping) = (line.user, line.is_skipping);
     match line.place {
-        Place::File(name) => {
+        ReplicaPlace::File(name) => {
             let mut replica = replica_in(alloc, disks, name)?;
             import_folder(
                 alloc,
@@ -86,7 +87,7 @@ pub fn import<H: Net<Stream = TcpStream>, N: NamedDisks, F: Files, E: Write>(
                 errors,
             )
         }
-        Place::Served(address) => {
+        ReplicaPlace::Served(address) => {
             let stream = reach(rt, address)?;
             import_over(
                 alloc,

@@ -4,8 +4,8 @@ ghost use Rattle.syn_path.specs.Paths.{NamesPath};
 ghost use Rattle.syn_model.specs.Path.{Path as ModelPath};
 ghost use Rattle.syn_command.specs.Errors.{IsOfPath};
 
-use crate::named::{NamedDisks, image_in, replica_in, replica_to_read};
-use crate::network::{edit_over, edit_served, show_path_served, show_tree_served};
+use crate::named::{NamedDisks, image_to_read, replica_in, replica_to_read};
+use crate::network::{edit_served, show_path_served, show_tree_served};
 use std::alloc::Global;
 use std::io::{Read, Write};
 use std::net::{Net, TcpStream};
@@ -13,8 +13,7 @@ use syn_command::{CommandError, check_image, make_edit, migrate_image, show_imag
 use syn_file::{Access, LockedDisk};
 use syn_path::Path;
 use syn_print::{read_log, show_log};
-use syn_tree::Edit;
-use syn_words::{ChmodLine, EditLine, Place};
+use syn_words::{EditLine, ReplicaPlace};
 
 /// Prints the whole image.
 ///
@@ -24,12 +23,12 @@ pub fn print_image<H: Net<Stream = TcpStream>, N: NamedDisks, O: Write>(
     rt: &H,
     alloc: Global,
     disks: &N,
-    place: Place<'_>,
+    place: ReplicaPlace<'_>,
     output: &mut O,
 ) -> Result<(), CommandError> {
     match place {
-        Place::File(name) => show_image(alloc, &image_in(alloc, disks, name)?, output),
-        Place::Served(address) => show_tree_served(rt, alloc, address, output),
+        ReplicaPlace::File(name) => show_image(alloc, &image_to_read(alloc, disks, name)?, output),
+        ReplicaPlace::Served(address) => show_tree_served(rt, alloc, address, output),
     }
 }
 
@@ -43,7 +42,7 @@ pub fn print_numbers<N: NamedDisks, O: Write>(
     name: &str,
     output: &mut O,
 ) -> Result<(), CommandError> {
-    check_image(alloc, &image_in(alloc, disks, name)?, output)
+    check_image(alloc, &image_to_read(alloc, disks, name)?, output)
 }
 
 /// Makes the image of that name one of version 2, where it is one of version 1. No other process
@@ -91,36 +90,11 @@ pub fn edit<H: Net<Stream = TcpStream>, N: NamedDisks, I: Read>(
 {
     let path = Path::parse(alloc, line.path)?;
     match line.place {
-        Place::File(name) => {
+        ReplicaPlace::File(name) => {
             let mut replica = replica_in(alloc, disks, name)?;
             make_edit(alloc, &mut replica, line, path, input)
         }
-        Place::Served(address) => edit_served(rt, alloc, address, line, path, input),
-    }
-}
-
-/// Changes the mode of the file that the line names, and answers the new position. A text that
-/// names no path is refused, whatever the disk or the server is.
-///
-/// Else it is refused as an opening and as the replica or the server refuses it, and 11 where
-/// memory is refused.
-pub fn chmod<H: Net<Stream = TcpStream>, N: NamedDisks>(
-    rt: &H,
-    alloc: Global,
-    line: &ChmodLine<'_>,
-    disks: &N,
-) -> Result<u64, CommandError>
-    ensures { ((path : ModelPath) → ¬ NamesPath line.now.path.now path)
-        → IsErrAnd result IsOfPath }
-{
-    let path = Path::parse(alloc, line.path)?;
-    let edit = Edit::Chmod(path, line.mode);
-    match line.place {
-        Place::File(name) => {
-            let mut replica = replica_in(alloc, disks, name)?;
-            Ok(replica.edit(alloc, line.user, edit)?)
-        }
-        Place::Served(address) => edit_over(rt, alloc, address, line.user, edit),
+        ReplicaPlace::Served(address) => edit_served(rt, alloc, address, line, path, input),
     }
 }
 
@@ -133,7 +107,7 @@ pub fn show<H: Net<Stream = TcpStream>, N: NamedDisks, O: Write>(
     rt: &H,
     alloc: Global,
     disks: &N,
-    place: Place<'_>,
+    place: ReplicaPlace<'_>,
     path: &str,
     output: &mut O,
 ) -> Result<(), CommandError>
@@ -141,10 +115,10 @@ pub fn show<H: Net<Stream = TcpStream>, N: NamedDisks, O: Write>(
 {
     let path = Path::parse(alloc, path)?;
     match place {
-        Place::File(name) => {
+        ReplicaPlace::File(name) => {
             let replica = replica_to_read(alloc, disks, name)?;
             show_path(alloc, replica.tree(), &path, output)
         }
-        Place::Served(address) => show_path_served(rt, alloc, address, &path, output),
+        ReplicaPlace::Served(address) => show_path_served(rt, alloc, address, &path, output),
     }
 }

@@ -25,7 +25,7 @@ mod side_by_side;
 mod upkeep;
 
 pub use folders::{export, import};
-pub use images::{chmod, edit, migrate, print_image, print_log, print_numbers, show};
+pub use images::{edit, migrate, print_image, print_log, print_numbers, show};
 pub use named::NamedDisks;
 pub use network::serve_named;
 pub use plans::print_plan;

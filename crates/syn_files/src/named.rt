@@ -54,7 +54,7 @@ pub fn archive_to_read<N: NamedDisks>(
 }
 
 /// The image of that name, to be read. Its disk need not be one that can be written.
-pub fn image_in<N: NamedDisks>(
+pub fn image_to_read<N: NamedDisks>(
     alloc: Global,
     disks: &N,
     name: &str,

@@ -1,7 +1,6 @@
 //! What a session of images that have names, or of served replicas, would do.
 
 use crate::named::{NamedDisks, archive_to_read};
-use crate::network::reach;
 use crate::sessions::{Between, Pairing};
 use crate::side_by_side::{Images, images_in};
 use std::alloc::Global;
@@ -10,6 +9,7 @@ use std::net::{Net, TcpStream};
 use std::thread::Threads;
 use syn_archive::Archive;
 use syn_command::{CommandError, Outcome, outcome_planned};
+use syn_daemon::reach;
 use syn_disk::Disk;
 use syn_file::{Access, OpenError};
 use syn_mark::MarkTree;

@@ -6,18 +6,19 @@ use Rattle.std.proofs.lemmas.Option.{none-some, same_Some}
 use Rattle.clap.specs.Words.{Row, Text, first_of}
 use Rattle.syn_path.specs.declared.side.Side.{Side}
 use Rattle.syn_tree.specs.Modes.{mode_digits, mode_of}
-use Rattle.syn_words.specs.Reads.{AreGiven, HasPlace, HasUser, HasValues, IsEdit, HasNumber}
+use Rattle.syn_words.specs.Reads.{AreGiven, HasMode, HasPlace, HasUser, HasValues, IsEdit}
+use Rattle.syn_words.specs.Reads.{HasNumber}
 use Rattle.syn_words.specs.Reads.{IsGiven, IsNoMode, TakesPreference, IsOtherSide}
 use Rattle.syn_words.specs.Reads.{IsNoNumber, IsNumber, IsOtherKind, IsWrong, IsWrongIn}
 use Rattle.syn_words.specs.Reads.{MayHaveNumber, MayHaveSide, NothingReads, kind_word, side_word}
 use Rattle.syn_words.specs.Reads.{verb_of}
 use Rattle.syn_words.specs.Verbs.{edit_verb, name_of, values_of, word_of}
-use Rattle.syn_words.specs.declared.line.Change.{Change}
-use Rattle.syn_words.specs.declared.line.Change.TheVariants as change
+use Rattle.syn_words.specs.declared.line.EditKind.{EditKind}
+use Rattle.syn_words.specs.declared.line.EditKind.TheVariants as kind
 use Rattle.syn_words.specs.declared.line.Line.{Line}
 use Rattle.syn_words.specs.declared.line.Line.TheVariants as line
-use Rattle.syn_words.specs.declared.line.Place.{Place}
-use Rattle.syn_words.specs.declared.line.Place.TheVariants as place
+use Rattle.syn_words.specs.declared.line.ReplicaPlace.{ReplicaPlace}
+use Rattle.syn_words.specs.declared.line.ReplicaPlace.TheVariants as place
 use Rattle.syn_words.specs.declared.value.ValueName.{ValueName}
 use Rattle.syn_words.specs.declared.value.ValueName.TheVariants as value
 use Rattle.syn_words.specs.declared.verb.Verb.{Verb}
@@ -68,28 +69,27 @@ same_verb a b e = sym (verb_at-word a) ∙ (ap verb_at e ∙ verb_at-word b)
 
 -- ---- what a line has was given
 
-file_given : (rows : List Row) (p : Place) → HasPlace rows p → IsGiven rows (name_of value.File)
+file_given : (rows : List Row) (p : ReplicaPlace) → HasPlace rows p →
+    IsGiven rows (name_of value.File)
 file_given rows (place.File file) has = (file.now, has.0)
 file_given rows (place.Served address) has = (address.now, has.0)
 
-edit_given : (rows : List Row) (change : Change) →
+edit_given : (rows : List Row) (kind : EditKind) → HasMode rows kind →
     AreGiven rows (value.File ∷ value.User ∷ value.Path ∷ []) →
-    AreGiven rows (values_of (edit_verb change))
-edit_given rows change.Put given = given
-edit_given rows change.MakeDir given = given
-edit_given rows change.Remove given = given
+    AreGiven rows (values_of (edit_verb kind))
+edit_given rows kind.Put has given = given
+edit_given rows kind.MakeDir has given = given
+edit_given rows kind.Remove has given = given
+edit_given rows (kind.Chmod mode) has given =
+    (given.0, (given.1.0, (given.1.1.0, ((mode_digits (mode_of mode), has), tt))))
 
 pub values_given : (rows : List Row) (l : Line) → HasValues rows l →
     AreGiven rows (values_of (verb_of l))
 values_given rows (line.Format kind pair file) has =
     ((kind_word kind, has.0), ((has.1.0, has.1.1), ((file.now, has.2), tt)))
 values_given rows (line.Edit edit) has =
-    edit_given rows edit.change
+    edit_given rows edit.kind has.3
     (file_given rows edit.place has.0, ((has.1.0, has.1.1), ((edit.path.now, has.2), tt)))
-values_given rows (line.Chmod moded) has = (
-  file_given rows moded.place has.0,
-  ((has.1.0, has.1.1), ((moded.path.now, has.2), ((mode_digits (mode_of moded.mode), has.3), tt))),
-)
 values_given rows (line.Show place) has = (file_given rows place has.0, tt)
 values_given rows (line.ShowPath place path) has = (file_given rows place has.0, tt)
 values_given rows (line.Check file) has = ((file.now, has), tt)
@@ -140,23 +140,25 @@ is_edit : Verb → Bool
 is_edit verb.Put = true
 is_edit verb.MakeDir = true
 is_edit verb.Remove = true
+is_edit verb.Chmod = true
 is_edit _ = false
 
-edit_is : (change : Change) → is_edit (edit_verb change) ≡ true
+edit_is : (kind : EditKind) → is_edit (edit_verb kind) ≡ true
 unfolding is_edit
-edit_is change.Put = refl
-edit_is change.MakeDir = refl
-edit_is change.Remove = refl
+edit_is kind.Put = refl
+edit_is kind.MakeDir = refl
+edit_is kind.Remove = refl
+edit_is (kind.Chmod mode) = refl
 
-no_edit : (change : Change) (v : Verb) → edit_verb change ≡ v → is_edit v ≡ false → ⊥
-no_edit change v same none = true≢false (sym (edit_is change) ∙ (ap is_edit same ∙ none))
+no_edit : (kind : EditKind) (v : Verb) → edit_verb kind ≡ v → is_edit v ≡ false → ⊥
+no_edit kind v same none = true≢false (sym (edit_is kind) ∙ (ap is_edit same ∙ none))
 
 module _ (rows : List Row) where
   kind_right : (l : Line) → verb_of l ≡ verb.Format → IsOtherKind rows → HasValues rows l → ⊥
   unfolding is_edit
   kind_right (line.Format kind pair file) is wrong has =
       wrong.2 kind (same_Some wrong.0 (kind_word kind) (sym wrong.1 ∙ has.0))
-  kind_right (line.Edit edit) is wrong has = no_edit edit.change verb.Format is refl
+  kind_right (line.Edit edit) is wrong has = no_edit edit.kind verb.Format is refl
   kind_right _ is wrong has = cc
 
   pair_right : (l : Line) → verb_of l ≡ verb.Format → IsNoNumber 64 rows (name_of value.Pair) →
@@ -164,52 +166,44 @@ module _ (rows : List Row) where
   unfolding is_edit
   pair_right (line.Format kind pair file) is wrong has =
       no_number 64 rows (name_of value.Pair) pair wrong has.1
-  pair_right (line.Edit edit) is wrong has = no_edit edit.change verb.Format is refl
+  pair_right (line.Edit edit) is wrong has = no_edit edit.kind verb.Format is refl
   pair_right _ is wrong has = cc
 
   editor_right : (l : Line) → IsEdit (verb_of l) → IsNoNumber 32 rows (name_of value.User) →
       HasValues rows l → ⊥
-  unfolding is_edit
   editor_right (line.Edit edit) is wrong has =
       no_number 32 rows (name_of value.User) edit.user wrong has.1
-  editor_right _ is wrong has = no_edit is.0 _ (sym is.1) refl
+  editor_right _ is wrong has = is
 
   importer_right : (l : Line) → verb_of l ≡ verb.Import → IsNoNumber 32 rows (name_of value.User) →
       HasValues rows l → ⊥
   unfolding is_edit
   importer_right (line.Import imported) is wrong has =
       no_number 32 rows (name_of value.User) imported.user wrong has.1
-  importer_right (line.Edit edit) is wrong has = no_edit edit.change verb.Import is refl
+  importer_right (line.Edit edit) is wrong has = no_edit edit.kind verb.Import is refl
   importer_right _ is wrong has = cc
 
-  chmod_user_right : (l : Line) → verb_of l ≡ verb.Chmod →
-      IsNoNumber 32 rows (name_of value.User) → HasValues rows l → ⊥
-  unfolding is_edit
-  chmod_user_right (line.Chmod moded) is wrong has =
-      no_number 32 rows (name_of value.User) moded.user wrong has.1
-  chmod_user_right (line.Edit edit) is wrong has = no_edit edit.change verb.Chmod is refl
-  chmod_user_right _ is wrong has = cc
+  -- a mode that is given is one
+  no_mode : (kind : EditKind) → edit_verb kind ≡ verb.Chmod → IsNoMode rows → HasMode rows kind → ⊥
+  no_mode (kind.Chmod mode) is wrong has =
+      wrong.2 mode (same_Some wrong.0 (mode_digits (mode_of mode)) (sym wrong.1 ∙ has))
+  no_mode _ is wrong has = cc
 
   mode_right : (l : Line) → verb_of l ≡ verb.Chmod → IsNoMode rows → HasValues rows l → ⊥
-  unfolding is_edit
-  mode_right (line.Chmod moded) is wrong has =
-      wrong.2 moded.mode
-      (same_Some wrong.0 (mode_digits (mode_of moded.mode)) (sym wrong.1 ∙ has.3))
-  mode_right (line.Edit edit) is wrong has = no_edit edit.change verb.Chmod is refl
+  mode_right (line.Edit edit) is wrong has = no_mode edit.kind is wrong has.3
   mode_right _ is wrong has = cc
 
   user_right : (l : Line) → HasUser (verb_of l) → IsNoNumber 32 rows (name_of value.User) →
       HasValues rows l → ⊥
   user_right l (inl is) wrong has = editor_right l is wrong has
-  user_right l (inr (inl is)) wrong has = importer_right l is wrong has
-  user_right l (inr (inr is)) wrong has = chmod_user_right l is wrong has
+  user_right l (inr is) wrong has = importer_right l is wrong has
 
   connections_right : (l : Line) → verb_of l ≡ verb.Serve →
       IsNoNumber 64 rows (name_of value.Connections) → HasValues rows l → ⊥
   unfolding is_edit
   connections_right (line.Serve file address connections) is wrong has =
       no_optional_number rows (name_of value.Connections) connections wrong has.2
-  connections_right (line.Edit edit) is wrong has = no_edit edit.change verb.Serve is refl
+  connections_right (line.Edit edit) is wrong has = no_edit edit.kind verb.Serve is refl
   connections_right _ is wrong has = cc
 
   lines_right : (l : Line) → verb_of l ≡ verb.Log → IsNoNumber 64 rows (name_of value.Lines) →
@@ -217,7 +211,7 @@ module _ (rows : List Row) where
   unfolding is_edit
   lines_right (line.Log file lines) is wrong has =
       no_optional_number rows (name_of value.Lines) lines wrong has.1
-  lines_right (line.Edit edit) is wrong has = no_edit edit.change verb.Log is refl
+  lines_right (line.Edit edit) is wrong has = no_edit edit.kind verb.Log is refl
   lines_right _ is wrong has = cc
 
   -- a side that is given is one
@@ -226,10 +220,11 @@ module _ (rows : List Row) where
   no_side (Some preferred) wrong has =
       wrong.2 preferred (same_Some wrong.0 (side_word preferred) (sym wrong.1 ∙ has))
 
-  no_edit_prefers : (change : Change) → TakesPreference (edit_verb change) → ⊥
-  no_edit_prefers change.Put takes = takes
-  no_edit_prefers change.MakeDir takes = takes
-  no_edit_prefers change.Remove takes = takes
+  no_edit_prefers : (kind : EditKind) → TakesPreference (edit_verb kind) → ⊥
+  no_edit_prefers kind.Put takes = takes
+  no_edit_prefers kind.MakeDir takes = takes
+  no_edit_prefers kind.Remove takes = takes
+  no_edit_prefers (kind.Chmod mode) takes = takes
 
   preference_right : (l : Line) → TakesPreference (verb_of l) → IsOtherSide rows →
       HasValues rows l → ⊥
@@ -239,7 +234,7 @@ module _ (rows : List Row) where
       no_side preference wrong has.3
   preference_right (line.Plan left right archive is_served preference) takes wrong has =
       no_side preference wrong has.4
-  preference_right (line.Edit edit) takes wrong has = no_edit_prefers edit.change takes
+  preference_right (line.Edit edit) takes wrong has = no_edit_prefers edit.kind takes
   preference_right _ takes wrong has = takes
 
   none_wrong : (l : Line) (told : ValueName) → IsWrong (verb_of l) rows told → HasValues rows l → ⊥

@@ -15,15 +15,16 @@ use Rattle.syn_words.specs.App.{syn_app}
 use Rattle.syn_words.specs.Verbs.{edit_verb, name_of, values_of, word_of}
 use Rattle.syn_words.specs.declared.error.LineError.{LineError}
 use Rattle.syn_words.specs.declared.error.LineError.TheVariants.{Usage, Value, Memory}
-use Rattle.syn_words.specs.declared.line.Change.{Change}
+use Rattle.syn_words.specs.declared.line.EditKind.{EditKind}
+use Rattle.syn_words.specs.declared.line.EditKind.TheVariants as kind
 use Rattle.syn_words.specs.declared.line.Existing.{Existing}
 use Rattle.syn_words.specs.declared.line.Existing.TheVariants.{Refused, Updated, Mirrored}
 use Rattle.syn_words.specs.declared.line.ImageKind.{ImageKind}
 use Rattle.syn_words.specs.declared.line.ImageKind.TheVariants.{Replica, Archive}
 use Rattle.syn_words.specs.declared.line.Line.{Line}
 use Rattle.syn_words.specs.declared.line.Line.TheVariants as line
-use Rattle.syn_words.specs.declared.line.Place.{Place}
-use Rattle.syn_words.specs.declared.line.Place.TheVariants as place
+use Rattle.syn_words.specs.declared.line.ReplicaPlace.{ReplicaPlace}
+use Rattle.syn_words.specs.declared.line.ReplicaPlace.TheVariants as place
 use Rattle.syn_words.specs.declared.value.ValueName.{ValueName}
 use Rattle.syn_words.specs.declared.value.ValueName.TheVariants as value
 use Rattle.syn_words.specs.declared.verb.Verb.{Verb}
@@ -53,7 +54,7 @@ abbrev pub IsSet : List Row → Text → Type 0
 IsSet rows id = HasText rows id (codes "true")
 
 -- a file, or with the flag the address of a server in its place
-abbrev pub HasPlace : List Row → Place → Type 0
+abbrev pub HasPlace : List Row → ReplicaPlace → Type 0
 HasPlace rows (place.File file) =
     HasText rows (name_of value.File) file.now × ¬ IsSet rows (codes "served")
 HasPlace rows (place.Served address) =
@@ -86,6 +87,11 @@ MayHaveSide rows None = first_of (name_of value.Preference) rows ≡ None
 MayHaveSide rows (Some preferred) =
     HasText rows (name_of value.Preference) (side_word preferred)
 
+-- the mode that an edit gives a file is the one that is given
+abbrev pub HasMode : List Row → EditKind → Type 0
+HasMode rows (kind.Chmod mode) = HasText rows (name_of value.Mode) (mode_digits (mode_of mode))
+HasMode rows _ = Unit {0}
+
 -- the command runs or plans a session, which may prefer a side
 abbrev pub TakesPreference : Verb → Type 0
 TakesPreference verb.Sync = Unit {0}
@@ -96,8 +102,7 @@ TakesPreference _ = ⊥
 -- the command of a line
 abbrev pub verb_of : Line → Verb
 verb_of (line.Format kind pair file) = verb.Format
-verb_of (line.Edit edit) = edit_verb edit.change
-verb_of (line.Chmod moded) = verb.Chmod
+verb_of (line.Edit edit) = edit_verb edit.kind
 verb_of (line.Show place) = verb.Show
 verb_of (line.ShowPath place path) = verb.Show
 verb_of (line.Check file) = verb.Check
@@ -117,11 +122,7 @@ HasValues rows (line.Format kind pair file) = HasText rows (name_of value.Kind) 
     × HasNumber 64 rows (name_of value.Pair) pair × HasText rows (name_of value.File) file.now
 HasValues rows (line.Edit edit) = HasPlace rows edit.place
     × HasNumber 32 rows (name_of value.User) edit.user
-    × HasText rows (name_of value.Path) edit.path.now
-HasValues rows (line.Chmod moded) = HasPlace rows moded.place
-    × HasNumber 32 rows (name_of value.User) moded.user
-    × HasText rows (name_of value.Path) moded.path.now
-    × HasText rows (name_of value.Mode) (mode_digits (mode_of moded.mode))
+    × HasText rows (name_of value.Path) edit.path.now × HasMode rows edit.kind
 HasValues rows (line.Show place) = HasPlace rows place × (first_of (name_of value.Path) rows ≡ None)
 HasValues rows (line.ShowPath place path) = HasPlace rows place
     × HasText rows (name_of value.Path) path.now
@@ -193,12 +194,17 @@ IsNoMode rows = (text : Text) × HasText rows (name_of value.Mode) text
 abbrev pub IsNoNumber : ℕ → List Row → Text → Type 0
 IsNoNumber bits rows id = (text : Text) × HasText rows id text × ((n : ℕ) → ¬ IsNumber bits text n)
 
+-- the command makes an edit
 abbrev pub IsEdit : Verb → Type 0
-IsEdit v = (change : Change) × (v ≡ edit_verb change)
+IsEdit verb.Put = Unit {0}
+IsEdit verb.MakeDir = Unit {0}
+IsEdit verb.Remove = Unit {0}
+IsEdit verb.Chmod = Unit {0}
+IsEdit _ = ⊥
 
 -- the command has a user
 abbrev pub HasUser : Verb → Type 0
-HasUser v = IsEdit v ⊎ ((v ≡ verb.Import) ⊎ (v ≡ verb.Chmod))
+HasUser v = IsEdit v ⊎ (v ≡ verb.Import)
 
 -- this value of the command is wrong: the KIND or the PAIR of a format, the USER of an edit or an
 -- import, the MODE of a file, the number of connections of a server, that of the lines of a log, or

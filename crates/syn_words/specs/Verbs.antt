@@ -1,8 +1,8 @@
 -- The commands of the program and their values, with the words that name them.
 use Rattle.std.specs.Prelude.{List, [], ◌∷◌, codes}
 use Rattle.clap.specs.Words.{Text}
-use Rattle.syn_words.specs.declared.line.Change.{Change}
-use Rattle.syn_words.specs.declared.line.Change.TheVariants as change
+use Rattle.syn_words.specs.declared.line.EditKind.{EditKind}
+use Rattle.syn_words.specs.declared.line.EditKind.TheVariants as kind
 use Rattle.syn_words.specs.declared.value.ValueName.{ValueName}
 use Rattle.syn_words.specs.declared.value.ValueName.TheVariants.{Command, Kind, Pair, User, File}
 use Rattle.syn_words.specs.declared.value.ValueName.TheVariants.{Path, Folder, Address, Connections}
@@ -77,7 +77,8 @@ values_of Plan = Left ∷ Right ∷ Archive ∷ []
 values_of Simulate = Script ∷ []
 
 -- the command of an edit
-abbrev pub edit_verb : Change → Verb
-edit_verb change.Put = Put
-edit_verb change.MakeDir = MakeDir
-edit_verb change.Remove = Remove
+abbrev pub edit_verb : EditKind → Verb
+edit_verb kind.Put = Put
+edit_verb kind.MakeDir = MakeDir
+edit_verb kind.Remove = Remove
+edit_verb (kind.Chmod mode) = Chmod

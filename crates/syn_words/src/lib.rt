@@ -21,7 +21,7 @@ mod words;
 
 pub use error::LineError;
 pub use line::{
-    Asked, Change, ChmodLine, EditLine, Existing, ExportLine, ImageKind, ImportLine, Line, Place,
+    Asked, EditKind, EditLine, Existing, ExportLine, ImageKind, ImportLine, Line, ReplicaPlace,
 };
 pub use value::ValueName;
 pub use verb::Verb;

@@ -16,32 +16,34 @@ pub enum ImageKind {
 
 /// What an edit does.
 #[derive(Clone, Copy, Debug, PartialEq, Eq)]
-pub enum Change {
+pub enum EditKind {
     /// Puts standard input.
     Put,
     /// Makes a directory.
     MakeDir,
     /// Removes what stands there, with all below it.
     Remove,
+    /// Gives the file that stands there this mode.
+    Chmod(Mode),
 }
 
 /// Where a replica is.
 #[derive(Clone, Copy, Debug, PartialEq, Eq)]
-pub enum Place<'a> {
+pub enum ReplicaPlace<'a> {
     /// In the file of this name.
     File(&'a str),
     /// After the server at this HOST:PORT. The text is looked at when it is used.
     Served(&'a str),
 }
 
-impl<'a> Place<'a> {
+impl<'a> ReplicaPlace<'a> {
     /// The name of the file, or the address of the server.
     pub fn as_str(&self) -> &'a str
         ensures { result.now ≡ text_of self.now }
     {
         match self {
-            Place::File(file) => file,
-            Place::Served(address) => address,
+            ReplicaPlace::File(file) => file,
+            ReplicaPlace::Served(address) => address,
         }
     }
 }
@@ -60,25 +62,16 @@ pub enum Existing {
 /// An edit of a replica at a path, by a user.
 #[derive(Clone, Copy, Debug, PartialEq, Eq)]
 pub struct EditLine<'a> {
-    pub change: Change,
-    pub place: Place<'a>,
+    pub kind: EditKind,
+    pub place: ReplicaPlace<'a>,
     pub user: u32,
     pub path: &'a str,
-}
-
-/// A change of the mode of a file of a replica, by a user.
-#[derive(Clone, Copy, Debug, PartialEq, Eq)]
-pub struct ChmodLine<'a> {
-    pub place: Place<'a>,
-    pub user: u32,
-    pub path: &'a str,
-    pub mode: Mode,
 }
 
 /// An export of a directory of a replica into a folder. With no path it is the root.
 #[derive(Clone, Copy, Debug, PartialEq, Eq)]
 pub struct ExportLine<'a> {
-    pub place: Place<'a>,
+    pub place: ReplicaPlace<'a>,
     pub folder: &'a str,
     pub path: Option<&'a str>,
     pub existing: Existing,
@@ -87,7 +80,7 @@ pub struct ExportLine<'a> {
 /// An import of a folder into a directory of a replica, by a user. With no path it is the root.
 #[derive(Clone, Copy, Debug, PartialEq, Eq)]
 pub struct ImportLine<'a> {
-    pub place: Place<'a>,
+    pub place: ReplicaPlace<'a>,
     pub user: u32,
     pub folder: &'a str,
     pub path: Option<&'a str>,
@@ -105,15 +98,13 @@ pub enum Line<'a> {
     },
     /// Edits a replica.
     Edit(EditLine<'a>),
-    /// Changes the mode of a file of a replica.
-    Chmod(ChmodLine<'a>),
     /// Prints a whole image.
     Show {
-        place: Place<'a>,
+        place: ReplicaPlace<'a>,
     },
     /// Prints what stands at the path.
     ShowPath {
-        place: Place<'a>,
+        place: ReplicaPlace<'a>,
         path: &'a str,
     },
     /// Prints the numbers of the image in a file.

@@ -1,15 +1,15 @@
 //! The line of each command, from the values that `clap` found.
 ghost use Rattle.std.specs.Prelude.{◌≡◌, IfOk, IfErr};
 ghost use Rattle.clap.specs.Words.{found_of, rows_of};
-ghost use Rattle.syn_words.specs.Reads.{HasExisting, HasNumber, HasPlace, HasText, IsNoNumber};
-ghost use Rattle.syn_words.specs.Reads.{MayHaveNumber, MayHaveSide, TakesPreference, kind_word};
+ghost use Rattle.syn_words.specs.Reads.{HasExisting, HasMode, HasNumber, HasPlace, HasText};
+ghost use Rattle.syn_words.specs.Reads.{HasUser, IsEdit, IsNoNumber, MayHaveNumber, MayHaveSide};
+ghost use Rattle.syn_words.specs.Reads.{TakesPreference, kind_word};
 ghost use Rattle.syn_words.specs.Verbs.{edit_verb, name_of};
 ghost use Rattle.syn_tree.specs.Modes.{mode_digits, mode_of};
 ghost use Rattle.syn_words.specs.inner.Lacking.{IsLack, IsLineOf};
-ghost use Rattle.syn_words.specs.declared.line.Change.{Change as Edits};
 
 use crate::error::LineError;
-use crate::line::{Change, ChmodLine, EditLine, Existing, ExportLine, ImageKind, ImportLine, Line};
+use crate::line::{EditKind, EditLine, Existing, ExportLine, ImageKind, ImportLine, Line};
 use crate::value::ValueName;
 use crate::values::{image_kind, is_set, mode, number, optional_text, place, side, text, user};
 use crate::verb::Verb;
@@ -24,10 +24,7 @@ pub(crate) fn line_of<'a>(verb: Verb, found: &ArgMatches<'a>) -> Result<Line<'a>
 {
     match verb {
         Verb::Format => format_line(found),
-        Verb::Put => edit_line(Change::Put, found),
-        Verb::MakeDir => edit_line(Change::MakeDir, found),
-        Verb::Remove => edit_line(Change::Remove, found),
-        Verb::Chmod => chmod_line(found),
+        Verb::Put | Verb::MakeDir | Verb::Remove | Verb::Chmod => edit_line(found, verb),
         Verb::Show => show_line(found),
         Verb::Check => check_line(found),
         Verb::Migrate => migrate_line(found),
@@ -68,55 +65,50 @@ fn pair_given(found: &ArgMatches<'_>) -> Result<u64, LineError>
     number(text(found, ValueName::Pair)?, ValueName::Pair)
 }
 
-/// The edit of the change, whose word was read.
+/// The edit of a command that makes one.
 #[tactic(auto, using(crate::proofs::LackLemmas::edit_missing))]
-fn edit_line<'a>(change: Change, found: &ArgMatches<'a>) -> Result<Line<'a>, LineError>
-    ensures ok { IfOk result (IsLineOf (edit_verb change) (rows_of (found_of found.now))) }
-    ensures lacks { IfErr result (IsLack (edit_verb change) (rows_of (found_of found.now))) }
+fn edit_line<'a>(found: &ArgMatches<'a>, verb: Verb) -> Result<Line<'a>, LineError>
+    requires { IsEdit verb }
+    ensures ok { IfOk result (IsLineOf verb (rows_of (found_of found.now))) }
+    ensures lacks { IfErr result (IsLack verb (rows_of (found_of found.now))) }
 {
     let place = place(found)?;
-    let user = user_given(found)?;
+    let user = user_given(found, verb)?;
     let path = text(found, ValueName::Path)?;
+    let kind = edit_kind_given(found, verb)?;
     Ok(Line::Edit(EditLine {
-        change,
+        kind,
         place,
         user,
         path,
     }))
 }
 
-#[tactic(auto, using(crate::proofs::LackLemmas::edit_missing))]
-fn user_given(found: &ArgMatches<'_>) -> Result<u32, LineError>
+/// The user of a command that has one.
+#[tactic(auto, using(crate::proofs::LackLemmas::user_missing))]
+fn user_given(found: &ArgMatches<'_>, verb: Verb) -> Result<u32, LineError>
+    requires { HasUser verb }
     ensures ok { IfOk result (HasNumber 32 (rows_of (found_of found.now))
         (name_of ValueName.User)) }
-    ensures lacks { (change : Edits)
-        → IfErr result (IsLack (edit_verb change) (rows_of (found_of found.now))) }
+    ensures lacks { IfErr result (IsLack verb (rows_of (found_of found.now))) }
 {
     user(text(found, ValueName::User)?)
 }
 
-fn chmod_line<'a>(found: &ArgMatches<'a>) -> Result<Line<'a>, LineError>
-    ensures ok { IfOk result (IsLineOf Verb.Chmod (rows_of (found_of found.now))) }
-    ensures lacks { IfErr result (IsLack Verb.Chmod (rows_of (found_of found.now))) }
+/// What the edit of a command does, with its mode where it changes one.
+fn edit_kind_given(found: &ArgMatches<'_>, verb: Verb) -> Result<EditKind, LineError>
+    requires { IsEdit verb }
+    ensures ok { IfOk result (λ kind. (edit_verb kind ≡ verb)
+        × HasMode (rows_of (found_of found.now)) kind) }
+    ensures lacks { IfErr result (IsLack verb (rows_of (found_of found.now))) }
 {
-    let place = place(found)?;
-    let user = chmod_user_given(found)?;
-    let path = text(found, ValueName::Path)?;
-    let mode = mode_given(found)?;
-    Ok(Line::Chmod(ChmodLine {
-        place,
-        user,
-        path,
-        mode,
-    }))
-}
-
-fn chmod_user_given(found: &ArgMatches<'_>) -> Result<u32, LineError>
-    ensures ok { IfOk result (HasNumber 32 (rows_of (found_of found.now))
-        (name_of ValueName.User)) }
-    ensures lacks { IfErr result (IsLack Verb.Chmod (rows_of (found_of found.now))) }
-{
-    user(text(found, ValueName::User)?)
+    match verb {
+        Verb::Put => Ok(EditKind::Put),
+        Verb::MakeDir => Ok(EditKind::MakeDir),
+        Verb::Remove => Ok(EditKind::Remove),
+        Verb::Chmod => Ok(EditKind::Chmod(mode_given(found)?)),
+        _ => unreachable!(),
+    }
 }
 
 fn mode_given(found: &ArgMatches<'_>) -> Result<Mode, LineError>
@@ -209,7 +201,7 @@ fn import_line<'a>(found: &ArgMatches<'a>) -> Result<Line<'a>, LineError>
     ensures lacks { IfErr result (IsLack Verb.Import (rows_of (found_of found.now))) }
 {
     let place = place(found)?;
-    let user = importer_given(found)?;
+    let user = user_given(found, Verb::Import)?;
     let folder = text(found, ValueName::Folder)?;
     let path = optional_text(found, ValueName::Path);
     let is_skipping = is_set(found, "skip");
@@ -220,14 +212,6 @@ fn import_line<'a>(found: &ArgMatches<'a>) -> Result<Line<'a>, LineError>
         path,
         is_skipping,
     }))
-}
-
-fn importer_given(found: &ArgMatches<'_>) -> Result<u32, LineError>
-    ensures ok { IfOk result (HasNumber 32 (rows_of (found_of found.now))
-        (name_of ValueName.User)) }
-    ensures lacks { IfErr result (IsLack Verb.Import (rows_of (found_of found.now))) }
-{
-    user(text(found, ValueName::User)?)
 }
 
 fn serve_line<'a>(found: &ArgMatches<'a>) -> Result<Line<'a>, LineError>

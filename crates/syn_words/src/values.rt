@@ -11,7 +11,7 @@ ghost use Rattle.syn_tree.specs.Modes.{mode_digits, mode_of};
 ghost use Rattle.syn_tree.specs.declared.mode.Mode.{Mode as Bits};
 
 use crate::error::LineError;
-use crate::line::{ImageKind, Place};
+use crate::line::{ImageKind, ReplicaPlace};
 use crate::value::ValueName;
 use clap::ArgMatches;
 use syn_path::Side;
@@ -49,7 +49,7 @@ pub(crate) fn is_set(found: &ArgMatches<'_>, id: &str) -> bool
 }
 
 /// The file or the server that is given.
-pub(crate) fn place<'a>(found: &ArgMatches<'a>) -> Result<Place<'a>, LineError>
+pub(crate) fn place<'a>(found: &ArgMatches<'a>) -> Result<ReplicaPlace<'a>, LineError>
     ensures ok { IfOk result (λ place. HasPlace (rows_of (found_of found.now)) place) }
     ensures value { IfErr result (λ error. error ≡ Value ValueName.File) }
     ensures nothing { OnErr result
@@ -57,9 +57,9 @@ pub(crate) fn place<'a>(found: &ArgMatches<'a>) -> Result<Place<'a>, LineError>
 {
     let text = text(found, ValueName::File)?;
     if is_set(found, "served") {
-        Ok(Place::Served(text))
+        Ok(ReplicaPlace::Served(text))
     } else {
-        Ok(Place::File(text))
+        Ok(ReplicaPlace::File(text))
     }
 }
 

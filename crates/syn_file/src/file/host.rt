@@ -37,9 +37,11 @@ pub trait HostFile: FileExt + OpenFile + Drop {
     fn forget(&self);
 }
 
-/// Takes the system's lock on a file that was opened. It is refused 12 where another process has
-/// the lock, and 9 where the file cannot be locked.
-pub(crate) fn take_lock<H: HostFile>(file: &H, access: Access) -> Result<(), OpenError>
+/// Takes the system's lock on a file that was opened, as `try_lock` does.
+///
+/// It is refused 12 where another process has the lock, 9 where the file cannot be locked, and 11
+/// for lack of memory.
+pub fn take_lock<H: HostFile>(file: &H, access: Access) -> Result<(), OpenError>
     ensures held { OnOk result (H.is_held file.now access) }
 {
     match file.try_lock(access) {

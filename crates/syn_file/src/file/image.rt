@@ -94,6 +94,7 @@ impl Image {
         Ok(Image { low, high })
     }
 
+    /// Reads the bytes from `at` on.
     pub fn read(&mut self, at: usize, into: &mut [u8])
         requires { at + length into.old ≤ DISK_SIZE }
         ensures into { into.new ≡ take (length into.old) (drop at (bytes_of self.old)) }
@@ -121,6 +122,7 @@ impl Image {
         self.high.load(file, HALF_SIZE, from, to - HALF_SIZE)
     }
 
+    /// Writes the bytes from `at` on.
     pub fn write(&mut self, at: usize, bytes: &[u8])
         requires { at + length bytes.now ≤ DISK_SIZE }
         ensures { bytes_of self.new ≡ overwritten (bytes_of self.old) at bytes.now }

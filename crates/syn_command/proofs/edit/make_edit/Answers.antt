@@ -16,14 +16,14 @@ returns-in_err-edit-clause-any_moment g c history left stands e =
     let laws = c.history_laws.ensures in
     let line = c.args.line.now in
     let edit = edit_of c.in_ok-asked.asked in
-    let is : edit ≡ edit_asked line.change c.args.path (take MOST_INPUT left) =
+    let is : edit ≡ edit_asked line.kind c.args.path (take MOST_INPUT left) =
     c.in_ok-asked.ensures.edit left e in
-    let asked = edit_asked line.change c.args.path left in
+    let asked = edit_asked line.kind c.args.path left in
     leaves_weaker g.D.Disk.moment g.D.Disk.left_since _ _
     (KeepsBeforeOrAfter c.args.replica.now history (Edited line.user edit))
     (KeepsBeforeOrAfter c.args.replica.now history (Edited line.user asked))
     (before_or_after laws.fits laws.put laws.steps c.args.replica.now history line.user
-    line.change c.args.path left edit is)
+    line.kind c.args.path left edit is)
     (c.in_err-edit.ensures.any_moment history stands)
 
 pub returns-in_err-edit-clause-refused : goal.returns-in_err-edit-clause-refused
@@ -31,10 +31,10 @@ returns-in_err-edit-clause-refused g c history left why stands e refused =
     let laws = c.history_laws.ensures in
     let line = c.args.line.now in
     let edit = edit_of c.in_ok-asked.asked in
-    let is : edit ≡ edit_asked line.change c.args.path (take MOST_INPUT left) =
+    let is : edit ≡ edit_asked line.kind c.args.path (take MOST_INPUT left) =
     c.in_ok-asked.ensures.edit left e in
     let same =
-    same_refusal laws.fits laws.put laws.steps history line.user line.change c.args.path left in
+    same_refusal laws.fits laws.put laws.steps history line.user line.kind c.args.path left in
     let told = err_from_is_err_and c.from_residual-in_err-edit.result
     c.from_residual-in_err-edit.ensures.1 in
     let cause = c.in_err-edit.ensures.refused history why stands
@@ -47,12 +47,12 @@ returns-clause-acknowledged g c history left stands e =
     let laws = c.history_laws.ensures in
     let line = c.args.line.now in
     let edit = edit_of c.in_ok-asked.asked in
-    let is : edit ≡ edit_asked line.change c.args.path (take MOST_INPUT left) =
+    let is : edit ≡ edit_asked line.kind c.args.path (take MOST_INPUT left) =
     c.in_ok-asked.ensures.edit left e in
     let done = c.in_ok-edit.ensures.acknowledged history stands in
     let IsMade : Edit → Type 0 = λ x. IsHistory (history ++ Edited line.user x ∷ []) in
     let same =
-    same_edit laws.fits laws.put laws.steps history line.user line.change c.args.path left
+    same_edit laws.fits laws.put laws.steps history line.user line.kind c.args.path left
     (subst IsMade is done.1.remembers.lawful) in
     let IsStanding : Edit → Type 0 =
     λ x. Stands c.edit.new.self (history ++ Edited line.user x ∷ []) in
@@ -63,14 +63,14 @@ returns-clause-any_moment g c history left stands e =
     let laws = c.history_laws.ensures in
     let line = c.args.line.now in
     let edit = edit_of c.in_ok-asked.asked in
-    let is : edit ≡ edit_asked line.change c.args.path (take MOST_INPUT left) =
+    let is : edit ≡ edit_asked line.kind c.args.path (take MOST_INPUT left) =
     c.in_ok-asked.ensures.edit left e in
-    let asked = edit_asked line.change c.args.path left in
+    let asked = edit_asked line.kind c.args.path left in
     leaves_weaker g.D.Disk.moment g.D.Disk.left_since _ _
     (KeepsBeforeOrAfter c.args.replica.now history (Edited line.user edit))
     (KeepsBeforeOrAfter c.args.replica.now history (Edited line.user asked))
     (before_or_after laws.fits laws.put laws.steps c.args.replica.now history line.user
-    line.change c.args.path left edit is)
+    line.kind c.args.path left edit is)
     (c.in_ok-edit.ensures.any_moment history stands)
 
 pub returns-clause-refused : goal.returns-clause-refused
@@ -78,10 +78,10 @@ returns-clause-refused g c history left why stands e refused =
     let laws = c.history_laws.ensures in
     let line = c.args.line.now in
     let edit = edit_of c.in_ok-asked.asked in
-    let is : edit ≡ edit_asked line.change c.args.path (take MOST_INPUT left) =
+    let is : edit ≡ edit_asked line.kind c.args.path (take MOST_INPUT left) =
     c.in_ok-asked.ensures.edit left e in
     let same =
-    same_refusal laws.fits laws.put laws.steps history line.user line.change c.args.path left in
+    same_refusal laws.fits laws.put laws.steps history line.user line.kind c.args.path left in
     absurd (c.in_ok-edit.ensures.refused history why stands
     (refused_at (room_shown c.args.replica.now) (standing_of history) (Edited line.user edit) why
     (ap (λ (x : Edit). event_refusal history (Edited line.user x)) is ∙ (same ∙ refused))))
