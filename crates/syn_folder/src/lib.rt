@@ -1,7 +1,5 @@
 //! Folders outside of any replica: what a tree has is written into one, and read from one.
 //!
-//! `Folder` is a folder by the tree that stands in it, and `SystemFolder` one of the system.
-//!
 //! # What it promises
 //!
 //! A `Folder` shows the tree of the files and directories that stand in it. `make` makes an edit of

@@ -55,7 +55,7 @@ impl<'a, F: Files> SystemFolder<'a, F> {
     }
 
     /// The same for the root, where the folder may be missing. It is made as soon as something is
-    /// written.
+    /// written. Refused as `open` is.
     pub fn open_or_missing(
         alloc: Global,
         files: &'a F,

@@ -1,5 +1,19 @@
 -- A session that runs, over its own transcript: what waits, what an answer brings, its plan, and
 -- what it may ask next.
+--
+-- What it may ask next is said over the transcript (`MayAsk`). Before it has its plan, once both
+-- sides have begun, that is a listing, of the root or of a path that a listing showed as a
+-- directory. Then, for the item that it has come to, it is the next piece of its source, or a piece
+-- that was taken. Once the whole is staged, it is the replacement. After the last answer to an item
+-- it is past that item. Requests are numbered from 0 on each side, and nothing is asked of a side
+-- twice but by a resend (`AsksOnce`).
+--
+-- An answer is taken where it has the session and number of a request that waits (`IsExpected`).
+-- That waits no more then, what is sent waits with no resend yet, and nothing else changes
+-- (`hearing`, `asking`). It ends the session at once exactly where `fault_of` says so: where a
+-- begin or a listing was refused; with 22, where the scan with this listing passes 4,096 nodes; and
+-- with 23, where a child would break the limits of paths, a piece has another total or length than
+-- it should, or the answer is of another kind.
 use Rattle.std.specs.Option.{option_map_or}
 use Rattle.std.specs.List.{list_any, list_all, count_by}
 use Rattle.std.specs.Ordering.{eq_by_cmp}

@@ -18,35 +18,19 @@
 //! - A **machine** keeps a value in a journal (`Journaled`): a side its history, the coordinator
 //!   its archive. What a record makes of the value, and the bytes of records and images, are its
 //!   `Layout`. A record is written by four device calls (`Writes`), a checkpoint by six
-//!   (`Compacts`), an opening makes at least one where the machine is up (`Opens`). Each call
-//!   counts towards what `Fail` and `Stop` armed there (`Meets`), also one that fails unmade, and
-//!   `failures` grows by one exactly where a call fails. After the call that a `Stop` names the
-//!   machine is down: the step answers and sends nothing, and nothing is armed any more. Where both
-//!   fall on one call, it counts and the stop wins. `room` is what the journal has left, in bytes;
-//!   a record takes its own and a checkpoint leaves all but the image.
-//! - A machine that stopped, or whose device failed, says what was being written (`writing`) or
-//!   that a checkpoint was under way (`compacting`). The next opening gives the value, with the one
-//!   record or without it, and the journal as it was or as the checkpoint leaves it.
+//!   (`Compacts`), an opening makes at least one where the machine is up (`Opens`). After the call
+//!   that a `Stop` names the machine is down, and says what was being written. The next opening
+//!   gives the value, with the one record or without it.
 //! - A **side** takes a request (`SideTakes`). It answers as `serve` says, or 11 where memory is
 //!   refused, and adds nothing. Or it adds the one event that the answer speaks of, and writes it.
 //!   A halted side stages, or has no memory to, and refuses all else 10.
 //! - A **coordinator** keeps the state of the session that runs (`Running`): the transcript
 //!   (`taken`), what waits on each side, its plan, and the item that it has come to. It also keeps
-//!   what it recorded and refused so far. What it may ask next is said over the transcript
-//!   (`MayAsk`). Before it has its plan, once both sides have begun, that is a listing, of the root
-//!   or of a path that a listing showed as a directory. Then, for the item that it has come to, it
-//!   is the next piece of its source, or a piece that was taken. Once the whole is staged, it is
-//!   the replacement. After the last answer to an item it is past that item. Requests are numbered
-//!   from 0 on each side, and nothing is asked of a side twice but by a resend (`AsksOnce`).
-//! - An answer is taken where it has the session and number of a request that waits (`IsExpected`).
-//!   That waits no more then, what is sent waits with no resend yet, and nothing else changes
-//!   (`hearing`, `asking`). It ends the session at once exactly where `fault_of` says so. A begin
-//!   or a listing was refused. Or, with 22, the scan with this listing passes 4,096 nodes. Or, with
-//!   23, a child would break the limits of paths, a piece has another total or length than it
-//!   should, or the answer is of another kind.
-//! - Else the call goes on through the plan from item to item (`Advances`). It passes a conflict,
-//!   refuses an item as its side or the archive refuses it, and keeps a record that is due
-//!   (`IsDue`). Due is a replacement that this very answer says is done, marks that both scans
+//!   what it recorded and refused so far. The head of `specs/Session.antt` tells what it may ask
+//!   next (`MayAsk`), and which answer is taken (`IsExpected`) or ends the session (`fault_of`).
+//! - With an answer it goes on through the plan from item to item (`Advances`). It passes a
+//!   conflict, refuses an item as its side or the archive refuses it, and keeps a record that is
+//!   due (`IsDue`). Due is a replacement that this very answer says is done, marks that both scans
 //!   agree on, and a directory of both. For a record that does not fit it makes one checkpoint, and
 //!   then does nothing but write that record (`made_room`). Where no checkpoint can be made, at the
 //!   greatest generation, the item is refused 7. It stops at an item that carries, or at the end of
@@ -61,9 +45,7 @@
 //! - The **plan** of two scans and an archive is the plan's definition, item by item, with what the
 //!   two scans have at each. A session makes it once, of the archive as it is in that call
 //!   (`MakesPlan`), and there the world logs it with its scans. A scan lists what a side held
-//!   (`IsScanBy` in `syn_model`): each directory that it shows was listed so at its position, or is
-//!   unstable. That no directory was listed before the one above it is asked of nobody. It follows,
-//!   as a child is asked for only once its parent's listing was taken (`ordered` of `IsPlanOf`).
+//!   (`IsScanBy` in `syn_model`): each directory that it shows was listed so, or is unstable.
 //! - A user's edit, a start, a checkpoint and a reopening are lost on a machine that is down. Else
 //!   each is made, or is refused with the first of its causes, which the world keeps (`Calls`,
 //!   `refusals`). It is 9 where it leaves the machine halted (`refused_by`).
@@ -73,11 +55,9 @@
 //! report is that of a session of the run, with the causes of its end and of its refusals
 //! (`EachReportTells`). An answer that a session waits for is taken (`TakesExpected`). A
 //! replacement that a side has is answered done as long as it is the last, and old after that
-//! (`RepeatsAreAnswered`). So does what a complete session leaves, reports, counts and marks. A
-//! layer owes nothing more for it. What it leaves on the two sides (`synchronized`) has one
-//! premise. No two files that the session found at one path, one on each side, may have one digest
-//! and different bytes. What it leaves in the archive (`reconciled`), and all the others, have
-//! none.
+//! (`RepeatsAreAnswered`). So does what a complete session leaves, reports, counts and marks. What
+//! it leaves on the two sides (`synchronized`) has one premise. No two files that the session found
+//! at one path, one on each side, may have one digest and different bytes. All else has none.
 #![tactic(auto)]
 
 ghost use Rattle.syn_headline.specs.Laws.{ServesAllowed, PiecesAreUntouched, RepeatsAreDone};

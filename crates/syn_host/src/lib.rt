@@ -1,8 +1,5 @@
 //! One machine of a world, a side or the coordinator, and what each kind of step does to it.
 //!
-//! It runs over a disk that can be told to fail or to stop. It is up, halted where a device call
-//! failed, or down: then it is its disk alone, with what is known of it.
-//!
 //! # What it promises
 //!
 //! A machine is a `SideHost` or a `CoordinatorHost`. It is up, halted where a device call failed,

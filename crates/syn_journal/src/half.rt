@@ -25,6 +25,7 @@ impl Half {
         }
     }
 
+    /// The half across.
     pub fn other(self) -> Half
         ensures { result ≡ other_half self }
     {

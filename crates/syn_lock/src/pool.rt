@@ -45,6 +45,7 @@ impl<S, L: Naming<S>> Model for NamedPass<S, L> {
 }
 
 impl<S, L: Naming<S>> NamedPass<S, L> {
+    /// The pass, as one of the lock that `L` names.
     pub fn new(pass: Pass<S>) -> NamedPass<S, L>
         requires { IsPassIn L.lock L.origin pass }
         ensures { result ≡ pass }
@@ -55,6 +56,7 @@ impl<S, L: Naming<S>> NamedPass<S, L> {
         }
     }
 
+    /// The pass without the name. It is one of the lock that `L` names.
     pub fn into_pass(self) -> Pass<S>
         ensures of { IsPassIn L.lock L.origin result }
         ensures same { result ≡ self }
@@ -70,6 +72,7 @@ pub struct PassPool<S, L: Naming<S>> {
 }
 
 impl<S, L: Naming<S>> PassPool<S, L> {
+    /// A pool that lends these passes.
     pub fn new(passes: Vec<NamedPass<S, L>>) -> PassPool<S, L> {
         PassPool {
             passes: Mutex::new(passes),

@@ -9,6 +9,7 @@ use crate::view::Known;
 use atomic_table::{Join, Play, Split, TableRule};
 use std::snapshot::Snapshot;
 
+/// The rule of the lock's table.
 pub struct Discipline;
 
 impl<S: Grows> TableRule<Option<Box<S>>, Known<S>, Snapshot<S>> for Discipline {

@@ -4,9 +4,8 @@
 //! # What it promises
 //!
 //! - `Mark::of_file` is the model's mark of a file, its mode with the SHA-256 digest of its bytes,
-//!   and takes no memory.
-//!   `mark_of` marks a file or a directory with all below it (`ok`), refused 7 only where that has
-//!   more than 4,096 nodes (`full`).
+//!   and takes no memory. `mark_of` marks a file or a directory with all below it (`ok`), refused 7
+//!   only where that has more than 4,096 nodes (`full`).
 //! - A `MarkTree` is a tree of digests as the model has it, by its type (`as_slice`: `all`,
 //!   `present`, `marks`, `fits`). Its root stands, each path has its parents, and the limits of an
 //!   archive are kept. `from_vec` takes entries in path order exactly where they are such (`some`,

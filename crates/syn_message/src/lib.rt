@@ -16,8 +16,7 @@
 //!   session is 0.
 //! - No two messages of one kind of these four have one body (`message_laws`), so what was written
 //!   is read again.
-//! - `Request::copy` and `Reply::copy` give an equal message. `Side` is one of the two sides, and
-//!   `other` the one across.
+//! - `Request::copy` and `Reply::copy` give an equal message.
 #![tactic(auto)]
 
 ghost use Rattle.syn_message.specs.Laws.{RequestsTell, RepliesTell, WishesTell, TellingsTell};
@@ -39,7 +38,6 @@ pub use reply::{Answered, Reply, encode_reply};
 pub use reply_reading::decode_reply;
 pub use request::{Asked, Request, encode_request};
 pub use request_reading::decode_request;
-pub use syn_path::Side;
 pub use syn_wire::LONGEST_PIECE;
 pub use user::{AskedByUser, UserRequest, encode_user_request};
 pub use user_reading::decode_user_request;

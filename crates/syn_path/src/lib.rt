@@ -8,6 +8,7 @@
 //!   the path. Keys compare as paths do, and `is_prefix` tells whether one path begins with
 //!   another. `parent`, `under` and `below` make the keys of other paths, and `last_name` lends the
 //!   last name. Only `to_path`, which gives the path back, takes memory.
+//! - A `Side` is one of the two sides of a pair, and `other` the one across.
 #![tactic(auto)]
 
 mod error;

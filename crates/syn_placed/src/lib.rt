@@ -1,9 +1,5 @@
 //! What stands at paths, in path order, of trees and of marks alike.
 //!
-//! `Placed` is a path with what stands there, and `list` looks up, cuts and joins lists of such
-//! entries. `Keyed` is the same with a key in place of the path, and `ranges` does so with lists of
-//! these.
-//!
 //! # What it promises
 //!
 //! - An entry is a path with what stands there (`Placed`): a tree's content, a mark, or something

@@ -8,8 +8,8 @@ use crate::error::TransferError;
 use crate::lawful::{are_bytes, is_number, is_position};
 use crate::next::Next;
 use std::alloc::{AllocError, Global};
-use syn_message::{Request, Side};
-use syn_path::Path;
+use syn_message::Request;
+use syn_path::{Path, Side};
 
 /// An item that a session carries: what stands at the path on one side is put there on the other.
 #[derive(Debug, Drop)]

@@ -1,6 +1,7 @@
 //! What comes next in a transfer.
 
-use syn_message::{Request, Side};
+use syn_message::Request;
+use syn_path::Side;
 use syn_refusal::Refusal;
 
 /// What a transfer wants next.

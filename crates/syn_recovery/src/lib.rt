@@ -17,11 +17,8 @@
 //! - `headline`: three disks of a pair are a start of a run (`start`), and a run from them is crash
 //!   safe (`crash_safe`).
 //! - What the code of a world owes beside its steps is one invariant, `MayBeLeft`: whatever a stop
-//!   may leave on the three disks may be of their machines then. `syn_world` keeps it, for each
-//!   disk by itself (`AreLeft`): each step of its world carries it on. So whatever a stop may leave
-//!   after its `run` is crash safe (`AreSafe`), and `recover` opens that. It rests on the
-//!   `any_moment` of a replica and of an archive, which tells what is kept, the bytes that are left
-//!   and the generation.
+//!   may leave on the three disks may be of their machines then. It rests on what a replica and an
+//!   archive say of any moment of a call: what is kept, the bytes that are left and the generation.
 #![tactic(auto)]
 
 ghost use Rattle.syn_recovery.specs.Calls.{MadeCallsMeet, StopsAfter, BrokenCallsMeet};

@@ -13,7 +13,7 @@ pub enum Refusal {
     BadPath,
     /// The parent of the path is not a directory.
     NoParent,
-    /// A directory is where the file would be put.
+    /// A directory is where the file would be put, or whose mode would change.
     IsDirectory,
     /// Something is already where the directory would be made.
     Exists,
@@ -117,7 +117,7 @@ impl Refusal {
             Refusal::IsDirectory => (
                 3,
                 "IsDirectory",
-                "a directory is where the file would be put",
+                "a directory is where the file would be put, or whose mode would change",
             ),
             Refusal::Exists => (
                 4,

@@ -1,6 +1,6 @@
 //! What a line of a script says.
 use syn_disk::Leaves;
-use syn_message::Side;
+use syn_path::Side;
 use syn_tree::Edit;
 
 /// A machine of the simulated world.

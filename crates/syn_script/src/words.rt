@@ -10,7 +10,7 @@ ghost use Rattle.syn_path.specs.declared.side.Side.{Side as Which};
 use crate::line::Machine;
 use std::alloc::{AllocError, Global};
 use syn_disk::Leaves;
-use syn_message::Side;
+use syn_path::Side;
 
 /// The words of a line.
 pub(crate) fn words_of(alloc: Global, line: &str) -> Result<Vec<&str>, AllocError>

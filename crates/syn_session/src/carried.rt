@@ -11,8 +11,7 @@ use crate::course::Carried;
 use crate::error::SessionError;
 use std::alloc::Global;
 use syn_image::KeptItem;
-use syn_message::Side;
-use syn_path::Path;
+use syn_path::{Path, Side};
 use syn_propagate::{Carriage, Transfer};
 use syn_scan::Scan;
 

@@ -8,9 +8,8 @@ use crate::course::{Carried, Course};
 use crate::error::SessionError;
 use std::alloc::Global;
 use syn_image::KeptItem;
-use syn_message::Side;
 use syn_model::plan_laws;
-use syn_path::Path;
+use syn_path::{Path, Side};
 use syn_recon::Item;
 use syn_scan::Scan;
 

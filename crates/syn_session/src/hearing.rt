@@ -17,8 +17,8 @@ use crate::error::SessionError;
 use crate::line::Line;
 use crate::session::{Asks, Session, is_no_directory};
 use std::alloc::Global;
-use syn_message::{Reply, Request, Side};
-use syn_path::Path;
+use syn_message::{Reply, Request};
+use syn_path::{Path, Side};
 use syn_refusal::Refusal;
 
 impl Session {

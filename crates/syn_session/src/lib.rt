@@ -3,8 +3,8 @@
 //!
 //! # What it promises
 //!
-//! A session has no archive and no disk. `IsSession archive session running`: it is the running
-//! session of a machine that has this archive. What waits on its two lines is the same, and so are
+//! `IsSession archive session running`: it is the running session of a machine that has this
+//! archive. What waits on its two lines is the same, and so are
 //! its scans, or its way through its plan.
 //!
 //! - `Session::new` has both sides begin the session (`begun`, `sends`). `waiting` is what waits on

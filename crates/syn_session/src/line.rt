@@ -14,8 +14,8 @@ use crate::requests::{Waiting, count_resends, is_any_worn, place_of};
 use crate::sending::Sending;
 use crate::side_scan::SideScan;
 use std::alloc::Global;
-use syn_message::{Request, Side};
-use syn_path::Path;
+use syn_message::Request;
+use syn_path::{Path, Side};
 
 /// The number of requests that a session may send to a side: four bytes spell their numbers.
 const MOST_REQUESTS: u64 = 4_294_967_296;

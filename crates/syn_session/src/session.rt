@@ -24,8 +24,8 @@ use crate::line::Line;
 use crate::report::{End, Report};
 use crate::sending::Sending;
 use std::alloc::Global;
-use syn_message::{Reply, Request, Side};
-use syn_path::Path;
+use syn_message::{Reply, Request};
+use syn_path::{Path, Side};
 use syn_refusal::Refusal;
 
 /// A session that runs.

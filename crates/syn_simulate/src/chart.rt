@@ -1,7 +1,7 @@
 //! A chart of what happens at three machines.
 
 use std::alloc::{AllocError, Global};
-use syn_message::Side;
+use syn_path::Side;
 use syn_world::Machine;
 
 mod drawing;

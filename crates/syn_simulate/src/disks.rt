@@ -4,7 +4,7 @@ ghost use Rattle.syn_simulate.specs.Disks.{IsStops, leaves_in, leaves_of, stops_
 
 use std::alloc::{AllocError, Global};
 use syn_disk::Leaves;
-use syn_message::Side;
+use syn_path::Side;
 use syn_script::{Line, Machine};
 use syn_world::Disks;
 

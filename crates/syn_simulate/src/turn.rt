@@ -3,7 +3,7 @@ ghost use Rattle.std.specs.Prelude.{◌≡◌, ◌++◌, ◌∷◌, [], IfSome};
 ghost use Rattle.syn_simulate.specs.Turns.{delivery_of, is_up, moment_of, turn_of};
 
 use syn_disk::Disk;
-use syn_message::Side;
+use syn_path::Side;
 use syn_world::{Machine, Step, World};
 
 /// How long each list of a world was at some moment, and which of its machines were up. No list

@@ -1,5 +1,4 @@
-//! File trees: what stands at each path, and the edits that change it. What serves any form of a
-//! tree is in `checking`, `measures`, `parts` and `placing`.
+//! File trees: what stands at each path, and the edits that change it.
 //!
 //! # What it promises
 //!

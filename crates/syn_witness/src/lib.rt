@@ -70,13 +70,8 @@ pub fn examples()
     ensures sides { SideRows }
 {}
 
-/// Runs from three formatted disks, step by step, that the definitions of a run allow: a stop while
-/// an edit is written and its recovery, an edit whose device call fails and what a reopening gives,
-/// a checkpoint that is cut off, a session that nobody answers, a whole session over one file, one
-/// that carries a file each way, and one that marks what an earlier session carried and did not
-/// record; a replacement that comes twice, one that comes after an edit, and one whose device call
-/// fails; a session that marks a directory of both sides and reports a conflict below it; one that
-/// a directory vanishes in; and, from disks that are not new, one that carries a removal.
+/// Runs that the definitions of a run allow, step by step: most are from three formatted disks. The
+/// head of this crate says what they show.
 pub fn witnesses()
     ensures start { OpenedIsStart }
     ensures room { NewRoomIs }
@@ -95,14 +90,8 @@ pub fn witnesses()
     ensures removal { RemovalIsCarried }
 {}
 
-/// Short runs of the same, and some from disks with little room: a start, a replacement and a
-/// record of the archive that a stop cuts off and an opening recovers; checkpoints of a side and of
-/// the archive, with a reopening; a request that is sent again and answered twice, and a
-/// replacement of a session that is over; a start while a session runs, an edit that has no room
-/// before a checkpoint, and a start and a reopening whose device call fails; and sessions that
-/// carry nothing: of two files in conflict, of one that both sides removed, and of one whose record
-/// has no room before a checkpoint. In one run two listings wait on a side at once, and the second
-/// is answered first.
+/// Short runs of the same, and some from disks with little room. In one run two listings wait on a
+/// side at once, and the second is answered first.
 pub fn short_witnesses()
     ensures start { StartIsRecovered }
     ensures replacement { ReplacementIsRecovered }

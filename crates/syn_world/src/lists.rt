@@ -9,7 +9,8 @@ ghost use Rattle.syn_world.specs.Worlds.{message_of, report_in, told_in, told_ke
 
 use syn_host::{CoordinatorOutcome, Outcome};
 use syn_image::Kept;
-use syn_message::{Answered, Reply, Side};
+use syn_message::{Answered, Reply};
+use syn_path::Side;
 use syn_refusal::Refusal;
 use syn_session::{Report, Sending};
 

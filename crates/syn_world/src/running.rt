@@ -10,7 +10,8 @@ ghost use Rattle.syn_model.specs.Refusal.{Refusal as Cause};
 use crate::lists::Lists;
 use syn_disk::Disk;
 use syn_host::{CoordinatorHost, CoordinatorOutcome, Outcome, SideHost, SimulatedDisk};
-use syn_message::{Reply, Side};
+use syn_message::Reply;
+use syn_path::Side;
 
 mod coordinators;
 mod deliver;

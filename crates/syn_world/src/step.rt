@@ -1,6 +1,6 @@
 //! The steps of a world.
 
-use syn_message::Side;
+use syn_path::Side;
 use syn_script::Machine;
 use syn_tree::Edit;
 

@@ -6,7 +6,7 @@ use crate::running::Running;
 use syn_archive::Archive;
 use syn_disk::Disk;
 use syn_host::CoordinatorHost;
-use syn_message::Side;
+use syn_path::Side;
 use syn_refusal::Refusal;
 use syn_replica::Replica;
 use syn_session::Report;

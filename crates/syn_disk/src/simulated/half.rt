@@ -29,6 +29,7 @@ pub struct Half {
 impl Half {
     ghost use Rattle.syn_disk.specs.Half.{content_of, synced_of, written_of, IsClean};
 
+    /// A half of zeros, all synced. Refused where memory is refused.
     pub fn new(alloc: Global) -> Result<Half, AllocError>
         ensures zeros { IfOk result (λ half. (i : ℕ) → slice_index (content_of half) i ≡ 0) }
         ensures synced { IfOk result (λ half. synced_of half ≡ content_of half) }
@@ -59,6 +60,7 @@ impl Half {
         }
     }
 
+    /// Reads the bytes from `at` on.
     pub fn read(&mut self, at: usize, into: &mut [u8])
         requires { at + length into.old ≤ HALF_SIZE }
         ensures into { into.new ≡ take (length into.old) (drop at (content_of self.old)) }
@@ -72,6 +74,7 @@ impl Half {
         }
     }
 
+    /// Writes the bytes from `at` on, not synced yet.
     pub fn write(&mut self, at: usize, bytes: &[u8])
         requires { at + length bytes.now ≤ HALF_SIZE }
         ensures content { content_of self.new ≡ overwritten (content_of self.old) at bytes.now }
@@ -86,6 +89,7 @@ impl Half {
         }
     }
 
+    /// Takes all that was written for synced.
     pub fn sync(&mut self)
         ensures content { content_of self.new ≡ content_of self.old }
         ensures synced { synced_of self.new ≡ content_of self.old }
@@ -95,6 +99,7 @@ impl Half {
         self.written.clear();
     }
 
+    /// A stop of the machine: what was not synced is left as `leaves` says.
     pub fn stop(&mut self, leaves: Leaves)
         ensures each { Left leaves (content_of self.old) (synced_of self.old) (written_of self.old)
             (content_of self.new) }

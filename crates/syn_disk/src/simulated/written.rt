@@ -49,6 +49,7 @@ impl Written {
         self.flags.resize(to, false).unwrap();
     }
 
+    /// Whether the byte at `i` was written.
     pub fn is_set(&self, i: usize) -> bool
         requires { i < length self.now }
         ensures { result ≡ is_written self.now i }
@@ -63,6 +64,7 @@ impl Written {
         (self.from, self.to)
     }
 
+    /// Notes so many bytes from `at` on as written.
     pub fn set(&mut self, at: usize, len: usize)
         requires { at + len ≤ length self.old }
         ensures { self.new ≡ overwritten self.old at (replicate len true) }
@@ -71,6 +73,7 @@ impl Written {
         (self.from, self.to) = join(self.from, self.to, at, at + len);
     }
 
+    /// Notes no byte as written.
     pub fn clear(&mut self)
         ensures size { length self.new ≡ length self.old }
         ensures none { (i : ℕ) → is_written self.new i ≡ false }

@@ -15,7 +15,8 @@ use crate::disk::SimulatedDisk;
 use crate::outcome::CoordinatorOutcome;
 use std::alloc::Global;
 use syn_coordinator::Coordinator;
-use syn_message::{Reply, Side};
+use syn_message::Reply;
+use syn_path::Side;
 use syn_session::{Sending, SessionError};
 
 impl<D: SimulatedDisk> CoordinatorHost<D> {

@@ -5,7 +5,7 @@ use crate::chart::messages::{ends_of, sent_text};
 use crate::turn::Moment;
 use std::alloc::{AllocError, Global};
 use syn_image::Kept;
-use syn_message::Side;
+use syn_path::Side;
 use syn_refusal::Refusal;
 use syn_session::{End, Report};
 use syn_world::{Ack, Machine, Message};

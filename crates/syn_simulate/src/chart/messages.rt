@@ -1,7 +1,8 @@
 //! What a chart says of messages.
 
 use std::alloc::{AllocError, Global};
-use syn_message::{Answered, Reply, Request, Side};
+use syn_message::{Answered, Reply, Request};
+use syn_path::Side;
 use syn_world::{Machine, Message};
 
 /// The machine that sent the message, and the one that it goes to.

@@ -9,7 +9,8 @@ use super::Running;
 use crate::replies::can_be_sent;
 use std::alloc::Global;
 use syn_host::SimulatedDisk;
-use syn_message::{Reply, Side};
+use syn_message::Reply;
+use syn_path::Side;
 
 impl<D: SimulatedDisk> Running<D> {
     ghost use Rattle.syn_world.specs.Worlds.{GoesSo, IsRunning};

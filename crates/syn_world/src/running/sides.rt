@@ -10,7 +10,8 @@ ghost use Rattle.syn_tree.specs.Edits.{edit_of};
 use super::Running;
 use std::alloc::Global;
 use syn_host::{SideAnswer, SimulatedDisk};
-use syn_message::{Request, Side};
+use syn_message::Request;
+use syn_path::Side;
 use syn_tree::Edit;
 
 impl<D: SimulatedDisk> Running<D> {
