@@ -1,52 +1,30 @@
 -- What is heard where an answer is refused, where a listing goes on, and of which request it is.
-use Rattle.std.proofs.Common.{◌≡◌, ◌≢◌, ◌≤◌, ◌<◌, ◌^◌, ◌⊎◌, ◌==◌, ℕ, Bool, true, false, option_map}
-use Rattle.std.proofs.Common.{true≢false, not, ◌||◌, if◌then◌else◌, [], ◌++◌, length, map}
-use Rattle.std.proofs.Common.{Option, Some, None, refl, sym, ap, ◌∙◌, subst, inl, inr, arith}
-use Rattle.std.proofs.Common.{append-nil}
-use Rattle.std.specs.Prelude.{All, AllPairs, Contains, IfNone, IfOk, IfSome, IsErrAnd, MatchResult}
+use Rattle.std.proofs.Common.{◌≡◌, ◌⊎◌, ℕ}
+use Rattle.std.proofs.Common.{Option, None, refl, sym, subst, inl, inr}
+use Rattle.std.specs.Prelude.{Contains, IfNone, IfOk, IfSome, IsErrAnd, MatchResult}
 use Rattle.std.specs.Prelude.{Result, Ok, Err}
-use Rattle.std.proofs.lemmas.List.{length-map}
-use Rattle.std.proofs.lemmas.List.Elements.{Contains-append_left, Contains-push}
-use Rattle.std.proofs.lemmas.List.Elements.{Contains-push_cases}
-use Rattle.std.proofs.lemmas.Option.{same_Some}
-use Rattle.syn_headline.specs.Coordinator.{AreRising, Exchange, MayWait, Outstanding, Running}
-use Rattle.syn_headline.specs.Coordinator.{asked_in, hearing, is_last, is_not_dir}
-use Rattle.syn_headline.specs.Coordinator.{numbered, without}
-use Rattle.syn_headline.specs.Network.{IsRepeat, Left, Right, Which, is_side, other}
-use Rattle.syn_headline.specs.Session.{BothBegun, WasAsked, WasTaken, entries_in, fault_of}
+use Rattle.syn_headline.specs.Coordinator.{Running}
+use Rattle.syn_headline.specs.Coordinator.{hearing}
+use Rattle.syn_headline.specs.Network.{Which}
+use Rattle.syn_headline.specs.Session.{BothBegun, fault_of}
 use Rattle.syn_headline.specs.Side.{Begin, Begun, Fetch, ListAt, Replace, Request, Stage}
 use Rattle.syn_headline.specs.Side as model
-use Rattle.syn_headline.proofs.WaitingLemmas.{asked_waits}
 use Rattle.syn_message.specs.Requests.{request_of}
 use Rattle.syn_message.specs.declared.request.Request.{Request as Asked}
 use Rattle.syn_message.specs.declared.request.Request.TheVariants as has
-use Rattle.syn_model.specs.Archive as archive
 use Rattle.syn_model.specs.Path.{Path}
-use Rattle.syn_scan.specs.Asked.{is_out}
-use Rattle.syn_scan.specs.Asked.{without as without_path}
-use Rattle.syn_session.specs.Scanning.{IsFoundIn, WaitsFor, found_of, out_of}
-use Rattle.syn_session.specs.declared.line.Line.{Line}
+use Rattle.syn_session.specs.Scanning.{IsFoundIn, WaitsFor}
 use Rattle.syn_session.specs.declared.session.Asks.{Asks}
 use Rattle.syn_session.specs.declared.session.Session.{Session}
-use Rattle.syn_session.specs.Answering.{IsAnswering, asks_of, exchange_of}
-use Rattle.syn_session.specs.inner.Listing.{IsListed, KeepsFound, KeepsRequests, ListsOn}
-use Rattle.syn_session.specs.Hearing.{EndsHearing, HasHeard, Hears, IsAsking, ScansOn, afterwards}
+use Rattle.syn_session.specs.Answering.{exchange_of}
+use Rattle.syn_session.specs.inner.Listing.{IsListed, KeepsFound, ListsOn}
+use Rattle.syn_session.specs.Hearing.{EndsHearing, HasHeard, Hears, afterwards}
 use Rattle.syn_refusal.specs.declared.refusal.Refusal.{Refusal as Why}
 use Rattle.syn_refusal.specs.declared.refusal.Refusal.TheVariants.{Memory}
-use Rattle.syn_session.specs.Sessions.{IsSession, IsStage, Tells}
-use Rattle.syn_session.specs.Stages.{AreOfScan, IsBeginningOrListing, IsOfScan, IsScanning}
-use Rattle.syn_session.specs.Stages.{IsToBegin, IsToList, begins, lists, found_on}
-use Rattle.syn_session.specs.Stages.{line_of, outstanding_of, reached_by, requests_on, waiting_of}
-use Rattle.syn_session.proofs.AnswerLemmas.{heard_so, unstable_then}
-use Rattle.syn_session.proofs.HearLemmas.{found_still, heard_new, scans_either}
-use Rattle.syn_session.proofs.WaitingLemmas.{alone_is, asked_has, first_is, from_map, in_filter}
-use Rattle.syn_session.proofs.WaitingLemmas.{in_map, its_number, only_in, other_number, out_before}
-use Rattle.syn_session.proofs.WaitingLemmas.{out_still, same_directory, still_in-filter}
-use Rattle.syn_session.proofs.TellingLemmas.{by_sides, list_not_begin, or_false}
-use Rattle.syn_session.proofs.TellingLemmas.{either_nothing, not_across, other_side, tells_nothing}
-use Rattle.syn_session.proofs.TellingLemmas.{scans_further, tells_heard}
-use Rattle.syn_path.specs.Sides.{which_of}
-use Rattle.syn_path.specs.declared.side.Side.{Side}
+use Rattle.syn_session.specs.Stages.{IsToList, found_on}
+use Rattle.syn_session.specs.Stages.{line_of, requests_on}
+use Rattle.syn_session.proofs.HearLemmas.{heard_new, scans_either}
+use Rattle.syn_session.proofs.TellingLemmas.{tells_heard}
 
 -- where it is refused
 pub hears_refused : (session : Session) (running : Running) (side : Which) (number : ℕ)

@@ -1,10 +1,9 @@
 -- A session that scans hears that a side has begun, or what it lists.
-use Rattle.std.proofs.Common.{◌≡◌, ◌≢◌, ◌≤◌, ◌<◌, ◌^◌, ◌⊎◌, ◌==◌, ℕ, Bool, true, false, option_map}
+use Rattle.std.proofs.Common.{◌≡◌, ◌≢◌, ◌≤◌, ◌<◌, ◌^◌, ◌==◌, ℕ, Bool, true, false, option_map}
 use Rattle.std.proofs.Common.{true≢false, not, ◌||◌, if◌then◌else◌, [], ◌++◌, length, map}
 use Rattle.std.proofs.Common.{Option, Some, None, refl, sym, ap, ◌∙◌, subst, inl, inr, arith}
 use Rattle.std.proofs.Common.{append-nil}
-use Rattle.std.specs.Prelude.{All, AllPairs, Contains, IfNone, IfOk, IfSome, IsErrAnd, MatchResult}
-use Rattle.std.specs.Prelude.{Result, Ok, Err}
+use Rattle.std.specs.Prelude.{All, AllPairs, Contains}
 use Rattle.std.proofs.lemmas.List.{length-map}
 use Rattle.std.proofs.lemmas.List.Elements.{Contains-append_left, Contains-push}
 use Rattle.std.proofs.lemmas.List.Elements.{Contains-push_cases}
@@ -29,23 +28,21 @@ use Rattle.syn_session.specs.declared.line.Line.{Line}
 use Rattle.syn_session.specs.declared.session.Asks.{Asks}
 use Rattle.syn_session.specs.declared.session.Session.{Session}
 use Rattle.syn_session.specs.Answering.{IsAnswering, asks_of, exchange_of}
-use Rattle.syn_session.specs.inner.Listing.{IsListed, KeepsFound, KeepsRequests, ListsOn}
-use Rattle.syn_session.specs.Hearing.{EndsHearing, HasHeard, Hears, IsAsking, ScansOn, afterwards}
-use Rattle.syn_refusal.specs.declared.refusal.Refusal.{Refusal as Why}
-use Rattle.syn_refusal.specs.declared.refusal.Refusal.TheVariants.{Memory}
+use Rattle.syn_session.specs.inner.Listing.{KeepsRequests}
+use Rattle.syn_session.specs.Hearing.{HasHeard, IsAsking, ScansOn}
 use Rattle.syn_session.specs.Sessions.{IsSession, IsStage, Tells}
 use Rattle.syn_session.specs.Stages.{AreOfScan, IsBeginningOrListing, IsOfScan, IsScanning}
 use Rattle.syn_session.specs.Stages.{IsToBegin, IsToList, begins, lists, found_on}
 use Rattle.syn_session.specs.Stages.{line_of, outstanding_of, reached_by, requests_on, waiting_of}
 use Rattle.syn_session.proofs.AnswerLemmas.{heard_so, unstable_then}
 use Rattle.syn_session.proofs.HeardNext.{no_begin_in, no_list_in}
-use Rattle.syn_session.proofs.HearLemmas.{found_still, heard_new, scans_either}
+use Rattle.syn_session.proofs.HearLemmas.{found_still}
 use Rattle.syn_session.proofs.WaitingLemmas.{alone_is, asked_has, first_is, from_map, in_filter}
 use Rattle.syn_session.proofs.WaitingLemmas.{in_map, its_number, only_in, other_number, out_before}
 use Rattle.syn_session.proofs.WaitingLemmas.{out_still, same_directory, still_in-filter}
 use Rattle.syn_session.proofs.TellingLemmas.{by_sides, list_not_begin, or_false}
 use Rattle.syn_session.proofs.TellingLemmas.{either_nothing, not_across, other_side, tells_nothing}
-use Rattle.syn_session.proofs.TellingLemmas.{scans_further, tells_heard}
+use Rattle.syn_session.proofs.TellingLemmas.{scans_further}
 use Rattle.syn_path.specs.Sides.{which_of}
 use Rattle.syn_path.specs.declared.side.Side.{Side}
 

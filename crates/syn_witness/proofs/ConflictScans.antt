@@ -1,18 +1,15 @@
 -- What the scans of the session with a conflict find, and its plan.
 use Rattle.std.proofs.Common.{◌≡◌, ◌⊎◌, inl, inr, ℕ, suc, Bool, true, false, true≢false, cond, List}
-use Rattle.std.proofs.Common.{[], ◌∷◌, ◌++◌, map, flat_map, refl, sym, ap, ap₂, ◌∙◌, subst, Some}
-use Rattle.std.proofs.Common.{None, is_some, Option, option_map, arith, ◌<◌, ◌^◌}
-use Rattle.std.specs.Prelude.{IsSome}
+use Rattle.std.proofs.Common.{[], ◌∷◌, ◌++◌, map, flat_map, refl, sym, ap, ap₂, ◌∙◌, Some}
+use Rattle.std.proofs.Common.{None, option_map, arith, ◌<◌, ◌^◌}
 use Rattle.std.specs.Ordering.{eq_by_cmp}
-use Rattle.std.specs.FinMap.{entries, find, get, empty, from_entries, put, entries-insert}
-use Rattle.std.proofs.lemmas.Option.{none-some, same_Some}
+use Rattle.std.specs.FinMap.{entries, find, empty, from_entries, put, entries-insert}
 use Rattle.std.proofs.lemmas.List.Elements.{All-nil, All-cons}
 use Rattle.syn_model.specs.Path.{Bytes, Path, Name, IsName, IsPath, root, child, name_cmp, path_cmp}
-use Rattle.syn_model.specs.Contents.{Contents}
-use Rattle.syn_model.specs.Tree.{Tree, Content, Directory, File, Pair, IsTree, empty_directory}
+use Rattle.syn_model.specs.Tree.{Tree, Content, Directory, Pair, IsTree, empty_directory}
 use Rattle.syn_model.specs.Tree.{file, replace, subtree, is_directory, is_directory_content}
 use Rattle.syn_model.specs.Limits.{children}
-use Rattle.syn_model.specs.Event.{AreBytes, Edited, Began}
+use Rattle.syn_model.specs.Event.{Edited, Began}
 use Rattle.syn_model.specs.History.{History, IsHistory, IsAllowed, tree_of}
 use Rattle.syn_model.specs.Mark.{mark, mark_of}
 use Rattle.syn_model.specs.Dirty.{Scan, is_same_tree}

@@ -1,24 +1,18 @@
 -- A session that carries one file each way: how it carries them, and the whole run.
-use Rattle.std.proofs.Common.{◌-◌, ◌≡◌, ◌<◌, List, [], ◌∷◌, map, take, refl, sym, ap, ◌∙◌, subst}
+use Rattle.std.proofs.Common.{◌-◌, ◌≡◌, ◌<◌, [], ◌∷◌, map, take, refl, ap, ◌∙◌}
 use Rattle.std.proofs.Common.{Some, None, arith, inl, inr, nat_le, true}
-use Rattle.std.specs.FinMap.{entries}
 use Rattle.std.proofs.lemmas.List.Elements.{All-nil, All-cons, All-from_recursion}
-use Rattle.sha2.specs.Sha256.{sha256}
-use Rattle.syn_model.specs.Path.{root}
-use Rattle.syn_model.specs.Tree.{Pair, Directory, empty_directory, replace, subtree}
-use Rattle.syn_model.specs.Limits.{children}
+use Rattle.syn_model.specs.Tree.{empty_directory, replace, subtree}
 use Rattle.syn_model.specs.Mark.{mark}
 use Rattle.syn_model.specs.Event.{Edited, Replaced, AreBytes}
 use Rattle.syn_model.specs.History.{tree_of}
-use Rattle.syn_model.specs.Archive.{Recorded, CanKeep, new_archive}
-use Rattle.syn_model.specs.Dirty.{IsScanBy}
+use Rattle.syn_model.specs.Archive.{Recorded, new_archive}
 use Rattle.syn_model.proofs.TreeLemmas.{subtree-replace}
 use Rattle.syn_witness.specs.Rows.{file_bytes}
 use Rattle.syn_headline.specs.Machine.{record_size}
-use Rattle.syn_headline.specs.Side.{Begin, ListAt, Fetch, Stage, Replace, Begun, Listed, NotDir}
+use Rattle.syn_headline.specs.Side.{Fetch, Stage, Replace}
 use Rattle.syn_headline.specs.Side.{Piece, Staged, Done, token_of}
-use Rattle.syn_headline.specs.Network.{Which, Left, Right}
-use Rattle.syn_headline.specs.Planning.{SeesBoth}
+use Rattle.syn_headline.specs.Network.{Left, Right}
 use Rattle.syn_headline.specs.Coordinator.{MakesPlan, WasTaken, BothBegun, fault_of, hearing}
 use Rattle.syn_headline.specs.Coordinator.{start_of, makes, stands, done}
 use Rattle.syn_headline.specs.Coordinator as coordinator
@@ -28,23 +22,16 @@ use Rattle.syn_headline.specs.Headline.{IsQuietSession, IsNoEdit, formatted}
 use Rattle.syn_model.specs.MarkSpelling.{kept_spelling}
 use Rattle.syn_witness.specs.Witness.{opened_world, a_path, b_path, put_one, put_two, one, two}
 use Rattle.syn_witness.specs.Witness.{complete, HasBoth, FilesAreExchanged}
-use Rattle.syn_witness.proofs.WitnessTrees.{get_by, replace-entries, fits_archive_by, children_by}
-use Rattle.syn_witness.proofs.WitnessFiles.{letter_size, alone, with_file, digest, alone-entries}
-use Rattle.syn_witness.proofs.WitnessFiles.{file_mark-entries, put-entries, marked_whole, root_only}
-use Rattle.syn_witness.proofs.WitnessFiles.{path_of_letter, are_marks, put_first}
-use Rattle.syn_witness.proofs.WitnessScans.{left_history, left_scan, left-entries}
-use Rattle.syn_witness.proofs.WitnessScans.{left_marks-entries, left_part}
-use Rattle.syn_witness.proofs.ExchangeScans.{right_history, right_scan, right-entries}
-use Rattle.syn_witness.proofs.ExchangeScans.{right_marks-entries, right_part, plan_is}
+use Rattle.syn_witness.proofs.WitnessFiles.{letter_size}
+use Rattle.syn_witness.proofs.WitnessFiles.{path_of_letter, put_first}
 use Rattle.syn_witness.proofs.WitnessMessages.{number_of}
-use Rattle.syn_witness.proofs.WitnessSteps.{took, runs_with, starts_so, asks_so, goes_on_so}
+use Rattle.syn_witness.proofs.WitnessSteps.{took, runs_with, asks_so, goes_on_so}
 use Rattle.syn_witness.proofs.WitnessSteps.{not_last, ends_so, keeps_so, recorded, runs_on_from}
 use Rattle.syn_witness.proofs.WitnessLemmas.{letter_a}
-use Rattle.syn_witness.proofs.WitnessSession.{root_lawful, none_there}
-use Rattle.syn_witness.proofs.ExchangeSides.{scans, listed_at, made, two_bytes, right_done}
+use Rattle.syn_witness.proofs.ExchangeSides.{two_bytes, right_done}
 use Rattle.syn_witness.proofs.ExchangeSides.{left_done, begun_archive, first_archive, both_archive}
-use Rattle.syn_witness.proofs.ExchangeSides.{first_planned, second_planned, plan, both_begin}
-use Rattle.syn_witness.proofs.ExchangeSides.{right_begins, both_list, right_lists, left_fetches}
+use Rattle.syn_witness.proofs.ExchangeSides.{first_planned, second_planned, plan}
+use Rattle.syn_witness.proofs.ExchangeSides.{left_fetches}
 use Rattle.syn_witness.proofs.ExchangeSides.{right_stages, right_replaces, right_fetches}
 use Rattle.syn_witness.proofs.ExchangeSides.{left_stages, left_replaces, first_edited, both_edited}
 use Rattle.syn_witness.proofs.ExchangeSides.{started, left_begun, both_begun, right_awaited}

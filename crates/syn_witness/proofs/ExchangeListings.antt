@@ -1,62 +1,47 @@
 -- A session that carries one file each way: the steps of the coordinator until it has a plan.
-use Rattle.std.proofs.Common.{◌-◌, ◌≡◌, ◌<◌, List, [], ◌∷◌, map, take, refl, sym, ap, ◌∙◌, subst}
-use Rattle.std.proofs.Common.{Some, None, arith, inl, inr, nat_le, true}
+use Rattle.std.proofs.Common.{◌≡◌, List, [], ◌∷◌, take, refl, sym, ap, subst}
+use Rattle.std.proofs.Common.{Some, None, arith, inl}
 use Rattle.std.specs.FinMap.{entries}
-use Rattle.std.proofs.lemmas.List.Elements.{All-nil, All-cons, All-from_recursion}
+use Rattle.std.proofs.lemmas.List.Elements.{All-nil, All-cons}
 use Rattle.sha2.specs.Sha256.{sha256}
 use Rattle.syn_model.specs.Path.{root}
-use Rattle.syn_model.specs.Tree.{Pair, Directory, empty_directory, replace, subtree}
+use Rattle.syn_model.specs.Tree.{Pair, Directory, empty_directory}
 use Rattle.syn_model.specs.Limits.{children}
 use Rattle.syn_model.specs.Mark.{mark}
-use Rattle.syn_model.specs.Event.{Edited, Replaced, AreBytes}
 use Rattle.syn_model.specs.History.{tree_of}
-use Rattle.syn_model.specs.Archive.{Recorded, CanKeep, new_archive}
+use Rattle.syn_model.specs.Archive.{Recorded, CanKeep}
 use Rattle.syn_model.specs.Dirty.{IsScanBy}
-use Rattle.syn_model.proofs.TreeLemmas.{subtree-replace}
-use Rattle.syn_witness.specs.Rows.{file_bytes}
-use Rattle.syn_headline.specs.Machine.{record_size}
-use Rattle.syn_headline.specs.Side.{Begin, ListAt, Fetch, Stage, Replace, Begun, Listed, NotDir}
-use Rattle.syn_headline.specs.Side.{Piece, Staged, Done, token_of}
+use Rattle.syn_headline.specs.Side.{Begin, ListAt, Fetch, Begun, Listed, NotDir}
 use Rattle.syn_headline.specs.Network.{Which, Left, Right}
 use Rattle.syn_headline.specs.Planning.{SeesBoth}
 use Rattle.syn_headline.specs.Coordinator.{MakesPlan, WasTaken, BothBegun, fault_of, hearing}
 use Rattle.syn_headline.specs.Coordinator.{start_of, makes, stands, done}
 use Rattle.syn_headline.specs.Coordinator as coordinator
-use Rattle.syn_headline.specs.World.{Edits, Runs, Start, Deliver, Steps}
-use Rattle.syn_headline.specs.Runs.{stores_of}
-use Rattle.syn_headline.specs.Headline.{IsQuietSession, IsNoEdit, formatted}
-use Rattle.syn_model.specs.MarkSpelling.{kept_spelling}
-use Rattle.syn_witness.specs.Witness.{opened_world, a_path, b_path, put_one, put_two, one, two}
-use Rattle.syn_witness.specs.Witness.{complete, HasBoth, FilesAreExchanged}
+use Rattle.syn_headline.specs.World.{Start, Deliver, Steps}
+use Rattle.syn_witness.specs.Witness.{a_path, b_path, one, two}
 use Rattle.syn_witness.proofs.WitnessTrees.{get_by, replace-entries, fits_archive_by, children_by}
-use Rattle.syn_witness.proofs.WitnessFiles.{letter_size, alone, with_file, digest, alone-entries}
+use Rattle.syn_witness.proofs.WitnessFiles.{alone, with_file, digest, alone-entries}
 use Rattle.syn_witness.proofs.WitnessFiles.{file_mark-entries, put-entries, marked_whole, root_only}
-use Rattle.syn_witness.proofs.WitnessFiles.{path_of_letter, are_marks, put_first}
+use Rattle.syn_witness.proofs.WitnessFiles.{path_of_letter, are_marks}
 use Rattle.syn_witness.proofs.WitnessScans.{left_history, left_scan, left-entries}
 use Rattle.syn_witness.proofs.WitnessScans.{left_marks-entries, left_part}
 use Rattle.syn_witness.proofs.ExchangeScans.{right_history, right_scan, right-entries}
 use Rattle.syn_witness.proofs.ExchangeScans.{right_marks-entries, right_part, plan_is}
 use Rattle.syn_witness.proofs.WitnessMessages.{number_of}
 use Rattle.syn_witness.proofs.WitnessSteps.{took, runs_with, starts_so, asks_so, goes_on_so}
-use Rattle.syn_witness.proofs.WitnessSteps.{not_last, ends_so, keeps_so, recorded, runs_on_from}
+use Rattle.syn_witness.proofs.WitnessSteps.{not_last}
 use Rattle.syn_witness.proofs.WitnessLemmas.{letter_a}
 use Rattle.syn_witness.proofs.WitnessSession.{root_lawful, none_there}
-use Rattle.syn_witness.proofs.ExchangeSides.{scans, listed_at, made, two_bytes, right_done}
-use Rattle.syn_witness.proofs.ExchangeSides.{left_done, begun_archive, first_archive, both_archive}
+use Rattle.syn_witness.proofs.ExchangeSides.{scans, listed_at, made}
+use Rattle.syn_witness.proofs.ExchangeSides.{begun_archive, first_archive, both_archive}
 use Rattle.syn_witness.proofs.ExchangeSides.{first_planned, second_planned, plan, both_begin}
-use Rattle.syn_witness.proofs.ExchangeSides.{right_begins, both_list, right_lists, left_fetches}
-use Rattle.syn_witness.proofs.ExchangeSides.{right_stages, right_replaces, right_fetches}
-use Rattle.syn_witness.proofs.ExchangeSides.{left_stages, left_replaces, first_edited, both_edited}
-use Rattle.syn_witness.proofs.ExchangeSides.{started, left_begun, both_begun, right_awaited}
-use Rattle.syn_witness.proofs.ExchangeSides.{listing, left_listed, both_listed, right_list_awaited}
-use Rattle.syn_witness.proofs.ExchangeSides.{fetching, fetched, staging, staged, replacing}
-use Rattle.syn_witness.proofs.ExchangeSides.{replaced, second_fetching, second_fetched}
-use Rattle.syn_witness.proofs.ExchangeSides.{second_staging, second_staged, second_replacing}
-use Rattle.syn_witness.proofs.ExchangeSides.{second_replaced, exchanged, edits_left, letter_b}
-use Rattle.syn_witness.proofs.ExchangeSides.{edits_right, begins_left, begins_right, lists_left}
-use Rattle.syn_witness.proofs.ExchangeSides.{lists_right, stays, fetches_first, stages_first}
-use Rattle.syn_witness.proofs.ExchangeSides.{replaces_first, fetches_second, stages_second}
-use Rattle.syn_witness.proofs.ExchangeSides.{replaces_second, transcript}
+use Rattle.syn_witness.proofs.ExchangeSides.{right_begins, both_list, right_lists}
+use Rattle.syn_witness.proofs.ExchangeSides.{both_edited}
+use Rattle.syn_witness.proofs.ExchangeSides.{started, both_begun, right_awaited}
+use Rattle.syn_witness.proofs.ExchangeSides.{listing, both_listed, right_list_awaited}
+use Rattle.syn_witness.proofs.ExchangeSides.{fetching}
+use Rattle.syn_witness.proofs.ExchangeSides.{letter_b}
+use Rattle.syn_witness.proofs.ExchangeSides.{transcript}
 
 -- The plan is of what the sides listed
 have_begun : BothBegun (take 4 transcript)
