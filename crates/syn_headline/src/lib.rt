@@ -45,7 +45,8 @@
 //! - The **plan** of two scans and an archive is the plan's definition, item by item, with what the
 //!   two scans have at each. A session makes it once, of the archive as it is in that call
 //!   (`MakesPlan`), and there the world logs it with its scans. A scan lists what a side held
-//!   (`IsScanBy` in `syn_model`): each directory that it shows was listed so, or is unstable.
+//!   (`IsScanBy` in `syn_model`): each directory that it shows was listed so at its position, or is
+//!   unstable.
 //! - A user's edit, a start, a checkpoint and a reopening are lost on a machine that is down. Else
 //!   each is made, or is refused with the first of its causes, which the world keeps (`Calls`,
 //!   `refusals`). It is 9 where it leaves the machine halted (`refused_by`).
