@@ -1,5 +1,5 @@
 //! Carries out a command.
-ghost use Rattle.std.specs.Prelude.{◌≡◌, ◌≢◌, ◌⊎◌, map, IfOk};
+ghost use Rattle.std.specs.Prelude.{◌≡◌, ◌⊎◌, map, IfOk};
 ghost use Rattle.syn_words.specs.Reads.{Asks, AsksHelp, IsMistake, IsRequest};
 ghost use Rattle.syn_words.specs.declared.line.Line.{Line};
 

@@ -1,5 +1,4 @@
 //! The disks in files of the system, by their names.
-ghost use Rattle.std.specs.Prelude.{IfOk};
 
 use std::fs::Files;
 use syn_file::{Access, FileDisk, HostFile, LockedFile, MirroredFile, OpenError};

@@ -4,8 +4,7 @@ use Rattle.std.proofs.Common.{Option, Some, None, ap, arith, inl, inr, length, n
 use Rattle.std.proofs.Common.{◌≢◌, length-append, refl, subst, sym}
 use Rattle.std.proofs.lemmas.Bool.{eqb-true, false≢true}
 use Rattle.std.specs.Prelude.{◌==◌, nat_le, nat_lt, if◌then◌else◌}
-use Rattle.syn_agent.proofs.CauseLemmas.{later_none, later_some, never_first}
-use Rattle.syn_agent.proofs.CauseLemmas.{outside, rooms}
+use Rattle.syn_agent.proofs.CauseLemmas.{later_none, later_some, never_first, outside, rooms}
 use Rattle.syn_agent.proofs.ReplicaLemmas.{stays}
 use Rattle.syn_agent.specs.Agents.{side_of}
 use Rattle.syn_agent.specs.Answers.{Answers, keeps, adds, breaks, IsUnchanged, room_for}

@@ -7,7 +7,6 @@ use Rattle.std.proofs.lemmas.Bool.Decides.{leb_tells}
 use Rattle.std.specs.Prelude.{◌||◌, ◌==◌, nat_le, nat_lt}
 use Rattle.syn_agent.specs.Causes.{CountsFailures}
 use Rattle.syn_headline.specs.Side.{Side, Served, Reply, Refused, answer, unless_refused}
-use Rattle.syn_journal.specs.declared.error.JournalError.TheVariants as journal
 use Rattle.syn_model.specs.Event.{Edit, Put, MakeDir, Remove, Chmod, Edited}
 use Rattle.syn_model.specs.History.{History as Past, event_causes}
 use Rattle.syn_replica.specs.Steps.{add_refusal, room_causes}
@@ -17,13 +16,6 @@ use Rattle.syn_replica.specs.Refusals.{IsOneOf, checkpoint_refusals, outside_ref
 use Rattle.syn_standing.specs.Refusals.{refusal_of}
 use Rattle.syn_journaled.specs.Endings as device
 use Rattle.syn_standing.specs.declared.error.ReplicaError.{ReplicaError}
-use Rattle.syn_standing.specs.declared.error.ReplicaError.TheVariants.{Tree, History, Journal}
-use Rattle.syn_history.specs.Refusals.{refusal_of as of_history}
-use Rattle.syn_history.specs.declared.error.HistoryError.{HistoryError}
-use Rattle.syn_history.specs.declared.error.HistoryError.TheVariants as history
-use Rattle.syn_tree.specs.Refusals.{refusal_of as of_tree}
-use Rattle.syn_tree.specs.declared.error.TreeError.{TreeError}
-use Rattle.syn_tree.specs.declared.error.TreeError.TheVariants as tree
 
 pub or_cases : (a b : Bool) → (a || b) ≡ true → (a ≡ true) ⊎ (b ≡ true)
 or_cases true b is = inl refl
@@ -74,23 +66,8 @@ of_checkpoint e is =
           ]
     ]
 
-pub tree_is_none : (e : TreeError) → of_tree e ≢ why.Device
-tree_is_none tree.Memory is = let k : why.Memory ≡ why.Device = is in cc
-tree_is_none e is = let k : of_tree e ≡ why.Device = is in cc
-
-pub history_is_none : (e : HistoryError) → of_history e ≢ why.Device
-history_is_none history.Memory is = let k : why.Memory ≡ why.Device = is in cc
-history_is_none e is = let k : of_history e ≡ why.Device = is in cc
-
 pub refused_one : (a b : Refusal) → Refused a ≡ Refused b → a ≡ b
 refused_one a b is = cc
-
--- a failed device call is the journal's
-pub device_is : (e : ReplicaError) → refusal_of e ≡ why.Device → e ≡ Journal journal.Device
-device_is (Journal journal.Device) is = refl
-device_is (Tree e) is = absurd (tree_is_none e is)
-device_is (History e) is = absurd (history_is_none e is)
-device_is e is = absurd (let k : refusal_of e ≡ why.Device = is in cc)
 
 -- none of the causes is that of the refusal
 abbrev pub Never : Refusal → List Cause → Type 0

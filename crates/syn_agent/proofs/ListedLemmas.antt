@@ -26,8 +26,7 @@ use Rattle.syn_model.specs.Limits.{children, fits_content, fits_part, fits_paths
 use Rattle.syn_model.specs.Limits.{fits_replica, only_name, tree_spelling_length}
 use Rattle.syn_model.specs.Mark.{mark, mark_of}
 use Rattle.syn_model.specs.Path.{IsName, Name, Path, name_cmp, path_cmp, strip_prefix}
-use Rattle.syn_model.specs.Tree.{Content, Directory, File, IsPart, IsTree, Pair, Tree}
-use Rattle.syn_model.specs.Tree.{is_directory}
+use Rattle.syn_model.specs.Tree.{Content, Directory, File, IsPart, IsTree, Pair, Tree, is_directory}
 use Rattle.std.specs.FinMap.{get, len}
 use Rattle.syn_model.proofs.ContentsLemmas.{digest_is_bytes}
 use Rattle.syn_tree.specs.Contents.{IsLawful}

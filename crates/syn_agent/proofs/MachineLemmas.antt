@@ -6,8 +6,7 @@ use Rattle.std.specs.Prelude.{nat_le}
 use Rattle.syn_agent.specs.Agents.{side_of, staging_of}
 use Rattle.syn_agent.specs.Answers.{Answers, keeps, adds, breaks, Adds, BreaksOff, IsUnchanged}
 use Rattle.syn_agent.specs.Answers.{room_for}
-use Rattle.syn_agent.specs.Machines.{CompactedIsOf, IsUpAs, WrittenIsOf}
-use Rattle.syn_agent.specs.Machines.{IsOf, StandsAs, Takes}
+use Rattle.syn_agent.specs.Machines.{CompactedIsOf, IsUpAs, WrittenIsOf, IsOf, StandsAs, Takes}
 use Rattle.syn_agent.specs.Machines.{goes_on, stops, heard}
 use Rattle.syn_agent.specs.declared.agent.Agent.{Agent}
 use Rattle.syn_disk.specs.Arms.{is_stopped}

@@ -1,7 +1,6 @@
 -- What a side tells of its tree.
 use Rattle.std.proofs.Common.{◌≡◌, ◌≢◌, ◌⊎◌, ◌∙◌, ℕ, Bool, true, false, List, length}
-use Rattle.std.proofs.Common.{Some, None, ap, ap₂, arith, inl, inr, refl, subst, sym, drop}
-use Rattle.std.proofs.Common.{take}
+use Rattle.std.proofs.Common.{Some, None, ap, ap₂, arith, inl, inr, refl, subst, sym, drop, take}
 use Rattle.std.proofs.lemmas.Bool.{eqb-true, false≢true}
 use Rattle.std.specs.List.{list_any}
 use Rattle.std.specs.Prelude.{◌==◌, ◌||◌, if◌then◌else◌}
@@ -14,8 +13,8 @@ use Rattle.syn_agent.specs.inner.Lawful.{ListsLawfully}
 use Rattle.syn_agent.specs.declared.agent.Agent.{Agent}
 use Rattle.syn_message.specs.Listings.{IsListing}
 use Rattle.syn_disk.specs.declared.disk.Disk.{Ghosts}
-use Rattle.syn_headline.specs.Side.{Side, Served, Fetch, ListAt, Listed, NotDir, Piece, Refused}
-use Rattle.syn_headline.specs.Side.{Serves, TakesMemory, answer, serve, unless_refused}
+use Rattle.syn_headline.specs.Side.{Served, Fetch, ListAt, Listed, NotDir, Piece, Refused}
+use Rattle.syn_headline.specs.Side.{Serves, TakesMemory, answer, unless_refused}
 use Rattle.syn_headline.specs.Side as model
 use Rattle.syn_history.specs.Refusals.{refusal_of as of_history}
 use Rattle.syn_history.specs.declared.error.HistoryError.{HistoryError}

@@ -8,14 +8,13 @@ use Rattle.std.specs.Prelude.{◌||◌, ◌&&◌, ◌==◌, nat_lt, if◌then◌
 use Rattle.syn_agent.proofs.CauseLemmas.{Never, never_first, outside, rooms}
 use Rattle.syn_agent.proofs.ReplicaLemmas.{as_was, stays}
 use Rattle.syn_agent.specs.Agents.{side_of, staging_of}
-use Rattle.syn_agent.specs.Answers.{Answers, BreaksOff, IsUnchanged, keeps, adds, breaks}
-use Rattle.syn_agent.specs.Answers.{room_for}
+use Rattle.syn_agent.specs.Answers.{Answers, BreaksOff, IsUnchanged, keeps, adds, breaks, room_for}
 use Rattle.syn_agent.specs.Causes.{staging_causes}
 use Rattle.syn_agent.specs.declared.agent.Agent.{Agent}
 use Rattle.syn_disk.specs.Stops.{LeavesOnly}
 use Rattle.syn_disk.specs.declared.disk.Disk.{Ghosts}
 use Rattle.syn_headline.specs.Side.{Side, Served, Replace, Done, Refused, Reads, add_event, answer}
-use Rattle.syn_headline.specs.Side.{is_dead_token, is_staged, replace_at, replace_with, serve}
+use Rattle.syn_headline.specs.Side.{is_dead_token, is_staged, replace_with, serve}
 use Rattle.syn_headline.specs.Side.{Serves, TakesMemory, staged_bytes, unless_refused}
 use Rattle.syn_headline.specs.Side as model
 use Rattle.syn_model.specs.Event.{Event, Token, Replaced, is_below, is_same_token}
@@ -380,10 +379,3 @@ pub stands_old : (a b : Bool)
 stands_old true b is = absurd (let k : TokenStanding.Old ≡ TokenStanding.Done = is in cc)
 stands_old false true is = (refl, refl)
 stands_old false false is = absurd (let k : TokenStanding.Old ≡ TokenStanding.Open = is in cc)
-
-pub stands_open : (a b : Bool)
-    → TokenStanding.Open ≡ (if a then TokenStanding.Done
-    else if b then TokenStanding.Old else TokenStanding.Open) → (a ≡ false) × (b ≡ false)
-stands_open true b is = absurd (let k : TokenStanding.Open ≡ TokenStanding.Done = is in cc)
-stands_open false true is = absurd (let k : TokenStanding.Open ≡ TokenStanding.Old = is in cc)
-stands_open false false is = (refl, refl)

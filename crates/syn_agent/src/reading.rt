@@ -2,7 +2,6 @@
 ghost use Rattle.std.specs.Prelude.{◌≡◌, ◌≢◌, ℕ};
 ghost use Rattle.syn_headline.specs.Side.{Fetch, ListAt, Refused, TakesMemory};
 ghost use Rattle.syn_message.specs.Replies.{IsLawfulReply, reply_of};
-ghost use Rattle.syn_model.specs.Event.{AreBytes};
 ghost use Rattle.syn_model.specs.History.{History};
 ghost use Rattle.syn_model.specs.Refusal as why;
 ghost use Rattle.syn_replica.specs.Replica.{IsHalted, Stands, pair_of};
@@ -14,6 +13,7 @@ use crate::laws::listing_laws;
 use std::alloc::Global;
 use syn_disk::Disk;
 use syn_message::Reply;
+use syn_model::are_bytes;
 use syn_path::Path;
 use syn_refusal::Refusal;
 use syn_replica::{Listing, Replica};
@@ -47,8 +47,7 @@ impl Agent {
 
     /// The length of what is spelled at the path, and a piece of it.
     ///
-    /// Refused as `Replica::fetch` is, and 11 where four bytes do not spell the length, which is so
-    /// of no tree of a replica.
+    /// Refused as `Replica::fetch` is.
     pub fn fetch<D: Disk>(
         &self,
         alloc: Global,
@@ -71,22 +70,12 @@ impl Agent {
         match replica.fetch(alloc, path, since, offset as usize) {
             Ok(piece) => {
                 are_bytes(&piece.bytes);
-                match u32::try_from(piece.total) {
-                    Ok(total) => Reply::Piece {
-                        total,
-                        bytes: piece.bytes,
-                    },
-                    Err(_) => Reply::Refused(Refusal::Memory),
+                Reply::Piece {
+                    total: piece.total as u32,
+                    bytes: piece.bytes,
                 }
             }
             Err(error) => Reply::Refused(error.refusal()),
         }
     }
-}
-
-/// Each byte is below 256, which their type says.
-fn are_bytes(bytes: &[u8])
-    ensures { AreBytes bytes.now }
-{
-    let _ = bytes;
 }

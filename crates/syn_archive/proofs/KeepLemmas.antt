@@ -23,8 +23,7 @@ use Rattle.syn_archive.specs.inner.Keepings.{no_memory, refused}
 use Rattle.syn_archive.specs.declared.archive.Archive.{Archive}
 use Rattle.syn_archive.specs.declared.error.ArchiveError.{ArchiveError}
 use Rattle.syn_archive.specs.declared.error.ArchiveError.TheVariants.{NoParent, Root, Full}
-use Rattle.syn_archive.specs.declared.error.ArchiveError.TheVariants.{JournalFull, Halted}
-use Rattle.syn_archive.specs.declared.error.ArchiveError.TheVariants.{Memory}
+use Rattle.syn_archive.specs.declared.error.ArchiveError.TheVariants.{JournalFull, Halted, Memory}
 use Rattle.syn_archive.specs.declared.keeping.Keeping.{Keeping}
 use Rattle.syn_archive.specs.declared.keeping.Keeping.TheVariants as keeping
 use Rattle.syn_archive.proofs.EndLemmas.{same_error}

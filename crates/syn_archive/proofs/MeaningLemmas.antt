@@ -18,8 +18,7 @@ use Rattle.syn_model.specs.MarkSpelling.{IsOldArchiveImage}
 use Rattle.syn_model.specs.Path.{Bytes}
 use Rattle.syn_archive.specs.Archive.{Stands, shown, pair_of, journal_of}
 use Rattle.syn_archive.specs.Disks.{DiskKeeps, DiskStands, IsOpenRefusal, IsReopenRefusal}
-use Rattle.syn_archive.specs.Disks.{IsOldDisk, StandsForNone, StandsForNoneIn, StandsForOther}
-use Rattle.syn_archive.specs.Disks.{IsWanted}
+use Rattle.syn_archive.specs.Disks.{StandsForNone, StandsForNoneIn, StandsForOther, IsWanted}
 use Rattle.syn_archive.specs.Refusals.{of_journal}
 use Rattle.syn_archive.specs.inner.Agreements.{Gives, IsUnread, IsUnreadAgain, IsUnreadOld}
 use Rattle.syn_archive.specs.inner.Agreements.{agreed_archive}

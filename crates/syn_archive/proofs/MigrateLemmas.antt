@@ -1,7 +1,6 @@
 -- What a migration of a machine says of an archive.
 use Rattle.std.proofs.Common.{◌≡◌, ◌⊎◌, ◌<◌, ◌^◌, ◌+◌, ◌∙◌, ℕ, List, [], length, inl, inr}
-use Rattle.std.proofs.Common.{⊎_elim, refl}
-use Rattle.std.proofs.Common.{sym, ap, subst, Ok, Option, Some, None, arith, ◌≤◌}
+use Rattle.std.proofs.Common.{⊎_elim, refl, sym, ap, subst, Ok, Option, Some, None, arith, ◌≤◌}
 use Rattle.std.proofs.lemmas.Option.{none-some}
 use Rattle.syn_disk.specs.Stops.{LeavesOnly}
 use Rattle.syn_disk.specs.declared.disk.Disk.{Ghosts}

@@ -1,12 +1,11 @@
 //! An archive over a journal.
-ghost use Rattle.std.specs.Prelude.{◌≡◌, ◌⊎◌, ◌↔◌, ◌+◌, ◌<◌, ◌≤◌, ◌^◌, [], ℕ, length, OnOk};
-ghost use Rattle.std.specs.Prelude.{IfOk, IfErr, IsErrAnd, MatchResult, None, Some, true};
-ghost use Rattle.std.specs.Prelude.{false, option_map};
+ghost use Rattle.std.specs.Prelude.{◌≡◌, ◌⊎◌, ◌↔◌, ◌+◌, ◌<◌, ◌≤◌, ℕ, length, OnOk, IfOk, IfErr};
+ghost use Rattle.std.specs.Prelude.{IsErrAnd, MatchResult, None, Some, true, false, option_map};
 ghost use Rattle.syn_model.specs.Archive.{Archive as KeptArchive, Session, Recorded, RecordedDir};
 ghost use Rattle.syn_model.specs.Archive.{new_archive, after_kept, kept_refusal};
 ghost use Rattle.syn_model.specs.Refusal.{Refusal};
 ghost use Rattle.std.specs.FinMap.{entries};
-ghost use Rattle.syn_model.specs.Tree.{empty_directory, is_directory};
+ghost use Rattle.syn_model.specs.Tree.{is_directory};
 ghost use Rattle.syn_placed.specs.Pairs.{within};
 ghost use Rattle.syn_archive.specs.Disks.{DiskKeeps};
 ghost use Rattle.syn_model.specs.Path.{Bytes, is_root};
@@ -14,7 +13,7 @@ ghost use Rattle.syn_journal.specs.Journal.{SameReadings};
 ghost use Rattle.syn_disk.specs.Armed.{armed};
 ghost use Rattle.syn_disk.specs.Arms.{is_stopped};
 ghost use Rattle.syn_disk.specs.Disk.{SameOutcomes};
-ghost use Rattle.syn_model.specs.MarkSpelling.{archive_spelling, kept_spelling};
+ghost use Rattle.syn_model.specs.MarkSpelling.{kept_spelling};
 ghost use Rattle.syn_mark.specs.Marks.{or_absent};
 ghost use Rattle.syn_disk.specs.Stops.{LeavesOnly};
 ghost use Rattle.syn_archive.specs.Refusals.{refusal_of, refusal_in, keep_refusal, to_write};
@@ -22,8 +21,6 @@ ghost use Rattle.syn_archive.specs.Refusals.{IsOfFormat, IsOfSession, IsOfRecord
 ghost use Rattle.syn_archive.specs.inner.Agreements.{IsReady, agreed_archive, after_update};
 ghost use Rattle.syn_archive.specs.inner.Keepings.{kept_in, IsNews, NotPrepared};
 ghost use Rattle.syn_archive.specs.inner.Openings.{Keeps};
-ghost use Rattle.syn_journal.specs.Journal as journal;
-ghost use Rattle.syn_journal.specs.Layout.{image_alone};
 ghost use Rattle.syn_journaled.specs.Endings.{Spends, ended};
 
 use crate::agreed::Agreed;
@@ -123,7 +120,8 @@ impl<D: Disk> Archive<D> {
         self.machine.room()
     }
 
-    /// Whether a call was refused 9 since the archive was formatted or opened.
+    /// Whether each change is refused 10: a device call failed, or a reopening gave no state that
+    /// may follow, and none succeeded since.
     pub fn is_halted(&self) -> bool
         ensures { (result ≡ true) ↔ IsHalted self.now }
     {

@@ -8,7 +8,6 @@ ghost use Rattle.syn_model.specs.Tree.{replace};
 ghost use Rattle.syn_mark.specs.Changes.{replace_refusal};
 ghost use Rattle.syn_mark.specs.Marks.{or_absent};
 ghost use Rattle.syn_archive.specs.inner.Agreements.{IsReady, agreed_archive, after_update};
-ghost use Rattle.syn_archive.specs.inner.Agreements.{marks_after};
 ghost use Rattle.syn_archive.specs.inner.Keepings.{kept_in, IsNews, is_inner};
 ghost use Rattle.syn_archive.specs.inner.Openings.{Keeps};
 ghost use Rattle.syn_archive.specs.Refusals.{refusal_in};
@@ -148,12 +147,10 @@ impl Agreed {
         ensures lawful { IfOk result (λ _. IsMarks (or_absent new)) }
         ensures memory { IfErr result (λ e. e ≡ ArchiveError.Memory) }
     {
-        match self.marks.prepare_replace(alloc, path, new) {
-            Ok(change) => Ok(Prepared {
-                payload,
-                update: Update::Marks(change),
-            }),
-            Err(_) => Err(ArchiveError::Memory),
-        }
+        let change = self.marks.prepare_allowed(alloc, path, new)?;
+        Ok(Prepared {
+            payload,
+            update: Update::Marks(change),
+        })
     }
 }

@@ -1,6 +1,6 @@
 //! An archive from what its disk holds.
-ghost use Rattle.std.specs.Prelude.{◌≡◌, ◌≢◌, ◌⊎◌, ◌<◌, ◌^◌, ℕ, List, IfOk, IfErr, OnOk};
-ghost use Rattle.std.specs.Prelude.{Some, None, true, false, option_map, map};
+ghost use Rattle.std.specs.Prelude.{◌≡◌, ◌≢◌, ◌⊎◌, ◌<◌, ◌^◌, ℕ, List, IfOk, IfErr, OnOk, Some};
+ghost use Rattle.std.specs.Prelude.{None, option_map, map};
 ghost use Rattle.syn_model.specs.Archive as model;
 ghost use Rattle.syn_model.specs.Archive.{CanKeepIn};
 ghost use Rattle.syn_model.specs.ArchiveImage.{AllKeptIn, ArchiveStandsFor, ArchiveStandsForIn};
@@ -22,7 +22,9 @@ ghost use Rattle.syn_archive.specs.inner.Openings.{IsOfPayload};
 use crate::error::ArchiveError;
 use crate::laws::opening_laws;
 use std::alloc::Global;
-use syn_image::{ArchiveImage, Kept, decode_archive, decode_kept, image_laws, is_old_archive};
+use syn_image::{
+    ArchiveImage, Kept, decode_archive, decode_kept, image_laws, is_old_archive, is_other_pair,
+};
 use syn_mark::{Mark, MarkTree};
 use syn_path::Path;
 use syn_tree::TreeError;
@@ -71,7 +73,7 @@ pub(crate) fn read_wanted(
         return Err(ArchiveError::OldVersion);
     }
     let read = read_archive(alloc, Version::Two, image, payloads)?;
-    if is_other(wanted, read.pair) {
+    if is_other_pair(wanted, read.pair) {
         return Err(ArchiveError::WrongPair);
     }
     Ok(read)
@@ -100,17 +102,6 @@ pub(crate) fn read_own(
         return Err(ArchiveError::Damaged);
     }
     Ok(read)
-}
-
-/// The pair is not the wanted one.
-fn is_other(wanted: Option<u64>, pair: u64) -> bool
-    ensures other { result ≡ true → (asked : ℕ) × (wanted ≡ Some asked) × (asked ≢ pair) }
-    ensures same { result ≡ false → (asked : ℕ) → wanted ≡ Some asked → asked ≡ pair }
-{
-    match wanted {
-        Some(asked) => asked != pair,
-        None => false,
-    }
 }
 
 /// The pair and the archive of which it is the image in the version.

@@ -2,8 +2,7 @@
 use Rattle.std.proofs.Common.{◌≡◌, ◌≢◌, ◌⊎◌, ◌∙◌, ℕ, List, map, length, arith, Bool, true, false}
 use Rattle.std.proofs.Common.{cond, ◌&&◌, [], ◌∷◌, ◌++◌}
 use Rattle.std.proofs.Common.{refl, sym, ap, ap₂, subst, Option, Some, None, IsSome, is_some, inl}
-use Rattle.std.proofs.Common.{inr}
-use Rattle.std.proofs.Common.{true≢false}
+use Rattle.std.proofs.Common.{inr, true≢false}
 use Rattle.std.specs.List.{AllByRecursion, IsDistinct}
 use Rattle.std.specs.FinMap.{get, find}
 use Rattle.std.specs.Ordering.{eq_by_cmp}

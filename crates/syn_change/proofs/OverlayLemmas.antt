@@ -10,8 +10,7 @@ use Rattle.syn_model.specs.Path.{Bytes, Path, Name, path_cmp, root, strip_prefix
 use Rattle.syn_model.specs.Contents.{contents_with}
 use Rattle.syn_model.specs.Tree.{Tree, Content, Directory, File, Pair, HasParents, at_root, replace}
 use Rattle.syn_model.specs.Tree.{is_directory, is_directory_content, is_present}
-use Rattle.syn_model.specs.Event.{Put, MakeDir, Chmod, after_edit, put_contents}
-use Rattle.syn_model.specs.Event.{with_mode}
+use Rattle.syn_model.specs.Event.{Put, MakeDir, Chmod, after_edit, put_contents, with_mode}
 use Rattle.syn_model.specs.Refusal.{Refusal, Cause, first_cause, Root, NoParent, IsDirectory}
 use Rattle.syn_model.specs.Refusal.{Absent, Exists}
 use Rattle.syn_model.specs.Standing.{edit_refusal, full_causes}

@@ -1,42 +1,22 @@
 -- A part of a tree keeps the limits that the tree keeps.
 use Rattle.std.proofs.Common.{ℕ, ◌≢◌, ◌⊎◌, inl, inr, None, Some, append-nil, false, true≢false}
-use Rattle.std.proofs.Common.{◌≡◌, ◌≤◌, ◌∙◌, true, ◌&&◌, [], ◌∷◌, ◌++◌, length, refl}
-use Rattle.std.proofs.Common.{sym, ap, ap₂, arith, nat_le}
+use Rattle.std.proofs.Common.{◌≡◌, ◌≤◌, ◌∙◌, true, ◌&&◌, length, refl, sym, ap, ap₂, arith, nat_le}
 use Rattle.std.proofs.lemmas.Bool.{and_parts}
 use Rattle.std.proofs.lemmas.Bool.Decides.{nat_tests}
-use Rattle.std.proofs.lemmas.List.Sums.{sum_by-cons, length-filter, count_by-le-length}
+use Rattle.std.proofs.lemmas.List.Sums.{length-filter, count_by-le-length}
 use Rattle.std.specs.FinMap.{entries, get, len, len-entries}
 use Rattle.syn_model.specs.Limits.{fits_part, fits_paths, fits_replica, greatest_spelling}
 use Rattle.syn_model.specs.Limits.{tree_spelling_length}
 use Rattle.syn_model.specs.Path.{Path, root}
 use Rattle.syn_model.specs.Tree.{Tree, Directory, is_directory, is_directory_content, subtree}
 use Rattle.syn_model.proofs.TreeLemmas.{get-subtree}
-use Rattle.syn_placed.specs.Pairs.{Pairs, is_within, pair_spelling_length, spelling_length, under}
-use Rattle.syn_placed.proofs.TreeLemmas.{entries-subtree, rising-entries, taken, within-taken}
-use Rattle.syn_tree.proofs.PartLemmas.{length_under, spelling_within}
-use Rattle.syn_tree.proofs.RootedLemmas.{later_names}
+use Rattle.syn_placed.specs.Pairs.{is_within}
+use Rattle.syn_placed.proofs.TreeLemmas.{entries-subtree, taken, within-taken}
+use Rattle.syn_tree.proofs.PartLemmas.{length_under}
+use Rattle.syn_tree.proofs.RootedLemmas.{part_shorter}
 use Rattle.syn_tree.specs.declared.error.TreeError.{TreeError}
 use Rattle.syn_tree.specs.declared.error.TreeError.TheVariants.{Absent, Full, Memory}
 use Rattle.syn_change.proofs.RemovalLemmas.{only_memory}
-
--- with a path before each of them no fewer bytes spell pairs
-under_more : (at : Path) (us : Pairs) → spelling_length us ≤ spelling_length (under at us)
-under_more at [] = omega arith
-under_more at (([], c) ∷ us) =
-    omega (
-      arith,
-      under_more at us,
-      sum_by-cons pair_spelling_length ([], c) us,
-      sum_by-cons pair_spelling_length (at ++ [], c) (under at us),
-    )
-under_more at ((n ∷ p, c) ∷ us) =
-    omega (
-      arith,
-      under_more at us,
-      later_names at n p,
-      sum_by-cons pair_spelling_length (n ∷ p, c) us,
-      sum_by-cons pair_spelling_length (at ++ n ∷ p, c) (under at us),
-    )
 
 less_nodes : (m n : ℕ) → m ≤ n → nat_le n 1024 ≡ true → nat_le m 1024 ≡ true
 less_nodes m n h k = grind (arith, nat_tests)
@@ -69,17 +49,10 @@ part_fits t at fits part paths =
       length-filter (is_within at) es,
       count_by-le-length (is_within at) es,
     ) in
-    let smaller : tree_spelling_length s ≤ tree_spelling_length t =
-    omega (
-      arith,
-      ap spelling_length mine,
-      under_more at (taken at es),
-      ap spelling_length inside,
-      spelling_within at es (rising-entries t),
-    ) in
     ap₂ (λ a b. a && b) (ap₂ (λ a b. a && b) (ap₂ (λ a b. a && b)
     (less_nodes (len s) (len t) fewer both.0)
-    (less_size (tree_spelling_length s) (tree_spelling_length t) smaller both.1)) part) paths
+    (less_size (tree_spelling_length s) (tree_spelling_length t) (part_shorter t at) both.1))
+    part) paths
 
 -- a part's root is what stands at its path
 pub root_of : (t : Tree) (at : Path) (u : Tree) → u ≡ subtree t at →

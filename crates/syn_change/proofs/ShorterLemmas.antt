@@ -19,8 +19,8 @@ use Rattle.syn_placed.proofs.FindLemmas.{find_after}
 use Rattle.syn_placed.proofs.RisingLemmas.{each-map}
 use Rattle.syn_tree.specs.declared.edit.Edit.{Edit as Planned}
 use Rattle.syn_change.specs.Changes.{GoesOn, HasBytes, IsAddition, IsOverlaid, are_alike}
-use Rattle.syn_change.specs.Shorter.{AreShortened, IsShortenedAt, IsShorterFirst, Shortens}
-use Rattle.syn_change.specs.Shorter.{ShortensTo, is_longer, shortened}
+use Rattle.syn_change.specs.inner.Shorter.{AreShortened, IsShortenedAt, IsShorterFirst, Shortens}
+use Rattle.syn_change.specs.inner.Shorter.{ShortensTo, is_longer, shortened}
 use Rattle.syn_change.proofs.NeedLemmas.{IsAmong}
 use Rattle.syn_change.proofs.StandingLemmas.{rising_below}
 

@@ -8,7 +8,7 @@ ghost use Rattle.syn_tree.specs.Lists.{replace_refusal};
 ghost use Rattle.syn_tree.specs.Refusals.{refusal_of};
 ghost use Rattle.syn_change.specs.Changes.{AreChanges, GoesOn, IsAddition, IsNeeded, IsOverlaid};
 ghost use Rattle.syn_change.specs.Changes.{IsRefusedAmong, after_edits, are_alike};
-ghost use Rattle.syn_change.specs.Shorter.{IsShorterFirst};
+ghost use Rattle.syn_change.specs.inner.Shorter.{IsShorterFirst};
 
 use crate::additions::put_missing;
 use crate::removals::remove_extra;

@@ -2,9 +2,9 @@
 ghost use Rattle.std.specs.Prelude.{◌≡◌, ◌≢◌, IfErr, OnOk};
 ghost use Rattle.std.specs.FinMap.{get};
 ghost use Rattle.syn_tree.specs.Refusals.{refusal_of};
-ghost use Rattle.syn_change.specs.Changes.{GoesOn, IsRefusedAmong, StaysElsewhere};
-ghost use Rattle.syn_change.specs.Shorter.{AreShortened, IsShortenedAt, Shortens, ShortensTo};
-ghost use Rattle.syn_change.specs.Shorter.{is_longer};
+ghost use Rattle.syn_change.specs.Changes.{GoesOn, IsRefusedAmong};
+ghost use Rattle.syn_change.specs.inner.Shorter.{AreShortened, IsShortenedAt, Shortens, ShortensTo};
+ghost use Rattle.syn_change.specs.inner.Shorter.{is_longer};
 
 use crate::additions::put_bytes;
 use std::alloc::Global;

@@ -44,8 +44,7 @@ use Rattle.syn_coordinator.specs.inner.Walking.{ComesToAsk, Ends, IsAtItem}
 use Rattle.syn_session.specs.Passing.{first_reached}
 use Rattle.syn_session.proofs.AnswerLemmas.{heard_so, unstable_then}
 use Rattle.syn_coordinator.proofs.CarryLemmas.{asks_course, ends_course}
-use Rattle.syn_session.proofs.TellingLemmas.{by_sides, or_false, scans_further}
-use Rattle.syn_session.proofs.TellingLemmas.{tells_heard}
+use Rattle.syn_session.proofs.TellingLemmas.{by_sides, or_false, scans_further, tells_heard}
 use Rattle.syn_coordinator.proofs.MakingLemmas.{made_of, makes_plan}
 use Rattle.syn_session.proofs.WaitingLemmas.{alone_is, asked_has, only_in}
 use Rattle.syn_coordinator.proofs.TakeLemmas.{hears_end}

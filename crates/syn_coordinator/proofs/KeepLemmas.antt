@@ -1,18 +1,14 @@
 -- A session's number is kept in the archive.
-use Rattle.std.proofs.Common.{◌≡◌, ◌≢◌, ◌≤◌, ◌<◌, ◌^◌, ℕ, ◌+◌, List, [], ◌∷◌, refl, sym, ap, ◌∙◌}
+use Rattle.std.proofs.Common.{◌≡◌, ◌≤◌, ◌<◌, ◌^◌, ℕ, ◌+◌, List, [], ◌∷◌, refl, sym, ap, ◌∙◌}
 use Rattle.std.proofs.Common.{subst, inl, inr, Some, None, arith}
 use Rattle.syn_archive.specs.Archive.{Stands as ArchiveStands, IsHalted, KeepsBeforeOrAfter}
 use Rattle.syn_archive.specs.Archive.{disk_of, pair_of, session_shown, left_shown, generation_shown}
 use Rattle.syn_archive.specs.Disks.{DiskKeeps}
-use Rattle.syn_archive.specs.Refusals.{refusal_of}
 use Rattle.syn_archive.specs.Calls.{Writes}
 use Rattle.syn_archive.specs.declared.archive.Archive.{Archive}
-use Rattle.syn_archive.specs.declared.error.ArchiveError.{ArchiveError}
-use Rattle.syn_archive.specs.declared.error.ArchiveError.TheVariants as error
 use Rattle.syn_disk.specs.Stops.{LeavesOnly}
 use Rattle.syn_disk.specs.declared.disk.Disk.{Ghosts}
 use Rattle.syn_headline.specs.Machine.{Up, Halted}
-use Rattle.syn_journaled.specs.Endings.{CountsFailures}
 use Rattle.syn_model.specs.Archive as model
 use Rattle.syn_model.specs.Archive.{CanKeep, Session, after_kept}
 use Rattle.syn_model.specs.Path.{Bytes}

@@ -6,7 +6,7 @@ use Rattle.std.proofs.lemmas.Bool.{false≢true}
 use Rattle.syn_archive.specs.declared.archive.Archive.{Archive}
 use Rattle.syn_disk.specs.declared.disk.Disk.{Ghosts}
 use Rattle.syn_headline.specs.Coordinator.{AsksNext, CoordinatorMachine, CoordinatorTakes, EndsFor}
-use Rattle.syn_headline.specs.Coordinator.{Exchange, IsExpected, Running, Takes, asked_in, asked_of}
+use Rattle.syn_headline.specs.Coordinator.{Exchange, IsExpected, Running, asked_in}
 use Rattle.syn_headline.specs.Coordinator.{asking, after_taking, ignores, is_unstable, report_of}
 use Rattle.syn_headline.specs.Coordinator.{sent_now, takes}
 use Rattle.syn_headline.specs.Coordinator as model
@@ -15,8 +15,7 @@ use Rattle.syn_headline.specs.Side.{Reply, Request}
 use Rattle.syn_model.specs.Archive.{Kept}
 use Rattle.syn_model.specs.Refusal.{Memory}
 use Rattle.syn_refusal.specs.Refusals.{cause_of}
-use Rattle.syn_coordinator.specs.Coordinators.{Does, Stands, ended_in, in_report, report_shown}
-use Rattle.syn_coordinator.specs.Coordinators.{runs}
+use Rattle.syn_coordinator.specs.Coordinators.{Does, Stands, in_report, report_shown, runs}
 use Rattle.syn_coordinator.specs.Coordinators as does
 use Rattle.syn_keep.specs.Machines.{IsMachine}
 use Rattle.syn_coordinator.specs.declared.coordinator.Coordinator.{Coordinator}

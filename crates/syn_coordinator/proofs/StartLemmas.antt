@@ -17,7 +17,7 @@ use Rattle.syn_model.specs.Limits.{greatest}
 use Rattle.syn_model.specs.Refusal.{Refusal, Full, first_cause, Cause}
 use Rattle.syn_model.specs.Refusal as why
 use Rattle.syn_coordinator.specs.Coordinators.{Does, Stands, ended_in, in_report, report_shown}
-use Rattle.syn_coordinator.specs.Coordinators.{runs, all_causes, goes_on, goes_down, refusals_of}
+use Rattle.syn_coordinator.specs.Coordinators.{runs, goes_on, goes_down, refusals_of}
 use Rattle.syn_coordinator.specs.declared.coordinator.Coordinator.{Coordinator}
 use Rattle.syn_session.specs.Sessions.{IsRunning, IsSession, begun}
 use Rattle.syn_session.specs.declared.session.Session.{Session as Ran}
@@ -73,28 +73,6 @@ room_for pair machine none =
     (nat_le greatest machine.journal.value.last_session) (has_room
     (archive_layout pair) machine.journal (Session (machine.journal.value.last_session + 1)))
     why.Halted why.Busy why.Full why.JournalFull none
-
--- by what each of the causes is
-abbrev pub first_of : Bool → Bool → Bool → Bool → Option Refusal
-first_of halted busy full no_room =
-    first_cause ((halted, why.Halted) ∷ (busy, why.Busy) ∷ (full, why.Full)
-    ∷ (no_room, why.JournalFull) ∷ (true, why.Memory) ∷ [])
-
-pub causes_are : (pair : ℕ) (machine : CoordinatorMachine) (halted busy full no_room : Bool) →
-    is_halted machine.journal.status ≡ halted → is_some machine.running ≡ busy →
-    nat_le greatest machine.journal.value.last_session ≡ full → not (has_room (archive_layout pair)
-    machine.journal (Session (machine.journal.value.last_session + 1))) ≡ no_room →
-    first_cause (all_causes pair machine) ≡ first_of halted busy full no_room
-causes_are pair machine halted busy full no_room h b f r =
-    ap (λ x. first_of x (is_some machine.running)
-    (nat_le greatest machine.journal.value.last_session) (not (has_room
-    (archive_layout pair) machine.journal (Session (machine.journal.value.last_session + 1))))) h
-    ∙ (ap
-    (λ x. first_of halted x (nat_le greatest machine.journal.value.last_session) (not (has_room
-    (archive_layout pair) machine.journal (Session (machine.journal.value.last_session + 1))))) b
-    ∙ (ap (λ x. first_of halted busy x (not (has_room (archive_layout pair) machine.journal
-    (Session (machine.journal.value.last_session + 1))))) f
-    ∙ ap (λ x. first_of halted busy full x) r))
 
 -- a machine that is up makes no change
 pub idle_when_up : {D : Type 0} {disk : Ghosts D} (archive : Archive D disk) (pair : ℕ)

@@ -1,13 +1,12 @@
 -- How a call goes on through the plan: past an item, or to its end.
-use Rattle.std.proofs.Common.{◌≡◌, ◌⊎◌, ℕ, true, List, [], ◌∷◌, ◌++◌, Option, Some, None, refl, sym}
-use Rattle.std.proofs.Common.{ap, ◌∙◌, subst, inl, inr}
+use Rattle.std.proofs.Common.{◌≡◌, ◌⊎◌, ℕ, true, List, [], ◌++◌, Option, Some, None, refl, sym}
+use Rattle.std.proofs.Common.{ap, ◌∙◌, subst}
 use Rattle.std.specs.List.{slice_get}
 use Rattle.std.specs.Option.{option_map_or}
 use Rattle.std.proofs.lemmas.List.{append-nil, append_assoc}
 use Rattle.syn_archive.specs.declared.archive.Archive.{Archive}
 use Rattle.syn_disk.specs.declared.disk.Disk.{Ghosts}
-use Rattle.syn_headline.specs.Coordinator.{Advances, Exchange, EndsFor, IsFor, Running, past}
-use Rattle.syn_headline.specs.Coordinator.{record_for, refusing}
+use Rattle.syn_headline.specs.Coordinator.{Advances, Exchange, EndsFor, IsFor, record_for}
 use Rattle.syn_headline.specs.Coordinator as model
 use Rattle.syn_headline.specs.Machine.{Up}
 use Rattle.syn_headline.specs.Planning.{Planned}
@@ -17,23 +16,20 @@ use Rattle.syn_model.specs.Archive.{Kept, kept_refusal}
 use Rattle.syn_model.specs.Decision.{Conflict}
 use Rattle.syn_model.specs.Path.{Path}
 use Rattle.syn_model.specs.Refusal.{Refusal}
-use Rattle.syn_refusal.specs.Refusals.{cause_of}
 use Rattle.syn_refusal.specs.declared.refusal.Refusal.{Refusal as Why}
 use Rattle.syn_scan.specs.Found.{Found}
-use Rattle.syn_keep.specs.Machines.{IsMachine, Journal}
+use Rattle.syn_keep.specs.Machines.{Journal}
 use Rattle.syn_session.specs.declared.course.Course.{Course}
 use Rattle.syn_keep.specs.declared.due.Due.TheVariants as due
 use Rattle.syn_coordinator.specs.declared.ended.Ended.{Ended}
 use Rattle.syn_coordinator.specs.declared.ended.Ended.TheVariants.{Early}
 use Rattle.syn_keep.specs.declared.tried.Tried.{Tried}
-use Rattle.syn_coordinator.specs.inner.Advancing.{Advanced, Remembers, ended, kept_it, refused_it}
-use Rattle.syn_coordinator.specs.inner.Advancing.{stopped}
-use Rattle.syn_session.specs.Passing.{kept_at, past_at, refused_at}
+use Rattle.syn_coordinator.specs.inner.Advancing.{Advanced, Remembers, ended, stopped}
+use Rattle.syn_session.specs.Passing.{past_at, refused_at}
 use Rattle.syn_session.specs.Stages.{IsCourse, Reached}
 use Rattle.syn_coordinator.specs.inner.Walking.{Comes, Ends, HasKept, Passes, ends, goes_down}
 use Rattle.syn_coordinator.specs.inner.Walking.{plan_at, walk_at, ended_by}
 use Rattle.syn_coordinator.proofs.AdvanceLemmas.{goes_further}
-use Rattle.syn_keep.proofs.DueLemmas.{when_up}
 
 pub keeps_none : (reached : Reached) → HasKept reached reached []
 keeps_none reached = record { plan = refl; kept_is = sym (append-nil reached.kept) }
@@ -169,36 +165,6 @@ module _ (pair : ℕ) (taken : Exchange) where
 
     module _ {D : Type 0} {disk : Ghosts D} (new : Archive D disk) (tried : Option Tried)
         (planned : Planned) (what : Kept) (course : Course) (left right : Found) where
-      -- it is kept, or the machine is down
-      pub passes_kept : old.status ≡ Up → Advanced new tried pair (plan_at before) taken
-          (walk_at old before) planned what due.Recorded → ((journal : Journal) × Passes pair taken
-          old before journal (kept_at before what) (what ∷ []) × IsMachine new pair journal)
-          ⊎ ((how : Ended) → Ends new tried pair taken old before (what ∷ []) course left right how)
-      passes_kept was (kept_it journal advances up is) =
-          inl (
-            journal,
-            passes_by journal (kept_at before what) (what ∷ []) (up ∙ sym was)
-                (λ _. (when_up new pair journal is up).idle)
-                (record { plan = refl; kept_is = refl }) advances,
-            is,
-          )
-      passes_kept was (stopped became walk advances down cut leaves tries) =
-          inr (λ how. goes_down walk advances cut down leaves tries)
-
-      -- it is refused, or the session ends there, or the machine is down
-      pub passes_due_refused : (why : Why) → Advanced new tried pair (plan_at before) taken
-          (walk_at old before) planned what (due.Refused why) → (Passes pair taken old before old
-          (refused_at before (cause_of why) planned) [] × IsMachine new pair old)
-          ⊎ ((how : Ended) → Ends new tried pair taken old before [] course left right how)
-      passes_due_refused why (refused_it why' advances is) =
-          inl (
-            passes_by old (refused_at before (cause_of why) planned) [] refl (λ was. was)
-                (record { plan = refl; kept_is = sym (append-nil before.kept) }) advances,
-            is,
-          )
-      passes_due_refused why (stopped became walk advances down cut leaves tries) =
-          inr (λ how. goes_down walk advances cut down leaves tries)
-
       pub ends_at : (why : Why) → IsCourse course left right before → Advanced new tried pair
           (plan_at before) taken (walk_at old before) planned what (due.Ends why) →
           Ends new tried pair taken old before [] course left right (Early why)

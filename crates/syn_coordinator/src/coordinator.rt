@@ -53,7 +53,7 @@ pub struct Coordinator<D: Disk> {
     broke: Broken,
 }
 
-/// What was answered 9 in the last call that could write.
+/// The record whose writing was refused 9 in the last call that could write.
 #[derive(Drop)]
 pub(crate) enum Broken {
     /// Nothing was.

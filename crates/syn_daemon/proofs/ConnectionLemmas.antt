@@ -1,8 +1,8 @@
 -- What a worker's serving says of the connection that it was given.
-use Rattle.std.proofs.Common.{◌≡◌, ◌∙◌, [], ap, refl, subst, sym}
+use Rattle.std.proofs.Common.{◌≡◌, ◌∙◌, [], ap, subst, sym}
 use Rattle.std.specs.Prelude.{IsSomeAnd, MatchOption, Option, Some, None, Result, Ok, Err}
 use Rattle.syn_agent.specs.Agents.{staging_of}
-use Rattle.syn_daemon.specs.Connections.{WasServedWhole}
+use Rattle.syn_daemon.specs.inner.Connections.{WasServedWhole}
 use Rattle.syn_disk.specs.declared.disk.Disk.{Ghosts}
 use Rattle.syn_link.specs.Frames.{Bytes}
 use Rattle.syn_lock.specs.declared.error.LockError.{LockError}

@@ -1,3 +1,2 @@
-pub mod Connections
 pub mod Sessions
 pub mod inner

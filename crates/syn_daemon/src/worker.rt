@@ -1,6 +1,6 @@
 //! The work of a connection's thread.
 ghost use Rattle.std.specs.Prelude.{◌≡◌, IsSomeAnd, None, MatchOption};
-ghost use Rattle.syn_daemon.specs.Connections.{WasServedWhole};
+ghost use Rattle.syn_daemon.specs.inner.Connections.{WasServedWhole};
 ghost use Rattle.syn_lock.specs.Locks.{IsLock};
 ghost use Rattle.syn_shared.specs.Shared.{own_of};
 

@@ -12,8 +12,7 @@ use Rattle.std.proofs.lemmas.List.Folds.{Any-from_list_any}
 use Rattle.std.proofs.lemmas.Map.Views.{list_any-from_Contains}
 use Rattle.std.proofs.lemmas.Option.{none-some, same_Some}
 use Rattle.syn_model.specs.Path.{Path, path_cmp, is_prefix}
-use Rattle.syn_model.specs.Tree.{Tree, Content, Directory, File, HasParents, subtree}
-use Rattle.syn_model.specs.Tree.{is_directory_content}
+use Rattle.syn_model.specs.Tree.{Tree, Content, HasParents, subtree, is_directory_content}
 use Rattle.syn_model.specs.Dirty.{Scan, dirty, has_unstable, is_unstable, is_same_tree}
 use Rattle.syn_model.specs.Dirty.{is_same_content}
 use Rattle.syn_model.proofs.PathLemmas.{path_total, same_path, is_prefix-is}

@@ -107,10 +107,6 @@ find_alone q (r ∷ rs) =
     elim (eq_by_cmp path_cmp q r.0) as (λ b. cond b (Some true) (find path_cmp q (map alone rs))
     ≡ combined None (cond b (Some r.1) (find path_cmp q rs))) [ true ↦ refl | false ↦ rest ]
 
-right_alone : (o : Option Content) → combined o None ≡ option_map (λ _. true) o
-right_alone None = refl
-right_alone (Some a) = refl
-
 find_among : (q : Path) (l : Pair) (ls : Pairs) (later : Pairs → Rows) → ((rs : Pairs) →
     Rising rs → find path_cmp q (later rs) ≡ combined (find path_cmp q ls) (find path_cmp q rs)) →
     After l.0 ls → (rs : Pairs) → Rising rs →

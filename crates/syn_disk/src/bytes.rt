@@ -1,6 +1,6 @@
 //! Parts of the bytes of a disk.
-ghost use Rattle.std.specs.Prelude.{◌≡◌, ◌≤◌, ◌+◌, ◌-◌, ◌++◌, List, length, replicate, slice_range};
-ghost use Rattle.std.specs.Prelude.{take, drop, vec_capacity};
+ghost use Rattle.std.specs.Prelude.{◌≡◌, ◌≤◌, ◌+◌, ◌-◌, ◌++◌, length, replicate, slice_range, take};
+ghost use Rattle.std.specs.Prelude.{drop, vec_capacity};
 ghost use Rattle.syn_disk.specs.Disk.{overwritten};
 
 /// Puts these bytes in the place of as many from `at` on.

@@ -1,9 +1,8 @@
 //! A disk in a file.
-ghost use Rattle.std.specs.Prelude.{◌≡◌, ◌≤◌, ◌<◌, ◌+◌, true, false, refl, Bool, ℕ, List, length};
-ghost use Rattle.std.specs.Prelude.{take, drop, IfOk, OnOk, OnErr};
+ghost use Rattle.std.specs.Prelude.{◌≡◌, ◌≤◌, ◌<◌, ◌+◌, true, false, Bool, ℕ, List, length, take};
+ghost use Rattle.std.specs.Prelude.{drop, IfOk, OnOk, OnErr};
 ghost use Rattle.syn_disk.specs.Arms.{no_arms};
 ghost use Rattle.syn_disk.specs.Disk.{overwritten, Torn, Follows, NothingNew, Only, Elapses};
-ghost use Rattle.syn_disk.specs.Disk.{CountsFailure};
 ghost use Rattle.syn_disk.specs.declared.disk.TheConstants.{DISK_SIZE};
 ghost use Rattle.syn_file.specs.Lock.{StillHeld};
 ghost use Rattle.syn_file.specs.declared.file.host.Access.{Access};

@@ -1,5 +1,4 @@
 //! A folder of the system.
-ghost use Rattle.std.specs.Prelude.{◌≡◌};
 
 use crate::error::FolderError;
 use crate::folder::Folder;

@@ -20,10 +20,10 @@ use Rattle.syn_headline.specs.Planning.{Planned, Log}
 use Rattle.syn_headline.specs.Report.{Report, is_kept, conflict_at, is_carrying, is_marking}
 use Rattle.syn_headline.specs.Coordinator.{Exchange, Running, Walk, MayAsk, asked_of, numbered}
 use Rattle.syn_headline.specs.Coordinator.{messages_to, report_of, CoordinatorMachine, Call}
-use Rattle.syn_headline.specs.Coordinator.{IsShown, AsksNext, IsExpected, asked_count, outstanding}
+use Rattle.syn_headline.specs.Coordinator.{IsShown, AsksNext, IsExpected, asked_count}
 use Rattle.syn_headline.specs.Coordinator.{hearing, advanced, asking, sent_now, EndsFor}
 use Rattle.syn_headline.specs.Coordinator as fine
-use Rattle.syn_headline.specs.Picture.{IsSettled, HasPlan, Picture, Follows, RunsOver, GoesOnAs}
+use Rattle.syn_headline.specs.Picture.{IsSettled, HasPlan, Follows, RunsOver, GoesOnAs}
 use Rattle.syn_headline.specs.Picture.{GoesOnFrom, IsDueAfter, IsOfSession, AllOfSession}
 use Rattle.syn_headline.specs.Picture as picture
 use Rattle.syn_headline.specs.Runs.{session_picture, picture_of, coordinator_picture}

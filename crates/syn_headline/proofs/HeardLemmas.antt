@@ -18,10 +18,10 @@ use Rattle.syn_model.specs.Refusal.{Refusal}
 use Rattle.syn_model.specs.Archive.{Archive, Kept}
 use Rattle.syn_model.specs.Decision.{Item, ToLeft, ToRight, MarkSame, MarkDir, Conflict, path_of}
 use Rattle.syn_headline.specs.Side.{Request, Begin, ListAt, Fetch, Stage, Replace, Reply}
-use Rattle.syn_headline.specs.Network.{Which, Left, Right, other, Message, Asks, Sent}
+use Rattle.syn_headline.specs.Network.{Which, other, Message, Asks, Sent}
 use Rattle.syn_headline.specs.Network.{AsksNothingTwice, WasAnswered}
 use Rattle.syn_headline.specs.Acknowledged.{Ack, Kept_by, kept_in, kept_in_session, since_start}
-use Rattle.syn_headline.specs.Planning.{Planned, SessionPlan, Log, WritesTo, HasBegun, IsPlanOf}
+use Rattle.syn_headline.specs.Planning.{Planned, SessionPlan, Log, HasBegun, IsPlanOf}
 use Rattle.syn_headline.specs.Report.{Report, Complete, Incomplete, is_kept, conflict_at}
 use Rattle.syn_headline.specs.Coordinator.{Exchange, Running, Walk, WasTaken, BothBegun, MakesPlan}
 use Rattle.syn_headline.specs.Coordinator.{MayAsk, asked_of, numbered, messages_to, plan_of}
@@ -101,16 +101,6 @@ has_plan sent archive log running _ _ m in_order repeats fresh (fine.makes made 
 )
 
 -- What is asked for
-
-path_written : (item : Item) (side : Which) (path : Path) → WritesTo item side path →
-    path_of item ≡ path
-path_written (ToLeft at) Left path w = w
-path_written (ToRight at) Right path w = w
-path_written (ToLeft at) Right path w = absurd w
-path_written (ToRight at) Left path w = absurd w
-path_written (MarkSame at) side path w = absurd w
-path_written (MarkDir at) side path w = absurd w
-path_written (Conflict at) side path w = absurd w
 
 pub request_of_plan : (pair : ℕ) (sent : Sent) (archive : Archive) (running : Running) (to : Which)
     (request : Request) → TakenWas sent running.session running.taken →

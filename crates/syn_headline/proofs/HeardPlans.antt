@@ -1,26 +1,17 @@
 -- What a session knew of its plan before an answer it knows after, in a plan made just now too.
-use Rattle.std.proofs.Common.{◌≡◌, List, ◌∷◌, ◌++◌}
-use Rattle.std.proofs.Common.{refl, sym, subst, Option}
-use Rattle.std.proofs.Common.{take, []}
+use Rattle.std.proofs.Common.{◌≡◌, List, ◌∷◌, ◌++◌, refl, sym, subst, Option, take, []}
 use Rattle.std.specs.Prelude.{All, Any, IfSome, IsSome}
-use Rattle.std.proofs.lemmas.List.Elements.{All-nil}
-use Rattle.std.proofs.lemmas.List.Elements.{All-weaker}
+use Rattle.std.proofs.lemmas.List.Elements.{All-nil, All-weaker}
 use Rattle.syn_headline.specs.Planning.{Planned, Log}
-use Rattle.syn_headline.specs.Coordinator.{Exchange, Running, Walk, MayAsk, asked_of, numbered}
-use Rattle.syn_headline.specs.Coordinator.{messages_to, report_of, CoordinatorMachine, Call}
-use Rattle.syn_headline.specs.Coordinator.{IsShown, AsksNext, IsExpected, asked_count, outstanding}
-use Rattle.syn_headline.specs.Coordinator.{hearing, advanced, asking, sent_now, EndsFor}
+use Rattle.syn_headline.specs.Coordinator.{Exchange, Running, hearing}
 use Rattle.syn_headline.specs.Coordinator as fine
 use Rattle.syn_headline.proofs.Walks.{IsSettledBy, AllSettled}
 use Rattle.syn_headline.specs.World as fine_world
-use Rattle.syn_headline.specs.World.{coordinator_goes}
 use Rattle.syn_headline.proofs.Sessions.{IsHeard}
 use Rattle.syn_headline.specs.Reported.{IsRefusedFor}
 use Rattle.syn_headline.proofs.RefusedItems.{more_taken, none_refused}
 use Rattle.syn_headline.proofs.Tells.{more_logged}
-use Rattle.syn_headline.proofs.HeardLemmas.{list_of}
-use Rattle.syn_headline.proofs.HeardLemmas.{any_left}
-use Rattle.syn_headline.proofs.HeardLemmas.{any_last}
+use Rattle.syn_headline.proofs.HeardLemmas.{list_of, any_left, any_last}
 
 module _ (old : fine_world.World) (r : Running) (h : IsHeard old r) (exchange : Exchange) where
   -- what was settled, in a plan that is made just now too

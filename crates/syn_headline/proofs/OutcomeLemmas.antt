@@ -11,7 +11,7 @@ use Rattle.syn_model.specs.Tree.{Tree, replace, subtree, is_directory}
 use Rattle.syn_model.specs.Limits.{children, greatest_spelling}
 use Rattle.syn_model.specs.Mark.{mark}
 use Rattle.syn_model.specs.Spelling.{spelling}
-use Rattle.syn_model.specs.Refusal.{Refusal, Cause, first_cause, Memory, OldSession, WrongPair}
+use Rattle.syn_model.specs.Refusal.{Refusal, first_cause, Memory, OldSession, WrongPair}
 use Rattle.syn_model.specs.Refusal.{NotStaged, BadStage, BelowFloor, Touched}
 use Rattle.syn_model.specs.Refusal as why
 use Rattle.syn_model.specs.Event.{IsLawfulToken, is_below, is_same_token, Event, Began, Replaced}

@@ -21,7 +21,7 @@ use Rattle.syn_headline.specs.Coordinator as fine
 use Rattle.syn_headline.specs.World as fine_world
 use Rattle.syn_headline.specs.World.{coordinator_goes}
 use Rattle.syn_headline.specs.Acknowledged.{kept_in_session}
-use Rattle.syn_headline.specs.Picture.{Picture, Follows, RunsOver, IsOfSession, GoesOnFrom}
+use Rattle.syn_headline.specs.Picture.{Follows, RunsOver, IsOfSession, GoesOnFrom}
 use Rattle.syn_headline.specs.Picture.{IsNothing, IsOfPlan}
 use Rattle.syn_headline.specs.Picture as picture
 use Rattle.syn_headline.proofs.Invariant.{Plans, histories_of, IsHarmless, IsKept, plan_in, IsFresh}

@@ -4,7 +4,7 @@ use Rattle.std.proofs.Common.{refl, sym, ap, ap₂, ◌∙◌, subst, Option, So
 use Rattle.std.proofs.Common.{inr}
 use Rattle.std.specs.Prelude.{Contains}
 use Rattle.std.proofs.lemmas.List.{append_cancel_left}
-use Rattle.syn_model.specs.Refusal.{Refusal, Device, first_cause}
+use Rattle.syn_model.specs.Refusal.{Device, first_cause}
 use Rattle.syn_model.specs.Refusal as why
 use Rattle.syn_model.specs.Event.{Edit, Event, Edited}
 use Rattle.syn_model.specs.History.{History, IsAllowed, event_causes}

@@ -8,8 +8,7 @@ use Rattle.std.proofs.lemmas.List.Elements.{Contains-append_left, Contains-appen
 use Rattle.std.proofs.lemmas.List.Elements.{Contains-append_cases}
 use Rattle.std.proofs.lemmas.Option.{none-some, same_Some}
 use Rattle.syn_headline.specs.Side.{Request}
-use Rattle.syn_headline.specs.Coordinator.{Outstanding}
-use Rattle.syn_headline.specs.Coordinator.{without, asked_in}
+use Rattle.syn_headline.specs.Coordinator.{Outstanding, without, asked_in}
 
 pub kept_in-filter : (number : ℕ) (waiting : List Outstanding) (one : Outstanding) →
     Contains waiting one → (one.number == number) ≡ false → Contains (without number waiting) one

@@ -12,8 +12,7 @@ use Rattle.syn_headline.specs.Acknowledged.{Stores, kept_in_session}
 use Rattle.syn_headline.specs.Planning.{Planned, Log}
 use Rattle.syn_headline.specs.Report.{is_kept}
 use Rattle.syn_headline.specs.Coordinator.{Exchange, Running, Walk, IsFor, Advances, EndsFor}
-use Rattle.syn_headline.specs.Coordinator.{fault_of, plan_of, record_for, report_of}
-use Rattle.syn_headline.specs.Coordinator.{is_resent}
+use Rattle.syn_headline.specs.Coordinator.{fault_of, plan_of, record_for, report_of, is_resent}
 use Rattle.syn_headline.specs.Picture.{Picture}
 
 -- an item of a plan is settled: it is a conflict, or it was recorded, or refused

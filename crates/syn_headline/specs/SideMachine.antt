@@ -1,6 +1,6 @@
 -- A side as a machine: its journal of events, its staging, and what it does by itself.
 use Rattle.std.specs.Prelude.{ℕ, Bool, false, ◌≡◌, ◌⊎◌, List, [], ◌∷◌, ◌++◌, Option, Some, None}
-use Rattle.syn_model.specs.Refusal.{Refusal, Device, Memory, Cause}
+use Rattle.syn_model.specs.Refusal.{Device, Memory, Cause}
 use Rattle.syn_model.specs.Refusal as why
 use Rattle.syn_model.specs.Event.{Event, IsLawfulEvent}
 use Rattle.syn_model.specs.History.{History, IsAllowed, event_causes, standing_of}

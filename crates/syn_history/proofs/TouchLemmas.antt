@@ -6,8 +6,7 @@ use Rattle.std.proofs.Common.{true≢false, arith}
 use Rattle.std.specs.List.{AllPairs}
 use Rattle.circular_buffer.specs.Buffer.{keep_last}
 use Rattle.std.proofs.lemmas.Bool.{and_parts, leb-true, le-leb}
-use Rattle.std.proofs.lemmas.List.{length-drop}
-use Rattle.std.proofs.lemmas.List.Elements.{All-nil, All-cons, All-push, All-drop}
+use Rattle.std.proofs.lemmas.List.Elements.{All-nil, All-cons}
 use Rattle.std.proofs.lemmas.List.Kept.{AllPairs-cons}
 use Rattle.syn_model.specs.Path.{IsPath}
 use Rattle.syn_model.specs.Tree.{Tree}
@@ -19,7 +18,7 @@ use Rattle.syn_history.specs.declared.step.Step.{Step}
 use Rattle.syn_history.specs.declared.step.Step.TheVariants as step
 use Rattle.syn_history.specs.Trails.{step_of}
 use Rattle.syn_history.specs.Past.{Past, past_with, past_after, standing_with, IsLawful}
-use Rattle.syn_history.specs.Past.{are_between, is_of_session, is_lawful, IsKept}
+use Rattle.syn_history.specs.Past.{are_between, is_of_session, is_lawful}
 
 abbrev Within : ℕ → ℕ → Touch → Type 0
 Within from until touch = (from ≤ touch.position) × (touch.position < until)
@@ -204,26 +203,3 @@ has_room capacity read rest all touch whole few =
       ap length whole,
       few,
     ))
-
--- what a trail keeps by its type still holds with one touch more
-pub kept_more : (position capacity : ℕ) (touches : List Touch) (touch : Touch) →
-    IsKept position touches capacity → touch.position ≡ position →
-    let all = touches ++ touch ∷ [] in
-    IsKept (position + 1) (drop (surplus most_touches all) all) most_touches
-kept_more position capacity touches touch h at =
-    let all = touches ++ touch ∷ [] in
-    let brief : All (λ older. older.position < position + 1) touches =
-    λ k d l. omega (arith, h.before k d l) in
-    record {
-      room = refl;
-      count = omega (
-        arith,
-        h.count,
-        length-append touches (touch ∷ []),
-        length-drop (surplus most_touches all) all,
-      );
-      before =
-          All-drop (λ older. older.position < position + 1) (surplus most_touches all) all
-          (All-push (λ older. older.position < position + 1) touches touch brief
-          (omega (arith, at)));
-    }

@@ -12,7 +12,8 @@ use syn_tree::{Edit, Node};
 /// What changes a replica. The event at position k takes its history from k to k + 1 events.
 #[derive(Debug, Drop)]
 pub enum Event {
-    /// The user changes the tree: puts a file, makes a directory, or removes what is there.
+    /// The user changes the tree: puts a file, makes a directory, changes a file's mode, or removes
+    /// what is there.
     Edited {
         user: u32,
         edit: Edit,

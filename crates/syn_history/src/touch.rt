@@ -1,6 +1,6 @@
 //! Which path an event changed, and at which position. From these a trail tells whether a path was
 //! touched.
-ghost use Rattle.std.specs.Prelude.{◌≡◌, ◌<◌, ◌^◌};
+ghost use Rattle.std.specs.Prelude.{◌≡◌};
 ghost use Rattle.syn_model.specs.Path.{IsPath};
 
 use std::marker::Model;

@@ -1,28 +1,18 @@
 -- Causes of refusals, in their order.
-use Rattle.std.proofs.Common.{◌≡◌, ◌≢◌, ◌⊎◌, ◌∙◌, ◌+◌, ◌-◌, ℕ, true, false, not, List, [], ◌∷◌}
-use Rattle.std.proofs.Common.{◌++◌, Option, Some, None, ap, arith, inl, inr, refl, subst, sym, ◌<◌}
-use Rattle.std.proofs.lemmas.Bool.{eqb-true}
-use Rattle.std.specs.Prelude.{◌||◌, ◌==◌, nat_le, length}
+use Rattle.std.proofs.Common.{◌≡◌, ◌≢◌, ◌⊎◌, ◌∙◌, ◌+◌, ◌-◌, ℕ, true, not, List, [], ◌∷◌}
+use Rattle.std.proofs.Common.{◌++◌, Option, Some, None, ap, inl, inr, refl, sym}
+use Rattle.std.specs.Prelude.{nat_le, length}
 use Rattle.syn_headline.specs.SideMachine.{SideMachine, causes_of}
 use Rattle.syn_headline.specs.Machine.{Up, Halted}
 use Rattle.syn_headline.specs.MachineSteps.{causes_at, is_halted}
 use Rattle.syn_journal.specs.declared.error.JournalError.TheVariants as journal
-use Rattle.syn_journaled.specs.Endings as endings
 use Rattle.syn_model.specs.Event.{Edit, Edited}
 use Rattle.syn_model.specs.History.{event_causes}
-use Rattle.syn_model.specs.Refusal.{Refusal, Cause, first_cause, number}
+use Rattle.syn_model.specs.Refusal.{Refusal, Cause, first_cause}
 use Rattle.syn_model.specs.Refusal as why
 use Rattle.syn_model.specs.Spelling.{event_spelling}
-use Rattle.syn_replica.specs.Refusals.{IsOneOf, checkpoint_refusals}
-use Rattle.syn_standing.specs.Refusals.{refusal_of}
 use Rattle.syn_replica.specs.Steps.{add_refusal}
-use Rattle.syn_standing.specs.declared.error.ReplicaError.{ReplicaError}
-use Rattle.syn_standing.specs.declared.error.ReplicaError.TheVariants.{Journal}
-use Rattle.syn_history.specs.declared.error.HistoryError.{HistoryError}
-use Rattle.syn_history.specs.declared.error.HistoryError.TheVariants as history
-use Rattle.syn_tree.specs.declared.error.TreeError.{TreeError}
-use Rattle.syn_tree.specs.declared.error.TreeError.TheVariants as tree
-use Rattle.syn_agent.proofs.CauseLemmas.{device_is, none_is_no, or_cases, outside, rooms}
+use Rattle.syn_agent.proofs.CauseLemmas.{none_is_no, rooms}
 use Rattle.syn_replica.proofs.RoomLemmas.{spelled_long}
 use Rattle.syn_standing.proofs.CauseLemmas.{first_skips, first_stays}
 

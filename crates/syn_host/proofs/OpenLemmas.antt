@@ -26,7 +26,6 @@ use Rattle.syn_model.specs.Event.{Event}
 use Rattle.syn_model.specs.History.{History, IsAllowed}
 use Rattle.syn_model.specs.Image.{StandsFor}
 use Rattle.syn_model.specs.Path.{Bytes}
-use Rattle.syn_model.specs.Refusal.{Refusal}
 use Rattle.syn_model.specs.Refusal as why
 use Rattle.syn_model.specs.Spelling.{event_spelling}
 use Rattle.syn_recovery.specs.Calls.{BrokenCallsMeet, CallsMeet, MadeReadsMeet, armed_at, goes_down}

@@ -23,7 +23,6 @@ use Rattle.syn_journal.specs.Layout.{HasJournal, size_of}
 use Rattle.syn_model.specs.History.{History, IsAllowed}
 use Rattle.syn_model.specs.Image.{StandsFor}
 use Rattle.syn_model.specs.Path.{Bytes}
-use Rattle.syn_model.specs.Refusal.{Refusal}
 use Rattle.syn_model.specs.Refusal as why
 use Rattle.syn_recovery.specs.Calls.{BrokenCallsMeet, MadeReadsMeet, armed_at, goes_down, goes_on}
 use Rattle.syn_recovery.specs.Machines.{SidesOpen, of_side}

@@ -1,26 +1,18 @@
 -- A side that runs as a machine, and what device calls leave of it.
 use Rattle.std.proofs.Common.{◌≡◌, ◌≢◌, ◌⊎◌, ◌∙◌, ℕ, Option, Some, None, refl, sym, ap}
-use Rattle.std.proofs.Common.{subst, inl, inr, false}
+use Rattle.std.proofs.Common.{inl, inr, false}
 use Rattle.std.specs.Prelude.{length}
 use Rattle.syn_agent.specs.Machines.{StandsAs}
 use Rattle.syn_disk.specs.declared.disk.Disk.{Ghosts}
-use Rattle.syn_headline.specs.Machine.{Status, Up, Halted, Down, Arms, after_device}
+use Rattle.syn_headline.specs.Machine.{Status, Up, Halted, Down}
 use Rattle.syn_headline.specs.SideMachine.{SideMachine, staging_after}
 use Rattle.syn_headline.specs.Side.{Staging}
-use Rattle.syn_host.specs.SideSteps.{Journal}
 use Rattle.syn_host.specs.Sides.{RunsAs}
 use Rattle.syn_host.specs.declared.side.UpSide.{UpSide}
 use Rattle.syn_model.specs.Event.{Event}
 use Rattle.syn_model.specs.History.{History}
-use Rattle.syn_model.specs.Image.{StandsFor}
-use Rattle.syn_model.specs.Path.{Bytes}
-use Rattle.syn_recovery.specs.Machines.{of_side}
-use Rattle.syn_recovery.specs.Meaning.{MayBeOf, MayMean, as_kept, with_record, compacted}
 use Rattle.syn_journal.specs.Journal as journal
-use Rattle.syn_journal.specs.Layout.{Value}
-use Rattle.syn_replica.specs.Replica.{IsHalted, Remembers, SameMemory, Stands, journal_of}
-use Rattle.syn_replica.specs.Replica.{position_shown}
-use Rattle.syn_replica.specs.declared.replica.Replica.{Replica}
+use Rattle.syn_replica.specs.Replica.{IsHalted, Remembers, Stands, position_shown}
 
 pub up_not_down : Up ≢ Down
 up_not_down e = cc

@@ -1,6 +1,5 @@
 -- The image of a replica tells its pair and what it keeps.
-use Rattle.std.proofs.Common.{◌≡◌, ◌<◌, ◌≤◌, ◌^◌, ◌+◌, ◌-◌, ℕ, zero, suc, true, List, [], ◌∷◌}
-use Rattle.std.proofs.Common.{◌++◌}
+use Rattle.std.proofs.Common.{◌≡◌, ◌<◌, ◌≤◌, ◌^◌, ◌+◌, ◌-◌, ℕ, zero, suc, true, List, [], ◌∷◌, ◌++◌}
 use Rattle.std.proofs.Common.{length, take, drop, slice_index_or, All, Option, Some, None, IfSome}
 use Rattle.std.proofs.Common.{refl, sym, ap, ap₂, ◌∙◌, subst, append_assoc, append-nil, arith}
 use Rattle.std.specs.Prelude.{bytes_eq}
@@ -177,21 +176,6 @@ no_touches bytes after count found none v rest begins =
     none v rest (record
     { lawful = record { counted = sym same.0; each = begins.lawful.each }; spelled = same.1 })
 
-pub touches_found : (bytes after rest : Bytes) (count : ℕ) (touches : List Touch) →
-    BeginsWith (λ n. n < 2 ^ 16) (to_be_bytes w16) bytes count after →
-    BeginsWith (AreSoMany count) each_spelling after touches rest →
-    BeginsWith AreTouches touches_spelling bytes touches rest
-touches_found bytes after rest count touches found read = record {
-  lawful =
-      record {
-        count = subst (λ n. n < 2 ^ 16) (sym read.lawful.counted) found.lawful;
-        each = read.lawful.each;
-      };
-  spelled =
-      found.spelled ∙ (ap₂ (λ n xs. to_be_bytes w16 n ++ xs) (sym read.lawful.counted) read.spelled
-      ∙ sym (append_assoc (to_be_bytes w16 (length touches)) (each_spelling touches) rest));
-}
-
 past_tells : NoneBeginsAnother IsPast past_spelling
 past_tells =
     both_tell AreFences AreTouches fences_spelling touches_spelling fences_tell touches_tell
@@ -366,13 +350,6 @@ image_found version bytes fields after rest pair past tree front later found rea
       ∙ (found.spelled ∙ ap (λ xs. past_spelling (past_value pair past) ++ xs) read.spelled))
       ∙ sym (image_row version pair (standing_with tree past) rest));
 }
-
--- an image begins with its front
-pub fronted : (version : Version) (bytes rest : Bytes) (value : ℕ × Standing) →
-    BeginsWith (IsImage version) (spelled_image version) bytes value rest →
-    bytes_eq (take 5 bytes) (replica_front version) ≡ true
-fronted version bytes rest value begins =
-    (bytes_eq-Decides (take 5 bytes) (replica_front version)).1 (ap (take 5) begins.spelled)
 
 pub images_tell : NoSpellingBeginsAnother → NoImageBeginsAnother
 images_tell trees version v w r s hv hw e =

@@ -1,5 +1,5 @@
 //! The image of a replica: its pair, and what its history leaves.
-ghost use Rattle.std.specs.Prelude.{◌≡◌, ◌≤◌, ◌↔◌, ◌++◌, true, length, IfOk, OnOk, option_map};
+ghost use Rattle.std.specs.Prelude.{◌≡◌, ◌↔◌, ◌++◌, true, IfOk, OnOk, option_map};
 ghost use Rattle.syn_model.specs.Image.{IsOldImage, image_spelling, last_token_spelling};
 ghost use Rattle.syn_model.specs.Image.{replica_front};
 ghost use Rattle.syn_history.specs.Events.{token_of};

@@ -1,5 +1,5 @@
 //! What is read of the image of a replica.
-ghost use Rattle.std.specs.Prelude.{◌≡◌, ◌++◌, IfOk, IfSome, IfNone, option_map};
+ghost use Rattle.std.specs.Prelude.{◌≡◌, IfOk, IfSome, IfNone, option_map};
 ghost use Rattle.syn_model.specs.Image.{IsStanding, last_token_spelling, touch_spelling};
 ghost use Rattle.syn_model.specs.Tree.{Tree};
 ghost use Rattle.syn_history.specs.Events.{token_of};
@@ -7,8 +7,8 @@ ghost use Rattle.syn_history.specs.Past.{IsLawful, standing_with};
 ghost use Rattle.syn_history.specs.Trails.{past_from};
 ghost use Rattle.syn_wire.specs.Reads.{IsReading};
 ghost use Rattle.syn_wire.specs.Versions.{version_of};
-ghost use Rattle.syn_image.specs.Images.{IsImage, spelled_image, image_of};
-ghost use Rattle.syn_image.specs.Images.{IsLastToken, IsTouch, AreTouches, touches_spelling};
+ghost use Rattle.syn_image.specs.Images.{IsImage, spelled_image, image_of, IsLastToken, IsTouch};
+ghost use Rattle.syn_image.specs.Images.{AreTouches, touches_spelling};
 ghost use Rattle.syn_image.specs.inner.Pasts.{AreTwo, two_spelling, AreFour, four_spelling};
 ghost use Rattle.syn_image.specs.inner.Pasts.{AreFences, fences_spelling, IsPast, past_spelling};
 ghost use Rattle.syn_image.specs.inner.Pasts.{AreSoMany, each_spelling};

@@ -1,5 +1,5 @@
 //! What is read of what an archive keeps, and of the image of an archive.
-ghost use Rattle.std.specs.Prelude.{◌≡◌, ◌∷◌, IfOk, option_map};
+ghost use Rattle.std.specs.Prelude.{◌∷◌, IfOk, option_map};
 ghost use Rattle.syn_model.specs.MarkSpelling.{kept_spelling_in, mark_spelling_in};
 ghost use Rattle.syn_model.specs.Path.{IsPath, path_spelling};
 ghost use Rattle.syn_mark.specs.Marks.{or_absent};
@@ -7,8 +7,8 @@ ghost use Rattle.syn_wire.specs.Events.{Both, both_spelling};
 ghost use Rattle.syn_wire.specs.Marks.{IsOptionalMarkTreeIn};
 ghost use Rattle.syn_wire.specs.Reads.{IsReading};
 ghost use Rattle.syn_wire.specs.Versions.{version_of};
-ghost use Rattle.syn_image.specs.Archives.{IsKeptInEach, IsSpelledKept, kept_of};
-ghost use Rattle.syn_image.specs.Archives.{IsSpelledArchive, spelled_archive, archive_in};
+ghost use Rattle.syn_image.specs.Archives.{IsKeptInEach, IsSpelledKept, kept_of, IsSpelledArchive};
+ghost use Rattle.syn_image.specs.Archives.{spelled_archive, archive_in};
 
 use crate::image_reading::read_two;
 use crate::kept::{ArchiveImage, DIR, Kept, RECORD, SESSION, front};

@@ -14,7 +14,8 @@
 //!   as their root.
 //! - `record_length` and `dir_length` are how many bytes spell a record, before it is spelled and
 //!   without memory. `Kept::copy` is equal, and so are `copied_marks`.
-//! - `is_old_image` and `is_old_archive` tell an image of the first version by how it begins.
+//! - `is_old_image` and `is_old_archive` tell an image of the first version by how it begins, and
+//!   `is_other_pair` one of another pair than is wanted.
 //! - In no version does a spelling of an image, a record or an archive's image begin that of
 //!   another (`image_laws`: `image`, `kept`, `archive`).
 #![tactic(auto)]
@@ -26,6 +27,7 @@ mod image;
 mod image_reading;
 mod kept;
 mod kept_reading;
+mod pair;
 
 pub use image::{Image, encode_image, is_old_image};
 pub use image_reading::decode_image;
@@ -34,6 +36,7 @@ pub use kept::{
     encode_kept, encode_record, encode_session, is_old_archive, record_length,
 };
 pub use kept_reading::{decode_archive, decode_kept};
+pub use pair::is_other_pair;
 
 /// In no version does the spelling of an image or of a record begin that of another.
 pub fn image_laws()

@@ -51,11 +51,6 @@ one_read least old new enough allowed after =
 pub one_broke : (old new : Arms) → new ≡ after_call old → BreaksSometime old new
 one_broke old new after = (1, one_breaks old new after)
 
-pub at_least_none : (least : ℕ) (old new : Arms) → MakesAtLeast least old new →
-    MakesAtLeast 0 old new
-at_least_none least old new some =
-    record { calls = some.calls; enough = omega arith; made = some.made }
-
 -- so many calls, and then so many, of which one may have failed
 module _ (m n : ℕ) (old mid new : Arms) (first : Makes m old mid) where
   pub then_made : Makes n mid new → Makes (m + n) old new

@@ -3,8 +3,7 @@ use Rattle.std.proofs.Common.{◌≡◌, ℕ, zero, suc, ◌+◌, ◌-◌, ◌<�
 use Rattle.std.proofs.Common.{get_or, take, drop, refl, sym, ◌∙◌, ap, arith, length-append}
 use Rattle.std.proofs.Common.{length-take, length-drop}
 use Rattle.std.proofs.lemmas.List.{get_or-take, get_or-drop, get_or_append_left}
-use Rattle.std.proofs.lemmas.List.{get_or-append_right, ext_get_or, append_assoc, drop-drop}
-use Rattle.std.proofs.lemmas.List.{take_at, drop_at}
+use Rattle.std.proofs.lemmas.List.{get_or-append_right, ext_get_or, drop-drop, take_at, drop_at}
 use Rattle.syn_disk.specs.Disk.{Torn, overwritten}
 
 -- equal at each place of a part
@@ -110,9 +109,6 @@ take_over [] x rest (suc m) k is = let same : m ≡ k = omega arith in ap (λ j.
 take_over (y ∷ xs) x rest zero k is = absurd (omega arith)
 take_over (y ∷ xs) x rest (suc m) k is =
     ap (λ (l : List ℕ). y ∷ l) (take_over xs x rest m k (omega arith))
-
-pub regroup : (a b c d e : List ℕ) → (a ++ (b ++ (c ++ d))) ++ e ≡ a ++ (b ++ (c ++ (d ++ e)))
-regroup a b c d e = simp append_assoc
 
 pub torn_by : (old : List ℕ) (at : ℕ) (bytes : List ℕ) → at + length bytes ≤ length old →
     Torn at (length bytes) old (overwritten old at bytes)

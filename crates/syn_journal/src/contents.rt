@@ -4,9 +4,9 @@ ghost use Rattle.std.specs.Prelude.{slice_index, Ok, Err, None, IfOk, IfErr, OnO
 ghost use Rattle.std.specs.Int.{w32, from_be_bytes, to_be_bytes};
 ghost use Rattle.syn_disk.specs.Disk.{Only, CountsFailure};
 ghost use Rattle.syn_journal.specs.Layout.{half_size, damaged, longest_image, open_gate, start_of};
-ghost use Rattle.syn_journal.specs.Layout.{other_half, is_open, generation_at, image_length_at};
-ghost use Rattle.syn_journal.specs.Layout.{current, current_of, bytes_from, records, value_at};
-ghost use Rattle.syn_journal.specs.Layout.{meaning, record_of, records_of};
+ghost use Rattle.syn_journal.specs.Layout.{other_half, is_open, generation_at, current, current_of};
+ghost use Rattle.syn_journal.specs.Layout.{bytes_from, records, value_at, meaning, record_of};
+ghost use Rattle.syn_journal.specs.Layout.{records_of};
 ghost use Rattle.syn_journal.specs.Opened.{payloads_of, value_read};
 ghost use Rattle.syn_journal.specs.Refusals.{CountsFailures, ReadsAtLeast, IsOpenRefusal};
 ghost use Rattle.syn_journal.specs.inner.Reading.{IsReadRefusal};

@@ -20,7 +20,7 @@ pub enum JournalError {
     JournalFull,
     /// 9: a device call failed during this call.
     Device,
-    /// 10: a device call failed before, and the journal was not opened again since.
+    /// 10: the journal is halted, and was not opened again since.
     Halted,
     /// 11: memory was refused.
     Memory,

@@ -16,9 +16,8 @@
 //!
 //! The current half is the open one of the greatest generation. An append writes after the closed
 //! gate and opens it last; a checkpoint does the same with the gate of the other half.
-ghost use Rattle.std.specs.Prelude.{◌≡◌, ◌↔◌, ◌⊎◌, ◌≤◌, ◌<◌, ◌+◌, ◌-◌, ◌++◌, ◌∷◌, [], ℕ, true};
-ghost use Rattle.std.specs.Prelude.{false, List, length, Ok, IfOk, IfErr, OnOk, OnErr, MatchResult};
-ghost use Rattle.std.specs.Prelude.{IsErrAnd};
+ghost use Rattle.std.specs.Prelude.{◌≡◌, ◌↔◌, ◌⊎◌, ◌≤◌, ◌<◌, ◌+◌, ◌-◌, ℕ, true, false, List};
+ghost use Rattle.std.specs.Prelude.{length, Ok, IfOk, IfErr, OnOk, MatchResult, IsErrAnd};
 ghost use Rattle.syn_disk.specs.Armed.{armed};
 ghost use Rattle.syn_disk.specs.Arms.{is_stopped};
 ghost use Rattle.syn_disk.specs.Calls.{Makes, MakesAtLeast, MakesUpTo};
@@ -204,7 +203,8 @@ impl<D: Disk> Journal<D> {
         self.generation
     }
 
-    /// Whether a call was refused `Device` since the disk was opened or reopened.
+    /// Whether each change is refused `Halted`: a device call failed, or `halt` was called, and no
+    /// reopening succeeded since.
     pub fn is_halted(&self) -> bool
         ensures halted { (result ≡ true) ↔ IsHalted self.now }
         // A journal that is not halted has the value of its disk.
@@ -258,8 +258,8 @@ impl<D: Disk> Journal<D> {
         self.halted = true;
     }
 
-    /// Adds a payload. At `Ok` it is durable: from then on each stop leaves it. A record takes 5
-    /// bytes more than its payload.
+    /// Adds a payload. At `Ok` it is durable: from then on each stop leaves it. A record takes
+    /// `RECORD_OVERHEAD` bytes more than its payload.
     ///
     /// It is refused `Halted`, `JournalFull` where the record does not fit in the current half,
     /// `Memory`, and `Device`, after which the journal is halted.

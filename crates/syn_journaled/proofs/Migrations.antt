@@ -1,7 +1,6 @@
 -- An opening and then a checkpoint, as one migration.
 use Rattle.std.proofs.Common.{◌≡◌, ◌⊎◌, ◌≤◌, ◌+◌, ◌∙◌, ℕ, zero, suc, Bool, true, false, List, inl}
-use Rattle.std.proofs.Common.{inr}
-use Rattle.std.proofs.Common.{⊎_elim, sym, ap, subst, Option, Some, None, Result, Ok, arith}
+use Rattle.std.proofs.Common.{inr, ⊎_elim, sym, ap, subst, Option, Some, None, Result, Ok, arith}
 use Rattle.std.proofs.Common.{true≢false}
 use Rattle.std.specs.Result.{result_ok}
 use Rattle.std.proofs.lemmas.Option.{same_Some}
@@ -20,8 +19,7 @@ use Rattle.syn_journal.specs.declared.journal.Journal.{Journal}
 use Rattle.syn_model.specs.Refusal as why
 use Rattle.syn_model.specs.Refusal.{Refusal}
 use Rattle.syn_journaled.specs.Endings.{BreaksIf, BreaksOrReads, CountsFailures, MakesOrBreaks}
-use Rattle.syn_journaled.specs.Endings.{Reads}
-use Rattle.syn_journaled.specs.Endings.{is_device}
+use Rattle.syn_journaled.specs.Endings.{Reads, is_device}
 use Rattle.syn_journaled.specs.Journaled.{Compacts, IsOfCheckpoint, Opened, disk_of, generation_of}
 use Rattle.syn_journaled.specs.Journaled.{journal_of, state_of}
 use Rattle.syn_journaled.specs.Migrations.{Holds, IsUnwritten, Migrates, MigratesOrBreaks}

@@ -1,7 +1,7 @@
 -- What holds of a call by how it ended.
-use Rattle.std.specs.Prelude.{Result, Ok, Err, IfErr, IsErrAnd, OnOk, MatchResult}
+use Rattle.std.specs.Prelude.{Result, Ok, Err, IfErr, OnOk, MatchResult}
 use Rattle.std.proofs.Common.{◌≡◌, ◌∙◌, refl, sym, ap, Some, None}
-use Rattle.std.proofs.lemmas.Option.{none-some, same_Some}
+use Rattle.std.proofs.lemmas.Option.{none-some}
 use Rattle.syn_journal.specs.Refusals.{refusal_of}
 use Rattle.syn_journal.specs.declared.error.JournalError.{JournalError}
 use Rattle.syn_model.specs.Refusal.{Refusal}
@@ -15,11 +15,6 @@ module _ {T E : Type 0} (which : E → Refusal) where
   ok_part (Ok value) P Q h is = h
   ok_part (Err e) P Q h is = absurd (none-some _ (sym is))
 
-  pub err_part : (result : Result T E) (P Q : Type 0) →
-      MatchResult result (λ _. P) (λ _. Q) → IfErr result (λ _. Q)
-  err_part (Ok value) P Q h = tt
-  err_part (Err e) P Q h = h
-
   pub on_ok_of : (result : Result T E) (P : Type 0) → (ended which result ≡ None → P) →
       OnOk result P
   on_ok_of (Ok value) P h = h refl
@@ -29,11 +24,6 @@ module _ {T E : Type 0} (which : E → Refusal) where
       ((e : E) → ended which result ≡ Some (which e) → P e) → IfErr result P
   if_err_of (Ok value) P h = tt
   if_err_of (Err e) P h = h e refl
-
-  pub is_err_of : (result : Result T E) (P : E → Type 0) (w : Refusal) →
-      ended which result ≡ Some w → ((e : E) → which e ≡ w → P e) → IsErrAnd result P
-  is_err_of (Ok value) P w is h = absurd (none-some _ is)
-  is_err_of (Err e) P w is h = h e (same_Some _ _ is)
 
   module _ (of_journal : JournalError → E) where
     -- it is answered as the journal refused it
@@ -56,7 +46,3 @@ module _ {T E : Type 0} where
       ((e : E) → P e → Q e → R e) → IfErr result R
   if_err_both (Ok value) p q f = tt
   if_err_both (Err e) p q f = f e p q
-
-  pub from_both : {P : Type 0} (result : Result T E) → OnOk result P → IfErr result (λ _. P) → P
-  from_both (Ok value) p q = p
-  from_both (Err e) p q = q

@@ -1,6 +1,6 @@
 //! A machine over a journal.
-ghost use Rattle.std.specs.Prelude.{◌≡◌, ◌⊎◌, ◌↔◌, ◌<◌, ℕ, None, Some, Option, length, true};
-ghost use Rattle.std.specs.Prelude.{IfOk, IfErr, MatchResult};
+ghost use Rattle.std.specs.Prelude.{◌≡◌, ◌⊎◌, ◌↔◌, ◌<◌, ℕ, None, Some, length, true, IfOk, IfErr};
+ghost use Rattle.std.specs.Prelude.{MatchResult};
 ghost use Rattle.syn_disk.specs.Armed.{armed};
 ghost use Rattle.syn_disk.specs.Arms.{is_stopped};
 ghost use Rattle.syn_disk.specs.Disk.{SameOutcomes};
@@ -8,7 +8,7 @@ ghost use Rattle.syn_journal.specs.Journal as journal;
 ghost use Rattle.syn_journal.specs.Journal.{SameReadings};
 ghost use Rattle.syn_journal.specs.Layout.{Value, image_alone, longest_image};
 ghost use Rattle.syn_journal.specs.Refusals.{IsFormatRefusal};
-ghost use Rattle.syn_journaled.specs.Endings.{Spends, ended, is_device};
+ghost use Rattle.syn_journaled.specs.Endings.{Spends, ended};
 ghost use Rattle.syn_journaled.specs.Openings.{IsOfJournal};
 ghost use Rattle.syn_model.specs.Refusal.{Device, Memory};
 
@@ -82,7 +82,8 @@ impl<D: Disk, S: State + Drop> Journaled<D, S> {
         self.journal.room()
     }
 
-    /// Whether a call was refused 9 since the machine was formatted or opened.
+    /// Whether each change is refused 10: a device call failed, or a reopening gave no state that
+    /// may follow, and none succeeded since.
     pub fn is_halted(&self) -> bool
         ensures { (result ≡ true) ↔ IsHalted self.now }
     {

@@ -1,8 +1,7 @@
 -- A record that is due is what its machine does.
 use Rattle.std.proofs.Common.{◌≡◌, ◌≢◌, ◌⊎◌, ◌≤◌, ◌<◌, ◌+◌, ◌^◌, ℕ, Bool, true, false, nat_le, ◌||◌}
 use Rattle.std.proofs.Common.{if◌then◌else◌, List, [], ◌∷◌, ◌++◌, Some, None, is_some, refl, sym}
-use Rattle.std.proofs.Common.{Ok, Err}
-use Rattle.std.proofs.Common.{ap, ap₂, ◌∙◌, subst, inl, inr, arith}
+use Rattle.std.proofs.Common.{Ok, Err, ap, ap₂, ◌∙◌, subst, inl, inr, arith}
 use Rattle.std.proofs.lemmas.Bool.{false≢true, true≢false}
 use Rattle.std.proofs.lemmas.Bool.Decides.{nat_tests}
 use Rattle.std.proofs.lemmas.Option.{none-some}
@@ -20,7 +19,7 @@ use Rattle.syn_disk.specs.Arms.{is_stopped}
 use Rattle.syn_disk.specs.Stops.{LeavesOnly}
 use Rattle.syn_disk.specs.declared.disk.Disk.{Ghosts}
 use Rattle.syn_headline.specs.Coordinator.{archive_layout, writes}
-use Rattle.syn_headline.specs.Machine.{Up, Halted, Down, Status, Compacts, compacted, not_compacted}
+use Rattle.syn_headline.specs.Machine.{Up, Halted, Status, Compacts, compacted, not_compacted}
 use Rattle.syn_headline.specs.Machine.{has_room, idle}
 use Rattle.syn_headline.specs.Session.{is_recorded}
 use Rattle.syn_model.specs.Archive as model
@@ -89,9 +88,6 @@ is_less n h other = grind (arith, nat_tests)
 
 up_or_halted : {s : Status} → s ≡ Up → s ≡ Halted → ⊥
 up_or_halted up halted = cc
-
-up_or_down : {s : Status} → s ≡ Up → s ≡ Down → ⊥
-up_or_down up down = cc
 
 -- ---- the machine of an archive
 

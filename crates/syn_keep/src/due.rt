@@ -1,19 +1,19 @@
 //! A record that is due for an item of the plan.
-ghost use Rattle.std.specs.Prelude.{◌≡◌, ◌≢◌, ◌||◌, ◌<◌, ◌^◌, ℕ, nat_le, IfErr, MatchResult};
-ghost use Rattle.std.specs.Prelude.{false, option_map};
+ghost use Rattle.std.specs.Prelude.{◌≡◌, ◌≢◌, ◌||◌, ◌<◌, ℕ, nat_le, IfErr, MatchResult, false};
+ghost use Rattle.std.specs.Prelude.{option_map};
 ghost use Rattle.syn_archive.specs.Archive.{disk_of, left_shown, marks_shown, pair_of, shown};
 ghost use Rattle.syn_archive.specs.Disks.{kept_size};
 ghost use Rattle.syn_disk.specs.Arms.{is_stopped};
 ghost use Rattle.syn_headline.specs.Coordinator.{archive_layout};
 ghost use Rattle.syn_headline.specs.Machine.{has_room};
 ghost use Rattle.syn_headline.specs.Session.{is_recorded};
-ghost use Rattle.syn_keep.specs.Due.{IsAsItWas, IsReady, Settles};
-ghost use Rattle.syn_keep.specs.Due.{CountsFailures, CountsFailuresOrStops};
+ghost use Rattle.syn_keep.specs.Due.{IsAsItWas, IsReady, Settles, CountsFailures};
+ghost use Rattle.syn_keep.specs.Due.{CountsFailuresOrStops};
 ghost use Rattle.syn_keep.specs.Machines.{IsMachine, Journal};
 ghost use Rattle.syn_keep.specs.inner.Recording.{Checkpoints, MakesRoomNow, Writes, ended_by};
 ghost use Rattle.syn_mark.specs.Marks.{or_absent};
-ghost use Rattle.syn_model.specs.Archive.{IsLawfulKept, Recorded as RecordOf};
-ghost use Rattle.syn_model.specs.Archive.{RecordedDir, kept_refusal};
+ghost use Rattle.syn_model.specs.Archive.{IsLawfulKept, Recorded as RecordOf, RecordedDir};
+ghost use Rattle.syn_model.specs.Archive.{kept_refusal};
 ghost use Rattle.syn_model.specs.Mark.{IsMarks};
 ghost use Rattle.syn_model.specs.Tree.{is_directory};
 ghost use Rattle.syn_refusal.specs.Refusals.{cause_of};
@@ -24,6 +24,7 @@ use syn_archive::{Archive, ArchiveError};
 use syn_disk::Disk;
 use syn_image::{KeptItem, copied_marks, dir_length, record_length};
 use syn_mark::{Mark, MarkTree};
+use syn_model::is_long;
 use syn_path::Path;
 use syn_recovery::device_laws;
 use syn_refusal::Refusal;
@@ -218,13 +219,6 @@ fn ending(error: ArchiveError) -> Due
         ArchiveError::Device => Due::Ends(Refusal::Device),
         _ => Due::Ends(Refusal::Memory),
     }
-}
-
-/// Eight bytes spell it.
-fn is_long(number: u64)
-    ensures { number < 2 ^ 64 }
-{
-    let _ = number;
 }
 
 /// Writes the record of an item, which the archive does not refuse.

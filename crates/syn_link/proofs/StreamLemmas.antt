@@ -1,9 +1,7 @@
 -- A stream is read in one way.
-use Rattle.std.proofs.Common.{◌≡◌, List, [], ◌∷◌, ◌++◌, length, take, drop, flat_map, All, refl}
-use Rattle.std.proofs.Common.{sym, ap₂, ◌∙◌}
+use Rattle.std.proofs.Common.{◌≡◌, List, [], ◌∷◌, ◌++◌, length, flat_map, All, refl, sym, ap₂, ◌∙◌}
 use Rattle.std.proofs.Common.{append_assoc, arith}
 use Rattle.std.proofs.lemmas.List.Elements.{All-tail}
-use Rattle.std.proofs.Math.Seq.{take-append_seam, drop-append_seam}
 use Rattle.std.specs.Int.{w32, to_be_bytes}
 use Rattle.syn_model.proofs.SpellingLemmas.{split}
 use Rattle.syn_wire.specs.Reads.{NoneBeginsAnother}

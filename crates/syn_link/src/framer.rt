@@ -1,7 +1,6 @@
 //! Bodies out of a stream that may be cut anywhere.
-ghost use Rattle.std.specs.Prelude.{◌≡◌, ◌≢◌, ◌↔◌, ◌⊎◌, ◌≤◌, ◌++◌, [], ℕ, List, Err, drop, IfOk};
-ghost use Rattle.std.specs.Prelude.{IfErr, None, OnOk, OnErr, MatchResult, false, option_map};
-ghost use Rattle.std.specs.Prelude.{vec_len};
+ghost use Rattle.std.specs.Prelude.{◌≡◌, ◌≢◌, ◌↔◌, ◌≤◌, ◌++◌, [], ℕ, List, Err, drop, IfOk, IfErr};
+ghost use Rattle.std.specs.Prelude.{None, OnOk, OnErr, false, option_map, vec_len};
 ghost use Rattle.syn_link.specs.Frames.{IsFront, ClaimsNothing, ClaimsTooMuch};
 
 use crate::error::LinkError;

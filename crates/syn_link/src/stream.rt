@@ -5,7 +5,7 @@ ghost use Rattle.std.specs.Io.KnownBytes.{Appends, Consumes, IsAtEnd, Keeps};
 ghost use Rattle.std.specs.Int.{to_be_bytes, w32};
 ghost use Rattle.syn_link.specs.declared.frames.TheConstants.{MAX_BODY};
 ghost use Rattle.syn_link.specs.declared.stream.TheConstants.{MOST_JOINED};
-ghost use Rattle.syn_link.specs.Frames.{IsBody, frame_of, AppendsSome};
+ghost use Rattle.syn_link.specs.Frames.{frame_of, AppendsSome};
 ghost use Rattle.syn_link.specs.Streams.{Comes, EndsBefore, ComesAtFault};
 
 use crate::error::LinkError;

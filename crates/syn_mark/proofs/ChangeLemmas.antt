@@ -17,8 +17,7 @@ use Rattle.syn_model.specs.Contents.{HasDigest}
 use Rattle.syn_model.specs.Mark.{IsMarks}
 use Rattle.syn_model.specs.Laws.{ReplacedIsThere, SubtreeFitsPaths}
 use Rattle.syn_model.specs.Limits.{fits_archive, fits_path, fits_paths}
-use Rattle.syn_model.specs.Refusal.{Refusal, Root, NoParent, Full, first_cause}
-use Rattle.syn_model.specs.Standing.{place_causes}
+use Rattle.syn_model.specs.Refusal.{Refusal, Root, NoParent, Full}
 use Rattle.syn_model.proofs.TreeLemmas.{same_tree, get-subtree, get-replace, replace-is_part}
 use Rattle.syn_placed.specs.Pairs.{Pairs, within, before, beyond, under}
 use Rattle.syn_tree.specs.Change.{taken_from}
@@ -28,7 +27,6 @@ use Rattle.syn_placed.proofs.TreeLemmas.{part-under, entries-one}
 use Rattle.syn_tree.proofs.PartLemmas.{length_replaced, length_under}
 use Rattle.syn_tree.proofs.CheckLemmas.{path_fits}
 use Rattle.syn_tree.proofs.FitLemmas.{is_dir}
-use Rattle.syn_placed.proofs.ParentLemmas.{place_free}
 use Rattle.syn_tree.proofs.ChangeLemmas.{nothing_part}
 use Rattle.syn_mark.specs.Marks.{AreMarks}
 use Rattle.syn_mark.specs.Changes.{Replacement, ArePlaced, IsPreparedFor, PutPartFits, after_change}
@@ -84,42 +82,6 @@ fits_replaced t at u count fits counts =
     ) in
     ap₂ (λ n b. nat_le n 4096 && b) number
     (ap paths_fit (entries-replace t at u) ∙ paths_replaced t at (entries u) both.1)
-
--- why a replacement is refused, where its place is allowed
-pub replace_answer : (t : Tree) (p : Path) (u : Tree) → first_cause (place_causes t p) ≡ None →
-    replace_refusal t p u ≡ (if fits_archive (replace t p u) then None else Some Full)
-replace_answer t p u place =
-    let free = place_free t p place in
-    ap (λ x. if x then Some Root else (if not (is_directory t (parent p)) then Some NoParent
-    else (if not (fits_archive (replace t p u)) then Some Full else None))) free.0
-    ∙ (ap (λ x. if not x then Some NoParent
-    else (if not (fits_archive (replace t p u)) then Some Full else None)) free.1
-    ∙ elim (fits_archive (replace t p u)) as (λ x. (if not x then Some Full else None)
-    ≡ (if x then None else Some Full)) [ true ↦ refl | false ↦ refl ])
-
--- what refuses the place refuses the replacement
-pub place_refused : (t : Tree) (p : Path) (u : Tree) (why : Refusal) →
-    first_cause (place_causes t p) ≡ Some why → replace_refusal t p u ≡ Some why
-place_refused t p u why h = by (is_root p) (is_directory t (parent p)) refl refl h
-  where
-    by : (a b : Bool) → is_root p ≡ a → is_directory t (parent p) ≡ b →
-        first_cause (place_causes t p) ≡ Some why → replace_refusal t p u ≡ Some why
-    by true b e f k =
-        ap (λ x. if x then Some Root else (if not (is_directory t (parent p)) then Some NoParent
-        else (if not (fits_archive (replace t p u)) then Some Full else None))) e
-        ∙ (sym (ap (λ x. if x then Some Root
-        else (if not (is_directory t (parent p)) then Some NoParent else None)) e) ∙ k)
-    by false false e f k =
-        (ap (λ x. if x then Some Root else (if not (is_directory t (parent p)) then Some NoParent
-        else (if not (fits_archive (replace t p u)) then Some Full else None))) e
-        ∙ ap (λ x. if not x then Some NoParent
-        else (if not (fits_archive (replace t p u)) then Some Full else None)) f)
-        ∙ (sym (ap (λ x. if x then Some Root else (if not (is_directory t (parent p))
-        then Some NoParent else None)) e ∙ ap (λ x. if not x then Some NoParent else None) f) ∙ k)
-    by false true e f k =
-        absurd (none-some _ (sym (ap (λ x. if x then Some Root
-        else (if not (is_directory t (parent p)) then Some NoParent else None)) e
-        ∙ ap (λ x. if not x then Some NoParent else None) f) ∙ k))
 
 -- ---- marks put into marks
 

@@ -11,8 +11,7 @@ use Rattle.std.proofs.lemmas.Bool.Decides.{nat_tests}
 use Rattle.std.proofs.lemmas.List.{map-append}
 use Rattle.syn_model.specs.Path.{Name, Path, path_cmp, root, strip_prefix}
 use Rattle.syn_model.specs.Contents.{Contents, IsDigest}
-use Rattle.syn_model.specs.Tree.{Tree, Content, Pair, File, IsPart, at_root}
-use Rattle.syn_model.specs.Tree.{is_present, subtree}
+use Rattle.syn_model.specs.Tree.{Tree, Content, Pair, File, IsPart, at_root, is_present, subtree}
 use Rattle.syn_model.specs.Mark.{mark, mark_of, IsMarks}
 use Rattle.syn_model.specs.Limits.{children, only_name, fits_archive, fits_path, fits_paths}
 use Rattle.syn_model.proofs.PathLemmas.{path_total}

@@ -1,8 +1,6 @@
 //! A change of a tree of marks, ready to be made. An archive takes all memory for it before it
 //! writes its journal.
-ghost use Rattle.std.specs.Prelude.{◌≡◌, ◌≤◌, ◌+◌, vec_capacity};
-ghost use Rattle.std.specs.FinMap.{len};
-ghost use Rattle.syn_model.specs.Tree.{Tree as Pairs};
+ghost use Rattle.std.specs.Prelude.{◌≡◌, vec_capacity};
 
 use crate::tree::MarkEntry;
 use std::marker::Model;
@@ -40,7 +38,6 @@ impl Model for MarkChange {
 }
 
 impl MarkChange {
-    ghost use Rattle.std.specs.Prelude.{[]};
     ghost use Rattle.syn_tree.specs.Change.{taken_from};
     ghost use Rattle.syn_mark.specs.inner.Spaces.{IsSpaced};
 

@@ -1,13 +1,11 @@
 //! What the types of paths and marks say of them.
 ghost use Rattle.syn_model.specs.Contents.{AreLawfulContents, HasDigest, contents_with};
-ghost use Rattle.syn_model.specs.Event.{AreBytes};
-ghost use Rattle.syn_model.specs.Path.{IsPath};
 ghost use Rattle.syn_mark.specs.Marks.{content_of, IsMarkPair, IsDigestOrDirectory};
 ghost use Rattle.syn_tree.specs.Modes.{mode_of};
 
 use crate::mark::Mark;
 use crate::tree::MarkEntry;
-use syn_path::Path;
+use syn_model::are_bytes;
 use syn_tree::Mode;
 
 /// What the type of a mark says: it is a directory, or a mode with a digest of 32 bytes.
@@ -29,24 +27,10 @@ fn is_digest(mode: Mode, digest: [u8; 32])
     are_bytes(digest.as_slice());
 }
 
-/// Each byte is below 256.
-fn are_bytes(bytes: &[u8])
-    ensures { AreBytes bytes.now }
-{
-    let _ = bytes;
-}
-
 /// The path is a lawful one, and what stands there is a mark.
 pub(crate) fn is_entry(entry: &MarkEntry)
     ensures { IsMarkPair entry.now }
 {
     let _ = entry.path().names();
     is_mark(*entry.standing());
-}
-
-/// The path is a lawful one.
-pub(crate) fn is_path(path: &Path)
-    ensures { IsPath path.now }
-{
-    let _ = path.names();
 }

@@ -15,8 +15,8 @@
 //!   or their parts at a path, are the same, without memory.
 //! - `check_replace` answers the definition's refusal of a replacement, or none
 //!   (`replace_refusal`), and takes no memory. `prepare_replace` makes it ready (`ready`, `at`,
-//!   `new`), refused as `check_replace` or for lack of memory; `make` makes it, without memory, and
-//!   cannot fail.
+//!   `new`), refused as `check_replace` or for lack of memory, and `prepare_allowed` one that was
+//!   checked before. `make` makes it, without memory, and cannot fail.
 //! - `check_dir` answers the same of an empty directory, and takes no memory either. What may be
 //!   put somewhere within the limits is within them by itself (`replacement_laws`).
 #![tactic(auto)]

@@ -16,13 +16,13 @@ ghost use Rattle.syn_mark.specs.Marks.{content_of, or_absent, AreMarks, marks_wi
 ghost use Rattle.syn_mark.specs.Changes.{IsPreparedFor, after_change, replace_refusal};
 
 use crate::change::MarkChange;
-use crate::lawful::{is_entry, is_mark, is_path};
+use crate::lawful::{is_entry, is_mark};
 use crate::mark::Mark;
 use crate::placing::{all_fit_below, all_placed, copy_part, is_root, placed, stands_directory};
 use crate::same::same_entries;
 use std::alloc::{AllocError, Global};
 use std::marker::Model;
-use syn_path::Path;
+use syn_path::{Path, is_path};
 use syn_placed::list::{
     are_rising, count_children_at, entry_at, part_at, part_below, replace_part,
 };
@@ -308,8 +308,26 @@ impl MarkTree {
         ensures refused { IfErr result (λ e. e ≢ TreeError.Memory
             → replace_refusal self.now path.now (or_absent new) ≡ Some (refusal_of e)) }
     {
-        let nodes = self.list.len();
         self.check_replace(path, new.as_ref())?;
+        self.prepare_allowed(alloc, path, new)
+    }
+
+    /// The same of a replacement that is allowed. Refused 11 where memory is refused.
+    pub fn prepare_allowed(
+        &self,
+        alloc: Global,
+        path: &Path,
+        new: Option<MarkTree>,
+    ) -> Result<MarkChange, TreeError>
+        requires { replace_refusal self.now path.now (or_absent new) ≡ None }
+        ensures ready { IfOk result (λ change. IsPreparedFor self.now change) }
+        ensures at { IfOk result (λ change. change.at ≡ path.now) }
+        ensures new { IfOk result (λ change. change.new ≡ or_absent new) }
+        ensures path { IfOk result (λ _. IsPath path.now) }
+        ensures marks { IfOk result (λ _. IsMarks (or_absent new)) }
+        ensures memory { IfErr result (λ e. e ≡ TreeError.Memory) }
+    {
+        let nodes = self.list.len();
         is_path(path);
         let at = path.copy(alloc)?;
         let added = placed(alloc, path, new)?;

@@ -66,22 +66,6 @@ no_mark bytes after name found none entry rest begins =
     begins.lawful.0 (sym found.spelled ∙ (begins.spelled ∙ parts_of entry rest)) in
     none entry.1 rest (record { lawful = begins.lawful.1; spelled = same.1 })
 
-pub no_name : (bytes : Bytes) → IsReading IsName name_spelling bytes None
-    → IsReading IsEntry entry_spelling bytes None
-no_name bytes none entry rest begins =
-    none entry.0 (mark_spelling entry.1 ++ rest)
-    (record { lawful = begins.lawful.0; spelled = begins.spelled ∙ parts_of entry rest })
-
-pub one_entry : (bytes after rest : Bytes) (name : Name) (mark : Content)
-    → BeginsWith IsName name_spelling bytes name after
-    → BeginsWith IsDigestOrDirectory mark_spelling after mark rest
-    → BeginsWith IsEntry entry_spelling bytes (name, mark) rest
-one_entry bytes after rest name mark first second = record {
-  lawful = (first.lawful, second.lawful);
-  spelled = first.spelled ∙ (ap (λ xs. name_spelling name ++ xs) second.spelled
-      ∙ sym (append_assoc (name_spelling name) (mark_spelling mark) rest));
-}
-
 one_of : (entries : Entries) (r : Bytes) (entry : Name × Content)
     → each_spelling (entry ∷ entries) ++ r ≡ entry_spelling entry ++ (each_spelling entries ++ r)
 one_of entries r entry = append_assoc (entry_spelling entry) (each_spelling entries) r

@@ -1,7 +1,6 @@
 -- Each refusal of the model is one of the product, and its number tells it.
 use Rattle.std.proofs.Common.{◌≡◌, ◌≢◌, ◌≤◌, ◌<◌, ℕ, refl, ap, ◌∙◌, sym, arith, length}
-use Rattle.std.proofs.Common.{slice_index_or}
-use Rattle.std.proofs.Common.{Option, Some, None, option_map}
+use Rattle.std.proofs.Common.{slice_index_or, Option, Some, None, option_map}
 use Rattle.std.specs.Prelude.{List, [], ◌∷◌, ◌==◌, if◌then◌else◌, IfSome, IfNone}
 use Rattle.syn_message.proofs.WholeLemmas.{first_of}
 use Rattle.syn_message.specs.Bodies.{IsWholeReading}

@@ -38,11 +38,6 @@ module _ {A : Type 0} (P : A → Type 0) (f : A → List ℕ) where
       (sym found.spelled ∙ (is ∙ sym (append-nil (f other))))).1
 
 module _ {A B : Type 0} (P : A → Type 0) (Q : B → Type 0) (f : A → List ℕ) (g : B → List ℕ) where
-  -- no first value, so no two
-  pub no_front : (bytes : List ℕ) → IsReading P f bytes None
-      → (a : A) (b : B) → P a → bytes ≢ f a ++ g b
-  no_front bytes none a b lawful is = none a (g b) (record { lawful = lawful; spelled = is })
-
   -- the rest after the first is no second one
   pub no_rest : NoneBeginsAnother P f → (bytes after : List ℕ) (first : A)
       → BeginsWith P f bytes first after → IsWholeReading Q g after None

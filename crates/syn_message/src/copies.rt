@@ -3,7 +3,7 @@ ghost use Rattle.std.specs.Prelude.{◌≡◌, IfOk};
 
 use std::alloc::{AllocError, Global};
 use syn_mark::Mark;
-use syn_path::{Name, Path};
+use syn_path::Name;
 
 /// Equal entries. Refused where memory is refused.
 pub(crate) fn copy_entries(

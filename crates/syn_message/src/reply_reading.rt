@@ -1,5 +1,5 @@
 //! Reads the body of a side's reply.
-ghost use Rattle.std.specs.Prelude.{◌≡◌, [], IfOk, option_map};
+ghost use Rattle.std.specs.Prelude.{IfOk, option_map};
 ghost use Rattle.syn_message.specs.Bodies.{IsWholeReading};
 ghost use Rattle.syn_message.specs.Replies.{IsFetchedBytes, IsLawfulAnswering, ReadsReply};
 ghost use Rattle.syn_message.specs.Replies.{answering_of, answering_spelling, reply_of};

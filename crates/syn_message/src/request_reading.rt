@@ -1,8 +1,8 @@
 //! Reads the body of a request.
-ghost use Rattle.std.specs.Prelude.{◌≡◌, ◌<◌, ◌^◌, IfOk, option_map};
+ghost use Rattle.std.specs.Prelude.{◌<◌, IfOk, option_map};
 ghost use Rattle.syn_message.specs.Bodies.{IsWholeReading};
-ghost use Rattle.syn_message.specs.Requests.{IsLawfulAsking, ReadsFields};
-ghost use Rattle.syn_message.specs.Requests.{asking_of, asking_spelling, request_of};
+ghost use Rattle.syn_message.specs.Requests.{IsLawfulAsking, ReadsFields, asking_of};
+ghost use Rattle.syn_message.specs.Requests.{asking_spelling, request_of};
 ghost use Rattle.syn_message.specs.inner.Heads.{ReadsLast};
 ghost use Rattle.syn_headline.specs.Side.{IsPieceBytes};
 ghost use Rattle.syn_wire.specs.Events.{file_spelling};

@@ -1,5 +1,5 @@
 //! Reads the body of a user's request.
-ghost use Rattle.std.specs.Prelude.{◌≡◌, IfOk, option_map};
+ghost use Rattle.std.specs.Prelude.{IfOk, option_map};
 ghost use Rattle.syn_message.specs.Bodies.{IsWholeReading};
 ghost use Rattle.syn_message.specs.Users.{IsLawfulWished, wished_of, wished_spelling, wish_of};
 ghost use Rattle.syn_message.specs.inner.Heads.{ReadsWish};

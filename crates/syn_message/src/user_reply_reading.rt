@@ -1,10 +1,10 @@
 //! Reads the body of a reply to a user.
-ghost use Rattle.std.specs.Prelude.{◌≡◌, IfOk, option_map};
+ghost use Rattle.std.specs.Prelude.{IfOk, option_map};
 ghost use Rattle.syn_model.specs.Contents.{contents_spelling, contents_with};
 ghost use Rattle.syn_message.specs.Bodies.{IsWholeReading};
 ghost use Rattle.syn_message.specs.UserReplies.{IsFound, IsLawfulTelling, IsWithinFile, ReadsTold};
-ghost use Rattle.syn_message.specs.UserReplies.{found_spelling};
-ghost use Rattle.syn_message.specs.UserReplies.{telling_of, telling_spelling, told_of};
+ghost use Rattle.syn_message.specs.UserReplies.{found_spelling, telling_of, telling_spelling};
+ghost use Rattle.syn_message.specs.UserReplies.{told_of};
 ghost use Rattle.syn_tree.specs.Contents.{content_of};
 ghost use Rattle.syn_tree.specs.Modes.{mode_of};
 

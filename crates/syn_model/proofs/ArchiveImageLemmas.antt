@@ -18,8 +18,7 @@ use Rattle.syn_model.specs.Refusal.{Cause, first_cause, Root, Full, BadMessage}
 use Rattle.syn_model.specs.Standing.{place_causes}
 use Rattle.syn_model.specs.History.{tree_of}
 use Rattle.syn_model.specs.Archive.{Archive, Kept, Session, Recorded, RecordedDir, CanKeep}
-use Rattle.syn_model.specs.Archive.{after_kept, archive_of}
-use Rattle.syn_model.specs.Archive.{new_archive, record_causes}
+use Rattle.syn_model.specs.Archive.{after_kept, archive_of, new_archive, record_causes}
 use Rattle.syn_model.specs.MarkSpelling.{kept_spelling}
 use Rattle.syn_model.specs.ArchiveImage.{IsArchive, AllKept, AllKeptIn, KeepingStaysSound}
 use Rattle.syn_model.specs.ArchiveImage.{StandsForSound}

@@ -16,8 +16,7 @@ use Rattle.syn_model.specs.Tree.{Tree, Content, Directory, File, Pair, IsTree, H
 use Rattle.syn_model.specs.Tree.{is_directory, is_directory_content}
 use Rattle.syn_model.specs.Limits.{children, only_name}
 use Rattle.syn_model.specs.Event.{Event, Edited, Began, Replaced, Put, MakeDir, Remove, Chmod}
-use Rattle.syn_model.specs.Event.{after_event}
-use Rattle.syn_model.specs.Event.{touches}
+use Rattle.syn_model.specs.Event.{after_event, touches}
 use Rattle.syn_model.specs.History.{History, tree_of, tree_at, is_quiet}
 use Rattle.syn_model.specs.Mark.{mark, mark_of}
 use Rattle.syn_model.specs.Dirty.{Scan, is_unstable}

@@ -1,8 +1,7 @@
 -- What an image keeps of a history is what an image may hold.
 use Rattle.std.proofs.Common.{◌≡◌, ◌≤◌, ◌<◌, ℕ, zero, suc, false, ◌||◌, ◌==◌, not, nat_le, ◌+◌, ◌-◌}
 use Rattle.std.proofs.Common.{List, [], ◌∷◌, ◌++◌, length, take, drop, Option, Some, None, IfSome}
-use Rattle.std.proofs.Common.{All, refl, sym}
-use Rattle.std.proofs.Common.{subst, append_assoc, append-nil, arith, true≢false}
+use Rattle.std.proofs.Common.{All, refl, sym, subst, append_assoc, append-nil, arith, true≢false}
 use Rattle.std.specs.List.{AllPairs}
 use Rattle.std.specs.Option.{option_map_or}
 use Rattle.std.proofs.lemmas.Bool.{leb-false, eqb-true, or_parts, not-false}

@@ -10,8 +10,7 @@ use Rattle.std.specs.List.{list_all}
 use Rattle.std.specs.FinMap.{entries, find, get, get-entries, len, len-entries}
 use Rattle.std.proofs.lemmas.Option.{none-some, same_Some}
 use Rattle.syn_model.specs.Path.{Bytes, Path, path_cmp, root}
-use Rattle.syn_model.specs.Contents.{Contents}
-use Rattle.syn_model.specs.Contents.{AreLawfulContentsIn, IsDigestIn, IsModeIn}
+use Rattle.syn_model.specs.Contents.{Contents, AreLawfulContentsIn, IsDigestIn, IsModeIn}
 use Rattle.syn_model.specs.Contents.{contents_spelling_in, digest_spelling_in, mode_spelling_in}
 use Rattle.syn_model.specs.Version.{Version, One, Two}
 use Rattle.syn_model.specs.Tree.{Tree, Content, Directory, File, Pair, IsPartIn, subtree}

@@ -7,8 +7,7 @@ use Rattle.std.proofs.lemmas.Bool.{lt-leb, le-leb, leb-true, leb-false}
 use Rattle.std.proofs.lemmas.List.{take-append-drop}
 use Rattle.std.proofs.lemmas.List.Folds.{list_any-append}
 use Rattle.syn_model.specs.Path.{Path, comparable}
-use Rattle.syn_model.specs.Event.{Event, Edited, Began, Replaced, touches, changed_path}
-use Rattle.syn_model.specs.Event.{edited_path}
+use Rattle.syn_model.specs.Event.{Event, Edited, Began, Replaced, touches, edited_path}
 use Rattle.syn_model.specs.Event as event
 use Rattle.syn_model.specs.Standing.{Touch, most_touches, surplus, above_last, touches_at}
 use Rattle.syn_model.specs.History.{touches_from}

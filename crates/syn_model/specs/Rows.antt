@@ -3,8 +3,7 @@ use Rattle.std.specs.Prelude.{◌≡◌, ◌≢◌, true, false, [], ◌∷◌, 
 use Rattle.std.specs.FinMap.{get}
 use Rattle.syn_model.specs.Path.{Bytes, Name, root}
 use Rattle.syn_model.specs.Contents.{Contents}
-use Rattle.syn_model.specs.Tree.{Tree, File, Directory, file, empty_directory, absent}
-use Rattle.syn_model.specs.Tree.{replace}
+use Rattle.syn_model.specs.Tree.{Tree, File, Directory, file, empty_directory, absent, replace}
 use Rattle.syn_model.specs.Refusal.{NoParent, IsDirectory, Exists, Absent, Root}
 use Rattle.syn_model.specs.Event.{Event, Edited, Began, Put, MakeDir, Remove}
 use Rattle.syn_model.specs.History.{floor, floor_within, is_quiet}

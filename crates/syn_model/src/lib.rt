@@ -31,6 +31,10 @@ ghost use Rattle.syn_model.specs.ArchiveImage.{NewArchiveStands, RecordGoesOn};
 ghost use Rattle.syn_model.specs.MarkSpelling.{NoMarkSpellingBeginsAnother};
 ghost use Rattle.syn_model.specs.Rows.{ItemsOfOneNameHold, Floors, RefusedEditsHold, Spellings};
 
+mod ranges;
+
+pub use ranges::{are_bytes, is_long, is_short};
+
 /// Paths compare as bytes: by their names, each followed by one zero byte.
 pub fn path_laws()
     ensures order { PathsGoByKey }

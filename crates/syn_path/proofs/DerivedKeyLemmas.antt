@@ -9,18 +9,14 @@ use Rattle.std.specs.List.{AllByRecursion, slice_split, last_or}
 use borrow.Rule.Slice.PartMut.{put_mid}
 use Rattle.std.proofs.Math.Seq.{take-append_seam, drop-append_seam}
 use Rattle.std.proofs.lemmas.List.{drop-replicate}
-use Rattle.std.proofs.lemmas.List.Elements.{recursion_from_All, All-append}
-use Rattle.std.proofs.lemmas.List.Elements.{All-from_recursion}
-use Rattle.std.proofs.lemmas.List.Splits.{slice_split_none}
-use Rattle.std.proofs.lemmas.List.Splits.{length-slice_split}
-use Rattle.syn_model.specs.Path.{Bytes, Name, Path, path_key, IsName, IsPath, is_root}
-use Rattle.syn_model.specs.Path.{parent}
+use Rattle.std.proofs.lemmas.List.Elements.{recursion_from_All, All-append, All-from_recursion}
+use Rattle.std.proofs.lemmas.List.Splits.{slice_split_none, length-slice_split}
+use Rattle.syn_model.specs.Path.{Bytes, Name, Path, path_key, IsName, IsPath, is_root, parent}
 use Rattle.syn_path.specs.Keys.{filled, names_of, IsKey, IsSpelling}
 use Rattle.std.proofs.lemmas.List.Sums.{sum_by-append, sum_by-cons}
 use Rattle.syn_model.proofs.PathLemmas.{parent-append}
 use Rattle.syn_path.proofs.PathLemmas.{last_lawful, parent_lawful}
-use Rattle.syn_path.proofs.KeyLemmas.{names_of-key}
-use Rattle.syn_path.proofs.KeyLemmas.{length-key, short_key, key-child, no_zeros}
+use Rattle.syn_path.proofs.KeyLemmas.{names_of-key, length-key, short_key, key-child, no_zeros}
 use Rattle.syn_path.proofs.KeyLemmas.{names_of-filled, is_key, key-append}
 use Rattle.syn_path.proofs.KeyLemmas.{parent-child, Ends, by_end, without_zero, cut_names}
 use Rattle.syn_path.proofs.KeyLemmas.{key_above}

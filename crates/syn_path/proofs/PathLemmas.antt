@@ -104,14 +104,6 @@ pieces_of_named text (n ∷ p) not_root named =
     ap (slice_split (λ b. eqb b 47)) (sym named.written) ∙ slice_split-join 47 n p
     (no_slashes (n ∷ p) (recursion_from_All IsName (n ∷ p) named.lawful.names))
 
-pub length_of_named : (text : List ℕ) (p : List (List ℕ)) → text ≢ codes "." → NamesPath text p →
-    length text ≤ 253
-length_of_named text [] not_root named = absurd (not_root (sym named.written))
-length_of_named text (n ∷ p) not_root named =
-    let long = named.lawful.not_long in
-    let same = ap length named.written in
-    omega (arith, length-join n p, long, same)
-
 written_as : (text : List ℕ) (p : List (List ℕ)) → slice_split (λ b. eqb b 47) text ≡ p →
     0 < length p → text_of p ≡ text
 written_as text [] e l = absurd (omega arith)
@@ -143,11 +135,6 @@ above_last p l = (
       ∙ ap (λ k. take k p) (let same : length p - 1 + 1 ≡ length p = omega arith in same)
       ∙ take_all (length p) p (omega arith),
 )
-
--- pieces of which one is no name
-pub not_all_names : (ps : List (List ℕ)) (i : ℕ) (d : List ℕ) → i < length ps →
-    ¬ IsName (slice_index_or ps i d) → ¬ All IsName ps
-not_all_names ps i d l bad names = bad (names i d l)
 
 pub by_name : (n m : Name) (p q : Path) →
     is_prefix (n ∷ p) (m ∷ q) ≡ (eq_by_cmp name_cmp n m && is_prefix p q)

@@ -1,15 +1,15 @@
 //! A path as bytes of one size, which take no memory and go in the order of paths.
 ghost use Rattle.std.specs.Prelude.{◌≡◌, ◌++◌, ◌-◌, ◌&&◌, not, length, bytes_eq, Some, IfSome};
-ghost use Rattle.std.specs.Prelude.{option_map, slice_get, IfOk, IfErr, IfNone, ◌+◌, ◌≤◌, IsTrue};
+ghost use Rattle.std.specs.Prelude.{option_map, slice_get, IfOk, IfNone, ◌+◌, ◌≤◌, IsTrue};
 ghost use Rattle.std.specs.Prelude.{replicate, [], ◌↔◌};
 ghost use Rattle.std.proofs.Common.{rules};
 ghost use Rattle.std.specs.Cmp.{partial_equiv_from_equiv};
 ghost use Rattle.std.specs.Cmp.Lexicographic.{pointwise, slice_cmp, nat_list_eq_equiv};
-ghost use Rattle.std.specs.Cmp.Lexicographic.{nat_list_cmp_total, texts_ties};
-ghost use Rattle.std.specs.Cmp.Lexicographic.{lists_equiv, lists_total, lists_ties};
+ghost use Rattle.std.specs.Cmp.Lexicographic.{nat_list_cmp_total, texts_ties, lists_equiv};
+ghost use Rattle.std.specs.Cmp.Lexicographic.{lists_total, lists_ties};
 ghost use Rattle.std.specs.Ordering.{nat_cmp, eq_by_cmp};
-ghost use Rattle.syn_model.specs.Path.{IsName, IsPath, is_prefix, is_root, parent};
-ghost use Rattle.syn_model.specs.Path.{Bytes, path_cmp, path_key, strip_prefix};
+ghost use Rattle.syn_model.specs.Path.{IsName, IsPath, is_prefix, is_root, parent, Bytes, path_cmp};
+ghost use Rattle.syn_model.specs.Path.{path_key, strip_prefix};
 ghost use Rattle.syn_path.specs.Paths.{paths_po};
 ghost use Rattle.syn_path.specs.Keys.{filled, names_of, IsSpelling};
 

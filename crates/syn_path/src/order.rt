@@ -1,5 +1,5 @@
 //! Names are ordered by their bytes, and paths by their names, a prefix first.
-ghost use Rattle.std.specs.Prelude.{Some, bytes_eq, nat_eq};
+ghost use Rattle.std.specs.Prelude.{Some, bytes_eq};
 ghost use Rattle.std.proofs.Common.{rules};
 ghost use Rattle.std.specs.Ordering.{nat_cmp};
 ghost use Rattle.std.specs.Cmp.{partial_equiv_from_equiv};

@@ -1,9 +1,9 @@
 //! A path of a replica, lawful by its type, so that no layer above looks at its limits again.
 ghost use Rattle.std.specs.Prelude.{◌≡◌, ◌↔◌, ◌++◌, ◌∷◌, [], ◌+◌, ◌==◌, ◌<◌, ◌≤◌, length, map};
-ghost use Rattle.std.specs.Prelude.{IfOk, IfSome, IfNone, IfErr, IsTrue, Contains, All};
+ghost use Rattle.std.specs.Prelude.{IfOk, IfSome, IfNone, IfErr, IsTrue, All};
 ghost use Rattle.std.specs.List.{slice_split};
-ghost use Rattle.syn_model.specs.Path.{IsName, IsPath, comparable, is_prefix, path_cmp};
-ghost use Rattle.syn_model.specs.Path.{parent, path_spelling};
+ghost use Rattle.syn_model.specs.Path.{IsName, IsPath, comparable, is_prefix, parent};
+ghost use Rattle.syn_model.specs.Path.{path_spelling};
 ghost use Rattle.syn_path.specs.Paths.{IsPrefix, NamesPath};
 
 use crate::error::PathError;
@@ -199,6 +199,13 @@ fn copy_names(alloc: Global, source: &[Name], more: usize) -> Result<Vec<Name>, 
         names.push(name.copy(alloc)?)?;
     }
     Ok(names)
+}
+
+/// What the type of a path says: it is within the limits.
+pub fn is_path(path: &Path)
+    ensures { IsPath path.now }
+{
+    let _ = path.names();
 }
 
 /// How many bytes the names are spelled with, the count among them.

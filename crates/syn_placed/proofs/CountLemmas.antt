@@ -23,11 +23,6 @@ use Rattle.syn_placed.proofs.TreeLemmas.{rising-entries}
 abbrev pub kids : Path → Pairs → ℕ
 kids p es = count_by (λ e. is_child p e.0) es
 
-has_content : (o : Option Name) (c : Content) →
-    is_some (option_map {U = Name × Content} (λ name. (name, c)) o) ≡ is_some o
-has_content None c = refl
-has_content (Some x) c = refl
-
 pub kids-cons : (p : Path) (e : Pair) (es : Pairs) →
     kids p (e ∷ es) ≡ cond (is_child p e.0) 1 0 + kids p es
 kids-cons p e es = sum_by-cons (λ (x : Pair). cond (is_child p x.0) 1 0) e es

@@ -4,8 +4,7 @@ use Rattle.std.proofs.Common.{List, [], ◌∷◌}
 use Rattle.std.proofs.Common.{◌++◌, length, take, drop, filter, slice_index_or, slice_set, ◌+◌}
 use Rattle.std.proofs.Common.{refl, sym}
 use Rattle.std.proofs.Common.{ap, ap₂, ◌∙◌, subst, Some, None, Ordering, Less, Equal, Greater}
-use Rattle.std.proofs.Common.{arith}
-use Rattle.std.proofs.Common.{is_lt, is_eq, is_some, true≢false, append-nil, length-append}
+use Rattle.std.proofs.Common.{arith, is_lt, is_eq, is_some, true≢false, append-nil, length-append}
 use Rattle.std.specs.List.{AllByRecursion, insert, remove}
 use Rattle.std.specs.Ordering.{eq_by_cmp, ordering_reverse}
 use Rattle.std.specs.FinMap as map
@@ -14,8 +13,7 @@ use Rattle.std.specs.FinMap.Entries.{below_all, by_order, is_sorted-put}
 use Rattle.std.specs.Cmp.{tied_itself}
 use Rattle.std.proofs.Math.Seq.{take-append_seam, drop-append_seam}
 use Rattle.std.proofs.lemmas.Bool.{and_parts}
-use Rattle.std.proofs.lemmas.List.{drop_more, take-append-drop, length-take-le}
-use Rattle.std.proofs.lemmas.List.{take_all}
+use Rattle.std.proofs.lemmas.List.{drop_more, take-append-drop, length-take-le, take_all}
 use Rattle.std.specs.List.Sorted.{IsPartitionedBy, IsPartitionPoint}
 use Rattle.syn_placed.proofs.PointLemmas.{partitioned, point}
 use Rattle.syn_model.specs.Path.{Path, path_cmp}

@@ -1,10 +1,7 @@
 -- Values at paths that strictly rise: what stands at and below a path, and what some entry tells.
 use Rattle.std.proofs.Common.{◌≡◌, ◌≤◌, ℕ, Bool, true, false, cond, not, ◌||◌, inl}
-use Rattle.std.proofs.Common.{inr, List, [], ◌∷◌}
-use Rattle.std.proofs.Common.{◌++◌, length, take, drop, filter}
-use Rattle.std.proofs.Common.{refl, sym}
-use Rattle.std.proofs.Common.{ap, ap₂, ◌∙◌, subst, Some, Less}
-use Rattle.std.proofs.Common.{is_lt, is_some, true≢false}
+use Rattle.std.proofs.Common.{inr, List, [], ◌∷◌, ◌++◌, length, take, drop, filter, refl, sym}
+use Rattle.std.proofs.Common.{ap, ap₂, ◌∙◌, subst, Some, Less, is_lt, is_some, true≢false}
 use Rattle.std.specs.List.{list_any}
 use Rattle.std.specs.Option.{unwrap_or}
 use Rattle.std.specs.Ordering.{eq_by_cmp}
@@ -22,8 +19,7 @@ use Rattle.syn_placed.proofs.OrderLemmas.{not_before, between}
 use Rattle.syn_placed.proofs.RisingLemmas.{Each, NoneOf, each-map, each-filter, filter-keeps}
 use Rattle.syn_placed.proofs.RisingLemmas.{filter-drops}
 use Rattle.syn_placed.proofs.KeyedLemmas.{Follow, Rising, IsPlace, find_after, front_before}
-use Rattle.syn_placed.proofs.KeyedLemmas.{not_none}
-use Rattle.syn_placed.proofs.KeyedLemmas.{none_of_others, turned}
+use Rattle.syn_placed.proofs.KeyedLemmas.{not_none, none_of_others, turned}
 
 -- ---- what stands at and below a path
 

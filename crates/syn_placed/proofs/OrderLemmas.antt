@@ -13,24 +13,6 @@ less_of Less h = refl
 less_of Equal h = absurd (true≢false (sym h))
 less_of Greater h = absurd (true≢false (sym h))
 
-pub equal_of : (o : Ordering) → is_eq o ≡ true → o ≡ Equal
-equal_of Less h = absurd (true≢false (sym h))
-equal_of Equal h = refl
-equal_of Greater h = absurd (true≢false (sym h))
-
-not_both : (o : Ordering) → is_eq o ≡ true → is_lt o ≡ true → ⊥
-not_both Less h k = true≢false (sym h)
-not_both Equal h k = true≢false (sym k)
-not_both Greater h k = true≢false (sym k)
-
-pub equal_not_less : (o : Ordering) → is_eq o ≡ true → is_lt o ≡ false
-equal_not_less Less h = absurd (true≢false (sym h))
-equal_not_less Equal h = refl
-equal_not_less Greater h = refl
-
-pub less_not_equal : (o : Ordering) → o ≡ Less → is_eq o ≡ false
-less_not_equal o h = ap is_eq h
-
 -- a path with a prefix begins with its first name
 prefix_names : (n m : Name) (p q : Path) → is_prefix (n ∷ p) (m ∷ q) ≡ true →
     (n ≡ m) × (is_prefix p q ≡ true)

@@ -1,8 +1,7 @@
 -- Parents and children of paths.
 use Rattle.std.proofs.Common.{◌≡◌, ◌≤◌, ◌<◌, ◌+◌, ℕ, zero, suc, Bool, true, false, cond}
 use Rattle.std.proofs.Common.{if◌then◌else◌, not, ◌&&◌, [], ◌∷◌, take, length, refl, sym, ap, ◌∙◌}
-use Rattle.std.proofs.Common.{Some}
-use Rattle.std.proofs.Common.{None, is_some, arith}
+use Rattle.std.proofs.Common.{Some, None, is_some, arith}
 use Rattle.std.specs.Prelude.{option_and_then}
 use Rattle.std.specs.Ordering.{eq_by_cmp}
 use Rattle.std.specs.Cmp.{eq_by_cmp_equiv}
@@ -25,10 +24,6 @@ parent-take (n ∷ m ∷ q) (suc k) h = ap (λ p. n ∷ p) (parent-take (m ∷ q
 pub not_root : (q : Path) → 1 ≤ length q → is_root q ≡ false
 not_root [] h = absurd (omega arith)
 not_root (n ∷ q) h = refl
-
-pub only_root : (q : Path) → length q < 1 → is_root q ≡ true
-only_root [] h = refl
-only_root (n ∷ q) h = absurd (omega arith)
 
 pub child-take : (p q : Path) (k : ℕ) → k + 1 ≡ length q →
     eq_by_cmp path_cmp (take k q) p ≡ is_child p q

@@ -9,7 +9,6 @@ use Rattle.std.specs.List.{AllByRecursion}
 use Rattle.std.specs.FinMap.{is_sorted}
 use Rattle.std.specs.FinMap.Entries.{below_all}
 use Rattle.std.proofs.lemmas.Bool.{and_parts}
-use Rattle.std.proofs.lemmas.List.Elements.{filter-append}
 use Rattle.syn_model.specs.Path.{Path, path_cmp, is_prefix}
 use Rattle.syn_model.specs.Tree.{Pair}
 use Rattle.syn_model.proofs.PathLemmas.{path_total}
@@ -205,30 +204,6 @@ pub after_out : (at : Path) (es : Pairs) → NoneOf (is_within at) (beyond at es
 after_out at es =
     each-map (λ e. (is_before at e ≡ false) × (is_within at e ≡ false))
     (λ e. is_within at e ≡ false) (λ e h. h.1) (beyond at es) (after_parts at es)
-
--- without what is at and below the place
-pub outside : (at : Path) (es : Pairs) → Rising es →
-    filter (λ e. not (is_within at e)) es ≡ before at es ++ beyond at es
-outside at es h =
-    let others : Pair → Bool = λ e. not (is_within at e) in
-    ap (filter others) (three_parts at es h)
-    ∙ (filter-append others (before at es) (within at es ++ beyond at es)
-    ∙ ap₂ (λ xs ys. xs ++ ys)
-    (filter-keeps others (before at es) (turned (before at es) (before_out at es)))
-    (filter-append others (within at es) (beyond at es)
-    ∙ ap₂ (λ xs ys. xs ++ ys)
-    (filter-drops others (within at es) (dropped (within at es) (each-filter (is_within at) es)))
-    (filter-keeps others (beyond at es) (turned (beyond at es) (after_out at es)))))
-  where
-    turned : (xs : Pairs) → NoneOf (is_within at) xs → Each (λ e. not (is_within at e)) xs
-    turned xs k =
-        each-map (λ e. is_within at e ≡ false) (λ e. not (is_within at e) ≡ true)
-        (λ e x. ap not x) xs k
-
-    dropped : (xs : Pairs) → Each (is_within at) xs → NoneOf (λ e. not (is_within at e)) xs
-    dropped xs k =
-        each-map (λ e. is_within at e ≡ true) (λ e. not (is_within at e) ≡ false)
-        (λ e x. ap not x) xs k
 
 -- what takes the place of the part at and below a path
 abbrev pub replaced : Path → Pairs → Pairs → Pairs

@@ -1,11 +1,11 @@
 //! Values at keys, in path order, in room that is taken once.
 ghost use Rattle.std.specs.Prelude.{◌≡◌, ◌<◌, ◌≤◌, length, filter, option_map, IfOk, IfErr};
 ghost use Rattle.std.specs.Prelude.{vec_len, vec_capacity, insert};
-ghost use Rattle.std.specs.Ordering.{eq_by_cmp, is_lt};
+ghost use Rattle.std.specs.Ordering.{eq_by_cmp};
 ghost use Rattle.std.specs.FinMap as map;
 ghost use Rattle.syn_model.specs.Path.{path_cmp, is_prefix};
-ghost use Rattle.syn_placed.specs.Keyed.{IsRising, comes_before, stands_within};
-ghost use Rattle.syn_placed.specs.Keyed.{StandsAt, WouldStandAt};
+ghost use Rattle.syn_placed.specs.Keyed.{IsRising, comes_before, stands_within, StandsAt};
+ghost use Rattle.syn_placed.specs.Keyed.{WouldStandAt};
 
 use crate::slot::Slot;
 use std::alloc::{AllocError, Global};

@@ -1,7 +1,6 @@
 -- Runs of turns: one turn more, and two runs of the same turns.
 use Rattle.std.proofs.Common.{◌≡◌, List, [], ◌∷◌, ◌++◌, refl, sym, ap, ap₂, ◌∙◌, subst, Option}
-use Rattle.std.proofs.Common.{Some}
-use Rattle.std.proofs.Common.{None, option_map}
+use Rattle.std.proofs.Common.{Some, None, option_map}
 use Rattle.syn_model.specs.Tree.{Tree}
 use Rattle.syn_model.specs.Refusal.{Refusal}
 use Rattle.syn_model.specs.Refusal as cause

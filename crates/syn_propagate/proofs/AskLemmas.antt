@@ -4,8 +4,7 @@ use Rattle.std.proofs.Common.{Option, Some, None, Result, Ok, Err, ◌⊎◌, in
 use Rattle.std.proofs.Common.{refl, subst, sym, MatchResult, length-append}
 use Rattle.syn_headline.specs.Network.{Which}
 use Rattle.syn_headline.specs.Session.{WasTaken, fault_of, fits_piece, is_wanted, piece_total}
-use Rattle.syn_headline.specs.Side.{Request, Fetch, Stage, Replace, IsLawfulBody}
-use Rattle.syn_headline.specs.Side.{Reply, Piece, Staged}
+use Rattle.syn_headline.specs.Side.{Request, Fetch, Stage, Replace, IsLawfulBody, Piece, Staged}
 use Rattle.syn_headline.specs.Side as model
 use Rattle.syn_model.specs.Path.{Bytes}
 use Rattle.syn_model.specs.Refusal.{Refusal, BadMessage}

@@ -5,10 +5,10 @@ ghost use Rattle.syn_model.specs.Limits.{greatest_piece};
 ghost use Rattle.syn_model.specs.Path.{IsPath};
 
 use crate::error::TransferError;
-use crate::lawful::{are_bytes, is_number, is_position};
 use crate::next::Next;
 use std::alloc::{AllocError, Global};
 use syn_message::Request;
+use syn_model::{are_bytes, is_long, is_short};
 use syn_path::{Path, Side};
 
 /// An item that a session carries: what stands at the path on one side is put there on the other.
@@ -37,8 +37,8 @@ impl Carriage {
         ensures memory { IfErr result (λ e. e ≡ TransferError.Memory) }
     {
         let since = self.source_since;
-        is_position(since);
-        is_number(offset);
+        is_long(since);
+        is_short(offset);
         let path = self.copy_path(alloc)?;
         let request = Request::Fetch {
             path,
@@ -56,8 +56,8 @@ impl Carriage {
             → IsLawfulBody (Stage self.now.item offset bytes.items) }
     {
         let item = self.item;
-        is_number(item);
-        is_number(offset);
+        is_short(item);
+        is_short(offset);
         are_bytes(&bytes);
         let request = Request::Stage {
             item,
@@ -78,9 +78,9 @@ impl Carriage {
     {
         let item = self.item;
         let since = self.target_since;
-        is_number(item);
-        is_position(since);
-        is_number(length);
+        is_short(item);
+        is_long(since);
+        is_short(length);
         let path = self.copy_path(alloc)?;
         let request = Request::Replace {
             item,

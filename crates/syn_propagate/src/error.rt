@@ -9,7 +9,7 @@ use std::fmt;
 use syn_refusal::Refusal;
 use thiserror::Error;
 
-/// Why a transfer goes no further. It is over then.
+/// Why a transfer goes no further. It is over then, unless memory was refused.
 #[derive(Clone, Copy, Debug, PartialEq, Eq, Error)]
 pub enum TransferError {
     /// 23: the answer does not belong to what was asked.

@@ -31,7 +31,6 @@
 
 mod carriage;
 mod error;
-mod lawful;
 mod next;
 mod transfer;
 

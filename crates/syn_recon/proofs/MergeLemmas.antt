@@ -108,17 +108,9 @@ or_same true false c = refl
 or_same false true c = refl
 or_same false false c = refl
 
-or_none : (a : Bool) → (a || false) ≡ a
-or_none true = refl
-or_none false = refl
-
 or_assoc : (a b c : Bool) → (a || (b || c)) ≡ ((a || b) || c)
 or_assoc true b c = refl
 or_assoc false b c = refl
-
-or_twice : (a b c : Bool) → (a || (b || c)) ≡ ((a || b) || (a || c))
-or_twice true b c = refl
-or_twice false b c = refl
 
 among_both : (q l : Path) (ls : List Path) (later : List Path → Rows) → ((rs : List Path) →
     is_among (paths_in (later rs)) q ≡ (is_among ls q || is_among rs q)) → (rs : List Path) →

@@ -1,6 +1,6 @@
 -- Three disks are a start, and a run from them is crash safe.
 use Rattle.std.proofs.Common.{◌≡◌, ℕ, ◌⊎◌, false, [], ◌∷◌, ◌++◌, Option, Some, None, refl, sym, ap}
-use Rattle.std.proofs.Common.{◌∙◌, subst, inl, inr, append-nil}
+use Rattle.std.proofs.Common.{◌∙◌, subst, inl, inr}
 use Rattle.syn_model.specs.Path.{Bytes}
 use Rattle.syn_model.specs.Event.{Event}
 use Rattle.syn_model.specs.History.{History, IsAllowed}
@@ -16,7 +16,6 @@ use Rattle.syn_headline.specs.Headline.{LogsPlans, Owes, CompleteSessionsSynchro
 use Rattle.syn_headline.specs.Headline.{CompleteSessionsReconcile, PreferenceLeavesOne}
 use Rattle.syn_headline.specs.Headline.{RecoveredIsLegal, EachTokenOnce, ReportsItsConflicts}
 use Rattle.syn_headline.specs.Headline.{CountsItsItems, CarriedIsMarked, HeldIsMarked, IsRunFrom}
-use Rattle.syn_headline.specs.Headline.{StandsFor}
 use Rattle.syn_headline.specs.Reported.{EachReportTells}
 use Rattle.syn_headline.specs.Picture as picture
 use Rattle.syn_recovery.specs.Meaning.{Keeping, IsDiskOf, IsOf, MayBeOf, as_kept, with_record}

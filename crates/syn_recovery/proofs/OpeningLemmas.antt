@@ -1,5 +1,5 @@
 -- An opening gives what a disk may mean.
-use Rattle.std.proofs.Common.{◌≡◌, ℕ, suc, ◌-◌, [], ◌∷◌, sym, ap, ◌∙◌, refl, inl, inr, arith}
+use Rattle.std.proofs.Common.{◌≡◌, ℕ, suc, [], ◌∷◌, sym, ap, ◌∙◌, refl, inl, inr, arith}
 use Rattle.syn_model.specs.Path.{Bytes}
 use Rattle.syn_journal.specs.Layout.{Value, image_alone, bytes_left}
 use Rattle.syn_headline.specs.Machine.{Journaled, Arms, opened, recovered, Meets, room_after}

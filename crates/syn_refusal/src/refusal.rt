@@ -57,7 +57,7 @@ pub enum Refusal {
     BadMessage,
     /// The lock has no pass left.
     NoSeat,
-    /// No answer came, although the request was sent again eight times.
+    /// No answer came in time, or the connection ended.
     NoAnswer,
     /// The image is of version 1, in which a file has no mode.
     OldVersion,
@@ -191,7 +191,7 @@ impl Refusal {
             Refusal::NoAnswer => (
                 25,
                 "NoAnswer",
-                "no answer came, although the request was sent again eight times",
+                "a side gave no answer in time, or its connection ended",
             ),
             Refusal::OldVersion => (
                 26,

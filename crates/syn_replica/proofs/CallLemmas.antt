@@ -93,13 +93,6 @@ module _ {D : Type 0} {disk : Ghosts D} (replica : Replica D disk) where
       refused_early event (refusal_of x) (λ device. other (sym (ap refusal_of is) ∙ device))
       (λ same. absurd (not (sym (ap refusal_of is) ∙ same_Some _ _ same)), λ h. absurd (running h))
 
--- what follows where a device call failed, at an exit where none did
-pub no_device : {X : Type 0} (result : Result X ReplicaError) (e : ReplicaError) →
-    IsErrAnd result (λ x. x ≡ e) → refusal_of e ≢ Device → (P : Type 0) →
-    IfErr result (λ e. refusal_of e ≡ Device → P)
-no_device (Ok value) e is other P = absurd is
-no_device (Err x) e is other P = λ device. absurd (other (sym (ap refusal_of is) ∙ device))
-
 -- what succeeded was not refused
 pub not_refused : {X : Type 0} (x : X) (e : ReplicaError) →
     ◌≡◌ {A = Result X ReplicaError} (Ok x) (Err e) → ⊥

@@ -1,7 +1,6 @@
 -- Why a lawful disk is not opened.
 use Rattle.std.proofs.Common.{◌≡◌, ◌⊎◌, ◌<◌, ◌∙◌, ℕ, List, Result, Ok, Err, Some, ap, inl, inr}
-use Rattle.std.proofs.Common.{refl}
-use Rattle.std.proofs.Common.{subst, sym}
+use Rattle.std.proofs.Common.{refl, subst, sym}
 use Rattle.std.specs.Prelude.{◌^◌}
 use Rattle.syn_journal.specs.Layout.{Fault, Value, meaning}
 use Rattle.syn_journal.specs.declared.error.JournalError.TheVariants as journal

@@ -1,6 +1,5 @@
 -- Why a disk is not opened.
-use Rattle.std.proofs.Common.{◌≡◌, ℕ, List, refl, sym, subst, Option, Ok}
-use Rattle.std.proofs.Common.{Some, inl, inr}
+use Rattle.std.proofs.Common.{◌≡◌, ℕ, List, refl, sym, subst, Option, Ok, Some, inl, inr}
 use Rattle.syn_journal.specs.Layout.{Value, meaning}
 use Rattle.syn_journal.proofs.Meanings.{no_value, one_value}
 use Rattle.syn_journal.specs.Refusals as journal

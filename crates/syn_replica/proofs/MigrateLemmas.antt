@@ -4,8 +4,7 @@ use Rattle.std.proofs.Common.{subst, inl, inr, ⊎_elim, Option, Some, None, Ok,
 use Rattle.std.proofs.lemmas.Option.{none-some}
 use Rattle.syn_disk.specs.Stops.{LeavesOnly}
 use Rattle.syn_disk.specs.declared.disk.Disk.{Ghosts}
-use Rattle.syn_journal.specs.Layout.{IsBeforeOrAfter, Value, image_alone}
-use Rattle.syn_journal.specs.Layout.{longest_image, meaning}
+use Rattle.syn_journal.specs.Layout.{IsBeforeOrAfter, Value, image_alone, longest_image, meaning}
 use Rattle.syn_journal.specs.Refusals as journal
 use Rattle.syn_journal.specs.declared.error.JournalError.{JournalError}
 use Rattle.syn_journal.specs.declared.error.JournalError.TheVariants as refused

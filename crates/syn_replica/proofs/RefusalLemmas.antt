@@ -9,8 +9,7 @@ use Rattle.std.proofs.lemmas.Bool.Decides.{nat_tests}
 use Rattle.std.proofs.lemmas.Option.{none-some, same_Some}
 use Rattle.syn_model.specs.Refusal.{Refusal, number, Cause, first_cause}
 use Rattle.syn_model.specs.Refusal as why
-use Rattle.syn_model.specs.Event.{Edit, Event, Put, MakeDir, Remove, Chmod, Edited, Began}
-use Rattle.syn_model.specs.Event.{Replaced}
+use Rattle.syn_model.specs.Event.{Edit, Event, Put, MakeDir, Remove, Chmod, Edited, Began, Replaced}
 use Rattle.syn_model.specs.Standing.{Standing, causes_at, refusal_at}
 use Rattle.syn_history.specs.Refusals.{refusal_of as of_history}
 use Rattle.syn_history.specs.declared.error.HistoryError.{HistoryError}

@@ -1,7 +1,6 @@
 -- What an image and payloads give a replica to remember.
 use Rattle.std.proofs.Common.{◌≡◌, ◌<◌, ◌^◌, ◌∙◌, ℕ, List, Option, Some, None, ap, ap₂, sym, inl}
-use Rattle.std.proofs.Common.{inr, refl}
-use Rattle.std.proofs.Common.{arith}
+use Rattle.std.proofs.Common.{inr, refl, arith}
 use Rattle.std.proofs.lemmas.Option.{none-some, same_Some}
 use Rattle.syn_model.specs.Image.{IsOldImage}
 use Rattle.syn_model.specs.Path.{Bytes}

@@ -10,11 +10,10 @@ use Rattle.syn_model.specs.Event.{Edit, Put, MakeDir, Remove, Chmod, Token, Even
 use Rattle.syn_model.specs.Event.{Began, Replaced}
 use Rattle.syn_model.specs.Path.{Path, path_spelling}
 use Rattle.syn_model.specs.Tree.{Tree}
-use Rattle.syn_model.specs.Refusal.{Refusal, first_cause}
+use Rattle.syn_model.specs.Refusal.{Refusal}
 use Rattle.syn_model.specs.Refusal as why
 use Rattle.syn_model.specs.Spelling.{event_spelling, spelling, token_spelling}
 use Rattle.syn_model.specs.Standing.{Standing, causes_at, refusal_at}
-use Rattle.syn_standing.specs.Updates.{early_causes}
 use Rattle.syn_standing.proofs.CauseLemmas.{first_stays, first_skips}
 use Rattle.syn_standing.specs.Refusals.{refusal_of}
 use Rattle.syn_standing.specs.declared.error.ReplicaError.{ReplicaError}
@@ -119,18 +118,6 @@ edited_among room s user (Chmod path mode) refusal e =
     first_among edit_refusals (causes_at s (Edited user (Chmod path mode)) ++ room_causes room
     (Edited user (Chmod path mode))) refusal
     (refl, (refl, (refl, (refl, (refl, (refl, (refl, tt))))))) e
-
-abbrev pub IsNoReplacement : Event → Type 0
-IsNoReplacement (Edited user edit) = Unit {0}
-IsNoReplacement (Began session) = Unit {0}
-IsNoReplacement (Replaced token path since new) = ⊥
-
--- of an edit, and of the begin of a session, each cause but the room is seen early
-pub early_none : (standing : Standing) (event : Event) → IsNoReplacement event →
-    first_cause (early_causes standing event) ≡ None → refusal_at standing event ≡ None
-early_none standing (Edited user edit) h e = e
-early_none standing (Began session) h e = e
-early_none standing (Replaced token path since new) h e = absurd h
 
 some_bytes : (x : ℕ) (xs : List ℕ) → 1 ≤ length (x ∷ xs)
 some_bytes x xs = omega arith

@@ -1,7 +1,7 @@
 //! A replica over a journal.
-ghost use Rattle.std.specs.Prelude.{◌≡◌, ◌≢◌, ◌⊎◌, ◌↔◌, ◌≤◌, ◌+◌, ◌^◌, ◌<◌, ◌++◌, ◌∷◌, [], ℕ};
-ghost use Rattle.std.specs.Prelude.{length, OnOk, IfOk, IfErr, IsErrAnd, MatchResult, Err, Some};
-ghost use Rattle.std.specs.Prelude.{None, true, false, option_map};
+ghost use Rattle.std.specs.Prelude.{◌≡◌, ◌⊎◌, ◌↔◌, ◌≤◌, ◌+◌, ◌^◌, ◌<◌, ◌++◌, ◌∷◌, [], ℕ, length};
+ghost use Rattle.std.specs.Prelude.{OnOk, IfOk, IfErr, IsErrAnd, MatchResult, Err, Some, None};
+ghost use Rattle.std.specs.Prelude.{true, false, option_map};
 ghost use Rattle.std.specs.FinMap.{get};
 ghost use Rattle.syn_model.specs.Tree.{is_directory};
 ghost use Rattle.syn_model.specs.Event as model;
@@ -188,7 +188,8 @@ impl<D: Disk> Replica<D> {
         self.machine.generation()
     }
 
-    /// Whether a call was refused 9 since the replica was formatted or opened.
+    /// Whether each change is refused 10: a device call failed, or a reopening gave no state that
+    /// may follow, and none succeeded since.
     pub fn is_halted(&self) -> bool
         ensures { (result ≡ true) ↔ IsHalted self.now }
     {
@@ -265,12 +266,13 @@ impl<D: Disk> Replica<D> {
     /// Makes the edit, and answers the new position.
     ///
     /// Refused 10 while the replica is halted; 6 for the root, 2 where the parent is not a
-    /// directory, 3 where a file would take the place of a directory, 4 where a directory would be
-    /// made where something is, 5 where nothing is there to remove, 7 where the result would pass a
-    /// limit; 8 where the record does not fit in the journal, 11 where memory is refused, and 9
-    /// where a device call fails. After 9 the replica is halted and remembers what it had; after
-    /// any other refusal it is as it was. Whenever the machine stops, the disk has the events
-    /// before the call, or those and this one.
+    /// directory, 3 where a file would take the place of a directory or a directory's mode would
+    /// change, 4 where a directory would be made where something is, 5 where nothing is there to
+    /// remove or to change, 7 where the result would pass a limit or the position is the greatest;
+    /// 8 where the record does not fit in the journal, 11 where memory is refused, and 9 where a
+    /// device call fails. After 9 the replica is halted and remembers what it had; after any other
+    /// refusal it is as it was. Whenever the machine stops, the disk has the events before the
+    /// call, or those and this one.
     pub fn edit(&mut self, alloc: Global, user: u32, edit: Edit) -> Result<u64, ReplicaError>
         ensures acknowledged { (history : History) → Stands self.old history
             → IfOk result (λ position. (position ≡ length history + 1)

@@ -246,9 +246,6 @@ open_after_refusal found p k q other h =
 
 -- ---- which paths are out
 
-alike : (p q : Path) → eq_by_cmp path_cmp p q ≡ eq_by_cmp path_cmp q p
-alike = (eq_by_cmp_equiv path_total).symm
-
 every : {X : Type 0} (P : X → Type 0) → List X → Type 0
 every P [] = Unit {0}
 every P (x ∷ xs) = P x × every P xs

@@ -1,5 +1,5 @@
 -- When a listing belongs, and what it leaves.
-use Rattle.std.proofs.Common.{◌≡◌, ◌≤◌, ◌<◌, ◌+◌, ℕ, suc, Bool, true, false, cond, not, ◌&&◌}
+use Rattle.std.proofs.Common.{◌≡◌, ◌≤◌, ◌+◌, ℕ, suc, Bool, true, false, cond, not, ◌&&◌}
 use Rattle.std.proofs.Common.{nat_le, nat_lt, List, [], ◌∷◌, ◌++◌, length, length-append, refl, sym}
 use Rattle.std.proofs.Common.{ap, ap₂, ◌∙◌, Some, None, Less, Equal, Greater, is_eq, true≢false}
 use Rattle.std.proofs.Common.{inl, inr, ◌⊎◌, arith, slice_index_or}
@@ -74,13 +74,6 @@ not_too_large found es h = few (len found.marks + length es) h
   where
     few : (n : ℕ) → n ≤ 4096 → nat_lt 4096 n ≡ false
     few n l = grind (arith, nat_tests)
-
-pub too_large : (found : Found) (es : Listing) → 4096 < len found.marks + length es →
-    is_too_large found es ≡ true
-too_large found es h = many (len found.marks + length es) h
-  where
-    many : (n : ℕ) → 4096 < n → nat_lt 4096 n ≡ true
-    many n l = grind (arith, nat_tests)
 
 -- ---- the limits
 

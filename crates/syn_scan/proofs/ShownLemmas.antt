@@ -18,7 +18,7 @@ use Rattle.syn_model.proofs.DirectoryLemmas.{absent_below}
 use Rattle.syn_model.proofs.QuietLemmas.{get-children}
 use Rattle.syn_model.proofs.SubtreeLemmas.{subtree_children}
 use Rattle.syn_model.proofs.HistoryLemmas.{get-at_root}
-use Rattle.syn_placed.specs.Pairs.{Pairs, is_child, before, beyond, under}
+use Rattle.syn_placed.specs.Pairs.{is_child, before, beyond, under}
 use Rattle.syn_placed.specs.Pairs as pairs
 use Rattle.syn_placed.proofs.RisingLemmas.{three_parts}
 use Rattle.syn_placed.proofs.TreeLemmas.{rising-entries, entries-replace, entries-subtree}
@@ -56,9 +56,6 @@ listing_entries es h = entries-rising (listing_pairs es) (rising_of (listing_pai
 abbrev child_of : Path → Pair → Option (Name × Content)
 child_of q pair =
     option_map (λ name. (name, pair.1)) (option_and_then only_name (strip_prefix q pair.0))
-
-kids_of : Path → Pairs → List (Name × Content)
-kids_of q es = filter_map (child_of q) es
 
 kids_named : (es : List (Name × Content)) → filter_map (child_of root) (named es) ≡ es
 kids_named [] = refl

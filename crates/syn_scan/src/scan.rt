@@ -16,7 +16,7 @@ ghost use Rattle.syn_scan.specs.inner.Kept.{is_open_entry};
 use crate::error::ScanError;
 use crate::paths::is_among;
 use crate::positions::Positions;
-use std::alloc::Global;
+use std::alloc::{AllocError, Global};
 use std::marker::Model;
 use syn_mark::{Mark, MarkEntry, MarkTree};
 use syn_path::Path;
@@ -56,9 +56,8 @@ impl Model for Scan {
 
 impl Scan {
     /// A directory of which nothing was answered yet. Refused 11 where memory is refused.
-    pub(crate) fn new(alloc: Global) -> Result<Scan, ScanError>
-        ensures ok { IfOk result (λ scan. scan ≡ nothing_found) }
-        ensures memory { IfErr result (λ e. e ≡ ScanError.Memory) }
+    pub(crate) fn new(alloc: Global) -> Result<Scan, AllocError>
+        ensures { IfOk result (λ scan. scan ≡ nothing_found) }
     {
         let marks = MarkTree::of_mark(alloc, Mark::Dir)?;
         is_marks(&marks);

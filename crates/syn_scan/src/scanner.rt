@@ -17,7 +17,7 @@ ghost use Rattle.syn_scan.specs.Asked.{ListsOnly, directory_with, listing_pairs,
 use crate::error::ScanError;
 use crate::paths::{is_among, take_back};
 use crate::scan::Scan;
-use std::alloc::Global;
+use std::alloc::{AllocError, Global};
 use std::marker::Model;
 use syn_mark::{MOST_NODES, Mark, MarkEntry, MarkTree, is_mark};
 use syn_path::{Name, Path};
@@ -49,9 +49,8 @@ impl Model for Scanner {
 impl Scanner {
     /// A scanner that was told nothing yet: it shows the root, as a directory. Refused 11 where
     /// memory is refused.
-    pub fn new(alloc: Global) -> Result<Scanner, ScanError>
+    pub fn new(alloc: Global) -> Result<Scanner, AllocError>
         ensures ok { IfOk result (λ scanner. scanner ≡ record { found = nothing_found; out = [] }) }
-        ensures memory { IfErr result (λ e. e ≡ ScanError.Memory) }
     {
         Ok(Scanner {
             scan: Scan::new(alloc)?,
@@ -63,15 +62,14 @@ impl Scanner {
     /// The directory that is to be listed next: the first in path order that was neither answered
     /// nor handed out yet; none where each was. So each directory is handed out once.
     ///
-    /// Refused 11 where memory is refused, and for no other cause.
-    pub fn next_request(&mut self, alloc: Global) -> Result<Option<Path>, ScanError>
+    /// Refused 11 where memory is refused.
+    pub fn next_request(&mut self, alloc: Global) -> Result<Option<Path>, AllocError>
         ensures some { IfOk result (λ next. IfSome next (λ path. IsNext self.old path)) }
         ensures shown { IfOk result (λ next. IfSome next (λ path. IsShownIn self.old.found path)) }
         ensures none { IfOk result (λ next. IfNone next (AreAllOut self.old)) }
         ensures found { self.new.found ≡ self.old.found }
         ensures out { IfOk result (λ next. self.new.out ≡ handed_out self.old.out next) }
         ensures same { OnErr result (self.new ≡ self.old) }
-        ensures memory { IfErr result (λ e. e ≡ ScanError.Memory) }
 
         // Where each was handed out no memory is taken.
         ensures whole { AreAllOut self.old → result ≡ Ok None }

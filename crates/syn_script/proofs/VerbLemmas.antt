@@ -50,24 +50,6 @@ verb_is verb.Reopen = refl
 one_verb : (v w : Verb) → verb_word v ≡ verb_word w → v ≡ w
 one_verb v w e = sym (verb_is v) ∙ ap verb_at e ∙ verb_is w
 
--- what the words after a verb say, the words with it say
-pub said_whole : (v : Verb) (words : List Text) (line : Line) → SayAfter v words line →
-    Say (verb_word v ∷ words) line
-said_whole verb.Edit words (has.Edit side user edit) s =
-    (s.0, s.1, ap (λ rest. codes "edit" ∷ rest) s.2, s.3, s.4)
-said_whole verb.Start words (has.Start None) s = ap (λ rest. codes "start" ∷ rest) s
-said_whole verb.Start words (has.Start (Some side)) s = ap (λ rest. codes "start" ∷ rest) s
-said_whole verb.Tick words has.Tick s = ap (λ rest. codes "tick" ∷ rest) s
-said_whole verb.Deliver words (has.Deliver first last) s = (words, refl, s)
-said_whole verb.Drain words has.Drain s = ap (λ rest. codes "drain" ∷ rest) s
-said_whole verb.Checkpoint words (has.Checkpoint m) s = ap (λ rest. codes "checkpoint" ∷ rest) s
-said_whole verb.Fail words (has.Fail m call) s = (s.0, ap (λ rest. codes "fail" ∷ rest) s.1, s.2)
-said_whole verb.Stop words (has.Stop m call leaves) s =
-    (s.0, ap (λ rest. codes "stop" ∷ rest) s.1, s.2)
-said_whole verb.Open words (has.Open m) s = ap (λ rest. codes "open" ∷ rest) s
-said_whole verb.Reopen words (has.Reopen m) s = ap (λ rest. codes "reopen" ∷ rest) s
-said_whole v words line s = absurd s
-
 -- the words of a step begin with its verb
 record BeginsWithVerb (words : List Text) (line : Line) : Type 0 where
   rest : List Text

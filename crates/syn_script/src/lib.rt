@@ -7,7 +7,7 @@
 //! - `edit SIDE USER put PATH TEXT`, where TEXT is the rest of the line, and may be missing
 //! - `edit SIDE USER mkdir PATH`, `edit SIDE USER rm PATH`
 //! - `edit SIDE USER chmod PATH MODE`, where MODE is three octal digits
-//! - `start`, `tick`, `drain`
+//! - `start`, `start prefer SIDE`, `tick`, `drain`
 //! - `deliver A`, `deliver A B`
 //! - `checkpoint M`, `open M`, `reopen M`
 //! - `fail M J`: the J-th device call of M from now on fails; with 0 none does

@@ -1,21 +1,18 @@
 -- The body of a reply goes into a frame.
-use Rattle.std.proofs.Common.{◌≡◌, ◌≤◌, ◌+◌, ◌*◌, ◌∷◌, [], length}
-use Rattle.std.proofs.Common.{Option, Some, None, arith}
+use Rattle.std.proofs.Common.{◌≡◌, ◌≤◌, ◌+◌, ◌*◌, ◌∷◌, [], length, Option, Some, None, arith}
 use Rattle.std.proofs.lemmas.List.{length-append}
 use Rattle.std.proofs.lemmas.List.Elements.{All-head, All-tail}
 use Rattle.std.specs.Prelude.{All, flat_map}
 use Rattle.syn_headline.specs.Side as model
 use Rattle.syn_link.specs.Frames.{IsBody}
 use Rattle.syn_mark.specs.Marks.{IsDigestOrDirectory}
-use Rattle.syn_message.specs.Listings.{Entries, IsEntry, entry_spelling}
-use Rattle.syn_message.specs.Listings.{mark_spelling}
+use Rattle.syn_message.specs.Listings.{Entries, IsEntry, entry_spelling, mark_spelling}
 use Rattle.syn_message.specs.Replies.{IsLawfulReply, reply_fields}
 use Rattle.syn_message.specs.UserReplies as user
 use Rattle.syn_message.specs.UserReplies.{IsFound, IsLawfulTold, Told, found_spelling, told_fields}
 use Rattle.syn_model.specs.Path.{Name}
 use Rattle.syn_model.specs.Tree.{Content, Directory, File}
-use Rattle.syn_serve.specs.Messages.{Answers, IsLawfulResponse, Response, Tells}
-use Rattle.syn_serve.specs.Messages.{response_spelling}
+use Rattle.syn_serve.specs.Messages.{Answers, IsLawfulResponse, Response, Tells, response_spelling}
 
 short_mark : (content : Content) → IsDigestOrDirectory content
     → length (mark_spelling content) ≤ 35

@@ -1,5 +1,4 @@
 //! One hold answers a request.
-ghost use Rattle.std.specs.Prelude.{◌≡◌};
 ghost use Rattle.syn_message.specs.Replies.{IsLawfulReply, reply_of};
 ghost use Rattle.syn_message.specs.Requests.{request_of};
 ghost use Rattle.syn_message.specs.UserReplies.{IsLawfulTold, told_of};
@@ -7,7 +6,6 @@ ghost use Rattle.syn_message.specs.Users.{Wish, wish_of};
 ghost use Rattle.syn_serve.specs.Holds.{AnswersAlone, Grants, Responds};
 ghost use Rattle.syn_serve.specs.Messages.{IsLawfulMessage, IsLawfulResponse, message_of};
 ghost use Rattle.syn_serve.specs.Messages.{response_of};
-ghost use Rattle.syn_model.specs.Event.{AreBytes};
 ghost use Rattle.syn_shared.specs.Shared.{HeldAfterWait, IsFor, IsLater};
 ghost use Rattle.syn_tree.specs.Contents.{IsLawful, content_of};
 ghost use Rattle.syn_tree.specs.Edits.{edit_of};
@@ -21,6 +19,7 @@ use syn_lock::Pass;
 use syn_message::{
     Answered, AnsweredToUser, Asked, AskedByUser, Reply, Request, UserReply, UserRequest,
 };
+use syn_model::are_bytes;
 use syn_path::Path;
 use syn_replica::Replica;
 use syn_shared::SharedReplica;
@@ -166,11 +165,4 @@ fn has_bytes(content: &Content)
         let _ = mode.bits();
         are_bytes(bytes);
     }
-}
-
-/// Each byte is below 256.
-fn are_bytes(bytes: &[u8])
-    ensures { AreBytes bytes.now }
-{
-    let _ = bytes;
 }

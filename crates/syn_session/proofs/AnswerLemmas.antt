@@ -8,8 +8,7 @@ use Rattle.std.proofs.lemmas.List.Elements.{All-filter, Contains-push_cases}
 use Rattle.std.proofs.lemmas.List.Folds.{list_any-append}
 use Rattle.std.proofs.lemmas.List.Sums.{sum_by-append}
 use Rattle.syn_headline.specs.Coordinator.{AreRising, MayWait, Running, outstanding}
-use Rattle.syn_headline.specs.Coordinator.{asked_in, asked_of, hearing, is_not_dir, is_unstable}
-use Rattle.syn_headline.specs.Coordinator.{without}
+use Rattle.syn_headline.specs.Coordinator.{asked_in, hearing, is_not_dir, is_unstable, without}
 use Rattle.syn_headline.specs.Network.{Which, Left, Right, other, is_side}
 use Rattle.syn_headline.specs.Session.{Exchange, WasAsked}
 use Rattle.syn_headline.specs.Side.{Request}
@@ -36,10 +35,6 @@ module _ (kept : archive.Archive) (old new : Session) (running : Running) (side 
     (answers : IsAnswering old new side number request) where
   abbrev exchange_now : Exchange
   exchange_now = exchange_of side number request reply
-
-  -- it was expected
-  pub expected : asked_of running side number ≡ Some request
-  expected = ap (λ l. asked_in l number) (is.line side).waits ∙ answers.asked
 
   -- what waits on the line of the side then
   left_now : waiting_of (line_of new side) ≡ without number (waiting_of (line_of old side))

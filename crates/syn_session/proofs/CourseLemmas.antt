@@ -189,7 +189,7 @@ module _ (course : Course) (left right : Found) (reached : Reached)
         length-map course.items.items item_of,
       )
 
-  pub cursor_fits : course.cursor < 2 ^ 32
+  pub cursor_fits : course.cursor + 1 < 2 ^ 32
   cursor_fits =
       omega (
         arith,

@@ -8,7 +8,7 @@ use Rattle.syn_headline.specs.Report.{is_carrying}
 use Rattle.syn_headline.specs.Session.{record_for}
 use Rattle.syn_path.specs.declared.side.Side.TheVariants as side
 use Rattle.syn_model.specs.Archive.{Recorded}
-use Rattle.syn_model.specs.Decision.{ToLeft, ToRight, MarkSame, MarkDir, Conflict, path_of}
+use Rattle.syn_model.specs.Decision.{ToLeft, ToRight, Conflict, path_of}
 use Rattle.syn_model.specs.Decision as model
 use Rattle.syn_model.specs.Path.{Path, parent}
 use Rattle.syn_model.specs.Plan.{PlanIsDecided}

@@ -20,8 +20,7 @@ use Rattle.syn_headline.specs.Side.{Begin, Fetch, IsLawfulBody, ListAt, Replace,
 use Rattle.syn_model.specs.Path.{Path}
 use Rattle.syn_scan.specs.Asked.{AreAllOut, is_out}
 use Rattle.syn_scan.specs.Found.{Found, IsWhole, is_open}
-use Rattle.syn_session.specs.Scanning.{IsFoundIn, WaitsFor, WasAnswered, asked_of, found_of}
-use Rattle.syn_session.specs.Scanning.{out_of}
+use Rattle.syn_session.specs.Scanning.{IsFoundIn, WaitsFor, WasAnswered, asked_of, found_of, out_of}
 use Rattle.syn_session.specs.declared.line.Line.{Line}
 use Rattle.syn_session.specs.declared.session.Asks.{Asks}
 use Rattle.syn_session.specs.declared.session.Asks.TheVariants.{Listings}
@@ -35,8 +34,7 @@ use Rattle.syn_session.specs.Stages.{IsToList, lists, found_on, line_of, reached
 use Rattle.syn_session.specs.Stages.{outstanding_of, waiting_of}
 use Rattle.syn_session.proofs.WaitingLemmas.{contains_out, from_map, in_map, listings_all}
 use Rattle.syn_session.proofs.WaitingLemmas.{may_listings, none_wait, numbered_requests}
-use Rattle.syn_session.proofs.WaitingLemmas.{out_contains}
-use Rattle.syn_session.proofs.WaitingLemmas.{pairs_map, same_directory}
+use Rattle.syn_session.proofs.WaitingLemmas.{out_contains, pairs_map, same_directory}
 use Rattle.syn_path.specs.Sides.{which_of}
 use Rattle.syn_path.specs.declared.side.Side.{Side}
 

@@ -1,13 +1,11 @@
 -- What is heard where an answer is refused, where a listing goes on, and of which request it is.
-use Rattle.std.proofs.Common.{◌≡◌, ◌⊎◌, ℕ}
-use Rattle.std.proofs.Common.{Option, None, refl, sym, subst, inl, inr}
+use Rattle.std.proofs.Common.{◌≡◌, ◌⊎◌, ℕ, Option, None, refl, sym, subst, inl, inr}
 use Rattle.std.specs.Prelude.{Contains, IfNone, IfOk, IfSome, IsErrAnd, MatchResult}
 use Rattle.std.specs.Prelude.{Result, Ok, Err}
-use Rattle.syn_headline.specs.Coordinator.{Running}
-use Rattle.syn_headline.specs.Coordinator.{hearing}
+use Rattle.syn_headline.specs.Coordinator.{Running, hearing}
 use Rattle.syn_headline.specs.Network.{Which}
 use Rattle.syn_headline.specs.Session.{BothBegun, fault_of}
-use Rattle.syn_headline.specs.Side.{Begin, Begun, Fetch, ListAt, Replace, Request, Stage}
+use Rattle.syn_headline.specs.Side.{Begin, Fetch, ListAt, Replace, Request, Stage}
 use Rattle.syn_headline.specs.Side as model
 use Rattle.syn_message.specs.Requests.{request_of}
 use Rattle.syn_message.specs.declared.request.Request.{Request as Asked}
@@ -21,8 +19,7 @@ use Rattle.syn_session.specs.inner.Listing.{IsListed, KeepsFound, ListsOn}
 use Rattle.syn_session.specs.Hearing.{EndsHearing, HasHeard, Hears, afterwards}
 use Rattle.syn_refusal.specs.declared.refusal.Refusal.{Refusal as Why}
 use Rattle.syn_refusal.specs.declared.refusal.Refusal.TheVariants.{Memory}
-use Rattle.syn_session.specs.Stages.{IsToList, found_on}
-use Rattle.syn_session.specs.Stages.{line_of, requests_on}
+use Rattle.syn_session.specs.Stages.{IsToList, found_on, line_of, requests_on}
 use Rattle.syn_session.proofs.HearLemmas.{heard_new, scans_either}
 use Rattle.syn_session.proofs.TellingLemmas.{tells_heard}
 

@@ -13,7 +13,7 @@ use Rattle.syn_headline.specs.Coordinator.{asked_in, hearing, is_last, is_not_di
 use Rattle.syn_headline.specs.Coordinator.{numbered, without}
 use Rattle.syn_headline.specs.Network.{IsRepeat, Left, Right, Which, is_side, other}
 use Rattle.syn_headline.specs.Session.{BothBegun, WasAsked, WasTaken, entries_in, fault_of}
-use Rattle.syn_headline.specs.Side.{Begin, Begun, Fetch, ListAt, Replace, Request, Stage}
+use Rattle.syn_headline.specs.Side.{Begin, Begun, ListAt, Request}
 use Rattle.syn_headline.specs.Side as model
 use Rattle.syn_headline.proofs.WaitingLemmas.{asked_waits}
 use Rattle.syn_message.specs.Requests.{request_of}
@@ -21,8 +21,7 @@ use Rattle.syn_message.specs.declared.request.Request.{Request as Asked}
 use Rattle.syn_message.specs.declared.request.Request.TheVariants as has
 use Rattle.syn_model.specs.Archive as archive
 use Rattle.syn_model.specs.Path.{Path}
-use Rattle.syn_scan.specs.Asked.{is_out}
-use Rattle.syn_scan.specs.Asked.{without as without_path}
+use Rattle.syn_scan.specs.Asked.{is_out, without as without_path}
 use Rattle.syn_session.specs.Scanning.{IsFoundIn, WaitsFor, found_of, out_of}
 use Rattle.syn_session.specs.declared.line.Line.{Line}
 use Rattle.syn_session.specs.declared.session.Asks.{Asks}

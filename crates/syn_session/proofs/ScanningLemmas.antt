@@ -28,14 +28,11 @@ use Rattle.syn_model.specs.Tree.{Content, Directory, empty_directory}
 use Rattle.syn_model.proofs.PathLemmas.{path_total, name_total, path_itself, same_path}
 use Rattle.syn_scan.specs.Asked.{nothing_found, with_listing, with_no_directory, is_too_large}
 use Rattle.syn_scan.specs.Asked.{fit_below, names_rise, ListsOnly}
-use Rattle.syn_scan.specs.Found.{WasListedIn, Found, Positions, is_open, was_listed}
-use Rattle.syn_scan.specs.Found.{was_no_directory, IsShownIn, WasNoDirectoryIn}
+use Rattle.syn_scan.specs.Found.{Found, Positions, IsShownIn, WasNoDirectoryIn}
 use Rattle.syn_scan.specs.Refusals.{refusal_of}
 use Rattle.syn_scan.specs.declared.error.ScanError.{ScanError}
 use Rattle.syn_scan.specs.declared.error.ScanError.TheVariants as error
-use Rattle.syn_model.specs.Dirty.{Scan, IsScanBy}
-use Rattle.syn_session.specs.Scanning.{WasListedAt, WasNoDirectoryAt, Exchanges, IsFoundIn}
-use Rattle.syn_session.specs.Scanning.{WasAnswered, with_listing_answered}
+use Rattle.syn_session.specs.Scanning.{Exchanges, IsFoundIn, WasAnswered, with_listing_answered}
 
 -- ---- positions
 
@@ -81,16 +78,6 @@ pub shown_to : (found : Found) (side : Which) (taken : Exchanges) (path : Path) 
 shown_to found side taken path f (inl is) = inl is
 shown_to found side taken path f (inr (above, name, position, entries, is, was, has)) =
     inr (above, name, position, entries, is, f.listed above position entries was, has)
-
-pub not_answered : (found : Found) (path : Path) → is_open found path ≡ true →
-    WasAnswered found path → ⊥
-not_answered found path o answered =
-    let first = and_parts _ (not (was_no_directory found path)) o in
-    let second = and_parts _ (not (was_listed found path)) first.0 in
-    elim answered [
-      | inl was ↦ false≢true (sym (ap not was) ∙ second.1)
-      | inr was ↦ false≢true (sym (ap not was) ∙ first.1)
-    ]
 
 -- ---- a transcript that grows
 
@@ -293,16 +280,3 @@ refused_so found side taken f path position entries error.BadMessage large bad =
     let why = bad refl in
     inr (does_not_fit found side taken f 0 path position entries why.0
     (false_from_ne_true (fit_below path entries) why.1))
-
--- the scan that is whole is the scan by what was answered
-pub scan_by : (found : Found) (side : Which) (taken : Exchanges) →
-    IsFoundIn found side taken → (scan : Scan) (since : Path → ℕ) →
-    IsScanBy (WasListedIn found) (WasNoDirectoryIn found) scan since →
-    IsScanBy (WasListedAt taken side) (WasNoDirectoryAt taken side) scan since
-scan_by found side taken f scan since s = record {
-  tree = s.tree;
-  fits = s.fits;
-  listed = λ path d stable. f.listed path _ _ (s.listed path d stable);
-  not_dir = λ path c. let both = s.not_dir path c in (both.0, f.not_dir path _ both.1);
-  nothing_below = s.nothing_below;
-}

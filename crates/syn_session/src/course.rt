@@ -29,7 +29,7 @@ pub struct Carried {
 #[derive(Debug, Drop)]
 pub struct Course {
     pub items: Vec<Item>,
-    pub cursor: usize,
+    pub cursor: u32,
     /// What is carried for the item at the cursor, while the session waits for an answer.
     pub carried: Option<Carried>,
     /// How many items were carried to the other side and recorded.

@@ -38,13 +38,10 @@ impl Course {
         ensures memory { IfErr result (λ e. e ≡ SessionError.Memory) }
     {
         plan_laws();
-        let Some(item) = self.items.get(self.cursor) else {
+        let Some(item) = self.items.get(self.cursor as usize) else {
             return Ok(Doing::Nothing);
         };
-        let Ok(number) = u32::try_from(self.cursor) else {
-            return Err(SessionError::Memory);
-        };
-        doing_for(alloc, item, number, left, right)
+        doing_for(alloc, item, self.cursor, left, right)
     }
 }
 

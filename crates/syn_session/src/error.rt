@@ -1,4 +1,4 @@
-//! Why a session does not start.
+//! Why a session does not start, or does not go on for lack of memory.
 ghost use Rattle.std.specs.Prelude.{◌≡◌, Some};
 ghost use Rattle.syn_model.specs.Refusal.{number, name_of};
 ghost use Rattle.syn_refusal.specs.Refusals.{cause_of};
@@ -8,10 +8,9 @@ use std::alloc::{AllocError, AllocFailed};
 use std::fmt;
 use syn_recon::PlanError;
 use syn_refusal::Refusal;
-use syn_scan::ScanError;
 use thiserror::Error;
 
-/// Why a session does not start.
+/// Why a session does not start. One that runs does not go on for lack of memory alone.
 #[derive(Clone, Copy, Debug, PartialEq, Eq, Error)]
 pub enum SessionError {
     /// 7: the last session has the greatest number.
@@ -57,17 +56,6 @@ impl fmt::Display for SessionError {
 
     fn fmt<W: fmt::Write>(&self, f: &mut fmt::Formatter<W>) -> fmt::Result {
         write!(f, "{}", self.refusal())
-    }
-}
-
-/// A scan asks for nothing more for lack of memory.
-impl From<ScanError> for SessionError {
-    ghost use Rattle.syn_session.specs.declared.error.SessionError.TheVariants.{Memory};
-
-    ghost from_gives = { λ _ e. e ≡ Memory };
-
-    fn from(_error: ScanError) -> SessionError {
-        SessionError::Memory
     }
 }
 

@@ -94,7 +94,7 @@ impl Session {
     {
         let is_no_directory = is_no_directory(&reply);
         self.take_listing(alloc, from, path, reply)?;
-        self.count_unstable(is_no_directory);
+        self.note_unstable(is_no_directory);
         self.scan_on(alloc).map_err(|_| Refusal::Memory)
     }
 

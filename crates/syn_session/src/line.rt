@@ -1,6 +1,6 @@
 //! What a session asks of one side.
-ghost use Rattle.std.specs.Prelude.{◌≡◌, ◌+◌, ◌==◌, [], ◌∷◌, ◌++◌, None, false, nat_lt, option_map};
-ghost use Rattle.std.specs.Prelude.{length, map, position, IfOk, IfErr, IfSome, OnOk};
+ghost use Rattle.std.specs.Prelude.{◌≡◌, ◌+◌, [], ◌∷◌, ◌++◌, None, false, nat_lt, option_map};
+ghost use Rattle.std.specs.Prelude.{length, map, IfOk, IfErr, IfSome, OnOk};
 ghost use Rattle.syn_headline.specs.Coordinator.{asked_in, messages_to, numbered, once_more};
 ghost use Rattle.syn_headline.specs.Network.{Which};
 ghost use Rattle.syn_headline.specs.Side.{ListAt};
@@ -13,7 +13,7 @@ use crate::error::SessionError;
 use crate::requests::{Waiting, count_resends, is_any_worn, place_of};
 use crate::sending::Sending;
 use crate::side_scan::SideScan;
-use std::alloc::Global;
+use std::alloc::{AllocError, Global};
 use syn_message::Request;
 use syn_path::{Path, Side};
 
@@ -42,13 +42,12 @@ impl Line {
 
     /// The side is to begin the session. Room for all that may wait is taken here. Refused 11 where
     /// memory is refused.
-    pub(crate) fn new(alloc: Global, pair: u64) -> Result<Line, SessionError>
+    pub(crate) fn new(alloc: Global, pair: u64) -> Result<Line, AllocError>
         ensures waits { IfOk result (λ line. waiting_of line ≡ begin_of pair) }
         ensures asked { IfOk result (λ line. line.asked ≡ 1) }
         ensures found { (side : Which)
             → IfOk result (λ line. IsFoundIn (found_of line.scan) side []) }
         ensures out { IfOk result (λ line. out_of line.scan ≡ []) }
-        ensures memory { IfErr result (λ e. e ≡ SessionError.Memory) }
     {
         let mut waiting = Vec::with_capacity(alloc, MOST_LISTINGS)?;
         waiting.push(Waiting::begin(pair))?;
@@ -84,12 +83,11 @@ impl Line {
 
     /// The listings that are asked for next: so many that eight requests wait, or as many as there
     /// are directories that were not asked for yet. Refused 11 where memory is refused.
-    pub(crate) fn next_listings(&mut self, alloc: Global) -> Result<Vec<Path>, SessionError>
+    pub(crate) fn next_listings(&mut self, alloc: Global) -> Result<Vec<Path>, AllocError>
         ensures next { IfOk result (λ paths. ListsNext self.old self.new paths.items) }
         ensures waits { self.new.waiting ≡ self.old.waiting }
         ensures asked { self.new.asked ≡ self.old.asked }
         ensures found { found_of self.new.scan ≡ found_of self.old.scan }
-        ensures memory { IfErr result (λ e. e ≡ SessionError.Memory) }
     {
         let mut next = Vec::new(alloc);
         'window: while self.waiting.len() + next.len() < MOST_LISTINGS {
@@ -127,10 +125,10 @@ impl Line {
             request,
             resent: 0,
         };
-        let asked = one.asked(alloc, session)?;
+        let message = one.message(alloc, session)?;
         self.waiting.push(one)?;
         self.asked += 1;
-        sends.push(Sending { to, asked })?;
+        sends.push(Sending { to, asked: message })?;
         Ok(())
     }
 
@@ -163,14 +161,13 @@ impl Line {
         sends: &mut Vec<Sending>,
         to: Side,
         session: u64,
-    ) -> Result<(), SessionError>
-        ensures ok { OnOk result (messages_of sends.new.items ≡ messages_of sends.old.items
+    ) -> Result<(), AllocError>
+        ensures { OnOk result (messages_of sends.new.items ≡ messages_of sends.old.items
             ++ messages_to session (which_of to) (waiting_of self.now)) }
-        ensures memory { IfErr result (λ e. e ≡ SessionError.Memory) }
     {
         for one in &self.waiting {
-            let asked = one.asked(alloc, session)?;
-            sends.push(Sending { to, asked })?;
+            let message = one.message(alloc, session)?;
+            sends.push(Sending { to, asked: message })?;
         }
         Ok(())
     }

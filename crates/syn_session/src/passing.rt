@@ -1,6 +1,6 @@
 //! How a session goes past the items of its plan.
-ghost use Rattle.std.specs.Prelude.{◌≡◌, ◌+◌, ◌<◌, ◌^◌, Some, IfErr, OnErr, OnOk, false};
-ghost use Rattle.std.specs.Prelude.{slice_get, true};
+ghost use Rattle.std.specs.Prelude.{◌≡◌, ◌+◌, ◌<◌, ◌^◌, Some, IfErr, OnErr, OnOk, false, slice_get};
+ghost use Rattle.std.specs.Prelude.{true};
 ghost use Rattle.syn_headline.specs.Planning.{Planned};
 ghost use Rattle.syn_headline.specs.Report.{conflict_at, is_carrying};
 ghost use Rattle.syn_headline.specs.Session.{record_for};
@@ -34,7 +34,7 @@ impl Course {
         ensures memory { IfErr result (λ e. e ≡ SessionError.Memory) }
     {
         self.conflicts.push(path)?;
-        self.cursor = next_place(self.cursor);
+        self.cursor = one_more(self.cursor);
         Ok(())
     }
 
@@ -52,7 +52,7 @@ impl Course {
         ensures memory { IfErr result (λ e. e ≡ SessionError.Memory) }
     {
         self.refused.push((why, path))?;
-        self.cursor = next_place(self.cursor);
+        self.cursor = one_more(self.cursor);
         Ok(())
     }
 
@@ -69,7 +69,7 @@ impl Course {
             → OnErr result (IsCourse self.new left right reached) }
         ensures memory { IfErr result (λ e. e ≡ SessionError.Memory) }
     {
-        let Some(item) = self.items.get(self.cursor) else {
+        let Some(item) = self.items.get(self.cursor as usize) else {
             return Ok(());
         };
         let path = item.path().copy(alloc)?;
@@ -101,8 +101,8 @@ impl Course {
             → IsCourse self.new left right (kept_at reached what) }
     {
         plan_laws();
-        self.done = next_count(self.done);
-        self.cursor = next_place(self.cursor);
+        self.done = one_more(self.done);
+        self.cursor = one_more(self.cursor);
     }
 
     /// Past an item that both sides agreed on, and whose record is kept.
@@ -114,21 +114,14 @@ impl Course {
             → IsCourse self.new left right (kept_at reached what) }
     {
         plan_laws();
-        self.marked = next_count(self.marked);
-        self.cursor = next_place(self.cursor);
+        self.marked = one_more(self.marked);
+        self.cursor = one_more(self.cursor);
     }
 }
 
 /// One more, as far as that fits.
-fn next_count(count: u32) -> u32
+fn one_more(count: u32) -> u32
     ensures { count + 1 < 2 ^ 32 → result ≡ count + 1 }
 {
     count.saturating_add(1)
-}
-
-/// The next place, as far as that fits.
-fn next_place(place: usize) -> usize
-    ensures { place < 2 ^ 32 → result ≡ place + 1 }
-{
-    place.saturating_add(1)
 }

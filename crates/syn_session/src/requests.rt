@@ -1,13 +1,12 @@
 //! The requests that wait for their answers.
-ghost use Rattle.std.specs.Prelude.{◌≡◌, ◌==◌, false, map, nat_le, position, IfOk, IfErr};
+ghost use Rattle.std.specs.Prelude.{◌≡◌, ◌==◌, false, map, nat_le, position, IfOk};
 ghost use Rattle.std.specs.List.{list_any};
 ghost use Rattle.syn_headline.specs.Coordinator.{most_resends, once_more};
 ghost use Rattle.syn_headline.specs.Side.{Begin};
 ghost use Rattle.syn_message.specs.Requests.{request_of};
 ghost use Rattle.syn_session.specs.Stages.{outstanding_of};
 
-use crate::error::SessionError;
-use std::alloc::Global;
+use std::alloc::{AllocError, Global};
 use syn_message::{Asked, Request};
 
 /// How often a request is sent again at most.
@@ -38,12 +37,11 @@ impl Waiting {
     }
 
     /// The request, with its session and its number in it. Refused 11 where memory is refused.
-    pub(crate) fn asked(&self, alloc: Global, session: u64) -> Result<Asked, SessionError>
+    pub(crate) fn message(&self, alloc: Global, session: u64) -> Result<Asked, AllocError>
         ensures session { IfOk result (λ asked. asked.session ≡ session) }
         ensures number { IfOk result (λ asked. asked.number ≡ self.now.number) }
         ensures request { IfOk result (λ asked. request_of asked.request
             ≡ request_of self.now.request) }
-        ensures memory { IfErr result (λ e. e ≡ SessionError.Memory) }
     {
         let request = self.request.copy(alloc)?;
         Ok(Asked {

@@ -174,8 +174,8 @@ impl Session {
         }
     }
 
-    /// Whether a path changed its kind, with an answer that was taken.
-    pub(crate) fn count_unstable(&mut self, is_no_directory: bool)
+    /// Notes whether a path that was listed is no directory any more.
+    pub(crate) fn note_unstable(&mut self, is_no_directory: bool)
         ensures unstable { self.new.is_unstable ≡ (self.old.is_unstable || is_no_directory) }
         ensures left { self.new.left ≡ self.old.left }
         ensures right { self.new.right ≡ self.old.right }

@@ -1,23 +1,21 @@
 //! The scan of one side in a session.
-ghost use Rattle.std.specs.Prelude.{◌≡◌, ◌⊎◌, ℕ, [], IfOk, IfErr, IfSome, IfNone};
-ghost use Rattle.std.specs.Prelude.{MatchResult, None, OnOk, Some};
+ghost use Rattle.std.specs.Prelude.{◌≡◌, ◌⊎◌, ℕ, [], IfOk, IfErr, IfSome, IfNone, MatchResult};
+ghost use Rattle.std.specs.Prelude.{None, OnOk, Some};
 ghost use Rattle.syn_scan.specs.Asked.{AreAllOut, handed_out, without};
 ghost use Rattle.syn_headline.specs.Network.{Which};
 ghost use Rattle.syn_headline.specs.Session.{IsShown, fault_of};
 ghost use Rattle.syn_headline.specs.Side.{ListAt};
 ghost use Rattle.syn_message.specs.Replies.{IsLawfulReply, reply_of};
-ghost use Rattle.syn_model.specs.Path.{Path as Names};
 ghost use Rattle.syn_model.specs.Refusal.{Memory};
 ghost use Rattle.syn_refusal.specs.Refusals.{cause_of};
 ghost use Rattle.syn_model.specs.Dirty.{IsScanBy};
 ghost use Rattle.syn_scan.specs.Found.{IsWhole, position_of, scan_of};
 
-use crate::error::SessionError;
-use std::alloc::Global;
+use std::alloc::{AllocError, Global};
 use syn_message::Reply;
 use syn_path::Path;
 use syn_refusal::Refusal;
-use syn_scan::{Scan, ScanError, Scanner};
+use syn_scan::{Scan, Scanner};
 
 /// The scan of one side in a session: which directory is to be listed next, and what the side
 /// answered so far.
@@ -28,15 +26,13 @@ pub struct SideScan {
 
 impl SideScan {
     ghost use Rattle.syn_session.specs.Scanning.{Exchanges, IsFoundIn, WaitsFor, WasAnswered};
-    ghost use Rattle.syn_session.specs.Scanning.{asked_of, found_of, out_of};
-    ghost use Rattle.syn_session.specs.Scanning.{with_listing_answered};
+    ghost use Rattle.syn_session.specs.Scanning.{asked_of, found_of, out_of, with_listing_answered};
     ghost use Rattle.syn_session.specs.Scanning.{WasListedAt, WasNoDirectoryAt};
 
     /// Nothing is asked yet. Refused 11 where memory is refused.
-    pub fn new(alloc: Global) -> Result<SideScan, SessionError>
+    pub fn new(alloc: Global) -> Result<SideScan, AllocError>
         ensures found { (side : Which) → IfOk result (λ scan. IsFoundIn (found_of scan) side []) }
         ensures out { IfOk result (λ scan. out_of scan ≡ []) }
-        ensures memory { IfErr result (λ e. e ≡ SessionError.Memory) }
     {
         let scanner = Scanner::new(alloc)?;
         Ok(SideScan { scanner })
@@ -46,7 +42,7 @@ impl SideScan {
     /// answer then, and is handed out once.
     ///
     /// Refused 11 where memory is refused.
-    pub fn next(&mut self, alloc: Global) -> Result<Option<Path>, SessionError>
+    pub fn next(&mut self, alloc: Global) -> Result<Option<Path>, AllocError>
         // A listing shows it, and it was not asked for yet.
         ensures shown { (side : Which) (taken : Exchanges)
             → IsFoundIn (found_of self.old) side taken
@@ -57,9 +53,8 @@ impl SideScan {
         ensures out { IfOk result (λ next. out_of self.new ≡ handed_out (out_of self.old) next) }
         ensures none { IfOk result (λ next. IfNone next (AreAllOut (asked_of self.new))) }
         ensures found { found_of self.new ≡ found_of self.old }
-        ensures memory { IfErr result (λ e. e ≡ SessionError.Memory) }
     {
-        Ok(self.scanner.next_request(alloc)?)
+        self.scanner.next_request(alloc)
     }
 
     /// Takes the answer to a listing.

@@ -16,7 +16,6 @@ use Rattle.syn_headline.specs.SideMachine.{SideMachine, side_layout, with_journa
 use Rattle.syn_journal.specs.Journal as journal
 use Rattle.syn_model.specs.Event.{Event}
 use Rattle.syn_model.specs.History.{History}
-use Rattle.syn_model.specs.Refusal.{Refusal}
 use Rattle.syn_model.specs.Refusal as why
 use Rattle.syn_recovery.specs.Calls.{armed_at, BrokenCallsMeet, MadeCallsMeet}
 use Rattle.syn_recovery.specs.Calls as calls

@@ -17,7 +17,6 @@ use Rattle.syn_journal.specs.Layout.{HasJournal, image_alone, bytes_left}
 use Rattle.syn_model.specs.Event.{Event}
 use Rattle.syn_model.specs.History.{History, standing_of}
 use Rattle.syn_model.specs.Image.{StandsFor, image_spelling}
-use Rattle.syn_model.specs.Refusal.{Refusal}
 use Rattle.syn_model.specs.Refusal as why
 use Rattle.syn_recovery.specs.Calls.{armed_at, BrokenCallsMeet, MadeCallsMeet, MadeReadsMeet}
 use Rattle.syn_recovery.specs.Calls as calls

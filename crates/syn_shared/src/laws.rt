@@ -1,5 +1,4 @@
 //! What a hold's call is to the machine of the world's side.
-ghost use Rattle.std.specs.Prelude.{◌<◌, ◌^◌};
 ghost use Rattle.syn_agent.specs.Machines.{CompactedIsOf, UpIsOf, WrittenIsOf};
 ghost use Rattle.syn_recovery.specs.Calls.{BrokenCallsMeet, MadeCallsMeet, MadeReadsMeet};
 ghost use Rattle.syn_recovery.specs.Machines.{SidesOpen};
@@ -31,11 +30,4 @@ pub(crate) fn limit_laws<D: Disk>(replica: &Replica<D>)
     ensures { EachFits (tree_shown replica.now) }
 {
     let _whole = replica.tree().entries();
-}
-
-/// Eight bytes spell it.
-pub(crate) fn is_long(number: u64)
-    ensures { number < 2 ^ 64 }
-{
-    let _ = number;
 }

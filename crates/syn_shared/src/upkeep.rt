@@ -4,11 +4,12 @@ ghost use Rattle.syn_shared.specs.Refusals.{answer_in};
 ghost use Rattle.syn_shared.specs.Upkeep.{Checkpoints, Reopens};
 
 use crate::error::{SharedError, answered};
-use crate::laws::{is_long, step_laws};
+use crate::laws::step_laws;
 use crate::shared::SharedReplica;
 use std::alloc::Global;
 use syn_disk::Disk;
 use syn_lock::Pass;
+use syn_model::is_long;
 use syn_replica::Replica;
 
 impl<D: Disk> SharedReplica<D> {

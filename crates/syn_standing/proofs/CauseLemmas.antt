@@ -1,15 +1,13 @@
 -- What it says that an event has no cause to be refused.
 use Rattle.std.proofs.Common.{◌≡◌, ◌<◌, ◌≤◌, ◌^◌, ◌-◌, ℕ, Bool, true, false, not, nat_le, ◌&&◌}
-use Rattle.std.proofs.Common.{if◌then◌else◌, List, [], ◌∷◌, ◌++◌, length, refl, sym, ap, subst}
-use Rattle.std.proofs.Common.{Some, None, arith}
+use Rattle.std.proofs.Common.{List, [], ◌∷◌, ◌++◌, length, refl, sym, subst, Some, None, arith}
 use Rattle.std.specs.FinMap.{len}
 use Rattle.std.proofs.lemmas.Bool.{and_parts}
 use Rattle.std.proofs.lemmas.Option.{none-some}
-use Rattle.std.proofs.lemmas.Bool.Decides.{nat_tests}
 use Rattle.syn_model.specs.Laws.{PutFits, ReplacedIsThere, SubtreeFits, SubtreeFitsPaths}
 use Rattle.syn_model.specs.Tree.{Tree, replace}
 use Rattle.syn_model.specs.Limits.{fits_replica, fits_part, fits_paths, tree_spelling_length}
-use Rattle.syn_model.specs.Limits.{greatest, greatest_spelling}
+use Rattle.syn_model.specs.Limits.{greatest_spelling}
 use Rattle.syn_model.specs.Event.{Put, MakeDir, Remove, Chmod, Edit, Event, Edited, Began}
 use Rattle.syn_model.specs.Event.{Replaced, after_edit}
 use Rattle.syn_model.specs.Refusal.{Refusal, Full, OldSession, Cause, first_cause}
@@ -24,12 +22,6 @@ pub no_cause : (a b : List Cause) → first_cause (a ++ b) ≡ None →
 no_cause [] b e = (refl, e)
 no_cause ((true, why) ∷ a) b e = absurd (none-some _ (sym e))
 no_cause ((false, why) ∷ a) b e = no_cause a b e
-
-pub no_causes : (a b : List Cause) → first_cause a ≡ None → first_cause b ≡ None →
-    first_cause (a ++ b) ≡ None
-no_causes [] b e f = f
-no_causes ((true, why) ∷ a) b e f = absurd (none-some _ (sym e))
-no_causes ((false, why) ∷ a) b e f = no_causes a b e f
 
 -- causes that do not hold are passed over
 pub first_skips : (a b : List Cause) → first_cause a ≡ None → first_cause (a ++ b) ≡ first_cause b
@@ -50,12 +42,6 @@ fits_where tree e = by_test (fits_replica tree) e
     by_test : (b : Bool) → first_cause ((not b, Full) ∷ []) ≡ None → b ≡ true
     by_test true e = refl
     by_test false e = absurd (none-some _ (sym e))
-
-pub below_greatest : (n : ℕ) → n < 2 ^ 64 - 1 → first_cause (full_position n) ≡ None
-below_greatest n h = ap (λ b. if b then Some Full else None) (below n h)
-  where
-    below : (n : ℕ) → n < 2 ^ 64 - 1 → nat_le greatest n ≡ false
-    below n h = grind (arith, nat_tests)
 
 -- the limits of each file, directory and path, of those of a replica
 pub limits_of : (tree : Tree) → fits_replica tree ≡ true →

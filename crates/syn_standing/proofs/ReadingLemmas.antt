@@ -1,6 +1,6 @@
 -- What is read of an image and of its payloads.
 use Rattle.std.proofs.Common.{◌≡◌, ◌⊎◌, inl, inr, refl, ◌<◌, ◌+◌, ℕ, List, [], ◌∷◌, ◌++◌, length}
-use Rattle.std.proofs.Common.{map, take, drop, sym, ap, ap₂, ◌∙◌, Some, None, append-nil}
+use Rattle.std.proofs.Common.{map, take, drop, sym, ap, ap₂, ◌∙◌, None, append-nil}
 use Rattle.std.proofs.Common.{append_assoc, slice_index_or}
 use Rattle.std.specs.Global.{Vec}
 use Rattle.std.proofs.lemmas.List.{map-append, map_more, take-append-drop}
@@ -14,8 +14,7 @@ use Rattle.syn_wire.specs.Events.{IsSpelledEventIn}
 use Rattle.syn_wire.specs.Laws.{NoEventBeginsAnother}
 use Rattle.syn_wire.specs.Reads.{BeginsWith, IsReading}
 use Rattle.syn_image.specs.Images.{IsImage, spelled_image, NoImageBeginsAnother}
-use Rattle.syn_standing.specs.Readings.{Replays, IsEventOf, IsImageOf, OneIsGiven, bytes_of_each}
-use Rattle.syn_standing.specs.Readings.{IsOfPayload}
+use Rattle.syn_standing.specs.Readings.{Replays, IsImageOf, OneIsGiven, bytes_of_each, IsOfPayload}
 use Rattle.syn_standing.specs.declared.error.ReplicaError.{ReplicaError}
 use Rattle.syn_standing.specs.declared.error.ReplicaError.TheVariants.{Tree, History, Journal}
 use Rattle.syn_standing.specs.declared.error.ReplicaError.TheVariants.{Memory, Touched, OldSession}
@@ -54,30 +53,6 @@ module _ (version : Version) (image : Bytes) (pair : ℕ) (standing : Standing)
   image_ends tell other rest read =
       (tell version other (pair, standing) rest
       [] read.lawful (is.fits, is.sound) (sym read.spelled ∙ image_alone)).1
-
--- with nothing after it the whole is what was read
-pub event_whole : (version : Version) (payload rest : Bytes) (event : Event) →
-    BeginsWith (IsSpelledEventIn version) (event_spelling_in version) payload event rest →
-    rest ≡ [] →
-    IsEventOf version payload (Some event)
-event_whole version payload rest event read empty = (
-  read.lawful,
-  read.spelled
-      ∙ (ap (λ xs. event_spelling_in version event ++ xs) empty
-      ∙ append-nil (event_spelling_in version event)),
-)
-
-pub image_whole : (version : Version) (image rest : Bytes) (value : ℕ × Standing) →
-    BeginsWith (IsImage version) (spelled_image version) image value rest → rest ≡ [] →
-    IsImageOf version image value.0 value.1
-image_whole version image rest value read empty = record {
-  fits = read.lawful.0;
-  sound = read.lawful.1;
-  spelled =
-      read.spelled
-      ∙ (ap (λ xs. spelled_image version value ++ xs) empty
-      ∙ append-nil (spelled_image version value));
-}
 
 -- ---- an image with its payloads
 

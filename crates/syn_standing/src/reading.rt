@@ -1,6 +1,6 @@
 //! A replica from what its disk holds.
 ghost use Rattle.std.specs.Prelude.{◌≡◌, ◌≢◌, ◌⊎◌, ◌<◌, ◌^◌, ℕ, List, IfOk, IfErr, OnOk, IsErrAnd};
-ghost use Rattle.std.specs.Prelude.{Some, true, false, option_map, map};
+ghost use Rattle.std.specs.Prelude.{Some, true, option_map, map};
 ghost use Rattle.syn_model.specs.Event as model;
 ghost use Rattle.syn_model.specs.Image.{GivesIn, IsStanding};
 ghost use Rattle.syn_model.specs.Limits.{fits_replica};
@@ -22,7 +22,7 @@ use crate::laws::opening_laws;
 use crate::standing::Standing;
 use std::alloc::Global;
 use syn_history::Event;
-use syn_image::{Image, decode_image, image_laws};
+use syn_image::{Image, decode_image, image_laws, is_other_pair};
 use syn_refusal::Refusal;
 use syn_wire::{Version, WireError, decode_event, spelling_laws};
 
@@ -61,7 +61,7 @@ pub fn read_replica(
     let first = Standing::of(tree, trail);
     let standing = replayed(alloc, version, first, payloads)?;
     is_whole(&standing);
-    if is_other(wanted, pair) {
+    if is_other_pair(wanted, pair) {
         return Err(ReplicaError::WrongPair);
     }
     Ok((pair, standing))
@@ -73,17 +73,6 @@ fn is_whole(standing: &Standing)
     ensures fits { fits_replica standing.now.tree ≡ true }
 {
     let _ = standing.tree().entries();
-}
-
-/// The pair is not the wanted one.
-fn is_other(wanted: Option<u64>, pair: u64) -> bool
-    ensures other { result ≡ true → (asked : ℕ) × (wanted ≡ Some asked) × (asked ≢ pair) }
-    ensures same { result ≡ false → (asked : ℕ) → wanted ≡ Some asked → asked ≡ pair }
-{
-    match wanted {
-        Some(asked) => asked != pair,
-        None => false,
-    }
 }
 
 /// The image that the bytes are.

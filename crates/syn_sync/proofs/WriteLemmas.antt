@@ -16,22 +16,12 @@ use Rattle.syn_sync.specs.Drivers.{Outlets}
 use Rattle.syn_sync.specs.Outlets.{Adds, Outlet, Writes}
 use Rattle.syn_sync.specs.Runs.{frame_to, frames_to}
 
--- what holds of each side
-pub both : (P : Which → Type 0) → P Left → P Right → (side : Which) → P side
-both P left right Left = left
-both P left right Right = right
-
 pub some_none : (a : Option Bytes) (bytes : Bytes) → AppendsSome a a bytes
 some_none a bytes = ([], bytes, refl, Appends-nil a)
 
 pub adds_nothing : (all : Bool) (a : Option Bytes) → Adds all a a []
 adds_nothing true a = Appends-nil a
 adds_nothing false a = some_none a []
-
-pub some_of : (all : Bool) (a b : Option Bytes) (bytes : Bytes) → Adds all a b bytes
-    → AppendsSome a b bytes
-some_of true a b bytes adds = (bytes, [], sym (append-nil bytes), adds)
-some_of false a b bytes adds = adds
 
 some_before : (a b : Option Bytes) (first second : Bytes) → AppendsSome a b first
     → AppendsSome a b (first ++ second)

@@ -1,11 +1,11 @@
 //! Which requests have a body.
-ghost use Rattle.std.specs.Prelude.{◌≡◌, ◌<◌, ◌^◌, true};
+ghost use Rattle.std.specs.Prelude.{◌≡◌, true};
 ghost use Rattle.syn_headline.specs.Side.{IsLawfulBody, IsPieceBytes};
 ghost use Rattle.syn_message.specs.Requests.{IsLawfulAsking, asking_of, request_of};
-ghost use Rattle.syn_model.specs.Path.{IsPath};
 
 use syn_message::{Asked, LONGEST_PIECE, Request};
-use syn_path::Path;
+use syn_model::{is_long, is_short};
+use syn_path::is_path;
 
 /// Whether the request can be sent: sessions count from 1, and a piece has 1 to `LONGEST_PIECE`
 /// bytes. A coordinator sends no other.
@@ -62,27 +62,6 @@ fn is_lawful(request: &Request) -> bool
             true
         }
     }
-}
-
-/// Each path is lawful.
-fn is_path(path: &Path)
-    ensures { IsPath path.now }
-{
-    let _ = path.names();
-}
-
-/// Eight bytes spell it.
-fn is_long(number: u64)
-    ensures { number < 2 ^ 64 }
-{
-    let _ = number;
-}
-
-/// Four bytes spell it.
-fn is_short(number: u32)
-    ensures { number < 2 ^ 32 }
-{
-    let _ = number;
 }
 
 /// Whether so many bytes are staged at a time.

@@ -1,8 +1,7 @@
 -- Why an edit is refused, where its place is allowed.
 use Rattle.std.proofs.Common.{◌≡◌, ◌≤◌, ◌+◌, ℕ, Bool, true, false, if◌then◌else◌, not, ◌&&◌, ◌||◌}
 use Rattle.std.proofs.Common.{nat_le, nat_lt, List, [], ◌∷◌, length, refl, sym, ap, ap₂, ◌∙◌}
-use Rattle.std.proofs.Common.{Option}
-use Rattle.std.proofs.Common.{Some, None, is_some, append-nil, true≢false, arith}
+use Rattle.std.proofs.Common.{Option, Some, None, is_some, append-nil, true≢false, arith}
 use Rattle.std.specs.Prelude.{option_map}
 use Rattle.std.specs.List.{list_all}
 use Rattle.std.specs.FinMap.{entries, get, get-entries, len, len-entries, find}
@@ -12,7 +11,7 @@ use Rattle.syn_model.specs.Path.{Bytes, Path, IsPath, root, is_root, parent, pat
 use Rattle.syn_model.specs.Path.{path_spelling, strip_prefix}
 use Rattle.syn_model.specs.Tree.{Tree, Content, Directory, HasParents, at_root, absent}
 use Rattle.syn_model.specs.Tree.{replace, is_directory, is_present}
-use Rattle.syn_model.specs.Event.{Put, MakeDir, Remove, Chmod, after_edit, part_after}
+use Rattle.syn_model.specs.Event.{Put, MakeDir, Remove, after_edit, part_after}
 use Rattle.syn_model.specs.Limits.{fits_replica, fits_part, fits_paths, fits_path, fits_content}
 use Rattle.syn_model.specs.Limits.{tree_spelling_length, greatest_spelling}
 use Rattle.syn_model.specs.Limits.{last_name_spelling_length, content_spelling_length}
@@ -40,24 +39,6 @@ causes why a b c full e f g =
     ap (λ x. first_cause ((x, Root) ∷ (not b, NoParent) ∷ (c, why) ∷ full)) e
     ∙ (ap (λ x. first_cause ((not x, NoParent) ∷ (c, why) ∷ full)) f
     ∙ ap (λ x. first_cause ((x, why) ∷ full)) g)
-
-pub put_answer : (t : Tree) (p : Path) (b : Bytes) → first_cause (place_causes t p) ≡ None →
-    is_directory t p ≡ false →
-    edit_refusal t (Put p b) ≡ first_cause (full_causes (after_edit t (Put p b)))
-put_answer t p b place other =
-    let free = place_free t p place in
-    causes IsDirectory (is_root p) (is_directory t (parent p)) (is_directory t p)
-    (full_causes (after_edit t (Put p b))) free.0 free.1 other
-
-pub chmod_answer : (t : Tree) (p : Path) (mode : ℕ) → first_cause (place_causes t p) ≡ None →
-    is_directory t p ≡ false → is_present t p ≡ true →
-    edit_refusal t (Chmod p mode) ≡ first_cause (full_causes (after_edit t (Chmod p mode)))
-chmod_answer t p mode place other there =
-    let free = place_free t p place in
-    let full = full_causes (after_edit t (Chmod p mode)) in
-    causes IsDirectory (is_root p) (is_directory t (parent p)) (is_directory t p)
-    ((not (is_present t p), Absent) ∷ full) free.0 free.1 other
-    ∙ ap (λ x. first_cause ((not x, Absent) ∷ full)) there
 
 pub make_answer : (t : Tree) (p : Path) → first_cause (place_causes t p) ≡ None →
     is_present t p ≡ false →

@@ -1,7 +1,6 @@
 -- The octal digits of a mode.
 use Rattle.std.proofs.Common.{◌≡◌, ◌<◌, ◌≤◌, ◌+◌, ◌*◌, ◌/◌, ◌%◌, ℕ, Bool, true, false, List, []}
-use Rattle.std.proofs.Common.{◌∷◌, ◌++◌}
-use Rattle.std.proofs.Common.{length, slice_index_or, refl, ap, ap₂, ◌∙◌, arith}
+use Rattle.std.proofs.Common.{◌∷◌, ◌++◌, length, slice_index_or, refl, ap, ap₂, ◌∙◌, arith}
 use Rattle.std.specs.Fmt.{decimal}
 use Rattle.std.proofs.lemmas.Fmt.{decimal_digit}
 use Rattle.syn_tree.specs.Modes.{access_of, bit_of, mode_digits, mode_of}

@@ -17,7 +17,8 @@ use Rattle.syn_placed.specs.Pairs.{pair_spelling_length}
 use Rattle.syn_placed.proofs.BelowLemmas.{without_first}
 use Rattle.syn_placed.proofs.FindLemmas.{after_more, find_after}
 use Rattle.syn_placed.proofs.RisingLemmas.{Rising, After}
-use Rattle.syn_placed.proofs.TreeLemmas.{rising-entries, within-taken, entries-subtree}
+use Rattle.syn_placed.proofs.TreeLemmas.{rising-entries, taken, within-taken, entries-subtree}
+use Rattle.syn_tree.proofs.PartLemmas.{spelling_within}
 
 -- a tree is what stands at its root, and the parts at its names
 pub record IsRooted (t : Tree) (c : Content) : Type 0 where
@@ -89,3 +90,35 @@ below_size at es =
     let both = sum_by-filter_both (is_below at) (λ e. not (is_below at e)) (λ e. refl)
     pair_spelling_length es in
     omega (arith, both)
+
+-- with a path before each of them no fewer bytes spell pairs
+under_more : (at : Path) (us : Pairs) → spelling_length us ≤ spelling_length (under at us)
+under_more at [] = omega arith
+under_more at (([], c) ∷ us) =
+    omega (
+      arith,
+      under_more at us,
+      sum_by-cons pair_spelling_length ([], c) us,
+      sum_by-cons pair_spelling_length (at ++ [], c) (under at us),
+    )
+under_more at ((n ∷ p, c) ∷ us) =
+    omega (
+      arith,
+      under_more at us,
+      later_names at n p,
+      sum_by-cons pair_spelling_length (n ∷ p, c) us,
+      sum_by-cons pair_spelling_length (at ++ n ∷ p, c) (under at us),
+    )
+
+-- a part takes no more bytes than the whole
+pub part_shorter : (t : Tree) (at : Path) →
+    tree_spelling_length (subtree t at) ≤ tree_spelling_length t
+part_shorter t at =
+    let es = entries t in
+    omega (
+      arith,
+      ap spelling_length (entries-subtree t at),
+      under_more at (taken at es),
+      ap spelling_length (within-taken at es),
+      spelling_within at es (rising-entries t),
+    )

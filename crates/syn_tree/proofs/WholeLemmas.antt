@@ -1,7 +1,6 @@
 -- The limits of a whole tree that is made of entries.
 use Rattle.std.proofs.Common.{◌≡◌, ◌≤◌, ◌<◌, ◌+◌, ℕ, suc, true, false, ◌&&◌, nat_le, length, sym}
 use Rattle.std.proofs.Common.{ap, ap₂, ◌∙◌, subst, arith}
-use Rattle.std.proofs.Math.Bool.{and-false}
 use Rattle.std.specs.FinMap.{entries, len, len-entries, from_sorted}
 use Rattle.std.proofs.lemmas.Bool.Decides.{nat_tests}
 use Rattle.std.proofs.lemmas.List.Sums.{sum_by-cons}
@@ -24,9 +23,6 @@ many n h = grind (arith, nat_tests)
 small : (n : ℕ) → n ≤ 526336 → nat_le n 526336 ≡ true
 small n h = grind (arith, nat_tests)
 
-large : (n : ℕ) → 526336 < n → nat_le n 526336 ≡ false
-large n h = grind (arith, nat_tests)
-
 module _ (u : Tree) (ds : Pairs) (all : rooted ds ≡ entries u) where
   count_of : len u ≡ suc (length ds)
   count_of = len-entries u ∙ ap length (sym all)
@@ -45,12 +41,6 @@ module _ (u : Tree) (ds : Pairs) (all : rooted ds ≡ entries u) where
   too_many h =
       ap (λ a. a && nat_le (tree_spelling_length u) greatest_spelling && fits_part u
       && fits_paths u) (ap (λ n. nat_le n 1024) count_of ∙ many (length ds) h)
-
-  pub too_large : 526336 < spelling_length ds + 3 → fits_replica u ≡ false
-  too_large h =
-      ap (λ b. nat_le (len u) 1024 && b && fits_part u && fits_paths u)
-      (ap (λ n. nat_le n 526336) size_of ∙ large (3 + spelling_length ds) (omega (arith, h)))
-      ∙ ap (λ a. a && fits_part u && fits_paths u) (and-false (nat_le (len u) 1024))
 
   pub whole_rising : AreRising (rooted ds)
   whole_rising = are_rising (rooted ds) (subst Rising (sym all) (rising-entries u))

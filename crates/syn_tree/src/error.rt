@@ -15,7 +15,7 @@ use thiserror::Error;
 pub enum TreeError {
     /// 2: the parent is not a directory.
     NoParent,
-    /// 3: a file was to be put onto a directory.
+    /// 3: a file was to be put onto a directory, or a directory's mode was to change.
     IsDirectory,
     /// 4: a directory was to be made where something is.
     Exists,

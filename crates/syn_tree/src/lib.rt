@@ -56,7 +56,7 @@ pub use entries::Entries;
 pub use entry::Entry;
 pub use error::TreeError;
 pub use measures::{LONGEST_FILE, LONGEST_SPELLING, MOST_CHILDREN};
-pub use mode::Mode;
+pub use mode::{Mode, is_mode};
 pub use node::Node;
 pub use pair::Pair;
 pub use tree::Tree;

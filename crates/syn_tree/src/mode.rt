@@ -127,6 +127,13 @@ impl Mode {
     }
 }
 
+/// What the type of a mode says: it has nine bits.
+pub fn is_mode(mode: Mode)
+    ensures { IsMode (mode_of mode) }
+{
+    let _ = mode.bits();
+}
+
 /// Three octal digits: of the owner, of the group and of all others.
 impl fmt::Display for Mode {
     ghost output = { λ mode. Some (mode_digits (mode_of mode)) };

@@ -83,8 +83,9 @@ impl Tree {
     /// Why the edit is refused, with no change and no memory taken.
     ///
     /// Refused 6 at the root, 2 where the parent is no directory, 3 where a file would take the
-    /// place of a directory, 4 where a directory would be made where something is, 5 where nothing
-    /// is there to remove, and 7 where the tree would pass a limit.
+    /// place of a directory or a directory's mode would change, 4 where a directory would be made
+    /// where something is, 5 where nothing is there to remove or to change, and 7 where the tree
+    /// would pass a limit.
     pub fn check(&self, edit: &Edit) -> Result<(), TreeError>
         ensures { refusal_in result ≡ edit_refusal self.now (edit_of edit.now) }
     {

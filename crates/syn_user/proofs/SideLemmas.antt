@@ -71,9 +71,6 @@ abbrev pub Gathers : ℕ → SideLine → SideLine → Bytes → Type 0
 Gathers position a b bytes = (pieces : Pieces) × AreFetched position a 0 pieces b
     × (bytes_of pieces ≡ bytes)
 
-pub none_gathered : (position : ℕ) (a : SideLine) → Gathers position a a []
-none_gathered position a = ([], refl, refl)
-
 -- a piece that was asked for from where those before it ended, and the refusal where it was touched
 module _ (position : ℕ) (a b c : SideLine) (bytes : Bytes) (offset : ℕ)
     (ends : offset ≡ length bytes) where

@@ -1,26 +1,21 @@
 -- One request of a user and its reply.
-use Rattle.std.proofs.Common.{◌≡◌, ◌<◌, ◌^◌, ℕ, Bool, true, false, refl, sym, ap, ◌∙◌}
-use Rattle.std.proofs.Common.{Option, subst}
+use Rattle.std.proofs.Common.{◌≡◌, ℕ, Bool, true, false, refl, sym, ap, ◌∙◌, Option, subst}
 use Rattle.std.specs.Io.KnownBytes.{Appends}
 use Rattle.std.specs.Prelude.{Result, Ok, Err, IfErr, IfOk}
 use Rattle.syn_link.specs.Frames.{frame_of}
-use Rattle.syn_message.specs.Laws.{TellingsTell}
-use Rattle.syn_message.specs.UserReplies.{IsLawfulTelling, Telling, Told, telling_spelling}
 use Rattle.syn_message.specs.UserReplies.{told_of}
 use Rattle.syn_message.specs.Users.{IsLawfulWished, Wish, Wished, wished_spelling}
 use Rattle.syn_message.specs.declared.user_reply.UserReply.{UserReply}
 use Rattle.syn_model.specs.Path.{Bytes}
 use Rattle.syn_user.specs.Exchanges as failed
-use Rattle.syn_user.specs.Exchanges.{BreaksOff, Fails, IsHeard, IsNoReply, IsSent, IsTold}
-use Rattle.syn_user.specs.Exchanges.{IsUnheard}
+use Rattle.syn_user.specs.Exchanges.{BreaksOff, Fails, IsHeard, IsSent, IsUnheard}
 use Rattle.syn_user.specs.Exchanges.{goes_on_after, number_after, wished_at}
 use Rattle.syn_user.specs.Lines.{IsUnread, Line}
 use Rattle.syn_user.specs.declared.error.UserError.{UserError}
 use Rattle.syn_user.specs.declared.error.UserError.TheVariants.{BadFrame, BadMessage, Device}
 use Rattle.syn_user.specs.declared.error.UserError.TheVariants.{Memory, Refused, TooLarge}
 use Rattle.syn_user.specs.inner.Parts as part
-use Rattle.syn_user.specs.inner.Parts.{Breaks, HasNoBody, IsAnswered, IsForeign, IsSilent}
-use Rattle.syn_user.specs.inner.Parts.{is_refusal}
+use Rattle.syn_user.specs.inner.Parts.{Breaks, HasNoBody, IsAnswered, IsSilent, is_refusal}
 
 -- the line with another word on whether it goes on
 abbrev pub with_goes : Line → Bool → Line
@@ -31,18 +26,6 @@ with_goes line goes = record {
   goes = goes;
   next = line.next;
 }
-
--- a reply to another request is no reply to this one
-pub no_reply : TellingsTell → (wished : Wished) (telling : Telling) (body : Bytes)
-    → wished.number < 2 ^ 32 → IsLawfulTelling telling → body ≡ telling_spelling telling
-    → IsForeign wished telling → IsNoReply wished body
-no_reply tells wished telling body short lawful spells foreign what answers fits is =
-    let other : Telling = record { number = wished.number; told = what } in
-    foreign what (record {
-      is = tells telling other lawful (record { number = short; lawful = fits })
-          (sym spells ∙ is);
-      answers = answers;
-    })
 
 -- what is left of a reply that may be refused
 if_ok : {A E : Type 0} → (P Q : A → Type 0) (r : Result A E) → ((a : A) → P a → Q a) → IfOk r P
@@ -112,13 +95,6 @@ pub no_body : (line : Line) (wished : Wished) (why : UserError) → HasNoBody wi
     → Breaks line line wished why
 no_body line wished why (part.too_long long) = part.too_long long refl
 no_body line wished why part.wanting = part.unsent Memory refl (refl, refl)
-
--- a reply came over a connection that was open
-pub told_so : (old new : Line) (wish : Wish) (what : Told) → old.goes ≡ true
-    → new.goes ≡ old.goes → IsAnswered old new (wished_at old wish) what
-    → IsTold old new wish what
-told_so old new wish what was same answered =
-    record { went = was; sent = answered.sent; heard = answered.heard; goes = same ∙ was }
 
 sent_with : (old new : Line) (wished : Wished) (goes : Bool) → IsSent old new wished
     → IsSent old (with_goes new goes) wished

@@ -1,16 +1,12 @@
 //! Which requests a frame takes.
-ghost use Rattle.std.specs.Prelude.{◌≡◌, ◌<◌, ◌≤◌, ◌^◌, IfErr, IfNone, IfOk, IfSome, false, length};
-ghost use Rattle.std.specs.Prelude.{true};
+ghost use Rattle.std.specs.Prelude.{◌≡◌, ◌<◌, ◌≤◌, IfErr, IfOk, false, length, true};
 ghost use Rattle.syn_link.specs.Frames.{IsBody};
 ghost use Rattle.syn_link.specs.declared.frames.TheConstants.{MAX_BODY};
 ghost use Rattle.syn_message.specs.Users.{IsLawfulWish, IsLawfulWished, wish_fields, wish_of};
 ghost use Rattle.syn_message.specs.Users.{wished_of, wished_spelling};
-ghost use Rattle.syn_model.specs.Contents.{IsMode};
 ghost use Rattle.syn_model.specs.Event.{AreBytes, Edited};
-ghost use Rattle.syn_model.specs.Path.{IsPath};
 ghost use Rattle.syn_model.specs.Spelling.{event_spelling};
 ghost use Rattle.syn_tree.specs.Edits.{edit_of};
-ghost use Rattle.syn_tree.specs.Modes.{mode_of};
 ghost use Rattle.syn_user.specs.Exchanges.{IsTooLong};
 ghost use Rattle.syn_user.specs.inner.Parts.{HasNoBody};
 ghost use Rattle.syn_wire.specs.Events.{IsSpelledEvent};
@@ -19,9 +15,9 @@ use crate::error::UserError;
 use std::alloc::Global;
 use syn_link::MAX_BODY;
 use syn_message::{AskedByUser, UserRequest, encode_user_request};
-use syn_path::Path;
+use syn_path::is_path;
 use syn_refusal::Refusal;
-use syn_tree::{Edit, Mode};
+use syn_tree::{Edit, is_mode};
 
 /// The body of the request. Refused 7 where a frame takes no body of its length, and 11 where
 /// memory is refused.
@@ -57,7 +53,10 @@ fn is_lawful(request: &UserRequest) -> bool
 {
     match request {
         UserRequest::Edit { user, edit } => is_lawful_edit(*user, edit),
-        UserRequest::Get { path } => is_path(path),
+        UserRequest::Get { path } => {
+            is_path(path);
+            true
+        }
     }
 }
 
@@ -68,33 +67,28 @@ fn is_lawful_edit(user: u32, edit: &Edit) -> bool
         → MAX_BODY < length (event_spelling (Edited user (edit_of edit.now))) }
 {
     match edit {
-        Edit::Put(path, bytes) => is_path(path) && is_short(bytes),
-        Edit::MakeDir(path) => is_path(path),
-        Edit::Remove(path) => is_path(path),
-        Edit::Chmod(path, mode) => is_path(path) && is_mode(*mode),
+        Edit::Put(path, bytes) => {
+            is_path(path);
+            fits_frame(bytes)
+        }
+        Edit::MakeDir(path) => {
+            is_path(path);
+            true
+        }
+        Edit::Remove(path) => {
+            is_path(path);
+            true
+        }
+        Edit::Chmod(path, mode) => {
+            is_path(path);
+            is_mode(*mode);
+            true
+        }
     }
 }
 
-/// Each mode is lawful.
-fn is_mode(mode: Mode) -> bool
-    ensures lawful { IsMode (mode_of mode) }
-    ensures always { result ≡ true }
-{
-    let _ = mode.bits();
-    true
-}
-
-/// Each path is lawful.
-fn is_path(path: &Path) -> bool
-    ensures lawful { IsPath path.now }
-    ensures always { result ≡ true }
-{
-    let _ = path.names();
-    true
-}
-
 /// Whether there are no more bytes than a frame takes.
-fn is_short(bytes: &[u8]) -> bool
+fn fits_frame(bytes: &[u8]) -> bool
     ensures bytes { AreBytes bytes.now }
     ensures short { result ≡ true → length bytes.now ≤ MAX_BODY }
     ensures long { result ≡ false → MAX_BODY < length bytes.now }

@@ -3,7 +3,7 @@ use Rattle.std.proofs.Common.{◌≡◌, ◌≢◌, ℕ, ◌∷◌, ◌++◌, le
 use Rattle.std.proofs.Common.{arith, subst, Option}
 use Rattle.std.specs.Int.{to_be_bytes, w32}
 use Rattle.syn_model.specs.Path.{Bytes, Path, IsPath, path_spelling}
-use Rattle.syn_model.specs.Version.{Version, One}
+use Rattle.syn_model.specs.Version.{Version}
 use Rattle.syn_model.specs.Contents.{IsMode}
 use Rattle.syn_model.specs.Tree.{Tree}
 use Rattle.syn_model.specs.Event.{Event, Token, Edited, Began, Replaced, Put, MakeDir, Remove}
@@ -326,19 +326,4 @@ chmod_none version fields none (Edited w (Remove x)) rest begins =
 chmod_none version fields none (Began w) rest begins =
     other_kind 6 4 _ _ (λ same. omega (arith, same)) begins.spelled
 chmod_none version fields none (Replaced t p k new) rest begins =
-    other_kind 6 5 _ _ (λ same. omega (arith, same)) begins.spelled
-
--- in the first version no mode is changed
-pub chmod_never : (fields : Bytes) →
-    IsReading (IsSpelledEventIn One) (event_spelling_in One) (6 ∷ fields) None
-chmod_never fields (Edited user (Chmod path mode)) rest begins = begins.lawful.0.1.2
-chmod_never fields (Edited w (Put x y)) rest begins =
-    other_kind 6 1 _ _ (λ same. omega (arith, same)) begins.spelled
-chmod_never fields (Edited w (MakeDir x)) rest begins =
-    other_kind 6 2 _ _ (λ same. omega (arith, same)) begins.spelled
-chmod_never fields (Edited w (Remove x)) rest begins =
-    other_kind 6 3 _ _ (λ same. omega (arith, same)) begins.spelled
-chmod_never fields (Began w) rest begins =
-    other_kind 6 4 _ _ (λ same. omega (arith, same)) begins.spelled
-chmod_never fields (Replaced t p k new) rest begins =
     other_kind 6 5 _ _ (λ same. omega (arith, same)) begins.spelled

@@ -15,8 +15,7 @@ use Rattle.std.proofs.lemmas.List.{map-append}
 use Rattle.std.proofs.lemmas.List.Elements.{filter_map-append}
 use Rattle.syn_model.specs.Path.{Bytes, Name, Path, name_cmp, path_cmp, root, strip_prefix}
 use Rattle.syn_model.specs.Contents.{Contents}
-use Rattle.syn_model.specs.Tree.{Tree, Content, Pair, Directory, File}
-use Rattle.syn_model.specs.Tree.{subtree, taken_off}
+use Rattle.syn_model.specs.Tree.{Tree, Content, Pair, Directory, File, subtree, taken_off}
 use Rattle.syn_model.specs.Limits.{children, only_name}
 use Rattle.syn_model.proofs.PathLemmas.{name_total, path_itself, same_name, strip_prefix-append}
 use Rattle.syn_placed.specs.Pairs.{Pairs, rooted, under}

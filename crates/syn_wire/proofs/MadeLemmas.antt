@@ -33,8 +33,7 @@ use Rattle.syn_wire.specs.Trees.{NoTreeBeginsAnother, IsDirectoryTree, IsDirecto
 use Rattle.syn_wire.specs.Trees.{IsOptionalTreeIn, IsWholeTreeIn}
 use Rattle.syn_wire.specs.inner.Kinds.{IsContentOf, OfContents}
 use Rattle.syn_wire.specs.inner.Parts.{AreContentsOf, ReadsParts, PartsAreRead, StandsAt}
-use Rattle.syn_wire.specs.inner.Parts.{parts_pairs}
-use Rattle.syn_wire.specs.inner.Parts.{parts_spelling}
+use Rattle.syn_wire.specs.inner.Parts.{parts_pairs, parts_spelling}
 use Rattle.syn_wire.proofs.KindLemmas.{files_tell, root_fits}
 use Rattle.syn_wire.proofs.NameLemmas.{first_or}
 use Rattle.syn_wire.proofs.NodeLemmas.{file_spelled}
@@ -302,13 +301,6 @@ no_whole_of_kind version bytes fields kind is other t rest begins =
     begins.lawful.tree.rooted))))
 
 -- ---- whole trees
-
-pub no_whole : (version : Version) (fields : Bytes) → IsReading (IsDirectoryTreeIn version)
-    (spelling_in version) (2 ∷ fields) None → IsReading (IsWholeTreeIn version)
-    (spelling_in version)
-    (2 ∷ fields) None
-no_whole version fields none t rest begins =
-    none t rest (record { lawful = as_directory t begins.lawful; spelled = begins.spelled })
 
 pub full_whole : NoTreeBeginsAnother → (version : Version) (fields after : Bytes) (t : Tree) →
     BeginsWith (IsDirectoryTreeIn version) (spelling_in version) (2 ∷ fields) t after → fits_replica

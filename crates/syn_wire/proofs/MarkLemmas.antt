@@ -8,8 +8,7 @@ use Rattle.std.proofs.lemmas.Grind.{flat_map-append}
 use Rattle.std.proofs.lemmas.List.{length-append, take_more}
 use Rattle.std.proofs.lemmas.List.Sums.{count_by-le-length}
 use Rattle.syn_model.specs.Path.{Path, path_cmp, root}
-use Rattle.syn_model.specs.Tree.{Tree, Pair, HasParents, absent}
-use Rattle.syn_model.specs.Tree.{is_present}
+use Rattle.syn_model.specs.Tree.{Tree, Pair, HasParents, absent, is_present}
 use Rattle.syn_model.specs.Limits.{children, fits_archive, fits_paths}
 use Rattle.syn_model.specs.MarkSpelling.{mark_spelling_in}
 use Rattle.syn_model.specs.Spelling.{content_spelling}

@@ -17,8 +17,7 @@ use Rattle.syn_model.proofs.VersionLemmas.{marks_now}
 use Rattle.syn_model.specs.Version.{Version}
 use Rattle.syn_tree.proofs.LawfulLemmas.{each-find}
 use Rattle.syn_model.specs.Contents.{digest_spelling_in}
-use Rattle.syn_wire.specs.Marks.{IsMarkTree, IsMarkTreeIn, IsOptionalMarkTreeIn}
-use Rattle.syn_wire.specs.Marks.{NoMarksBeginOthers}
+use Rattle.syn_wire.specs.Marks.{IsMarkTree, IsMarkTreeIn, IsOptionalMarkTreeIn, NoMarksBeginOthers}
 use Rattle.syn_wire.specs.Reads.{BeginsWith, IsReading}
 use Rattle.syn_wire.specs.inner.Kinds.{IsContentOf, OfMarks}
 use Rattle.syn_wire.specs.inner.Parts.{AreContentsOf, PartIsRead, ReadsPart, StandsAt}

@@ -14,8 +14,7 @@ use Rattle.std.proofs.lemmas.List.Folds.{flat_map-map}
 use Rattle.std.proofs.lemmas.Option.{none-some, same_Some}
 use Rattle.syn_model.specs.Path.{Bytes, Name, Path, IsName, IsPath, root}
 use Rattle.syn_model.specs.Contents.{Contents}
-use Rattle.syn_model.specs.Tree.{Tree, Content, Pair, Directory, File, is_present}
-use Rattle.syn_model.specs.Tree.{subtree}
+use Rattle.syn_model.specs.Tree.{Tree, Content, Pair, Directory, File, is_present, subtree}
 use Rattle.syn_model.specs.Limits.{children}
 use Rattle.syn_model.proofs.TreeLemmas.{get-subtree}
 use Rattle.syn_model.proofs.HistoryLemmas.{no_file}

@@ -1,7 +1,7 @@
 -- What is spelled at a path is what stands there, and the pairs below it, one after the other.
 use Rattle.std.proofs.Common.{◌≡◌, ◌<◌, ◌^◌, ℕ, Bool, true, false, cond, ◌&&◌, nat_le, []}
 use Rattle.std.proofs.Common.{◌∷◌, ◌++◌, length, filter, flat_map, refl, sym, ap, ap₂, ◌∙◌, subst}
-use Rattle.std.proofs.Common.{Some, is_some, is_lt, append_assoc, append-nil, true≢false, arith}
+use Rattle.std.proofs.Common.{Some, is_some, is_lt, append-nil, true≢false, arith}
 use Rattle.std.specs.List.{list_all}
 use Rattle.std.specs.Ordering.{eq_by_cmp}
 use Rattle.std.specs.FinMap.{find, entries, get, get-entries}
@@ -21,8 +21,7 @@ use Rattle.syn_placed.proofs.RisingLemmas.{Rising, After}
 use Rattle.syn_placed.proofs.TreeLemmas.{rising-entries}
 use Rattle.syn_tree.proofs.PartLemmas.{subtree-parents}
 use Rattle.syn_tree.proofs.RootedLemmas.{is_rooted, below_part}
-use Rattle.syn_wire.specs.Trees.{last_name_spelling, kind_spelling, standing_spelling}
-use Rattle.syn_wire.specs.Trees.{pair_spelling}
+use Rattle.syn_wire.specs.Trees.{last_name_spelling, standing_spelling, pair_spelling}
 use Rattle.syn_wire.proofs.WalkLemmas.{spelling_walks}
 
 -- a longer path has the same last name
@@ -57,16 +56,6 @@ part_spelled t at c h is =
     ∙ ap₂ (λ (k : ℕ) (ys : Bytes). standing_spelling k c ++ ys) (ap length same)
     (sym (part_pairs t at r.below after)
     ∙ ap (flat_map (pair_spelling t)) (sym (below_part t at c r))))
-
--- a kind before a file's bytes
-pub kind_file : (count : ℕ) (c : Content) (bytes : Bytes) → standing_spelling count c
-    ≡ kind_spelling count c ++ bytes → (head written : Bytes) →
-    (written ++ (head ++ kind_spelling count c)) ++ bytes
-    ≡ written ++ (head ++ standing_spelling count c)
-kind_file count c bytes is head written =
-    append_assoc written (head ++ kind_spelling count c) bytes
-    ∙ ap (λ (xs : Bytes). written ++ xs) (append_assoc head (kind_spelling count c) bytes
-    ∙ ap (λ (xs : Bytes). head ++ xs) (sym is))
 
 -- ---- limits
 

@@ -1,5 +1,5 @@
 -- One value after another.
-use Rattle.std.proofs.Common.{ℕ, List, ◌++◌, sym, ap, ap₂, ◌∙◌, None, append_assoc}
+use Rattle.std.proofs.Common.{ℕ, List, ◌++◌, sym, ap₂, ◌∙◌, None, append_assoc}
 use Rattle.syn_wire.specs.Reads.{BeginsWith, IsReading, NoneBeginsAnother}
 use Rattle.syn_wire.specs.Events.{Both, both_spelling}
 
@@ -22,14 +22,6 @@ module _ {A B : Type 0} (P : A → Type 0) (Q : B → Type 0) (f : A → List �
       let same = tells a pair.0 after (g pair.1 ++ rest) found.lawful begins.lawful.0
       (sym found.spelled ∙ (begins.spelled ∙ append_assoc (f pair.0) (g pair.1) rest)) in
       none pair.1 rest (record { lawful = begins.lawful.1; spelled = same.1 })
-
-  pub both_found : (bytes after rest : List ℕ) (a : A) (b : B) → BeginsWith P f bytes a after →
-      BeginsWith Q g after b rest → BeginsWith (Both P Q) (both_spelling f g) bytes (a, b) rest
-  both_found bytes after rest a b first second = record {
-    lawful = (first.lawful, second.lawful);
-    spelled =
-        first.spelled ∙ (ap (λ xs. f a ++ xs) second.spelled ∙ sym (append_assoc (f a) (g b) rest));
-  }
 
   -- two that tell themselves tell the pair
   pub both_tell : NoneBeginsAnother P f → NoneBeginsAnother Q g →

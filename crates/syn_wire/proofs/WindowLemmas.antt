@@ -42,16 +42,6 @@ take_append n xs ys = by_test (nat_le n (length xs)) refl
         ap (λ (m : ℕ). take m (xs ++ ys)) is ∙ (take-append-add xs ys (n - length xs)
         ∙ ap (λ (zs : Bytes). zs ++ take (n - length xs) ys) (sym whole))
 
--- nothing was written so far
-pub shows_nothing : (offset : ℕ) (kept : Bytes) (skip : ℕ) → kept ≡ [] → skip ≡ offset →
-    Shows offset [] kept skip
-shows_nothing offset kept skip none all = record {
-  piece =
-      none ∙ sym (ap (take 32768) (drop_all offset [] (omega arith)) ∙ take_all 32768 []
-      (omega arith));
-  to_come = omega (arith, all);
-}
-
 -- what a window keeps of more bytes
 pub shows_more : (offset : ℕ) (written bytes kept : Bytes) (skip : ℕ) (more : Bytes)
     (left passed room : ℕ) → Shows offset written kept skip → passed ≡ min skip (length bytes) →

@@ -14,9 +14,6 @@ pub record IsOptionalMarkTreeIn (version : Version) (t : Tree) : Type 0 where
   pub marks : IsMarksIn version t
   pub fits : fits_archive t ≡ true
 
-abbrev pub IsOptionalMarkTree : Tree → Type 0
-IsOptionalMarkTree t = IsOptionalMarkTreeIn current_version t
-
 -- something is there
 pub record IsMarkTreeIn (version : Version) (t : Tree) : Type 0 where
   pub optional : IsOptionalMarkTreeIn version t

@@ -79,6 +79,3 @@ NoTreeBeginsAnother =
 pub record IsWholeTreeIn (version : Version) (t : Tree) : Type 0 where
   pub tree : IsTreeIn version t
   pub fits : fits_replica t ≡ true
-
-abbrev pub IsWholeTree : Tree → Type 0
-IsWholeTree t = IsWholeTreeIn current_version t

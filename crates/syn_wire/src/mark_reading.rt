@@ -1,5 +1,5 @@
 //! What is read of trees of marks.
-ghost use Rattle.std.specs.Prelude.{◌≡◌, IfOk, option_map};
+ghost use Rattle.std.specs.Prelude.{IfOk, option_map};
 ghost use Rattle.syn_model.specs.MarkSpelling.{mark_spelling_in};
 ghost use Rattle.syn_mark.specs.Marks.{or_absent};
 ghost use Rattle.syn_wire.specs.Marks.{IsMarkTreeIn, IsOptionalMarkTreeIn};

@@ -1,10 +1,10 @@
 //! What is read of the parts of a directory, of trees and of marks alike.
-ghost use Rattle.std.specs.Prelude.{◌≡◌, ◌∷◌, IfOk, option_map};
+ghost use Rattle.std.specs.Prelude.{◌∷◌, IfOk, option_map};
 ghost use Rattle.syn_wire.specs.Reads.{IsReading};
 ghost use Rattle.syn_wire.specs.Trees.{last_name_spelling};
 ghost use Rattle.syn_wire.specs.Versions.{version_of};
-ghost use Rattle.syn_wire.specs.inner.Parts.{IsChildOf, ReadsPart, ReadsParts};
-ghost use Rattle.syn_wire.specs.inner.Parts.{PartIsRead, PartsAreRead};
+ghost use Rattle.syn_wire.specs.inner.Parts.{IsChildOf, ReadsPart, ReadsParts, PartIsRead};
+ghost use Rattle.syn_wire.specs.inner.Parts.{PartsAreRead};
 
 use crate::error::WireError;
 use crate::number::read_u16;

@@ -1,6 +1,6 @@
 //! A piece of what is spelled at a path, written from the pairs of the tree that stand there.
-ghost use Rattle.std.specs.Prelude.{◌≡◌, ℕ, ◌++◌, ◌<◌, ◌^◌, length, take, drop, true, Some};
-ghost use Rattle.std.specs.Prelude.{IfOk, OnOk};
+ghost use Rattle.std.specs.Prelude.{◌≡◌, ℕ, ◌++◌, ◌<◌, ◌^◌, length, take, drop, true, Some, IfOk};
+ghost use Rattle.std.specs.Prelude.{OnOk};
 ghost use Rattle.std.specs.FinMap.{get};
 ghost use Rattle.syn_model.specs.Limits.{fits_content, greatest_piece};
 ghost use Rattle.syn_model.specs.Path.{Bytes};
@@ -19,7 +19,8 @@ use syn_tree::{Found, Pair, Tree};
 
 /// How many bytes spell what stands at the path, or nothing.
 pub fn part_length(tree: &Tree, path: &Path) -> usize
-    ensures { result ≡ length (spelling (subtree tree.now path.now)) }
+    ensures length { result ≡ length (spelling (subtree tree.now path.now)) }
+    ensures short { result < 2 ^ 32 }
 {
     let _whole = tree.entries();
     match tree.get(path) {

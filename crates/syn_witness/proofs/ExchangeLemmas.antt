@@ -10,11 +10,9 @@ use Rattle.syn_model.specs.Archive.{Recorded, new_archive}
 use Rattle.syn_model.proofs.TreeLemmas.{subtree-replace}
 use Rattle.syn_witness.specs.Rows.{file_bytes}
 use Rattle.syn_headline.specs.Machine.{record_size}
-use Rattle.syn_headline.specs.Side.{Fetch, Stage, Replace}
-use Rattle.syn_headline.specs.Side.{Piece, Staged, Done, token_of}
+use Rattle.syn_headline.specs.Side.{Fetch, Stage, Replace, Piece, Staged, Done, token_of}
 use Rattle.syn_headline.specs.Network.{Left, Right}
-use Rattle.syn_headline.specs.Coordinator.{MakesPlan, WasTaken, BothBegun, fault_of, hearing}
-use Rattle.syn_headline.specs.Coordinator.{start_of, makes, stands, done}
+use Rattle.syn_headline.specs.Coordinator.{start_of, stands, done}
 use Rattle.syn_headline.specs.Coordinator as coordinator
 use Rattle.syn_headline.specs.World.{Edits, Runs, Start, Deliver, Steps}
 use Rattle.syn_headline.specs.Runs.{stores_of}
@@ -22,16 +20,14 @@ use Rattle.syn_headline.specs.Headline.{IsQuietSession, IsNoEdit, formatted}
 use Rattle.syn_model.specs.MarkSpelling.{kept_spelling}
 use Rattle.syn_witness.specs.Witness.{opened_world, a_path, b_path, put_one, put_two, one, two}
 use Rattle.syn_witness.specs.Witness.{complete, HasBoth, FilesAreExchanged}
-use Rattle.syn_witness.proofs.WitnessFiles.{letter_size}
-use Rattle.syn_witness.proofs.WitnessFiles.{path_of_letter, put_first}
+use Rattle.syn_witness.proofs.WitnessFiles.{letter_size, path_of_letter, put_first}
 use Rattle.syn_witness.proofs.WitnessMessages.{number_of}
 use Rattle.syn_witness.proofs.WitnessSteps.{took, runs_with, asks_so, goes_on_so}
 use Rattle.syn_witness.proofs.WitnessSteps.{not_last, ends_so, keeps_so, recorded, runs_on_from}
 use Rattle.syn_witness.proofs.WitnessLemmas.{letter_a}
 use Rattle.syn_witness.proofs.ExchangeSides.{two_bytes, right_done}
 use Rattle.syn_witness.proofs.ExchangeSides.{left_done, begun_archive, first_archive, both_archive}
-use Rattle.syn_witness.proofs.ExchangeSides.{first_planned, second_planned, plan}
-use Rattle.syn_witness.proofs.ExchangeSides.{left_fetches}
+use Rattle.syn_witness.proofs.ExchangeSides.{first_planned, second_planned, plan, left_fetches}
 use Rattle.syn_witness.proofs.ExchangeSides.{right_stages, right_replaces, right_fetches}
 use Rattle.syn_witness.proofs.ExchangeSides.{left_stages, left_replaces, first_edited, both_edited}
 use Rattle.syn_witness.proofs.ExchangeSides.{started, left_begun, both_begun, right_awaited}

@@ -15,7 +15,7 @@ use Rattle.syn_headline.specs.Side.{Begin, ListAt, Fetch, Begun, Listed, NotDir}
 use Rattle.syn_headline.specs.Network.{Which, Left, Right}
 use Rattle.syn_headline.specs.Planning.{SeesBoth}
 use Rattle.syn_headline.specs.Coordinator.{MakesPlan, WasTaken, BothBegun, fault_of, hearing}
-use Rattle.syn_headline.specs.Coordinator.{start_of, makes, stands, done}
+use Rattle.syn_headline.specs.Coordinator.{start_of, makes, stands}
 use Rattle.syn_headline.specs.Coordinator as coordinator
 use Rattle.syn_headline.specs.World.{Start, Deliver, Steps}
 use Rattle.syn_witness.specs.Witness.{a_path, b_path, one, two}
@@ -35,13 +35,10 @@ use Rattle.syn_witness.proofs.WitnessSession.{root_lawful, none_there}
 use Rattle.syn_witness.proofs.ExchangeSides.{scans, listed_at, made}
 use Rattle.syn_witness.proofs.ExchangeSides.{begun_archive, first_archive, both_archive}
 use Rattle.syn_witness.proofs.ExchangeSides.{first_planned, second_planned, plan, both_begin}
-use Rattle.syn_witness.proofs.ExchangeSides.{right_begins, both_list, right_lists}
-use Rattle.syn_witness.proofs.ExchangeSides.{both_edited}
+use Rattle.syn_witness.proofs.ExchangeSides.{right_begins, both_list, right_lists, both_edited}
 use Rattle.syn_witness.proofs.ExchangeSides.{started, both_begun, right_awaited}
-use Rattle.syn_witness.proofs.ExchangeSides.{listing, both_listed, right_list_awaited}
-use Rattle.syn_witness.proofs.ExchangeSides.{fetching}
-use Rattle.syn_witness.proofs.ExchangeSides.{letter_b}
-use Rattle.syn_witness.proofs.ExchangeSides.{transcript}
+use Rattle.syn_witness.proofs.ExchangeSides.{listing, both_listed, right_list_awaited, fetching}
+use Rattle.syn_witness.proofs.ExchangeSides.{letter_b, transcript}
 
 -- The plan is of what the sides listed
 have_begun : BothBegun (take 4 transcript)

@@ -9,10 +9,9 @@ use Rattle.syn_model.specs.Refusal.{Refusal, NoAnswer, Memory, TooLarge, BadMess
 use Rattle.syn_model.specs.Refusal.{JournalFull}
 use Rattle.syn_headline.specs.Report.{Report, Complete, Incomplete}
 use Rattle.syn_headline.specs.Machine.{Status}
-use Rattle.syn_headline.specs.Coordinator.{CoordinatorMachine, Running, Exchange, Call, Walk, Takes}
+use Rattle.syn_headline.specs.Coordinator.{CoordinatorMachine, Running, Exchange, Call, Walk}
 use Rattle.syn_headline.specs.Coordinator.{EndsFor, CoordinatorTicks, is_resent, is_unstable}
-use Rattle.syn_headline.specs.Coordinator.{is_not_dir, is_whole, report_of, hearing, advanced}
-use Rattle.syn_headline.specs.Coordinator.{fault_of}
+use Rattle.syn_headline.specs.Coordinator.{is_whole, report_of, hearing, advanced}
 use Rattle.syn_headline.specs.Coordinator as coordinator
 use Rattle.syn_headline.proofs.FineRuns.{owe}
 use Rattle.syn_witness.specs.Forbidden.{StartsFresh, BeginsOnce, FaultsAlone, UnstableIsIncomplete}

@@ -8,11 +8,10 @@ use Rattle.syn_model.specs.Archive.{Archive, Kept}
 use Rattle.syn_headline.specs.Machine.{Status, Up, Journaled, idle, written, unwritten, Compacts}
 use Rattle.syn_headline.specs.Machine.{compacted, not_compacted}
 use Rattle.syn_headline.specs.Planning.{Planned}
-use Rattle.syn_headline.specs.Coordinator.{CoordinatorMachine, Call, Walk, Exchange, Running}
+use Rattle.syn_headline.specs.Coordinator.{Walk, Exchange, Running}
 use Rattle.syn_headline.specs.Coordinator.{archive_layout, past, refusing, making_room, start_of}
-use Rattle.syn_headline.specs.Coordinator.{IsToKeep, HasNoRoom, Keeps, writes, cut_after, Takes}
-use Rattle.syn_headline.specs.Coordinator.{Advances, EndsFor, fault_of, hearing, advanced}
-use Rattle.syn_headline.specs.Coordinator.{report_of}
+use Rattle.syn_headline.specs.Coordinator.{HasNoRoom, Keeps, writes, cut_after}
+use Rattle.syn_headline.specs.Coordinator.{Advances, EndsFor, hearing, advanced, report_of}
 use Rattle.syn_headline.specs.Coordinator as coordinator
 use Rattle.syn_headline.proofs.View.{not_up}
 use Rattle.syn_witness.proofs.ForbiddenLemmas.{one_report}

@@ -13,9 +13,8 @@ use Rattle.syn_headline.specs.Side.{Request, ListAt}
 use Rattle.syn_headline.specs.Network.{Which, Left, Right, Message, Asks, Answers}
 use Rattle.syn_headline.specs.Planning.{Planned}
 use Rattle.syn_headline.specs.Coordinator.{Walk, Exchange, Running, BothBegun, MayAsk, AsksNext}
-use Rattle.syn_headline.specs.Coordinator.{asked_count, numbered, messages_to, sent_now, hearing}
-use Rattle.syn_headline.specs.Coordinator.{after_taking, past, refusing, making_room, Takes}
-use Rattle.syn_headline.specs.Coordinator.{Advances}
+use Rattle.syn_headline.specs.Coordinator.{asked_count, numbered, messages_to, sent_now}
+use Rattle.syn_headline.specs.Coordinator.{after_taking, past, refusing, making_room, Advances}
 use Rattle.syn_headline.specs.Coordinator.{Keeps, writes, cut_after, IsToKeep}
 use Rattle.syn_headline.specs.Coordinator as coordinator
 use Rattle.syn_witness.specs.Forbidden.{ListsAfterBegun, IsPassed, RefusedIsPassed, IsDueWithin}

@@ -1,5 +1,5 @@
 -- A directory with one file, whose name is a letter, and its marks.
-use Rattle.std.proofs.Common.{◌≤◌, ◌+◌, ◌≡◌, ◌≢◌, ℕ, suc, zero, ◌<◌, ◌^◌, Bool, true, false}
+use Rattle.std.proofs.Common.{◌+◌, ◌≡◌, ◌≢◌, ℕ, suc, zero, ◌<◌, ◌^◌, Bool, true, false}
 use Rattle.std.proofs.Common.{true≢false, cond, ◌&&◌, nat_le, List, [], ◌∷◌, ◌++◌, length, refl}
 use Rattle.std.proofs.Common.{sym, ap, ◌∙◌, subst, Some, None, arith, inr}
 use Rattle.std.specs.Prelude.{flat_map, Contains, get_or}
@@ -218,10 +218,6 @@ letter_size letter bytes =
     (2 ∷ 1 ∷ 1 ∷ letter ∷ content_spelling digest_spelling
     (spelling_within digest_spelling (len marks)) marks content)) at
     ∙ ap (λ n. 5 + suc (suc (suc (suc (suc (suc (suc n))))))) (length-sha256 bytes)
-
-pub letter_fits : (letter : ℕ) (bytes : Bytes) (room : ℕ) → 44 ≤ room →
-    record_size (kept_spelling (Recorded (letter_path letter) (mark (file bytes)))) ≤ room
-letter_fits letter bytes room h = subst (λ size. size ≤ room) (sym (letter_size letter bytes)) h
 
 -- an archive of no marks
 pub no_marks : mark_spelling empty_directory ≡ 2 ∷ 0 ∷ 0 ∷ []

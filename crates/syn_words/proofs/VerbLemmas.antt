@@ -7,8 +7,7 @@ use Rattle.clap.specs.Words.{Row, Text, first_of}
 use Rattle.syn_path.specs.declared.side.Side.{Side}
 use Rattle.syn_tree.specs.Modes.{mode_digits, mode_of}
 use Rattle.syn_words.specs.Reads.{AreGiven, HasMode, HasPlace, HasUser, HasValues, IsEdit}
-use Rattle.syn_words.specs.Reads.{HasNumber}
-use Rattle.syn_words.specs.Reads.{IsGiven, IsNoMode, TakesPreference, IsOtherSide}
+use Rattle.syn_words.specs.Reads.{HasNumber, IsGiven, IsNoMode, TakesPreference, IsOtherSide}
 use Rattle.syn_words.specs.Reads.{IsNoNumber, IsNumber, IsOtherKind, IsWrong, IsWrongIn}
 use Rattle.syn_words.specs.Reads.{MayHaveNumber, MayHaveSide, NothingReads, kind_word, side_word}
 use Rattle.syn_words.specs.Reads.{verb_of}

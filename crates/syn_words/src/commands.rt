@@ -17,7 +17,7 @@ An image is a file of 8 MiB. It holds a replica, which is a tree of files and di
 history of its edits, or an archive, which is what two replicas last agreed on. A pair is the number
 of the two replicas that are to be kept the same, and of their archive. A user is the number of
 somebody who edits. HOST:PORT is the name or the address of a machine, a colon and the number of a
-port, as in localhost:7070, where a server listens. A folder of yours is read and written by
+port, as in localhost:7007, where a server listens. A folder of yours is read and written by
 commands that have DIR among their words, and by no others.";
 
 /// What the help says of the flag of each command.

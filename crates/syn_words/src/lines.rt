@@ -1,9 +1,8 @@
 //! The line of each command, from the values that `clap` found.
 ghost use Rattle.std.specs.Prelude.{◌≡◌, IfOk, IfErr};
 ghost use Rattle.clap.specs.Words.{found_of, rows_of};
-ghost use Rattle.syn_words.specs.Reads.{HasExisting, HasMode, HasNumber, HasPlace, HasText};
-ghost use Rattle.syn_words.specs.Reads.{HasUser, IsEdit, IsNoNumber, MayHaveNumber, MayHaveSide};
-ghost use Rattle.syn_words.specs.Reads.{TakesPreference, kind_word};
+ghost use Rattle.syn_words.specs.Reads.{HasExisting, HasMode, HasNumber, HasText, HasUser, IsEdit};
+ghost use Rattle.syn_words.specs.Reads.{MayHaveNumber, MayHaveSide, TakesPreference, kind_word};
 ghost use Rattle.syn_words.specs.Verbs.{edit_verb, name_of};
 ghost use Rattle.syn_tree.specs.Modes.{mode_digits, mode_of};
 ghost use Rattle.syn_words.specs.inner.Lacking.{IsLack, IsLineOf};

@@ -1,8 +1,7 @@
 -- A run of a world from three disks, and the opening after it.
 use Rattle.std.proofs.Common.{◌≡◌, ◌∙◌, ◌<◌, ℕ, List, Result, Ok, Err, Some, ap, option_map}
 use Rattle.std.proofs.Common.{refl, subst, sym}
-use Rattle.std.specs.Prelude.{◌^◌}
-use Rattle.std.specs.Prelude.{IfErr, IfOk}
+use Rattle.std.specs.Prelude.{◌^◌, IfErr, IfOk}
 use Rattle.syn_disk.specs.Arms.{Arms, no_arms}
 use Rattle.syn_disk.specs.declared.disk.Disk.{Ghosts}
 use Rattle.syn_headline.specs.Acknowledged.{Stores}
@@ -20,8 +19,7 @@ use Rattle.syn_host.specs.declared.side.SideHost.{SideHost}
 use Rattle.syn_host.specs.declared.side.SideHost.TheVariants as host
 use Rattle.syn_model.specs.Path.{Bytes}
 use Rattle.syn_recovery.specs.Headline.{Disks as Shown, DisksStand, Headline, IsCrashSafe}
-use Rattle.syn_recovery.specs.Headline.{IsOpenedFrom}
-use Rattle.syn_recovery.specs.Headline.{MayBeLeft, disk_of}
+use Rattle.syn_recovery.specs.Headline.{IsOpenedFrom, MayBeLeft, disk_of}
 use Rattle.syn_recovery.specs.Machines.{of_archive, of_side}
 use Rattle.syn_recovery.specs.Meaning.{MayBeOf}
 use Rattle.syn_world.specs.Headlines.{AreSafe, IsSafeRun, MayHold, MayRun, Recovers}

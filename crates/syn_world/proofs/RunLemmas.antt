@@ -7,8 +7,7 @@ use Rattle.std.proofs.lemmas.List.{append_assoc}
 use Rattle.syn_disk.specs.declared.disk.Disk.{Ghosts}
 use Rattle.syn_headline.specs.Network.{Message as Sent}
 use Rattle.syn_headline.specs.World.{World as ModelWorld, Step, Steps, Runs}
-use Rattle.syn_world.specs.Runs.{Attempts, EndsWithin, HasMade, HasRun, HasTried}
-use Rattle.syn_world.specs.Runs.{no_memory, steps}
+use Rattle.syn_world.specs.Runs.{Attempts, EndsWithin, HasMade, HasRun, HasTried, no_memory, steps}
 use Rattle.syn_world.specs.Worlds.{HasMachines, IsRunning, IsWorld, RunsMachines, StaysSo}
 use Rattle.syn_world.specs.Worlds.{is_spent, message_of, running_in}
 use Rattle.syn_world.specs.declared.lists.Message.{Message}

@@ -1,11 +1,12 @@
 //! Which replies of a side can be sent.
-ghost use Rattle.std.specs.Prelude.{◌≡◌, ◌↔◌, ◌<◌, ◌^◌, All, IsTrue};
+ghost use Rattle.std.specs.Prelude.{◌↔◌, All, IsTrue};
 ghost use Rattle.syn_mark.specs.Marks.{content_of};
 ghost use Rattle.syn_message.specs.Listings.{AreRising, IsEntry, IsListing, entries_of, entry_of};
 ghost use Rattle.syn_message.specs.Replies.{IsFetchedBytes, IsLawfulReply, reply_of};
 
 use syn_mark::{Mark, is_mark};
 use syn_message::{LONGEST_PIECE, Reply};
+use syn_model::{is_long, is_short};
 use syn_path::Name;
 use syn_tree::MOST_CHILDREN;
 
@@ -15,30 +16,26 @@ pub(crate) fn can_be_sent(reply: &Reply) -> bool
     ensures { IsTrue result ↔ IsLawfulReply (reply_of reply.now) }
 {
     match reply {
-        Reply::Begun { position } => is_long(*position),
-        Reply::Listed { position, entries } => is_long(*position) && is_listing(entries),
-        Reply::NotDir { position } => is_long(*position),
-        Reply::Piece { total, bytes } => is_short(*total) && is_piece(bytes),
+        Reply::Begun { position } => {
+            is_long(*position);
+            true
+        }
+        Reply::Listed { position, entries } => {
+            is_long(*position);
+            is_listing(entries)
+        }
+        Reply::NotDir { position } => {
+            is_long(*position);
+            true
+        }
+        Reply::Piece { total, bytes } => {
+            is_short(*total);
+            is_piece(bytes)
+        }
         Reply::Staged => true,
         Reply::Done => true,
         Reply::Refused(_) => true,
     }
-}
-
-/// Eight bytes spell it.
-fn is_long(number: u64) -> bool
-    ensures { IsTrue result ↔ (number < 2 ^ 64) }
-{
-    let _ = number;
-    true
-}
-
-/// Four bytes spell it.
-fn is_short(number: u32) -> bool
-    ensures { IsTrue result ↔ (number < 2 ^ 32) }
-{
-    let _ = number;
-    true
 }
 
 /// Not more bytes than are fetched at a time.

@@ -2,10 +2,8 @@
 use Rattle.std.specs.Prelude.{◌≡◌, ◌≢◌, ◌<◌, ◌^◌, ℕ, List, map, Option, Some, None}
 use Rattle.std.specs.Global.{Vec}
 use Rattle.syn_model.specs.Path.{Bytes}
-use Rattle.syn_model.specs.Archive.{Archive, Kept, CanKeep, CanKeepIn, after_kept}
-use Rattle.syn_model.specs.Archive.{archive_of}
-use Rattle.syn_model.specs.ArchiveImage.{ArchiveStandsForIn, AllKeptIn, IsArchive}
-use Rattle.syn_model.specs.ArchiveImage.{IsArchiveIn}
+use Rattle.syn_model.specs.Archive.{Archive, Kept, CanKeep, CanKeepIn, after_kept, archive_of}
+use Rattle.syn_model.specs.ArchiveImage.{ArchiveStandsForIn, AllKeptIn, IsArchive, IsArchiveIn}
 use Rattle.syn_model.specs.MarkSpelling.{archive_spelling_in, kept_spelling_in}
 use Rattle.syn_model.specs.Version.{Version}
 use Rattle.syn_image.specs.Archives.{IsSpelledKept, archive_in}

@@ -1,10 +1,10 @@
 //! An opening: an archive finds out what a disk, or its own, stands for.
-ghost use Rattle.std.specs.Prelude.{◌≡◌, ◌≢◌, ◌⊎◌, ◌<◌, ◌^◌, ℕ, true, false, None, Some, IfOk};
-ghost use Rattle.std.specs.Prelude.{IfErr, IsErrAnd, OnOk, MatchResult};
+ghost use Rattle.std.specs.Prelude.{◌≡◌, ◌⊎◌, ◌<◌, ◌^◌, ℕ, None, Some, IfOk, IfErr, IsErrAnd, OnOk};
+ghost use Rattle.std.specs.Prelude.{MatchResult};
 ghost use Rattle.syn_journaled.specs.Endings.{Reads, ended};
 ghost use Rattle.syn_model.specs.Archive.{Archive as KeptArchive, Kept, after_kept};
-ghost use Rattle.syn_archive.specs.Disks.{DiskStands, IsOldDisk, IsOpenRefusal};
-ghost use Rattle.syn_archive.specs.Disks.{IsReopenRefusal, IsWanted};
+ghost use Rattle.syn_archive.specs.Disks.{DiskStands, IsOldDisk, IsOpenRefusal, IsReopenRefusal};
+ghost use Rattle.syn_archive.specs.Disks.{IsWanted};
 ghost use Rattle.syn_archive.specs.Refusals.{refusal_of};
 
 use super::Archive;
@@ -15,8 +15,8 @@ use syn_disk::Disk;
 use syn_journaled::Journaled;
 
 impl<D: Disk> Archive<D> {
-    ghost use Rattle.syn_archive.specs.Archive.{pair_of, shown, disk_of};
-    ghost use Rattle.syn_archive.specs.Archive.{Stands, KeepsBeforeOrAfter};
+    ghost use Rattle.syn_archive.specs.Archive.{pair_of, shown, disk_of, Stands};
+    ghost use Rattle.syn_archive.specs.Archive.{KeepsBeforeOrAfter};
     ghost use Rattle.syn_archive.specs.Calls.{Reopens};
 
     /// Opens what the disk holds.

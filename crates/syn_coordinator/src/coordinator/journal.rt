@@ -1,5 +1,5 @@
 //! The coordinator's archive as a whole: a checkpoint, another opening, and the arms of its device.
-ghost use Rattle.std.specs.Prelude.{◌≡◌, ◌≢◌, ◌<◌, ◌^◌, [], ℕ, true, false, Err, IfErr, OnOk, IfOk};
+ghost use Rattle.std.specs.Prelude.{◌≡◌, ◌≢◌, ◌<◌, [], ℕ, true, false, Err, IfErr, OnOk, IfOk};
 ghost use Rattle.std.specs.Prelude.{MatchResult, None, Option, Some, option_map};
 ghost use Rattle.syn_archive.specs.Refusals.{refusal_of};
 ghost use Rattle.syn_coordinator.specs.Coordinators.{with_arms};
@@ -7,7 +7,6 @@ ghost use Rattle.syn_disk.specs.Armed.{armed};
 ghost use Rattle.syn_disk.specs.Arms.{is_stopped};
 ghost use Rattle.syn_disk.specs.Disk.{SameOutcomes};
 ghost use Rattle.syn_headline.specs.Coordinator.{CoordinatorMachine, coordinator_kind};
-ghost use Rattle.syn_headline.specs.Machine.{Halted, Up};
 ghost use Rattle.syn_headline.specs.MachineSteps.{Checkpoints, Reopens};
 ghost use Rattle.syn_journaled.specs.Endings.{CountsFailures, ended};
 ghost use Rattle.syn_keep.specs.declared.tried.Tried.{Tried};
@@ -20,7 +19,7 @@ use syn_archive::ArchiveError;
 use syn_disk::{Arm, Disk, Limit};
 use syn_image::Kept;
 use syn_keep::found;
-use syn_model::archive_laws;
+use syn_model::{archive_laws, is_long};
 use syn_recovery::{device_laws, opening_laws};
 
 impl<D: Disk> Coordinator<D> {
@@ -188,11 +187,4 @@ impl<D: Limit> Coordinator<D> {
     {
         self.archive.arm(arm);
     }
-}
-
-/// Eight bytes spell it.
-fn is_long(number: u64)
-    ensures { number < 2 ^ 64 }
-{
-    let _ = number;
 }

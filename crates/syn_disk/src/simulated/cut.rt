@@ -1,9 +1,8 @@
 //! A disk over another, which refuses calls when it is told to.
-ghost use Rattle.std.specs.Prelude.{◌≡◌, ◌+◌, ◌-◌, ◌<◌, ◌≤◌, ◌==◌, true, false, ℕ, Bool, IsErr};
-ghost use Rattle.std.specs.Prelude.{IsOk, OnOk, OnErr, MatchResult, Option, Some, None, List};
-ghost use Rattle.std.specs.Prelude.{length, take, drop};
+ghost use Rattle.std.specs.Prelude.{◌≡◌, ◌+◌, ◌-◌, ◌<◌, ◌≤◌, ◌==◌, true, false, IsErr, IsOk, OnOk};
+ghost use Rattle.std.specs.Prelude.{OnErr, MatchResult, Option, Some, None, length, take, drop};
 ghost use Rattle.syn_disk.specs.Armed.{armed};
-ghost use Rattle.syn_disk.specs.Arms.{Arms, after_call, is_refused, is_stopped, no_arms};
+ghost use Rattle.syn_disk.specs.Arms.{after_call, is_refused, is_stopped, no_arms};
 ghost use Rattle.syn_disk.specs.Disk.{overwritten, Torn, Follows, NothingNew, Only, Elapses};
 ghost use Rattle.syn_disk.specs.Disk.{CountsFailure};
 

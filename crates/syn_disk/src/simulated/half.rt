@@ -1,7 +1,6 @@
 //! A half of a disk in memory, of which only as much is kept as was touched.
-ghost use Rattle.std.specs.Prelude.{◌≡◌, ◌≤◌, ◌<◌, ◌+◌, ◌-◌, ◌++◌, ℕ, List, true, false, length};
-ghost use Rattle.std.specs.Prelude.{replicate, take, drop, slice_index, vec_capacity};
-ghost use Rattle.std.specs.Prelude.{if◌then◌else◌, IfOk};
+ghost use Rattle.std.specs.Prelude.{◌≡◌, ◌≤◌, ◌<◌, ◌+◌, ◌-◌, ℕ, true, false, length, replicate};
+ghost use Rattle.std.specs.Prelude.{take, drop, slice_index, vec_capacity, if◌then◌else◌, IfOk};
 ghost use Rattle.syn_disk.specs.Disk.{overwritten};
 ghost use Rattle.syn_disk.specs.inner.Memory.{Tracks};
 ghost use Rattle.syn_disk.specs.Stop.{Left};

@@ -1,7 +1,6 @@
 //! A disk in memory, whose stops lose, keep or spoil what was not synced.
-ghost use Rattle.std.specs.Prelude.{◌≡◌, ◌<◌, ◌≤◌, ◌+◌, ◌++◌, ◌∷◌, [], ℕ, true, List, length};
-ghost use Rattle.std.specs.Prelude.{replicate, refl, take, drop, slice_index, slice_index_or, IfOk};
-ghost use Rattle.std.specs.Prelude.{IsOk};
+ghost use Rattle.std.specs.Prelude.{◌≡◌, ◌<◌, ◌≤◌, ◌+◌, ◌++◌, ◌∷◌, [], ℕ, true, length, replicate};
+ghost use Rattle.std.specs.Prelude.{refl, take, drop, slice_index, slice_index_or, IfOk, IsOk};
 ghost use Rattle.syn_disk.specs.Arms.{no_arms};
 ghost use Rattle.syn_disk.specs.Disk.{overwritten, Torn, Follows, NothingNew, Only};
 ghost use Rattle.syn_disk.specs.Halves.{HalvesMayLeave, length-halves};

@@ -1,6 +1,6 @@
 //! Which bytes of a disk in memory were written since the last sync.
-ghost use Rattle.std.specs.Prelude.{◌≡◌, ◌⊎◌, ◌<◌, ◌≤◌, ◌+◌, ◌-◌, max, ◌++◌, [], vec_capacity, ℕ};
-ghost use Rattle.std.specs.Prelude.{Bool, true, false, List, length, replicate, IfOk};
+ghost use Rattle.std.specs.Prelude.{◌≡◌, ◌<◌, ◌≤◌, ◌+◌, ◌-◌, max, ◌++◌, [], vec_capacity, ℕ, Bool};
+ghost use Rattle.std.specs.Prelude.{true, false, List, length, replicate, IfOk};
 ghost use Rattle.syn_disk.specs.Disk.{overwritten};
 ghost use Rattle.syn_disk.specs.Written.{is_written, IsHull};
 ghost use Rattle.syn_disk.specs.declared.disk.TheConstants.{HALF_SIZE};

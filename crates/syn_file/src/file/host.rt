@@ -61,7 +61,7 @@ const SEEK_HOLE: i32 = 4;
 const ENXIO: i32 = 6;
 
 impl HostFile for File {
-    // No contract says what the system's lock does: that one which was taken is held is trusted.
+    // No contract says what the system's lock does: we trust that a lock that was taken is held.
     ghost is_held = { λ _ _. Unit {0} };
 
     fn try_lock(&self, access: Access) -> Result<(), TryLockError> {

@@ -1,8 +1,6 @@
 //! A file of the operating system, with its bytes in memory.
-ghost use Rattle.std.specs.Prelude.{◌≡◌, ◌≤◌, ◌<◌, ◌+◌, [], ◌∷◌, true, false, not, refl, ℕ, List};
-ghost use Rattle.std.specs.Prelude.{length, IfOk, IsOk};
-ghost use Rattle.syn_disk.specs.Moments.{MayLeave, LeftSince};
-ghost use Rattle.syn_file.specs.Extent.{is_in_some};
+ghost use Rattle.std.specs.Prelude.{◌≡◌, ◌≤◌, ◌<◌, [], true, false, not, refl, length, IfOk};
+ghost use Rattle.syn_disk.specs.Moments.{LeftSince};
 ghost use Rattle.syn_file.specs.Mirror.{FileMayLeave, bytes_of, length-bytes};
 ghost use Rattle.syn_disk.specs.MomentLaws.{now_counts, only_now};
 

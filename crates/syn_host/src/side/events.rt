@@ -3,12 +3,9 @@ ghost use Rattle.std.specs.Prelude.{◌≡◌, ◌≢◌, ℕ};
 ghost use Rattle.syn_headline.specs.SideMachine.{SideMachine, UserEdits};
 ghost use Rattle.syn_host.specs.declared.outcome.Outcome.TheVariants as outcomes;
 ghost use Rattle.syn_message.specs.Requests.{request_of};
-ghost use Rattle.syn_model.specs.Contents.{IsMode};
-ghost use Rattle.syn_model.specs.Event.{AreBytes, IsLawfulEvent};
-ghost use Rattle.syn_model.specs.Path.{IsPath};
+ghost use Rattle.syn_model.specs.Event.{IsLawfulEvent};
 ghost use Rattle.syn_replica.specs.Edits.{event_by};
 ghost use Rattle.syn_replica.specs.Replica.{IsHalted, disk_of, position_shown};
-ghost use Rattle.syn_tree.specs.Modes.{mode_of};
 
 use super::{SideAnswer, SideCall, UpSide};
 use crate::disk::SimulatedDisk;
@@ -16,10 +13,11 @@ use crate::outcome::Outcome;
 use std::alloc::Global;
 use syn_agent::machine_laws;
 use syn_message::Request;
-use syn_path::Path;
+use syn_model::are_bytes;
+use syn_path::is_path;
 use syn_recovery::device_laws;
 use syn_refusal::Refusal;
-use syn_tree::{Edit, Mode};
+use syn_tree::{Edit, is_mode};
 
 impl<D: SimulatedDisk> UpSide<D> {
     ghost use Rattle.syn_host.specs.Sides.{AnswerIsStep, CallIsStep, RunsAs, Settles, SettlesAdded};
@@ -115,25 +113,4 @@ fn is_lawful(user: u32, edit: &Edit)
             is_mode(*mode);
         }
     }
-}
-
-/// The mode is a lawful one.
-fn is_mode(mode: Mode)
-    ensures { IsMode (mode_of mode) }
-{
-    let _ = mode.bits();
-}
-
-/// The path is a lawful one.
-fn is_path(path: &Path)
-    ensures { IsPath path.now }
-{
-    let _ = path.names();
-}
-
-/// Each byte is below 256.
-fn are_bytes(bytes: &[u8])
-    ensures { AreBytes bytes.now }
-{
-    let _ = bytes;
 }

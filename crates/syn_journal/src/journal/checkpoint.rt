@@ -1,6 +1,6 @@
 //! A checkpoint: another image in the half that is not current.
-ghost use Rattle.std.specs.Prelude.{◌≡◌, ◌↔◌, ◌⊎◌, ◌≤◌, ◌<◌, ◌+◌, ◌^◌, true, false, ℕ, List};
-ghost use Rattle.std.specs.Prelude.{length, Err, OnOk, IfErr, MatchResult};
+ghost use Rattle.std.specs.Prelude.{◌≡◌, ◌↔◌, ◌⊎◌, ◌<◌, ◌+◌, ◌^◌, true, false, ℕ, List, length};
+ghost use Rattle.std.specs.Prelude.{Err, OnOk, IfErr, MatchResult};
 ghost use Rattle.syn_disk.specs.Calls.{Makes, MakesUpTo};
 ghost use Rattle.syn_disk.specs.Disk.{CountsFailure, Only};
 ghost use Rattle.syn_journal.specs.Layout.{Value, half_size, longest_image, other_half, is_open};

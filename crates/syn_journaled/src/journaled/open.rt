@@ -1,6 +1,6 @@
 //! An opening: a machine finds out what a disk, or its own, gives.
-ghost use Rattle.std.specs.Prelude.{◌≡◌, ◌≢◌, ◌⊎◌, ℕ, List, None, Some, Option, true, false};
-ghost use Rattle.std.specs.Prelude.{IfOk, IfErr, OnOk, MatchResult};
+ghost use Rattle.std.specs.Prelude.{◌≡◌, ◌≢◌, ◌⊎◌, ℕ, None, Some, Option, true, false, IfOk, IfErr};
+ghost use Rattle.std.specs.Prelude.{OnOk, MatchResult};
 ghost use Rattle.syn_journal.specs.Journal as journal;
 ghost use Rattle.syn_journal.specs.Layout.{Value};
 ghost use Rattle.syn_journal.specs.Places.{Shows};

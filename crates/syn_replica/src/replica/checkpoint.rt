@@ -1,13 +1,11 @@
 //! A checkpoint: what the history leaves is written as one image.
-ghost use Rattle.std.specs.Prelude.{◌≡◌, ◌⊎◌, ◌↔◌, ◌+◌, ◌^◌, ◌<◌, ◌∷◌, [], IfErr, OnOk};
-ghost use Rattle.std.specs.Prelude.{IsErrAnd, MatchResult, Err, length};
+ghost use Rattle.std.specs.Prelude.{◌≡◌, ◌⊎◌, ◌+◌, ◌^◌, ◌<◌, IfErr, OnOk, Err, length};
 ghost use Rattle.syn_disk.specs.Stops.{LeavesOnly};
 ghost use Rattle.syn_journaled.specs.Endings.{ended};
-ghost use Rattle.syn_journal.specs.Journal as journal;
-ghost use Rattle.syn_journal.specs.Layout.{image_alone, longest_image};
+ghost use Rattle.syn_journal.specs.Layout.{longest_image};
 ghost use Rattle.syn_model.specs.History.{History};
 ghost use Rattle.syn_model.specs.Image.{image_spelling};
-ghost use Rattle.syn_model.specs.Refusal.{Device, Full, Halted, Memory};
+ghost use Rattle.syn_model.specs.Refusal.{Full};
 ghost use Rattle.syn_standing.specs.Refusals.{refusal_of};
 ghost use Rattle.syn_replica.specs.Refusals.{IsOneOf, checkpoint_refusals};
 
@@ -19,9 +17,8 @@ use syn_model::history_laws;
 use syn_standing::{ReplicaError, opening_laws};
 
 impl<D: Disk> Replica<D> {
-    ghost use Rattle.syn_replica.specs.Replica.{pair_of, standing_shown, disk_of};
-    ghost use Rattle.syn_replica.specs.Replica.{generation_shown, IsHalted, Stands};
-    ghost use Rattle.syn_replica.specs.Replica.{KeepsOrCompacts};
+    ghost use Rattle.syn_replica.specs.Replica.{pair_of, standing_shown, disk_of, generation_shown};
+    ghost use Rattle.syn_replica.specs.Replica.{IsHalted, Stands, KeepsOrCompacts};
     ghost use Rattle.syn_replica.specs.Calls.{Compacts};
 
     /// Takes an image of what the history leaves in the place of the journal's records, so that

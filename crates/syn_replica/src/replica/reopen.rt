@@ -1,10 +1,10 @@
 //! A reopening: a replica finds out anew what its own disk stands for.
-ghost use Rattle.std.specs.Prelude.{◌≡◌, ◌≢◌, ◌≤◌, ◌<◌, ◌⊎◌, ◌++◌, ◌∷◌, [], None, Ok};
-ghost use Rattle.std.specs.Prelude.{IfErr, OnOk, MatchResult, length};
+ghost use Rattle.std.specs.Prelude.{◌≡◌, ◌≤◌, ◌<◌, ◌⊎◌, ◌++◌, ◌∷◌, [], None, Ok, IfErr, OnOk};
+ghost use Rattle.std.specs.Prelude.{MatchResult, length};
 ghost use Rattle.syn_journaled.specs.Endings.{ended};
 ghost use Rattle.syn_model.specs.Event.{Event};
 ghost use Rattle.syn_model.specs.History.{History};
-ghost use Rattle.syn_model.specs.Refusal.{Device, Memory};
+ghost use Rattle.syn_model.specs.Refusal.{Device};
 ghost use Rattle.syn_replica.specs.Disks.{DiskGives, DiskStands, IsReopenRefusal};
 ghost use Rattle.syn_standing.specs.Refusals.{refusal_of};
 ghost use Rattle.syn_replica.specs.Refusals.{IsOneOf, outside_refusals};

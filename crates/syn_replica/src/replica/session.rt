@@ -1,13 +1,12 @@
 //! What sessions ask of a replica.
-ghost use Rattle.std.specs.Prelude.{◌≡◌, ◌≢◌, ◌⊎◌, ◌↔◌, ◌+◌, ◌≤◌, ℕ, length, IfOk, IfErr, OnOk};
-ghost use Rattle.std.specs.Prelude.{IsErrAnd, MatchResult, Err, Ok, Some, true, false};
+ghost use Rattle.std.specs.Prelude.{◌≡◌, ◌⊎◌, ◌↔◌, ◌<◌, ◌≤◌, ◌^◌, ℕ, length, IfOk, IfErr, IsErrAnd};
+ghost use Rattle.std.specs.Prelude.{Err, Ok, Some, true, false};
 ghost use Rattle.syn_disk.specs.Stops.{LeavesOnly};
 ghost use Rattle.syn_journaled.specs.Endings.{ended};
 ghost use Rattle.syn_model.specs.Limits.{greatest_piece};
 ghost use Rattle.syn_model.specs.Event.{Began, Replaced};
-ghost use Rattle.syn_model.specs.History.{History, is_old_token, last_session, standing_of};
-ghost use Rattle.syn_model.specs.History.{tree_of};
-ghost use Rattle.syn_model.specs.Refusal.{Refusal, Device, Memory, first_cause};
+ghost use Rattle.syn_model.specs.History.{History, last_session, standing_of, tree_of};
+ghost use Rattle.syn_model.specs.Refusal.{Refusal, Memory, first_cause};
 ghost use Rattle.syn_model.specs.Spelling.{spelling};
 ghost use Rattle.syn_model.specs.Tree.{subtree};
 ghost use Rattle.syn_history.specs.Events.{token_of};
@@ -56,9 +55,8 @@ pub enum TokenStanding {
 }
 
 impl<D: Disk> Replica<D> {
-    ghost use Rattle.syn_replica.specs.Replica.{pair_of, standing_shown, disk_of};
-    ghost use Rattle.syn_replica.specs.Replica.{room_shown, IsHalted, Remembers, Stands};
-    ghost use Rattle.syn_replica.specs.Replica.{KeepsBeforeOrAfter};
+    ghost use Rattle.syn_replica.specs.Replica.{pair_of, standing_shown, disk_of, room_shown};
+    ghost use Rattle.syn_replica.specs.Replica.{IsHalted, Remembers, Stands, KeepsBeforeOrAfter};
     ghost use Rattle.syn_replica.specs.Calls.{Writes};
 
     /// Begins the session, and answers the position. The session that was begun last begins again
@@ -130,6 +128,7 @@ impl<D: Disk> Replica<D> {
             → IfOk result (λ found. (found.bytes.items ≡ piece history path.now offset)
             × (found.total ≡ length (spelling (subtree (tree_of history) path.now)))) }
         ensures short { IfOk result (λ found. length found.bytes.items ≤ greatest_piece) }
+        ensures total { IfOk result (λ found. found.total < 2 ^ 32) }
 
         // Each refusal has its cause, and each cause its refusal: the first of them is answered.
         ensures cause { (history : History) → Stands self.now history

@@ -1,7 +1,8 @@
 //! What a tree shows, without memory.
-ghost use Rattle.std.specs.Prelude.{◌≡◌, true, length, filter, option_map};
+ghost use Rattle.std.specs.Prelude.{◌≡◌, ◌≤◌, true, length, filter, option_map};
 ghost use Rattle.std.specs.FinMap.{entries, get, len};
-ghost use Rattle.syn_model.specs.Limits.{children, fits_replica, tree_spelling_length};
+ghost use Rattle.syn_model.specs.Limits.{children, fits_replica, greatest_spelling};
+ghost use Rattle.syn_model.specs.Limits.{tree_spelling_length};
 ghost use Rattle.syn_model.specs.Tree.{IsTree, subtree};
 ghost use Rattle.syn_placed.specs.Pairs.{rooted, is_below};
 ghost use Rattle.syn_tree.specs.Contents.{found_content};
@@ -72,7 +73,8 @@ impl Tree {
     /// How many bytes spell what is at the path with all below it, without its name; none where
     /// nothing is. The work grows with what is below the path.
     pub fn part_length(&self, path: &Path) -> usize
-        ensures { result ≡ tree_spelling_length (subtree self.now path.now) }
+        ensures length { result ≡ tree_spelling_length (subtree self.now path.now) }
+        ensures short { result ≤ greatest_spelling }
     {
         match self.get(path) {
             Some(found) => found_spelled(&found) + spelled(part_below(&self.list, &path.key())),

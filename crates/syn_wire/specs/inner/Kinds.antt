@@ -4,8 +4,7 @@ use Rattle.std.specs.Prelude.{◌≡◌, ◌≤◌, true, Option, Some, None}
 use Rattle.std.specs.FinMap.{len}
 use Rattle.syn_model.specs.Path.{Bytes}
 use Rattle.syn_model.specs.Version.{Version}
-use Rattle.syn_model.specs.Contents.{Contents, IsDigestIn, contents_spelling_in}
-use Rattle.syn_model.specs.Contents.{digest_spelling_in}
+use Rattle.syn_model.specs.Contents.{Contents, IsDigestIn, contents_spelling_in, digest_spelling_in}
 use Rattle.syn_model.specs.Tree.{Tree, Content, Directory, File, IsPartIn}
 use Rattle.syn_model.specs.Mark.{IsMarksIn}
 use Rattle.syn_model.specs.Limits.{fits_part, most_nodes}

@@ -1,5 +1,5 @@
 //! The machines of a world are stopped, and their disks come back.
-ghost use Rattle.std.specs.Prelude.{◌≡◌, ℕ, List};
+ghost use Rattle.std.specs.Prelude.{◌≡◌, ℕ};
 ghost use Rattle.syn_disk.specs.Disk.{NothingNew};
 ghost use Rattle.syn_headline.specs.Coordinator.{CoordinatorMachine};
 ghost use Rattle.syn_headline.specs.SideMachine.{SideMachine};

@@ -11,9 +11,9 @@ returns-in_err-read-clause-unread c =
     (λ old. true≢false (sym (c.is_old_archive.ensures.1 old) ∙ c.if-is_old_archive.false))
     c.in_err-read.ensures.refusals c.in_err-read.ensures.damaged)
 
-pub returns-then-is_other-clause-unread : goal.returns-then-is_other-clause-unread
-returns-then-is_other-clause-unread c =
-    let asked = c.is_other.ensures.other c.if-is_other.true in
+pub returns-then-is_other_pair-clause-unread : goal.returns-then-is_other_pair-clause-unread
+returns-then-is_other_pair-clause-unread c =
+    let asked = c.is_other_pair.ensures.other c.if-is_other_pair.true in
     record {
       pair = c.in_ok-read.read.pair;
       fits = c.in_ok-read.ensures.fits;

@@ -2,8 +2,7 @@ use Rattle.std.proofs.Common.{map, ◌∙◌, subst}
 use Rattle.std.proofs.lemmas.Result.{err_from_is_err_and}
 use Rattle.syn_tree.specs.Edits.{edit_of}
 use Rattle.syn_tree.specs.Refusals.{refusal_of}
-use Rattle.syn_change.specs.Changes.{AreChanges, IsAddition, IsNeeded, IsRemoval}
-use Rattle.syn_change.specs.Changes.{IsRefusedAmong}
+use Rattle.syn_change.specs.Changes.{AreChanges, IsAddition, IsNeeded, IsRemoval, IsRefusedAmong}
 use Rattle.syn_change.proofs.GoingLemmas.{goes_twice, refused_later}
 use Rattle.syn_change.proofs.NeedLemmas.{changes_of, kinds_apart, needed_before, none_needed}
 use Rattle.syn_change.proofs.RemovalLemmas.{is_wanted}

@@ -3,8 +3,7 @@ use Rattle.std.proofs.lemmas.Result.{IfErr-weaker}
 use Rattle.std.specs.FinMap.{get-empty}
 use Rattle.syn_model.specs.Limits.{fits_part, fits_paths, fits_replica}
 use Rattle.syn_model.specs.Path.{path_cmp, root}
-use Rattle.syn_model.specs.Tree.{Tree, File, absent, file_with, is_directory_content}
-use Rattle.syn_model.specs.Tree.{subtree}
+use Rattle.syn_model.specs.Tree.{Tree, File, absent, file_with, is_directory_content, subtree}
 use Rattle.syn_model.specs.Contents.{contents_with}
 use Rattle.syn_model.proofs.HistoryLemmas.{get-at_root}
 use Rattle.syn_tree.specs.Modes.{mode_of}

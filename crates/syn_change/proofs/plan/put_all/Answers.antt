@@ -1,7 +1,7 @@
 use Rattle.std.proofs.lemmas.Result.{err_from_is_err_and, on_ok_weaker}
 use Rattle.syn_tree.specs.Refusals.{refusal_of}
 use Rattle.syn_change.specs.Changes.{IsAddition}
-use Rattle.syn_change.specs.Shorter.{Shortens}
+use Rattle.syn_change.specs.inner.Shorter.{Shortens}
 use Rattle.syn_change.proofs.GoingLemmas.{goes_twice, refused_after, refused_weaker}
 use Rattle.syn_change.proofs.ShorterLemmas.{added_before, overlaid_before, shortens_adds}
 use Rattle.syn_change.proofs.ShorterLemmas.{shorter_first, shortens_apart}

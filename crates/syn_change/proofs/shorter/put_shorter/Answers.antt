@@ -4,7 +4,7 @@ use Rattle.std.proofs.lemmas.Result.{err_from_is_err_and}
 use Rattle.std.specs.FinMap.{entries, get}
 use Rattle.syn_placed.specs.Pairs.{rooted}
 use Rattle.syn_tree.specs.Refusals.{refusal_of}
-use Rattle.syn_change.specs.Shorter.{Shortens, ShortensTo, shortened}
+use Rattle.syn_change.specs.inner.Shorter.{Shortens, ShortensTo, shortened}
 use Rattle.syn_change.proofs.GoingLemmas.{goes_nowhere, goes_twice, goes_weaker, refused_later}
 use Rattle.syn_change.proofs.NeedLemmas.{apart_from, last_among, still_among}
 use Rattle.syn_change.proofs.ShorterLemmas.{ShortensIn, shortened_all, shortened_more, shortens_to}

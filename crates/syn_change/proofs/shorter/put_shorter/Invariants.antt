@@ -3,7 +3,7 @@ use Rattle.std.specs.FinMap.{entries, find, get}
 use Rattle.syn_model.specs.Path.{Path, path_cmp}
 use Rattle.syn_placed.specs.Pairs.{rooted}
 use Rattle.syn_change.specs.Changes.{GoesOn}
-use Rattle.syn_change.specs.Shorter.{shortened}
+use Rattle.syn_change.specs.inner.Shorter.{shortened}
 use Rattle.syn_change.proofs.ShorterLemmas.{ShortensIn}
 use Rattle.syn_change.proofs.shorter.put_shorter.Given as goal
 

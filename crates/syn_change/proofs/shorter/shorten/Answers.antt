@@ -8,7 +8,7 @@ use Rattle.syn_tree.specs.Modes.{mode_of}
 use Rattle.syn_tree.specs.Refusals.{refusal_of}
 use Rattle.syn_tree.specs.declared.error.TreeError.TheVariants.{Memory}
 use Rattle.syn_change.specs.Changes.{GoesOn, IsRefusedAmong, PutsBytes}
-use Rattle.syn_change.specs.Shorter.{ShortensTo, is_longer}
+use Rattle.syn_change.specs.inner.Shorter.{ShortensTo, is_longer}
 use Rattle.syn_change.proofs.GoingLemmas.{goes_nowhere, goes_weaker, refused_weaker}
 use Rattle.syn_change.proofs.shorter.shorten.Goals as goal
 

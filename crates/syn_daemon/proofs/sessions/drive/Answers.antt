@@ -1,4 +1,3 @@
-use Rattle.std.proofs.Common.{rules}
 use Rattle.syn_daemon.proofs.sessions.drive.Goals as goal
 
 pub returns-clause-drives : goal.returns-clause-drives

@@ -1,6 +1,4 @@
-use Rattle.std.proofs.Common.{◌≡◌, ◌++◌, ◌∷◌, [], ℕ, take, sym, ap, ap₂, ◌∙◌}
-use Rattle.std.proofs.Common.{append_assoc}
-use Rattle.std.proofs.Common.{arith}
+use Rattle.std.proofs.Common.{◌≡◌, ◌++◌, ◌∷◌, [], ℕ, take, sym, ap, ap₂, ◌∙◌, append_assoc, arith}
 use Rattle.std.specs.FinMap.{insert, len}
 use Rattle.std.proofs.lemmas.List.{take_more}
 use Rattle.syn_model.specs.Path.{Path}

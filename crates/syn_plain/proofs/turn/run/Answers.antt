@@ -1,6 +1,5 @@
 use Rattle.std.proofs.Common.{◌≡◌, ◌<◌, ◌+◌, ◌++◌, ◌∷◌, [], length, sym, ap, ◌∙◌, append_assoc}
-use Rattle.std.proofs.Common.{arith}
-use Rattle.std.proofs.Common.{subst, if◌then◌else◌}
+use Rattle.std.proofs.Common.{arith, subst, if◌then◌else◌}
 use Rattle.syn_plain.specs.Turns.{Goes}
 use Rattle.syn_plain.proofs.TurnLemmas.{goes_more}
 use Rattle.syn_plain.proofs.turn.run.Goals as goal

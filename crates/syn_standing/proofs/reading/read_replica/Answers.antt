@@ -7,11 +7,11 @@ use Rattle.syn_standing.proofs.ReadingLemmas.{gives_of, same_image, memory_else}
 use Rattle.syn_standing.proofs.SoundLemmas.{stays_sound}
 use Rattle.syn_standing.proofs.reading.read_replica.Goals as goal
 
-pub returns-then-is_other-clause-other : goal.returns-then-is_other-clause-other
-returns-then-is_other-clause-other c other =
+pub returns-then-is_other_pair-clause-other : goal.returns-then-is_other_pair-clause-other
+returns-then-is_other_pair-clause-other c other =
     let is = subst (IsImageOf (version_of c.args.version) c.args.image.now
     c.in_ok-pair.field-0.pair) (sym c.of-first.ensures) c.in_ok-pair.ensures.read in
-    let asked = c.is_other.ensures.other c.if-is_other.true in
+    let asked = c.is_other_pair.ensures.other c.if-is_other_pair.true in
     record {
       pair = c.in_ok-pair.field-0.pair;
       fits = is.fits;

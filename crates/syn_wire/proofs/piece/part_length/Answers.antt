@@ -13,17 +13,17 @@ use Rattle.syn_wire.proofs.NodeLemmas.{absent_spelled}
 use Rattle.syn_wire.proofs.WalkLemmas.{spelling_measured}
 use Rattle.syn_wire.proofs.piece.part_length.Goals as goal
 
-pub returns-in-Some : goal.returns-in-Some
-returns-in-Some c =
+pub returns-in-Some-clause-length : goal.returns-in-Some-clause-length
+returns-in-Some-clause-length c =
     let t = c.args.tree.now in
     let at = c.args.path.now in
     let there = get-subtree t at root ∙ (ap (get t) (append-nil at) ∙ (sym c.get.ensures
     ∙ ap (option_map (λ found. found_content found)) c.in-Some.is)) in
-    c.part_length.ensures ∙ sym (spelling_measured (subtree t at)
+    c.part_length.ensures.length ∙ sym (spelling_measured (subtree t at)
     (subtree-parents t at c.entries-whole.ensures.tree.part.parents) (ap is_some there))
 
-pub returns-in-None : goal.returns-in-None
-returns-in-None c =
+pub returns-in-None-clause-length : goal.returns-in-None-clause-length
+returns-in-None-clause-length c =
     let t = c.args.tree.now in
     let at = c.args.path.now in
     let none : get t at ≡ None = sym c.get.ensures

@@ -1,4 +1,4 @@
-use Rattle.std.proofs.Common.{◌∙◌, arith, inl, inr, refl, subst, sym}
+use Rattle.std.proofs.Common.{inl, inr, subst, sym}
 use Rattle.syn_agent.proofs.CauseLemmas.{none_of}
 use Rattle.syn_agent.proofs.ReadingLemmas.{fetch_takes, is_piece, is_refused, no_memory}
 use Rattle.syn_agent.proofs.agent.Agent.fetch.Goals as goal
@@ -7,19 +7,13 @@ use Rattle.syn_headline.specs.Side.{Fetch, Refused}
 use Rattle.syn_model.specs.Event.{AreBytes}
 use Rattle.syn_model.specs.Refusal as why
 
-pub returns-in-Ok-try_from-clause-answers : goal.returns-in-Ok-try_from-clause-answers
-returns-in-Ok-try_from-clause-answers g c history session stands =
+pub returns-in-Ok-clause-answers : goal.returns-in-Ok-clause-answers
+returns-in-Ok-clause-answers g c history session stands =
     let told = c.in-Ok.ensures in
     is_piece c.args.replica.now c.args.self.now history session stands c.args.path.now
-    c.args.since c.args.offset c.in-Ok-try_from.total c.in-Ok.piece.bytes.items
+    c.args.since c.args.offset c.in-Ok.piece.total c.in-Ok.piece.bytes.items
     (none_of _ (λ why is. told.refused history why stands is))
-    (told.piece history stands).0 (c.in-Ok-try_from.ensures.1 ∙ (told.piece history stands).1)
-
-pub returns-in-Err-try_from-clause-answers : goal.returns-in-Err-try_from-clause-answers
-returns-in-Err-try_from-clause-answers g c history session stands =
-    no_memory c.args.replica.now c.args.self.now history session stands
-    (Fetch c.args.path.now c.args.since c.args.offset) why.Memory refl
-    (none_of _ (λ why is. c.in-Ok.ensures.refused history why stands is))
+    (told.piece history stands).0 (told.piece history stands).1
 
 pub returns-in-Err-clause-answers : goal.returns-in-Err-clause-answers
 returns-in-Err-clause-answers g c history session stands =
@@ -36,9 +30,9 @@ returns-in-Err-clause-answers g c history session stands =
           c.args.path.now c.args.since c.args.offset _ some
     ])
 
-pub returns-in-Ok-try_from-clause-lawful : goal.returns-in-Ok-try_from-clause-lawful
-returns-in-Ok-try_from-clause-lawful g c = (
-  omega arith,
+pub returns-in-Ok-clause-lawful : goal.returns-in-Ok-clause-lawful
+returns-in-Ok-clause-lawful g c = (
+  c.in-Ok.ensures.total,
   (
     c.in-Ok.ensures.short,
     subst AreBytes c.deref.ensures.value c.are_bytes.ensures,

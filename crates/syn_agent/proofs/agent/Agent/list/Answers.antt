@@ -3,8 +3,7 @@ use Rattle.syn_agent.proofs.CauseLemmas.{refused_one}
 use Rattle.syn_agent.proofs.ReadingLemmas.{absent_is, is_listed, is_no_directory}
 use Rattle.syn_replica.proofs.RefusalLemmas.{halted_is}
 use Rattle.syn_agent.proofs.ReadingLemmas.{is_listing, is_there, no_device}
-use Rattle.syn_agent.proofs.ReadingLemmas.{no_memory, own_absent, reading}
-use Rattle.syn_agent.proofs.ReadingLemmas.{running}
+use Rattle.syn_agent.proofs.ReadingLemmas.{no_memory, own_absent, reading, running}
 use Rattle.syn_agent.proofs.agent.Agent.list.Goals as goal
 use Rattle.syn_headline.specs.Side.{ListAt, Refused}
 use Rattle.syn_model.specs.History.{History, tree_of}

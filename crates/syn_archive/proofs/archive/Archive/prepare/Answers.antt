@@ -5,8 +5,7 @@ use Rattle.syn_archive.specs.Refusals.{refusal_of}
 use Rattle.syn_archive.specs.inner.Agreements.{agreed_archive}
 use Rattle.syn_model.proofs.ExitLemmas.{if_err_of_exit}
 use Rattle.syn_archive.specs.Archive.{IsHalted, room_shown, session_shown, shown}
-use Rattle.syn_archive.specs.inner.Keepings.{NotPrepared, kept_in, no_memory, not_running}
-use Rattle.syn_archive.specs.inner.Keepings.{refused}
+use Rattle.syn_archive.specs.inner.Keepings.{NotPrepared, kept_in, no_memory, not_running, refused}
 use Rattle.syn_archive.specs.declared.error.ArchiveError.TheVariants.{JournalFull}
 use Rattle.syn_archive.proofs.KeepLemmas.{marks_refuse, none_refuses, room_refuses}
 use Rattle.syn_archive.proofs.archive.Archive.prepare.Goals as goal

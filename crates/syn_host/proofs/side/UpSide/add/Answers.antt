@@ -1,8 +1,7 @@
-use Rattle.std.proofs.Common.{◌≡◌, ◌⊎◌, ◌∙◌, ◌-◌, Some, ap, arith, inl, inr, refl, sym, []}
-use Rattle.std.proofs.Common.{◌∷◌}
+use Rattle.std.proofs.Common.{◌≡◌, ◌⊎◌, ◌∙◌, ◌-◌, Some, ap, arith, inl, inr, refl, sym, [], ◌∷◌}
 use Rattle.syn_headline.specs.SideMachine.{UserEdits, causes_of}
 use Rattle.syn_host.specs.Sides.{CallIsStep}
-use Rattle.syn_model.specs.Refusal.{Refusal, first_cause}
+use Rattle.syn_model.specs.Refusal.{first_cause}
 use Rattle.syn_model.specs.Refusal as why
 use Rattle.syn_replica.specs.Edits.{event_by}
 use Rattle.syn_standing.specs.Refusals.{refusal_of}

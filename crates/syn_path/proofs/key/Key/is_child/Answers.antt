@@ -1,5 +1,4 @@
-use Rattle.std.proofs.Common.{rules, ◌≡◌, ◌&&◌, not, length, sym, ap, ◌∙◌, arith, false}
-use Rattle.std.proofs.Common.{is_eq}
+use Rattle.std.proofs.Common.{rules, ◌≡◌, ◌&&◌, not, length, sym, ap, ◌∙◌, arith, false, is_eq}
 use Rattle.std.specs.Ordering.{eq_by_cmp}
 use Rattle.syn_model.specs.Path.{is_root, path_cmp, path_key, parent, key_cmp}
 use Rattle.syn_model.proofs.KeyLemmas.{paths_go_by_key}

@@ -1,5 +1,4 @@
-use Rattle.std.proofs.Common.{rules, ◌≡◌, ◌-◌, ◌<◌, length, take}
-use Rattle.std.proofs.Common.{subst, sym, ◌∙◌}
+use Rattle.std.proofs.Common.{rules, ◌≡◌, ◌-◌, ◌<◌, length, take, subst, sym, ◌∙◌}
 use Rattle.syn_model.specs.Path.{IsPath}
 use Rattle.syn_path.proofs.PathLemmas.{above_last, parent_lawful}
 use Rattle.syn_path.proofs.path.Path.parent.Goals as goal

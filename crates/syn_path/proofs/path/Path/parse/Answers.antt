@@ -1,5 +1,4 @@
-use Rattle.std.proofs.Common.{rules, ◌≡◌, ◌≢◌, arith, map, codes, length, ap, sym, ◌∙◌}
-use Rattle.std.proofs.Common.{subst, eqb}
+use Rattle.std.proofs.Common.{rules, ◌≡◌, ◌≢◌, arith, map, codes, length, ap, sym, ◌∙◌, subst, eqb}
 use Rattle.std.specs.List.{All, slice_split}
 use Rattle.std.proofs.lemmas.List.{length-map}
 use Rattle.std.proofs.lemmas.Result.{err_from_is_err_and}

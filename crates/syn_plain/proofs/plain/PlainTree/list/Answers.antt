@@ -1,6 +1,5 @@
-use Rattle.std.proofs.Common.{sym, ap, ap₂, ◌∙◌, Ok, Err}
+use Rattle.std.proofs.Common.{sym, ap, ap₂, ◌∙◌}
 use Rattle.std.specs.FinMap.{entries}
-use Rattle.std.specs.Prelude.{Result, IfOk}
 use Rattle.syn_tree.specs.Lists.{child_contents, kinds_of}
 use Rattle.syn_placed.proofs.TreeLemmas.{entries-with}
 use Rattle.syn_placed.specs.Pairs.{within}

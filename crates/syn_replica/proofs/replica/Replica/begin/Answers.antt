@@ -15,8 +15,7 @@ use Rattle.syn_standing.proofs.StandingLemmas.{early_at}
 use Rattle.syn_replica.proofs.StandLemmas.{keeps_now, not_written}
 use Rattle.syn_model.specs.Refusal as why
 use Rattle.syn_replica.proofs.RefusalLemmas.{inner_refusals, never, early_among, inner_among}
-use Rattle.syn_replica.proofs.RefusalLemmas.{or_outside}
-use Rattle.syn_replica.proofs.RefusalLemmas.{not_full_device, not_full_halted}
+use Rattle.syn_replica.proofs.RefusalLemmas.{or_outside, not_full_device, not_full_halted}
 use Rattle.syn_replica.proofs.CallLemmas.{done_before, exits_early, refused_early}
 use Rattle.syn_replica.specs.Calls.{Writes, unless}
 use Rattle.syn_journaled.specs.Endings.{ended}

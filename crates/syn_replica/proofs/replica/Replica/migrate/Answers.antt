@@ -10,8 +10,7 @@ use Rattle.syn_replica.specs.Replica.{pair_of, standing_shown}
 use Rattle.syn_replica.specs.inner.Memories.{GivesOld, IsUnreadOld, image_of}
 use Rattle.syn_replica.proofs.MigrateCauses.{migrates_greatest, migrates_lawful}
 use Rattle.syn_replica.proofs.MigrateLemmas.{any_moment, migrate_refusal, migrated_each}
-use Rattle.syn_replica.proofs.MigrateLemmas.{migrated_gives, not_both, old_disk}
-use Rattle.syn_replica.proofs.MigrateLemmas.{seen_after}
+use Rattle.syn_replica.proofs.MigrateLemmas.{migrated_gives, not_both, old_disk, seen_after}
 use Rattle.syn_replica.proofs.MigrateLemmas.{was_old, whole, young_refusal}
 use Rattle.syn_replica.proofs.replica.Replica.migrate.Goals as goal
 

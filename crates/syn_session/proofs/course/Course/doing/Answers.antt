@@ -12,7 +12,7 @@ returns-clause-ok c reached is =
     (slice_get-map item_of c.args.self.now.items.items c.args.self.now.cursor ∙ ap
     (option_map item_of) (ap (λ l. slice_get l c.args.self.now.cursor) (sym c.deref.ensures.value)
     ∙ slice_get_read _ _ _ _ refl c.in-Some.ensures.lookup.3.0 c.in-Some.ensures.lookup.1))
-    c.in-Ok.number c.in-Ok.ensures.1 c.doing_for.result c.doing_for.ensures.ok
+    c.args.self.now.cursor refl c.doing_for.result c.doing_for.ensures.ok
 
 pub returns-in_default-clause-ok : goal.returns-in_default-clause-ok
 returns-in_default-clause-ok c reached is =

@@ -5,5 +5,5 @@ use Rattle.syn_session.proofs.course.Course.pass_conflict.Goals as goal
 pub returns-clause-passes : goal.returns-clause-passes
 returns-clause-passes c left right reached planned is at conflict =
     course_conflict c.args.self.now _ left right reached is planned at refl
-    (c.next_place-self.ensures (cursor_fits c.args.self.now left right reached is planned at))
+    (c.one_more-self.ensures (cursor_fits c.args.self.now left right reached is planned at))
     refl refl c.args.path conflict c.in_ok-push.ensures.items refl

@@ -12,9 +12,9 @@ returns c = record {
       let fits = count_fits c.args.self.now left right reached is planned at
       c.plan_laws.ensures.orderly what of is_marking c.args.self.now.marked is.marked marks in
       course_recorded c.args.self.now _ left right reached is planned at refl
-      (c.next_place-self.ensures (cursor_fits c.args.self.now left right reached is planned at))
+      (c.one_more-self-2.ensures (cursor_fits c.args.self.now left right reached is planned at))
       c.plan_laws.ensures.orderly what of (no_conflict planned planned.item what due)
       (counts_none c.args.self.now.done (is_carrying planned.item) other)
-      (c.next_count-self.ensures fits
+      (c.one_more-self.ensures fits
       ∙ counts_one c.args.self.now.marked (is_marking planned.item) marks) refl refl;
 }

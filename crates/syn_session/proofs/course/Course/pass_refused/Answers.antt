@@ -5,7 +5,7 @@ use Rattle.syn_session.proofs.course.Course.pass_refused.Goals as goal
 pub returns-clause-passes : goal.returns-clause-passes
 returns-clause-passes c left right reached planned is at path none =
     course_refused c.args.self.now _ left right reached is planned at refl
-    (c.next_place-self.ensures (cursor_fits c.args.self.now left right reached is planned at))
+    (c.one_more-self.ensures (cursor_fits c.args.self.now left right reached is planned at))
     refl refl c.args.why none refl
     (c.in_ok-push.ensures.items
     ∙ ap (λ p. c.args.self.now.refused.items ++ (c.args.why, p) ∷ []) (sym path))

@@ -1,6 +1,5 @@
 use Rattle.std.proofs.Common.{◌≡◌, ◌+◌, ◌∙◌, ◌++◌, ◌∷◌, [], ap, ap₂, sym, subst, append_assoc}
-use Rattle.std.proofs.Common.{length}
-use Rattle.std.proofs.Common.{map, arith, rules}
+use Rattle.std.proofs.Common.{length, map, arith, rules}
 use Rattle.std.proofs.lemmas.Grind.{common_steps}
 use Rattle.std.proofs.lemmas.List.{map-append}
 use Rattle.syn_headline.specs.Coordinator.{messages_to, numbered}

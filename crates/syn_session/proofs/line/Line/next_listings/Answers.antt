@@ -1,4 +1,4 @@
-use Rattle.std.proofs.Common.{◌≡◌, ◌≢◌, ◌≤◌, ◌<◌, ◌+◌, ◌∙◌, ◌++◌, ◌∷◌, [], true, Some, ap, inr, sym}
+use Rattle.std.proofs.Common.{◌≡◌, ◌≢◌, ◌+◌, ◌∙◌, ◌++◌, ◌∷◌, [], true, ap, inr, sym}
 use Rattle.std.proofs.Common.{subst, arith, append_assoc, get_or, length}
 use Rattle.std.specs.Prelude.{All, AllPairs, Contains, IfSome}
 use Rattle.std.proofs.lemmas.List.{length-append}

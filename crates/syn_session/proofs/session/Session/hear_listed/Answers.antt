@@ -38,41 +38,41 @@ returns c = record {
       let reply = reply_of c.args.reply in
       let now = c.args.self.now in
       let taken = c.take_listing.new.self in
-      let after = c.count_unstable.new.self in
+      let after = c.note_unstable.new.self in
       let waits = waits_for archive before now running side number
       (ListAt path) reply is answers scans path refl in
       let before_found = found_before archive before now running side number
       (ListAt path) reply is answers scans path refl in
       let keeps = c.in_ok-take_listing.ensures.keeps in
       let step = c.in_ok-take_listing.ensures.step running.taken number waits before_found in
-      let counted = c.count_unstable.ensures.unstable
+      let counted = c.note_unstable.ensures.unstable
       ∙ ap (λ b. taken.is_unstable || b) c.is_no_directory-is_no_directory.ensures in
       let taken_out = c.in_ok-take_listing.ensures.out in
       let has = listed_heard archive before now running side number (ListAt path) reply is answers
       scans path refl taken after keeps c.in_ok-take_listing.ensures.unstable counted
-      c.count_unstable.ensures.left c.count_unstable.ensures.right c.count_unstable.ensures.number
-      c.count_unstable.ensures.preference
-      c.count_unstable.ensures.course step.1 taken_out in
+      c.note_unstable.ensures.left c.note_unstable.ensures.right c.note_unstable.ensures.number
+      c.note_unstable.ensures.preference
+      c.note_unstable.ensures.course step.1 taken_out in
       let both = listed_begun archive before now running side number (ListAt path) reply is answers
       scans path refl taken after keeps c.in_ok-take_listing.ensures.unstable counted
-      c.count_unstable.ensures.left c.count_unstable.ensures.right c.count_unstable.ensures.number
-      c.count_unstable.ensures.preference
-      c.count_unstable.ensures.course step.1 taken_out in
+      c.note_unstable.ensures.left c.note_unstable.ensures.right c.note_unstable.ensures.number
+      c.note_unstable.ensures.preference
+      c.note_unstable.ensures.course step.1 taken_out in
       let found = listed_found archive before now running side number (ListAt path) reply is answers
       scans path refl taken after keeps c.in_ok-take_listing.ensures.unstable counted
-      c.count_unstable.ensures.left c.count_unstable.ensures.right c.count_unstable.ensures.number
-      c.count_unstable.ensures.preference
-      c.count_unstable.ensures.course step.1 taken_out in
+      c.note_unstable.ensures.left c.note_unstable.ensures.right c.note_unstable.ensures.number
+      c.note_unstable.ensures.preference
+      c.note_unstable.ensures.course step.1 taken_out in
       let lines = listed_lines archive before now running side number (ListAt path) reply is answers
       scans path refl taken after keeps c.in_ok-take_listing.ensures.unstable counted
-      c.count_unstable.ensures.left c.count_unstable.ensures.right
-      c.count_unstable.ensures.number c.count_unstable.ensures.preference
-      c.count_unstable.ensures.course step.1 taken_out in
+      c.note_unstable.ensures.left c.note_unstable.ensures.right
+      c.note_unstable.ensures.number c.note_unstable.ensures.preference
+      c.note_unstable.ensures.course step.1 taken_out in
       let out = listed_out archive before now running side number (ListAt path) reply is answers
       scans path refl taken after keeps c.in_ok-take_listing.ensures.unstable counted
-      c.count_unstable.ensures.left c.count_unstable.ensures.right
-      c.count_unstable.ensures.number c.count_unstable.ensures.preference
-      c.count_unstable.ensures.course step.1 taken_out in
+      c.note_unstable.ensures.left c.note_unstable.ensures.right
+      c.note_unstable.ensures.number c.note_unstable.ensures.preference
+      c.note_unstable.ensures.course step.1 taken_out in
       hears_next after c.scan_on.new.self running side number (ListAt path) reply step.0 has both
       found lines out c.scan_on.ensures.same c.scan_on.result c.scan_on.ensures.some
       c.scan_on.ensures.none c.map_err.result (search rules);

@@ -1,3 +1,4 @@
+use Rattle.std.proofs.lemmas.Result.{IfOk-weaker}
 use Rattle.syn_headline.specs.Session.{IsShown}
 use Rattle.syn_scan.specs.Found.{IsShownIn}
 use Rattle.syn_session.specs.Scanning.{found_of}
@@ -6,6 +7,7 @@ use Rattle.syn_session.proofs.side_scan.SideScan.next.Goals as goal
 
 pub returns-clause-shown : goal.returns-clause-shown
 returns-clause-shown c side taken f =
-    each_some (IsShownIn (found_of c.args.self.now)) (IsShown taken side)
-    (λ path. shown_to (found_of c.args.self.now) side taken path f) c.in_ok-next_request.field-0
-    c.in_ok-next_request.ensures.shown
+    IfOk-weaker c.next_request.result _ _
+    (each_some (IsShownIn (found_of c.args.self.now)) (IsShown taken side)
+    (λ path. shown_to (found_of c.args.self.now) side taken path f))
+    c.next_request.ensures.shown

@@ -8,7 +8,7 @@ use Rattle.syn_placed.proofs.BelowLemmas.{below_rooted}
 use Rattle.syn_placed.proofs.TreeLemmas.{entries-with, entries-absent}
 use Rattle.syn_tree.specs.Contents.{found_content}
 use Rattle.syn_tree.proofs.MeasureLemmas.{kept_size}
-use Rattle.syn_tree.proofs.RootedLemmas.{part_size, below_size}
+use Rattle.syn_tree.proofs.RootedLemmas.{part_shorter, part_size, below_size}
 use Rattle.syn_tree.proofs.StripLemmas.{subtree_none}
 use Rattle.syn_tree.proofs.tree.Tree.part_length.Goals as goal
 
@@ -37,8 +37,8 @@ pub overflow_add-result : goal.overflow_add-result
 overflow_add-result c =
     omega (arith, short c.before, c.spelled.ensures, c.found_spelled.ensures.fits)
 
-pub returns-in-Some : goal.returns-in-Some
-returns-in-Some c =
+pub returns-in-Some-clause-length : goal.returns-in-Some-clause-length
+returns-in-Some-clause-length c =
     let t = c.args.self.now in
     let at = c.args.path.now in
     let there : get t at ≡ Some (found_content c.in-Some.found) =
@@ -49,11 +49,24 @@ returns-in-Some c =
     ∙ ap spelling_length (below_is c.before ∙ ap (filter (is_below at)) all))
     ∙ part_size t at (found_content c.in-Some.found) there
 
-pub returns-in-None : goal.returns-in-None
-returns-in-None c =
+pub returns-in-None-clause-length : goal.returns-in-None-clause-length
+returns-in-None-clause-length c =
     let t = c.args.self.now in
     let none : get t c.args.path.now ≡ None = sym c.get.ensures
     ∙ ap (option_map (λ found. found_content found)) c.in-None.is in
     let parents = (subst IsTree c.self.view_is c.self.invariant.tree).part.parents in
     sym (ap spelling_length entries-absent)
     ∙ ap tree_spelling_length (subtree_none t c.args.path.now parents none)
+
+pub returns-in-Some-clause-short : goal.returns-in-Some-clause-short
+returns-in-Some-clause-short c =
+    let ds = c.self.inside.list.items in
+    let all = sym (entries-with ds c.self.invariant.rising) ∙ ap entries c.self.view_is in
+    omega (
+      arith,
+      returns-in-Some-clause-length c,
+      part_shorter c.args.self.now c.args.path.now,
+      ap spelling_length all,
+      c.self.invariant.counted,
+      kept_size ds _ _ c.self.invariant,
+    )
