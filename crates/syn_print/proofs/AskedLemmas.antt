@@ -1,9 +1,9 @@
 -- The replies of a side, one after another.
-use Rattle.std.proofs.Common.{◌≡◌, ◌⊎◌, ◌<◌, ◌+◌, ◌++◌, ◌∷◌, [], ℕ, zero, suc, Bool, true, false}
-use Rattle.std.proofs.Common.{cond, not, Some, None, refl, sym, ap, ap₂, ◌∙◌, subst}
+use Rattle.std.proofs.Common.{◌≡◌, ◌⊎◌, ◌<◌, ◌+◌, ◌++◌, ◌∷◌, [], ℕ, zero, suc}
+use Rattle.std.proofs.Common.{cond, not, Some, refl, sym, ap, ap₂, ◌∙◌, subst}
 use Rattle.std.proofs.Common.{arith, inl, inr, length, length-append}
 use Rattle.std.proofs.lemmas.List.{map-append}
-use Rattle.std.specs.Prelude.{◌&&◌, Contains}
+use Rattle.std.specs.Prelude.{Contains}
 use Rattle.syn_headline.specs.Network.{Which, Left}
 use Rattle.syn_headline.specs.Session.{Exchange}
 use Rattle.syn_headline.specs.Side.{ListAt, Reply}
@@ -15,11 +15,10 @@ use Rattle.syn_model.specs.Limits.{most_nodes}
 use Rattle.syn_model.specs.Refusal.{Refusal, Memory, TooLarge}
 use Rattle.syn_print.specs.Listings.{NotScanned, endless, ended, exchanges_of, fault_after, refused}
 use Rattle.syn_print.specs.inner.Asking.{IsAsked}
-use Rattle.syn_scan.specs.Asked.{AreAllOut, handed_out, is_out, without}
-use Rattle.syn_scan.specs.Found.{Found, IsWhole, is_open, position_of, scan_of}
+use Rattle.syn_scan.specs.Asked.{handed_out, without}
+use Rattle.syn_scan.specs.Found.{Found, position_of, scan_of}
 use Rattle.syn_session.specs.Scanning.{Exchanges, IsFoundIn, WaitsFor, WasListedAt}
-use Rattle.syn_session.specs.Scanning.{WasNoDirectoryAt, asked_of, found_of, out_of}
-use Rattle.syn_session.specs.Scanning.{with_listing_answered}
+use Rattle.syn_session.specs.Scanning.{WasNoDirectoryAt, found_of, out_of, with_listing_answered}
 use Rattle.syn_session.specs.declared.side_scan.SideScan.{SideScan}
 use Rattle.syn_session.proofs.WaitingLemmas.{contains_out}
 
@@ -107,18 +106,6 @@ module _ {S : Type 0} (lists : S → Path → Reply → S → Type 0) where
       none_left : without (path ∷ []) path ≡ []
       none_left = ap (λ b. cond (not b) (path ∷ []) []) (path_itself path)
 
-  -- where nothing is left to ask for, all was answered
-  pub all_asked : (old now : S) (scan next : SideScan) (times : ℕ) → AskedTimes old scan now times
-      → found_of next ≡ found_of scan → out_of next ≡ handed_out (out_of scan) None
-      → IsAsked lists old next now
-  all_asked old now scan next times has same out = let so_far = has.asked in record {
-    replies = so_far.replies;
-    gave = so_far.gave;
-    found = λ side. subst (λ (f : Found). IsFoundIn f side (exchanges_of side so_far.replies))
-        (sym same) (so_far.found side);
-    none_out = out ∙ so_far.none_out;
-  }
-
   -- the next listing is refused, or the reply to it ends a session, or too many were asked
   module _ (refuses : S → Path → Refusal → S → Type 0) (old now new : S) (scan : SideScan)
       (times : ℕ) (has : AskedTimes old scan now times) (why : Refusal) where
@@ -171,14 +158,3 @@ module _ {S : Type 0} (lists : S → Path → Reply → S → Type 0) where
               nothing_below = one.nothing_below;
             });
       }
-
-not_both : (b : Bool) → (b && true) ≡ false → b ≡ false
-not_both true e = e
-not_both false e = refl
-
--- where each directory that is open was handed out, and none waits, none is open
-pub none_open : (scan : SideScan) → AreAllOut (asked_of scan) → out_of scan ≡ []
-    → IsWhole (found_of scan)
-none_open scan all none path =
-    not_both (is_open (found_of scan) path)
-    (subst (λ ps. (is_open (found_of scan) path && not (is_out ps path)) ≡ false) none (all path))

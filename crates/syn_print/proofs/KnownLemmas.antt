@@ -16,12 +16,6 @@ pub entries_more : (all : List Logged) (one : Logged)
     → entries_of (all ++ one ∷ []) ≡ entries_of all ++ entry_of one ∷ []
 entries_more all one = map-append entry_of all (one ∷ [])
 
--- one touch more
-pub touched_more : (all : List Touch) (one : Touch)
-    → touched (all ++ one ∷ []) ≡ touched all ++ (one.position + 1, OfPath one.path) ∷ []
-touched_more all one =
-    map-append (λ (touch : Touch). (touch.position + 1, OfPath touch.path)) all (one ∷ [])
-
 -- one event more
 events_more : (first last : ℕ) (events : List Event) (event : Event)
     → first + length events ≡ last → events_from first (events ++ event ∷ [])

@@ -1,7 +1,5 @@
 mod CollectLemmas
 mod OrderLemmas
-mod ImageLemmas
-mod EventLemmas
 mod KnownLemmas
 mod DamageLemmas
 mod AskedLemmas

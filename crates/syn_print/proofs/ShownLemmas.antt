@@ -1,6 +1,5 @@
 -- A side that replies by one history shows its tree.
-use Rattle.std.proofs.Common.{◌≡◌, ◌≢◌, ◌⊎◌, ◌++◌, ◌∷◌, [], ℕ, List, zero, suc, true}
-use Rattle.std.proofs.Common.{false}
+use Rattle.std.proofs.Common.{◌≡◌, ◌≢◌, ◌⊎◌, ◌++◌, ◌∷◌, [], ℕ, List, zero, suc, true, false}
 use Rattle.std.proofs.Common.{None, option_map, length, refl, sym, ap, ap₂, ◌∙◌, subst, arith}
 use Rattle.std.proofs.Common.{append_assoc, append-nil, true≢false, inl, inr}
 use Rattle.std.specs.FinMap.{get}

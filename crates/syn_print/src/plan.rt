@@ -83,6 +83,10 @@ pub fn plan_of_replicas<L: Disk, R: Disk>(
         → Stands right.now on_right → IfOk result (λ planned. items_of planned.items.items
         ≡ plan (option_map which_of preference) (scan_of_tree (tree_of on_left))
         (scan_of_tree (tree_of on_right)) archive.now) }
+    ensures left { (history : History) → Stands left.now history → IfOk result
+        (λ planned. scan_of (found_of planned.left) ≡ scan_of_tree (tree_of history)) }
+    ensures right { (history : History) → Stands right.now history → IfOk result
+        (λ planned. scan_of (found_of planned.right) ≡ scan_of_tree (tree_of history)) }
     ensures cause { (on_left on_right : History) → Stands left.now on_left
         → Stands right.now on_right → IfErr result (λ why. (cause_of why ≡ Memory)
         ⊎ (NotShown on_left (cause_of why) ⊎ NotShown on_right (cause_of why))) }
@@ -115,9 +119,8 @@ fn scan_side<S: ListedSide>(alloc: Global, side: &mut S) -> Result<SideScan, Ref
     ensures cause { IfErr result (λ why. (cause_of why ≡ Memory)
         ⊎ NotScanned S.lists S.refuses side.old (cause_of why) side.new) }
 {
-    let mut scan = match SideScan::new(alloc) {
-        Ok(scan) => scan,
-        Err(error) => return Err(error.refusal()),
+    let Ok(mut scan) = SideScan::new(alloc) else {
+        return Err(Refusal::Memory);
     };
     // One call more than there can be directories says that none is left.
     for _ in 0..=MOST_NODES {
@@ -127,7 +130,7 @@ fn scan_side<S: ListedSide>(alloc: Global, side: &mut S) -> Result<SideScan, Ref
                 scan.take(alloc, &path, reply)?;
             }
             Ok(None) => return Ok(scan),
-            Err(error) => return Err(error.refusal()),
+            Err(_) => return Err(Refusal::Memory),
         }
     }
     Err(Refusal::TooLarge)

@@ -1,5 +1,5 @@
 //! The lines of what a session reports.
-ghost use Rattle.std.specs.Prelude.{◌≡◌, IfOk, OnOk, length, map, option_map};
+ghost use Rattle.std.specs.Prelude.{OnOk, length, map, option_map};
 ghost use Rattle.std.specs.Io.KnownBytes.{Appends};
 ghost use Rattle.syn_refusal.specs.Refusals.{cause_of};
 ghost use Rattle.syn_session.specs.Reports.{end_of, report_model};

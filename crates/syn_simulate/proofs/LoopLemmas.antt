@@ -222,9 +222,6 @@ module _ {D : Type 0} {disk : Ghosts D} (player : Player D disk) (state : State)
         | inr above ↦ sym (is.flags other) ∙ set other above low
       ]
 
-  pub passed : IsPlayer (record player { lowest = number }) state
-  passed = record { world = is.world; flags = is.flags; below = below }
-
   pub lowest_left : number < length (sent_in (world_of player)) → IsLowest state number
   lowest_left within =
       let sent : length (sent_in (world_of player)) ≡ length state.world.sent =

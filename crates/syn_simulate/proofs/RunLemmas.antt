@@ -1,14 +1,19 @@
 -- The world after a script.
-use Rattle.std.proofs.Common.{List}
+use Rattle.std.proofs.Common.{◌≡◌, List, ℕ, refl}
 use Rattle.syn_disk.specs.declared.disk.Disk.{Ghosts}
 use Rattle.syn_simulate.specs.Players.{HasPlayedAll, world_of}
 use Rattle.syn_simulate.specs.States.{fresh}
 use Rattle.syn_simulate.specs.declared.player.Player.{Player}
-use Rattle.syn_script.specs.Scripts.{SaySteps, lines_of}
+use Rattle.syn_script.specs.Scripts.{IsFirstFault, SaySteps, lines_of}
 use Rattle.syn_script.specs.Words.{Text}
 use Rattle.syn_script.specs.declared.line.Line.{Line}
-use Rattle.syn_simulate.specs.Simulations.{RunsScript}
-use Rattle.syn_simulate.specs.Starts.{StartsFormatted}
+use Rattle.syn_script.specs.declared.error.ScriptError.{ScriptError}
+use Rattle.syn_script.specs.declared.error.ScriptError.TheVariants as script
+use Rattle.syn_simulate.specs.Faults.{error_of}
+use Rattle.syn_simulate.specs.Simulations.{IsNoRun, RunsScript}
+use Rattle.syn_simulate.specs.Starts.{IsOutside, StartsFormatted}
+use Rattle.syn_simulate.specs.declared.error.SimulateError.{SimulateError}
+use Rattle.syn_simulate.specs.declared.error.SimulateError.TheVariants.{Memory, Refused, Script}
 use Rattle.syn_world.specs.declared.world.World.{World}
 
 -- a new world, on which the lines of a script are played
@@ -29,3 +34,15 @@ runs_script script lines start player say starts played = record {
     ends = played.is.world;
   };
 }
+
+-- what refuses the lines refuses the run
+pub no_lines : (text : Text) (e : ScriptError) → ((number : ℕ) → e ≡ script.Line number
+    → IsFirstFault (lines_of text) number) → IsNoRun text (error_of e)
+no_lines text (script.Line number) first = first number refl
+no_lines text script.Memory first = tt
+
+-- and so does a cause that lies outside
+pub no_world : (text : Text) (e : SimulateError) → IsOutside e → IsNoRun text e
+no_world text (Script line) outside = absurd outside
+no_world text (Refused refusal) outside = outside
+no_world text Memory outside = outside

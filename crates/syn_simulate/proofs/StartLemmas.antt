@@ -1,6 +1,5 @@
 -- A disk that was just formatted can start its machine, and three of them are those of a pair.
-use Rattle.std.proofs.Common.{◌≡◌, ◌∙◌, [], ap, arith, inl, inr, refl, subst, sym}
-use Rattle.std.proofs.Common.{true, true≢false}
+use Rattle.std.proofs.Common.{◌≡◌, ◌∙◌, [], ap, arith, inl, inr, refl, subst, sym, true, true≢false}
 use Rattle.std.specs.List.{list_any}
 use Rattle.std.specs.Prelude.{◌==◌, ◌⊎◌}
 use Rattle.syn_archive.specs.Archive as archives

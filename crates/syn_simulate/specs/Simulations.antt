@@ -4,10 +4,12 @@ use Rattle.syn_disk.specs.declared.disk.Disk.{Ghosts}
 use Rattle.syn_headline.specs.World.{Runs, Step}
 use Rattle.syn_simulate.specs.Lines.{PlaysAll}
 use Rattle.syn_simulate.specs.States.{State, fresh}
-use Rattle.syn_script.specs.Scripts.{SaySteps, lines_of}
+use Rattle.syn_script.specs.Scripts.{IsFirstFault, SaySteps, lines_of}
 use Rattle.syn_script.specs.Words.{Text}
 use Rattle.syn_script.specs.declared.line.Line.{Line}
-use Rattle.syn_simulate.specs.Starts.{StartsFormatted}
+use Rattle.syn_simulate.specs.Starts.{IsOutside, StartsFormatted}
+use Rattle.syn_simulate.specs.declared.error.SimulateError.{SimulateError}
+use Rattle.syn_simulate.specs.declared.error.SimulateError.TheVariants.{Script as Fault}
 use Rattle.syn_world.specs.Worlds.{IsWorld}
 use Rattle.syn_world.specs.declared.world.World.{World}
 
@@ -28,3 +30,8 @@ pub record RunsScript {D : Type 0} {disk : Ghosts D} (script : Text) (world : Wo
   pub lines : List Line
   pub say : SaySteps (lines_of script) lines
   pub plays : LeadsTo lines world
+
+-- why a script is not run: the first of its lines that says no step, or a cause that lies outside
+abbrev pub IsNoRun : Text → SimulateError → Type 0
+IsNoRun script (Fault number) = IsFirstFault (lines_of script) number
+IsNoRun script e = IsOutside e

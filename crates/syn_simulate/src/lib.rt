@@ -10,8 +10,8 @@
 //! - `play` answers the player after a script. Its lines say steps (`SaySteps`), and playing these
 //!   leads a world of pair 1 that was just formatted to the player's, by a run of the definitions
 //!   (`run`, `RunsScript`, `LeadsTo`). It is refused with the number of the first line that says no
-//!   step (`fault`, `IsFirstFault`), or for lack of memory.
-//! - `simulate` answers that player's world, and is refused as `play` is (`run`, `fault`).
+//!   step, or 9 or 11 alone (`refused`, `IsNoRun`).
+//! - `simulate` answers that player's world, and is refused as `play` is (`run`, `refused`).
 //! - `show_world` works over any disks and any writer. Where it answers, just the lines of
 //!   `world_shown` were added: of each session that ended, and of each machine's image, or that it
 //!   is down.

@@ -1,7 +1,6 @@
 //! Which messages were delivered already.
 ghost use Rattle.std.specs.Prelude.{◌≡◌, ◌==◌, ◌||◌, ◌<◌, ◌≤◌, ℕ, false, true, length, None};
 ghost use Rattle.std.specs.Prelude.{IfSome, slice_index_or};
-ghost use Rattle.syn_headline.specs.World.{World as ModelWorld};
 ghost use Rattle.syn_simulate.specs.Players.{AreFlags};
 ghost use Rattle.syn_simulate.specs.States.{State, noted};
 ghost use Rattle.syn_world.specs.Steps.{step_of};

@@ -1,9 +1,7 @@
 //! Scripts that are run.
-ghost use Rattle.std.specs.Prelude.{◌≡◌, ℕ, IfOk, IfErr};
+ghost use Rattle.std.specs.Prelude.{IfOk, IfErr};
 ghost use Rattle.syn_simulate.specs.Players.{world_of};
-ghost use Rattle.syn_script.specs.Scripts.{IsFirstFault, lines_of};
-ghost use Rattle.syn_simulate.specs.Simulations.{RunsScript};
-ghost use Rattle.syn_simulate.specs.declared.error.SimulateError.TheVariants.{Script as Fault};
+ghost use Rattle.syn_simulate.specs.Simulations.{IsNoRun, RunsScript};
 
 use crate::disks::stops_of;
 use crate::error::SimulateError;
@@ -22,8 +20,7 @@ use syn_world::World;
 /// done; and 11 where memory is refused.
 pub fn play(alloc: Global, script: &[u8]) -> Result<Player<Cut<MemDisk>>, SimulateError>
     ensures run { IfOk result (λ player. RunsScript script.now (world_of player)) }
-    ensures fault { IfErr result (λ e. (number : ℕ) → e ≡ Fault number
-        → IsFirstFault (lines_of script.now) number) }
+    ensures refused { IfErr result (IsNoRun script.now) }
 {
     let lines = Script::parse(alloc, script)?;
     let stops = stops_of(alloc, &lines)?;
@@ -40,8 +37,7 @@ pub fn play(alloc: Global, script: &[u8]) -> Result<Player<Cut<MemDisk>>, Simula
 /// The world after the steps of the script, as `play` leaves it. It is refused as that is.
 pub fn simulate(alloc: Global, script: &[u8]) -> Result<World<Cut<MemDisk>>, SimulateError>
     ensures run { IfOk result (RunsScript script.now) }
-    ensures fault { IfErr result (λ e. (number : ℕ) → e ≡ Fault number
-        → IsFirstFault (lines_of script.now) number) }
+    ensures refused { IfErr result (IsNoRun script.now) }
 {
     Ok(play(alloc, script)?.into_world())
 }

@@ -14,7 +14,6 @@ use crate::plan::counts::{Counts, counts_of};
 use std::alloc::{AllocError, Global};
 use std::io::Write;
 use syn_mark::{Mark, MarkTree};
-use syn_path::Path;
 use syn_recon::Item;
 
 /// Prints the plan: a line of its counts, and for each item a line with its path and one of what

@@ -1,5 +1,5 @@
 use Rattle.std.proofs.Common.{◌≡◌, ◌∙◌, ap₂, option_map, subst, sym}
-use Rattle.std.proofs.lemmas.Result.{IfErr-weaker}
+use Rattle.std.proofs.lemmas.Result.{IfErr-weaker, IfOk-weaker}
 use Rattle.syn_path.specs.Sides.{which_of}
 use Rattle.syn_refusal.specs.Refusals.{cause_of}
 use Rattle.syn_model.specs.Dirty.{Scan}
@@ -37,6 +37,24 @@ returns-clause-items g c on_left on_right left_stands right_stands =
     (shows_replica on_left left c.plan_between.new.left planned.left good_left on_l)
     (shows_replica on_right right c.plan_between.new.right planned.right good_right on_r))
     c.plan_between.result c.plan_between.ensures.items c.plan_between.ensures.left
+    c.plan_between.ensures.right
+
+pub returns-clause-left : goal.returns-clause-left
+returns-clause-left g c history stands =
+    let left = c.new-left.result in
+    let good : Stands left.replica.now history =
+    subst (λ r. Stands r history) (sym c.new-left.ensures) stands in
+    IfOk-weaker c.plan_between.result _ _
+    (λ planned on. shows_replica history left c.plan_between.new.left planned.left good on)
+    c.plan_between.ensures.left
+
+pub returns-clause-right : goal.returns-clause-right
+returns-clause-right g c history stands =
+    let right = c.new-right.result in
+    let good : Stands right.replica.now history =
+    subst (λ r. Stands r history) (sym c.new-right.ensures) stands in
+    IfOk-weaker c.plan_between.result _ _
+    (λ planned on. shows_replica history right c.plan_between.new.right planned.right good on)
     c.plan_between.ensures.right
 
 pub returns-clause-cause : goal.returns-clause-cause

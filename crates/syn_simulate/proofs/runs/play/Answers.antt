@@ -1,4 +1,5 @@
-use Rattle.syn_simulate.proofs.RunLemmas.{runs_script}
+use Rattle.std.proofs.lemmas.Result.{err_from_is_err_and}
+use Rattle.syn_simulate.proofs.RunLemmas.{no_lines, no_world, runs_script}
 use Rattle.syn_simulate.proofs.runs.play.Goals as goal
 
 pub returns-in-Ok-clause-run : goal.returns-in-Ok-clause-run
@@ -7,3 +8,14 @@ returns-in-Ok-clause-run c =
     runs_script c.args.script.now c.in_ok-lines.lines.items c.in_ok-world.world c.in-Ok.player
     c.in_ok-lines.ensures.ok starts
     (c.in-Ok.ensures _ (c.new.ensures.fresh starts.opens.model starts.opens.is))
+
+pub returns-in_err-lines-clause-refused : goal.returns-in_err-lines-clause-refused
+returns-in_err-lines-clause-refused c =
+    let p = err_from_is_err_and c.from_residual.result c.from_residual.ensures.1 in
+    rw (p.1, p.2) (no_lines c.args.script.now _ c.in_err-lines.ensures.bad)
+
+pub returns-in_err-world-clause-refused : goal.returns-in_err-world-clause-refused
+returns-in_err-world-clause-refused c =
+    let p = err_from_is_err_and c.from_residual-in_err-world.result
+    c.from_residual-in_err-world.ensures.1 in
+    rw (p.1, p.2) (no_world c.args.script.now _ c.in_err-world.ensures.refused)

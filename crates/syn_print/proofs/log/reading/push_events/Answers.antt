@@ -1,5 +1,4 @@
-use Rattle.std.proofs.Common.{◌≡◌, ◌≤◌, ◌∙◌, ◌+◌, ◌++◌, ◌∷◌, [], ap, get_or, subst, sym}
-use Rattle.std.proofs.Common.{take}
+use Rattle.std.proofs.Common.{◌≡◌, ◌≤◌, ◌∙◌, ◌+◌, ◌++◌, ◌∷◌, [], ap, get_or, subst, sym, take}
 use Rattle.std.proofs.lemmas.List.{map-append, take_more}
 use Rattle.std.specs.Global.{Vec}
 use Rattle.std.specs.Prelude.{ℕ, None, option_map}
