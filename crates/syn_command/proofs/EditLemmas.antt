@@ -1,16 +1,15 @@
 -- An edit that is asked for. Of the input of a put at most one byte more is read than a file may
 -- have.
 use Rattle.std.proofs.Common.{◌≡◌, ◌⊎◌, inl, inr, ◌<◌, ◌≤◌, ◌-◌, ◌++◌, ◌∷◌, ◌∙◌, ℕ, Bool, true}
-use Rattle.std.proofs.Common.{false, not, nat_le, [], List, length, take, Option, Some, sym, ap}
+use Rattle.std.proofs.Common.{false, not, nat_le, [], List, length, take, sym, ap}
 use Rattle.std.proofs.Common.{subst, refl, arith}
-use Rattle.std.specs.Option.{IfSome}
 use Rattle.std.proofs.lemmas.Bool.{leb-true, leb-false}
 use Rattle.std.proofs.lemmas.List.{take_all, length-take-le}
 use Rattle.syn_model.specs.Event.{Edit, Event, Edited, Put, after_edit}
 use Rattle.syn_model.specs.History.{History, IsHistory, tree_of, event_refusal}
 use Rattle.syn_model.specs.Limits.{fits_replica}
 use Rattle.syn_model.specs.Path.{Bytes, Path}
-use Rattle.syn_model.specs.Refusal.{Full, first_cause}
+use Rattle.syn_model.specs.Refusal.{Refusal, Full, Cause, first_cause}
 use Rattle.syn_model.specs.Standing.{edit_causes, full_position}
 use Rattle.syn_model.specs.Laws.{HistoryFits, PutFits, StandingSteps}
 use Rattle.syn_disk.specs.declared.disk.Disk.{Ghosts}
@@ -19,16 +18,12 @@ use Rattle.syn_journal.specs.Layout.{half_size}
 use Rattle.syn_replica.specs.Disks.{DiskKeeps, event_size}
 use Rattle.syn_replica.specs.Replica.{KeepsBeforeOrAfter, Stands, pair_of, disk_of, left_shown}
 use Rattle.syn_replica.specs.Replica.{generation_shown}
+use Rattle.syn_replica.specs.Steps.{add_refusal, room_causes}
 use Rattle.syn_replica.specs.declared.replica.Replica.{Replica}
 use Rattle.syn_command.specs.Asked.{edit_asked}
 use Rattle.syn_command.specs.declared.edit.TheConstants.{MOST_INPUT as most}
 use Rattle.syn_words.specs.declared.line.EditKind.{EditKind}
 use Rattle.syn_words.specs.declared.line.EditKind.TheVariants as kind
-
--- a fact of what is left, where that is known
-pub known : (o : Option Bytes) (left : Bytes) (P : Bytes → Type 0) → o ≡ Some left → IfSome o P →
-    P left
-known o left P e h = subst (λ x. IfSome x P) e h
 
 over : (n : ℕ) → n ≤ 16384 → 16384 < n → ⊥
 over n a b = omega (arith, a, b)
@@ -54,6 +49,15 @@ whole : (bytes left : Bytes) → bytes ≡ take most left → length bytes ≤ 1
 whole bytes left e small =
     elim (longer bytes left e) as (λ _. bytes ≡ left)
     [ inl same ↦ same | inr both ↦ absurd (over (length bytes) small both.0) ]
+
+-- what comes after a cause that holds does not count
+first_until : (causes : List Cause) (why : Refusal) (others more rest : List Cause) →
+    first_cause ((causes ++ (true, why) ∷ others) ++ more)
+    ≡ first_cause ((causes ++ (true, why) ∷ others) ++ rest)
+first_until [] why others more rest = refl
+first_until ((true, other) ∷ causes) why others more rest = refl
+first_until ((false, other) ∷ causes) why others more rest =
+    first_until causes why others more rest
 
 module _ (fits : HistoryFits) (put : PutFits) (steps : StandingSteps) where
   -- a put that came into a history has no more bytes than a file may have
@@ -93,6 +97,26 @@ module _ (fits : HistoryFits) (put : PutFits) (steps : StandingSteps) where
             (too_long history path bytes both.0 ∙ sym (too_long history path left both.1))
       ]
 
+  -- whatever room the journal has
+  put_addition : (room : ℕ) (history : History) (user : ℕ) (path : Path) (bytes left : Bytes) →
+      bytes ≡ take most left → add_refusal room history (Edited user (Put path bytes))
+      ≡ add_refusal room history (Edited user (Put path left))
+  put_addition room history user path bytes left e =
+      let causes = edit_causes (tree_of history) (Put path bytes) in
+      let first = λ (b : Bool) (event : Event).
+      first_cause ((causes ++ ((not b, Full) ∷ full_position (length history)))
+      ++ room_causes room event) in
+      let read = Edited user (Put path bytes) in
+      let asked = Edited user (Put path left) in
+      elim (longer bytes left e) as (λ _. add_refusal room history (Edited user (Put path bytes))
+      ≡ add_refusal room history (Edited user (Put path left))) [
+        | inl same ↦ ap (λ b. add_refusal room history (Edited user (Put path b))) same
+        | inr both ↦ ap (λ b. first b read) (too_long history path bytes both.0)
+            ∙ (first_until causes Full (full_position (length history)) (room_causes room read)
+            (room_causes room asked)
+            ∙ sym (ap (λ b. first b asked) (too_long history path left both.1)))
+      ]
+
   -- an edit that came into a history is the one that was asked for
   pub same_edit : (history : History) (user : ℕ) (kind : EditKind) (path : Path) (left : Bytes)
       → IsHistory (history ++ Edited user (edit_asked kind path (take most left)) ∷ [])
@@ -124,6 +148,17 @@ module _ (fits : HistoryFits) (put : PutFits) (steps : StandingSteps) where
   same_refusal history user kind.MakeDir path left = refl
   same_refusal history user kind.Remove path left = refl
   same_refusal history user (kind.Chmod mode) path left = refl
+
+  -- and so it is whatever room the journal has
+  pub same_addition : (room : ℕ) (history : History) (user : ℕ) (kind : EditKind) (path : Path)
+      (left : Bytes) →
+      add_refusal room history (Edited user (edit_asked kind path (take most left)))
+      ≡ add_refusal room history (Edited user (edit_asked kind path left))
+  same_addition room history user kind.Put path left =
+      put_addition room history user path (take most left) left refl
+  same_addition room history user kind.MakeDir path left = refl
+  same_addition room history user kind.Remove path left = refl
+  same_addition room history user (kind.Chmod mode) path left = refl
 
 -- a stop of a replica to which nothing was done leaves what it keeps
 pub not_written : {D : Type 0} {disk : Ghosts D} (only_now : (d : D) (c : List ℕ)

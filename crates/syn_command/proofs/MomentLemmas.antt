@@ -1,7 +1,6 @@
 -- What a stop leaves in the course of an import.
 use Rattle.std.proofs.Common.{◌≡◌, ◌⊎◌, ◌++◌, ◌∷◌, [], ℕ, List, inl, inr, refl, sym, ap, subst}
-use Rattle.std.proofs.Common.{arith}
-use Rattle.std.proofs.Common.{append_assoc, append-nil, ◌∙◌, map}
+use Rattle.std.proofs.Common.{arith, append_assoc, append-nil, ◌∙◌, map}
 use Rattle.std.proofs.lemmas.List.{map-append}
 use Rattle.syn_disk.specs.Stops.{LeavesOnly}
 use Rattle.syn_disk.specs.declared.disk.Disk.{Ghosts}
@@ -10,7 +9,6 @@ use Rattle.syn_model.specs.History.{History}
 use Rattle.syn_replica.proofs.StandLemmas.{keeps_now, keeps_stands, not_written}
 use Rattle.syn_disk.proofs.LeftLemmas.{leaves_weaker}
 use Rattle.syn_replica.specs.Disks.{DiskStands}
-use Rattle.syn_replica.specs.Growth.{IsGrown}
 use Rattle.syn_replica.specs.Replica.{KeepsBeforeOrAfter, KeepsOrCompacts, Stands, disk_of, pair_of}
 use Rattle.syn_replica.specs.declared.replica.Replica.{Replica}
 use Rattle.syn_command.specs.Imports.{IsBegun}
@@ -38,10 +36,6 @@ module _ {D : Type 0} {disk : Ghosts D} where
       → Leaves old new P → Leaves old new Q
   weaker old new P Q leads leaves =
       leaves_weaker disk.moment disk.left_since (disk_of old) (disk_of new) P Q leads leaves
-
-  pub same_pair : (old new : Replica D disk) → IsGrown old new → pair_of new ≡ pair_of old
-  unfolding IsGrown
-  same_pair old new grown = grown.pair
 
   -- nothing was written, so a stop leaves the history
   pub still : (only_now : (d : D) (c : List ℕ) → disk.left_since d (disk.moment d) c

@@ -4,6 +4,7 @@ use Rattle.syn_model.specs.Refusal as why
 use Rattle.syn_path.specs.Refusals.{refusal_of as of_path}
 use Rattle.syn_file.specs.OpenError.{refusal_of as of_disk}
 use Rattle.syn_standing.specs.Refusals.{refusal_of as of_replica}
+use Rattle.syn_replica.specs.Refusals.{IsOneOf, edit_refusals, outside_refusals}
 use Rattle.syn_archive.specs.Refusals.{refusal_of as of_archive}
 use Rattle.syn_refusal.specs.Refusals.{cause_of}
 use Rattle.syn_user.specs.Refusals.{refusal_of as of_user}
@@ -12,6 +13,8 @@ use Rattle.syn_command.specs.declared.error.CommandError.{CommandError}
 use Rattle.syn_command.specs.declared.error.CommandError.TheVariants.{Path, Open, Replica, Archive}
 use Rattle.syn_command.specs.declared.error.CommandError.TheVariants.{Refused, Device, Longer}
 use Rattle.syn_command.specs.declared.error.CommandError.TheVariants.{Memory, User, Folder}
+use Rattle.syn_words.specs.declared.line.EditKind.{EditKind}
+use Rattle.syn_words.specs.declared.line.EditKind.TheVariants.{Put}
 
 -- it is that of what refused
 abbrev pub refusal_of : CommandError → Refusal
@@ -41,3 +44,23 @@ IsOfPath _ = ⊥
 abbrev pub IsOfFolder : CommandError → Type 0
 IsOfFolder (Folder error) = Unit {0}
 IsOfFolder _ = ⊥
+
+-- Why an edit of a kind is not made: the replica refuses it, or the input cannot be read, which
+-- only a put reads.
+abbrev pub IsEditRefusal : EditKind → CommandError → Type 0
+IsEditRefusal _ (Replica error) = IsOneOf edit_refusals error
+IsEditRefusal Put error = IsOfStream error
+IsEditRefusal _ _ = ⊥
+
+-- and those of them that no history is the cause of
+abbrev pub IsOutside : EditKind → CommandError → Type 0
+IsOutside _ (Replica error) = IsOneOf outside_refusals error
+IsOutside Put error = IsOfStream error
+IsOutside _ _ = ⊥
+
+-- Why an edit of an import into a replica is not made: the replica refuses it, or what makes room
+-- for it, or memory is refused.
+abbrev pub IsOfEdits : CommandError → Type 0
+IsOfEdits (Replica error) = IsOneOf edit_refusals error
+IsOfEdits Memory = Unit {0}
+IsOfEdits _ = ⊥

@@ -1,5 +1,5 @@
 -- What an opened image says of the disk that it is on.
-use Rattle.std.specs.Prelude.{◌≡◌, ◌≢◌, ℕ, List, [], None, codes}
+use Rattle.std.specs.Prelude.{◌≡◌, ◌≢◌, ◌⊎◌, ℕ, List, [], None, codes}
 use Rattle.syn_disk.specs.declared.disk.Disk.{Ghosts}
 use Rattle.syn_model.specs.Archive as model
 use Rattle.syn_model.specs.Archive.{new_archive}
@@ -7,8 +7,10 @@ use Rattle.syn_model.specs.History.{History}
 use Rattle.syn_replica.specs.Replica as replica
 use Rattle.syn_replica.specs.Disks as replica_disk
 use Rattle.syn_replica.specs.Migrating.{IsMigrateRefusal}
+use Rattle.syn_replica.specs.Refusals.{IsOneOf, format_refusals}
 use Rattle.syn_archive.specs.Archive as archive
 use Rattle.syn_archive.specs.Disks as archive_disk
+use Rattle.syn_archive.specs.Refusals.{IsOfFormat}
 use Rattle.syn_archive.specs.declared.error.ArchiveError.TheVariants.{Damaged}
 use Rattle.syn_command.specs.declared.error.CommandError.{CommandError}
 use Rattle.syn_command.specs.declared.error.CommandError.TheVariants as error
@@ -50,6 +52,17 @@ StandsForHistory pair history (Archive a) = ⊥
 abbrev pub IsFormatted : {D : Type 0} → {disk : Ghosts D} → ImageKind → ℕ → Image D disk → Type 0
 IsFormatted kind.Replica pair image = StandsForHistory pair [] image
 IsFormatted kind.Archive pair image = StandsForArchive pair new_archive image
+
+-- Why no image of the kind is made: its replica or its archive is not, for lack of memory or for a
+-- device call that failed.
+abbrev pub IsFormatRefusal : ImageKind → CommandError → Type 0
+IsFormatRefusal kind.Replica (error.Replica e) = IsOneOf format_refusals e
+IsFormatRefusal kind.Archive (error.Archive e) = IsOfFormat e
+IsFormatRefusal _ _ = ⊥
+
+-- a disk whose image is of version 1: an archive's, or else a replica's
+abbrev pub IsOldDisk : List ℕ → Type 0
+IsOldDisk bytes = archive_disk.IsOldDisk bytes ⊎ replica_disk.IsOldDisk bytes
 
 -- Why no image is opened, and what that says of the bytes. Damage says that they hold neither an
 -- archive nor a replica.

@@ -1,15 +1,16 @@
 //! Makes an edit that a line asks for.
 ghost use Rattle.std.specs.Prelude.{◌≡◌, ◌⊎◌, ◌+◌, ◌++◌, ◌∷◌, [], length, take, IfOk, IfErr};
-ghost use Rattle.std.specs.Prelude.{IfSome, IsErrAnd, Some};
+ghost use Rattle.std.specs.Prelude.{IfSome, IsErrAnd, OnErr, Some};
 ghost use Rattle.syn_disk.specs.Stops.{LeavesOnly};
 ghost use Rattle.syn_model.specs.History.{History, event_refusal};
 ghost use Rattle.syn_model.specs.Path.{Bytes};
 ghost use Rattle.syn_model.specs.Refusal.{Refusal as Why, Device};
 ghost use Rattle.syn_path.specs.Paths.{NamesPath};
-ghost use Rattle.syn_replica.specs.Replica.{KeepsBeforeOrAfter, Stands, disk_of};
+ghost use Rattle.syn_replica.specs.Replica.{KeepsBeforeOrAfter, Stands, disk_of, room_shown};
+ghost use Rattle.syn_replica.specs.Steps.{add_refusal};
 ghost use Rattle.syn_tree.specs.Edits.{edit_of};
 ghost use Rattle.syn_command.specs.Asked.{IsInput, edit_asked, event_asked};
-ghost use Rattle.syn_command.specs.Errors.{refusal_of, IsOfStream};
+ghost use Rattle.syn_command.specs.Errors.{refusal_of, IsEditRefusal, IsOfStream, IsOutside};
 
 use crate::error::CommandError;
 use std::alloc::Global;
@@ -54,6 +55,14 @@ pub fn make_edit<D: Disk, I: Read>(
         → Stands replica.old history → IsInput line.entry.now.kind (I.remaining input.old) left
         → event_refusal history (event_asked line.entry.now path left) ≡ Some why
         → IsErrAnd result (λ e. (refusal_of e ≡ why) ⊎ IsOfStream e) }
+
+    // And each refusal has its cause. That the input cannot be read is one of a put alone.
+    ensures cause { (history : History) (left : Bytes)
+        → Stands replica.old history → IsInput line.entry.now.kind (I.remaining input.old) left
+        → IfErr result (λ e. IsOutside line.entry.now.kind e
+        ⊎ (add_refusal (room_shown replica.old) history (event_asked line.entry.now path left)
+        ≡ Some (refusal_of e))) }
+    ensures refusals { IfErr result (IsEditRefusal line.entry.now.kind) }
     ensures unchanged { (history : History) → Stands replica.old history
         → IfErr result (λ e. (refusal_of e ≡ Device) ⊎ Stands replica.new history) }
 {
@@ -74,6 +83,7 @@ pub fn read_edit<I: Read>(
     ensures edit { IfOk result (λ edit. (left : Bytes) → IsInput kind (I.remaining input.old) left
         → edit_of edit ≡ edit_asked kind path (take MOST_INPUT left)) }
     ensures stream { IfErr result IsOfStream }
+    ensures put { OnErr result (kind ≡ EditKind.Put) }
 {
     match kind {
         EditKind::Put => {

@@ -1,7 +1,8 @@
 //! Writes a part of a replica into a folder.
-ghost use Rattle.std.specs.Prelude.{◌≡◌, ◌≢◌, ◌⊎◌, IfErr, OnOk};
+ghost use Rattle.std.specs.Prelude.{◌≡◌, ◌≢◌, ◌⊎◌, [], IfErr, OnOk};
 ghost use Rattle.syn_change.specs.Changes.{IsOverlaid};
 ghost use Rattle.syn_folder.specs.Refusals.{IsOfSystem};
+ghost use Rattle.syn_folder.specs.Strangers.{IsApart};
 ghost use Rattle.syn_model.specs.Tree.{empty_directory, subtree};
 
 use std::alloc::Global;
@@ -31,6 +32,11 @@ pub fn export_part<F: Folder>(
     ensures empty { existing ≡ Existing.Refused
         → OnOk result (F.tree folder.old ≡ empty_directory) }
     ensures refused { IfErr result (λ e. IsOfSystem e ⊎ (folder.new ≡ folder.old)) }
+
+    // What can stand in no replica is not there, or with `--update` not where something is written.
+    ensures known { existing ≢ Existing.Updated → OnOk result (F.strangers folder.old ≡ []) }
+    ensures apart { existing ≡ Existing.Updated → OnOk result
+        (IsApart (F.strangers folder.old) (subtree tree.now path.now)) }
 {
     let part = copy_part(alloc, tree, path)?;
     match existing {

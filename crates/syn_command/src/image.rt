@@ -10,9 +10,9 @@ ghost use Rattle.syn_model.specs.Version.{One, Version};
 ghost use Rattle.syn_replica.specs.Disks as replica;
 ghost use Rattle.syn_replica.specs.Migrating.{KeepsOrMigrates, OrBefore};
 ghost use Rattle.syn_command.specs.Errors.{refusal_of};
-ghost use Rattle.syn_command.specs.Images.{IsFormatted, IsImageRefusal, IsMigrationRefusal, IsOn};
-ghost use Rattle.syn_command.specs.Images.{StandsForArchive, StandsForHistory, disk_under};
-ghost use Rattle.syn_command.specs.Images.{letters_of};
+ghost use Rattle.syn_command.specs.Images.{IsFormatRefusal, IsFormatted, IsImageRefusal};
+ghost use Rattle.syn_command.specs.Images.{IsMigrationRefusal, IsOldDisk, IsOn, StandsForArchive};
+ghost use Rattle.syn_command.specs.Images.{StandsForHistory, disk_under, letters_of};
 
 use crate::error::CommandError;
 use std::alloc::Global;
@@ -45,6 +45,8 @@ pub fn open_image<D: Disk + Drop>(alloc: Global, disk: D) -> Result<Image<D>, Co
         → replica.DiskStands number (D.seen disk) history
         → IfOk result (StandsForHistory number history) }
     ensures refusals { IfErr result (IsImageRefusal (D.seen disk)) }
+    ensures untouched { IfOk result (λ image.
+        Untouched D.seen D.may_leave D.moment D.left_since disk (disk_under image)) }
 {
     match Archive::open(alloc, disk, None) {
         Ok(archive) => Ok(Image::Archive(archive)),
@@ -72,6 +74,11 @@ pub fn migrate_image<D: Disk + Drop>(alloc: Global, disk: D) -> Result<Image<D>,
         → replica.DiskStandsIn version number (D.seen disk) history
         → IfOk result (StandsForHistory number history) }
     ensures given { IfOk result (λ image. IsOn (D.seen (disk_under image)) image) }
+
+    // A disk whose image is not of version 1 stays as it is.
+    ensures same { ¬ IsOldDisk (D.seen disk) → MatchResult result
+        (λ image. Untouched D.seen D.may_leave D.moment D.left_since disk (disk_under image))
+        (λ refused. Untouched D.seen D.may_leave D.moment D.left_since disk refused.1) }
 
     // A stop leaves what a disk of version 1 has, in version 1 or in version 2.
     ensures archive_moments { (number : ℕ) (kept : model.Archive) (left generation : ℕ)
@@ -112,7 +119,8 @@ pub fn format_image<D: Disk + Drop>(
     kind: ImageKind,
     pair: u64,
 ) -> Result<Image<D>, CommandError>
-    ensures { IfOk result (IsFormatted kind pair) }
+    ensures formatted { IfOk result (IsFormatted kind pair) }
+    ensures refusals { IfErr result (IsFormatRefusal kind) }
 {
     match kind {
         ImageKind::Replica => match Replica::format(alloc, disk, pair) {

@@ -1,15 +1,17 @@
 //! Makes a part of a replica what another tree is, in a file or after a server.
-ghost use Rattle.std.specs.Prelude.{◌≡◌, ◌+◌, ◌++◌, ◌∷◌, [], false, map, IfErr, IfOk, OnOk, length};
+ghost use Rattle.std.specs.Prelude.{◌≡◌, ◌≢◌, ◌⊎◌, ◌+◌, ◌++◌, ◌∷◌, [], false, length, map};
+ghost use Rattle.std.specs.Prelude.{IfErr, IfOk, OnOk};
 ghost use Rattle.syn_folder.specs.Strangers.{directory_at, skipped};
 ghost use Rattle.syn_model.specs.History.{History};
 ghost use Rattle.syn_model.specs.Tree.{subtree};
 ghost use Rattle.syn_replica.specs.Edits.{event_by};
+ghost use Rattle.syn_replica.specs.Refusals.{IsOneOf, edit_refusals};
 ghost use Rattle.syn_disk.specs.Stops.{LeavesOnly};
 ghost use Rattle.syn_replica.specs.Disks.{DiskStands};
-ghost use Rattle.syn_replica.specs.Replica.{Stands, disk_of, pair_of, tree_shown};
-ghost use Rattle.syn_command.specs.Errors.{IsOfFolder};
+ghost use Rattle.syn_replica.specs.Replica.{Stands, disk_of, pair_of, position_shown, tree_shown};
+ghost use Rattle.syn_command.specs.Errors.{IsOfEdits, IsOfFolder};
 ghost use Rattle.syn_command.specs.Imports.{IsBegun, IsImported, IsPlanRefusal, LeavesImport};
-ghost use Rattle.syn_command.specs.Sent.{AreMadeInTurn};
+ghost use Rattle.syn_command.specs.Sent.{AreMadeInPart, AreMadeInTurn};
 ghost use Rattle.syn_tree.specs.Edits.{edit_of};
 ghost use Rattle.syn_user.specs.Lines.{line_of};
 
@@ -67,6 +69,8 @@ pub fn import_folder<D: Disk, F: Folder, E: Write>(
         → subtree (tree_shown replica.old) path.now ≡ F.tree folder.now
         → OnOk result (Stands replica.new history) }
     ensures refused { IfErr result (λ e. IsOfFolder e → replica.new ≡ replica.old) }
+    ensures refusals { IfErr result (λ e. IsOfFolder e ⊎ IsOfEdits e) }
+    ensures position { IfOk result (λ position. position ≡ position_shown replica.new) }
 {
     let part = part_of(alloc, folder, is_skipping, replica.tree(), path, errors)?;
     import_part(alloc, replica, user, path, &part, told, errors)
@@ -116,6 +120,7 @@ pub fn import_part<D: Disk, E: Write>(
     told: EditsTold,
     errors: &mut E,
 ) -> Result<u64, CommandError>
+    ensures position { IfOk result (λ position. position ≡ position_shown replica.new) }
     ensures part { (history : History) → Stands replica.old history
         → OnOk result (subtree (tree_shown replica.new) path.now ≡ part.now) }
     ensures imported { (history : History) → Stands replica.old history
@@ -135,6 +140,7 @@ pub fn import_part<D: Disk, E: Write>(
     ensures refused { IfErr result (λ e. IsOfFolder e → replica.new ≡ replica.old) }
     ensures cause { IfErr result (λ e. IsOfFolder e
         → IsPlanRefusal (tree_shown replica.old) path.now part.now e) }
+    ensures refusals { IfErr result (λ e. IsOfFolder e ⊎ IsOfEdits e) }
 {
     let edits = plan_import(alloc, replica.tree(), path, part, errors)?;
     make_edits(alloc, replica, user, edits, told, errors)?;
@@ -156,6 +162,7 @@ fn make_edits<D: Disk, E: Write>(
         → LeavesOnly D.moment D.left_since (disk_of replica.old) (disk_of replica.new)
         (IsBegun (pair_of replica.old) history (map (event_by user) edits.items)) }
     ensures refused { IfErr result (λ e. ¬ IsOfFolder e) }
+    ensures refusals { IfErr result IsOfEdits }
 {
     let made = make_each(alloc, replica, user, edits, told, errors);
     told.end(errors);
@@ -177,6 +184,7 @@ fn make_each<D: Disk, E: Write>(
         → LeavesOnly D.moment D.left_since (disk_of replica.old) (disk_of replica.new)
         (IsBegun (pair_of replica.old) history (map (event_by user) edits.items)) }
     ensures refused { IfErr result (λ e. ¬ IsOfFolder e) }
+    ensures refusals { IfErr result IsOfEdits }
 {
     let all = edits.len();
     let mut made: usize = 0;
@@ -202,6 +210,7 @@ fn edit_with_room<D: Disk>(
         → LeavesOnly D.moment D.left_since (disk_of replica.old) (disk_of replica.new)
         (IsBegun (pair_of replica.old) history (event_by user edit ∷ [])) }
     ensures pair { pair_of replica.new ≡ pair_of replica.old }
+    ensures refusals { IfErr result (IsOneOf edit_refusals) }
 {
     make_room(alloc, replica)?;
     replica.edit(alloc, user, edit)?;
@@ -216,6 +225,7 @@ fn make_room<D: Disk>(alloc: Global, replica: &mut Replica<D>) -> Result<(), Rep
         → LeavesOnly D.moment D.left_since (disk_of replica.old) (disk_of replica.new)
         (λ bytes. DiskStands (pair_of replica.old) bytes history) }
     ensures pair { pair_of replica.new ≡ pair_of replica.old }
+    ensures refusals { IfErr result (IsOneOf edit_refusals) }
 {
     if replica.room() < LONGEST_RECORD {
         replica.checkpoint(alloc)
@@ -243,6 +253,9 @@ pub fn send_edits<R: Read, W: Write, E: Write>(
     ensures made { OnOk result (AreMadeInTurn user
         (line_of R.remaining W.contents connection.old) position (map edit_of edits.items)
         (line_of R.remaining W.contents connection.new)) }
+    ensures stopped { IfErr result (AreMadeInPart user
+        (line_of R.remaining W.contents connection.old) position (map edit_of edits.items)
+        (line_of R.remaining W.contents connection.new)) }
 {
     let sent = send_each(alloc, connection, user, position, edits, told, errors);
     told.end(errors);
@@ -261,6 +274,9 @@ fn send_each<R: Read, W: Write, E: Write>(
 ) -> Result<u64, CommandError>
     ensures last { IfOk result (λ last. last ≡ position + length edits.items) }
     ensures made { OnOk result (AreMadeInTurn user
+        (line_of R.remaining W.contents connection.old) position (map edit_of edits.items)
+        (line_of R.remaining W.contents connection.new)) }
+    ensures stopped { IfErr result (AreMadeInPart user
         (line_of R.remaining W.contents connection.old) position (map edit_of edits.items)
         (line_of R.remaining W.contents connection.new)) }
 {
@@ -283,6 +299,8 @@ fn send_each<R: Read, W: Write, E: Write>(
 fn next_position(last: u64, made: u64) -> Result<u64, CommandError>
     ensures next { IfOk result (λ next. next ≡ last + 1) }
     ensures made { OnOk result (made ≡ last + 1) }
+    ensures refused { IfErr result (λ e. (e ≡ CommandError.Refused Refusal.Touched)
+        × (made ≢ last + 1)) }
 {
     if last < made && made - last == 1 {
         Ok(made)

@@ -10,17 +10,18 @@
 //!   that the line names. Where it answers, the history has one more event, by the line's user, and
 //!   a put is of all that was left of the input (`acknowledged`). At any moment the disk stands for
 //!   the history, or for it with that event (`any_moment`). An edit that the history refuses is
-//!   refused so (`refused`); after a refusal other than 9 the replica stands as it did
-//!   (`unchanged`).
+//!   refused so (`refused`), and each refusal has its cause (`cause`). After one other than 9 the
+//!   replica stands as it did (`unchanged`).
 //! - `open_image`, over any disk, answers an archive where the disk has one (`archive`), and a
 //!   replica where it has one (`replica`). What it answers is what the disk gives (`given`), and
-//!   begins with the letters of its kind (`letters`). A refusal has its cause: 19 says that the
-//!   disk has neither (`refusals`).
+//!   begins with the letters of its kind (`letters`). Nothing is written (`untouched`). A refusal
+//!   has its cause: 19 says that the disk has neither (`refusals`).
 //! - `migrate_image`, over any disk, makes what the disk has an image of version 2. It stands for
 //!   what the disk stood for, in whichever version (`archive`, `replica`). A stop at any moment
-//!   leaves that in version 1 or in version 2 (`archive_moments`, `replica_moments`). A refusal has
-//!   its cause, and leaves the disk as it was unless it is 9 (`refusals`, `untouched`).
-//! - `format_image` makes a new replica or a new archive of the pair.
+//!   leaves that in version 1 or in version 2 (`archive_moments`, `replica_moments`). A disk that
+//!   is not of version 1 stays as it is (`same`). A refusal has its cause, and leaves the disk as
+//!   it was unless it is 9 (`refusals`, `untouched`).
+//! - `format_image` makes a new replica or a new archive of the pair (`formatted`).
 //! - `show_image` and `show_path` work over any disk and any writer (`printed`, `content_shown`).
 //!   They add the image's first line and a line for each path, in path order. Or they add the bytes
 //!   of the file, or the lines of what is strictly below the directory. They are refused 5 exactly
@@ -29,18 +30,21 @@
 //! - The status of an answer is exact: 0 for one that was done, 1 for one that was refused
 //!   (`report`).
 //! - `export_part` writes what is at a path of a tree into a folder, any that is a `Folder`. The
-//!   folder's tree is that then (`whole`), or has it beside what stood elsewhere (`added`). A
+//!   folder's tree is that then (`whole`), or has it beside what stood elsewhere (`added`). What
+//!   can stand in no replica is not there, or not where something is written (`known`, `apart`). A
 //!   refusal leaves the folder as it was, unless a call of the system fails (`refused`).
 //! - `import_folder` makes what is at a path of a replica the tree of a folder (`part`). Then the
 //!   replica stands for the history with edits of the user after it (`imported`), and for the same
-//!   history where the tree was there already (`none`). What can stand in no replica refuses it
-//!   (`known`), or is skipped: then the replica keeps what it has there. A stop at any time leaves
-//!   the history with a beginning of these edits (`any_moment`). What the plan refuses leaves the
-//!   replica as it was (`refused`). `import_part` is the same with a tree, and `part_of` the tree
-//!   that a folder gives. `plan_import` gives the edits: each of them is needed, and no two are
-//!   alike (`changes`). It tells which limit they would pass.
+//!   history where the tree was there already (`none`). The answer is its position (`position`).
+//!   What can stand in no replica refuses it (`known`), or is skipped: then the replica keeps what
+//!   it has there. A stop at any time leaves the history with a beginning of these edits
+//!   (`any_moment`). What the plan refuses leaves the replica as it was (`refused`). `import_part`
+//!   is the same with a tree, and `part_of` the tree that a folder gives. `plan_import` gives the
+//!   edits: each of them is needed, and no two are alike (`changes`). It tells which limit they
+//!   would pass.
 //! - `send_edits` asks a server for such edits. Where it succeeds, they were asked for one after
-//!   another, and each was answered with the position after the one before (`made`).
+//!   another, and each was answered with the position after the one before (`made`). Else some of
+//!   them were, and at most the next one was asked for besides (`stopped`).
 #![tactic(auto)]
 
 mod check;

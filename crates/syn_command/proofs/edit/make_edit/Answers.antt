@@ -1,14 +1,16 @@
-use Rattle.std.proofs.Common.{◌≡◌, ◌++◌, ◌∷◌, ◌∙◌, [], inl, take, ap, subst}
+use Rattle.std.proofs.Common.{◌≡◌, ◌++◌, ◌∷◌, ◌∙◌, [], inl, inr, take, ap, subst, sym}
 use Rattle.std.proofs.lemmas.Result.{err_from_is_err_and}
 use Rattle.syn_disk.proofs.LeftLemmas.{leaves_weaker}
 use Rattle.syn_replica.proofs.RoomLemmas.{refused_at}
 use Rattle.syn_model.specs.Event.{Edit, Edited}
 use Rattle.syn_model.specs.History.{IsHistory, event_refusal, standing_of}
 use Rattle.syn_replica.specs.Replica.{KeepsBeforeOrAfter, Stands, room_shown}
+use Rattle.syn_replica.specs.Steps.{add_refusal}
 use Rattle.syn_tree.specs.Edits.{edit_of}
 use Rattle.syn_command.specs.Asked.{edit_asked}
 use Rattle.syn_command.specs.declared.edit.TheConstants.{MOST_INPUT}
-use Rattle.syn_command.proofs.EditLemmas.{same_edit, before_or_after, same_refusal, not_written}
+use Rattle.syn_command.proofs.EditLemmas.{same_edit, same_addition, before_or_after, same_refusal}
+use Rattle.syn_command.proofs.EditLemmas.{not_written}
 use Rattle.syn_command.proofs.edit.make_edit.Goals as goal
 
 pub returns-in_err-edit-clause-any_moment : goal.returns-in_err-edit-clause-any_moment
@@ -41,6 +43,24 @@ returns-in_err-edit-clause-refused g c history left why stands e refused =
     (refused_at (room_shown c.args.replica.now) (standing_of history) (Edited line.user edit) why
     (ap (λ (x : Edit). event_refusal history (Edited line.user x)) is ∙ (same ∙ refused))) in
     rw (told.1, told.2) (inl cause)
+
+pub returns-in_err-edit-clause-cause : goal.returns-in_err-edit-clause-cause
+returns-in_err-edit-clause-cause g c history left stands e =
+    let laws = c.history_laws.ensures in
+    let line = c.args.line.now in
+    let room = room_shown c.args.replica.now in
+    let edit = edit_of c.in_ok-asked.asked in
+    let is : edit ≡ edit_asked line.kind c.args.path (take MOST_INPUT left) =
+    c.in_ok-asked.ensures.edit left e in
+    let same =
+    same_addition laws.fits laws.put laws.steps room history line.user line.kind c.args.path left in
+    let told = err_from_is_err_and c.from_residual-in_err-edit.result
+    c.from_residual-in_err-edit.ensures.1 in
+    let refused = λ (x : Edit). add_refusal room history (Edited line.user x) in
+    rw (told.1, told.2) (elim (c.in_err-edit.ensures.cause history stands) [
+      | inl outside ↦ inl outside
+      | inr cause ↦ inr (sym (ap refused is ∙ same) ∙ cause)
+    ])
 
 pub returns-clause-acknowledged : goal.returns-clause-acknowledged
 returns-clause-acknowledged g c history left stands e =

@@ -48,9 +48,26 @@ returns-in-Err-migrate-clause-untouched g c =
     elim c.in-Err-migrate.ensures.untouched
     [ inl device ↦ inl device | inr same ↦ inr (and_then _ _ _ read same) ]
 
+pub returns-in-Ok-migrate-clause-same : goal.returns-in-Ok-migrate-clause-same
+returns-in-Ok-migrate-clause-same g c not_old =
+    let read = only_read _ c.in-Err-Damaged-default.field-0-0-is
+    c.in-Err-Damaged-default.ensures.untouched in
+    and_then _ _ _ read (c.in-Ok-migrate.ensures.same
+    (λ old. not_old (inr (subst replica.IsOldDisk read.same old))))
+
+pub returns-in-Err-migrate-clause-same : goal.returns-in-Err-migrate-clause-same
+returns-in-Err-migrate-clause-same g c not_old =
+    let read = only_read _ c.in-Err-Damaged-default.field-0-0-is
+    c.in-Err-Damaged-default.ensures.untouched in
+    and_then _ _ _ read (c.in-Err-migrate.ensures.same
+    (λ old. not_old (inr (subst replica.IsOldDisk read.same old))))
+
 -- ---- an archive's disk that is refused
 
 pub returns-in-Err-clause-replica_moments : goal.returns-in-Err-clause-replica_moments
 returns-in-Err-clause-replica_moments g c number history left generation fits keeps =
     stays g.D.Disk (KeepsOrMigrates number history left generation) _ _ (c.in-Err.ensures.same
     (no_old_archive One number history left generation _ keeps))
+
+pub returns-in-Err-clause-same : goal.returns-in-Err-clause-same
+returns-in-Err-clause-same g c not_old = c.in-Err.ensures.same (λ old. not_old (inl old))
