@@ -5,7 +5,8 @@ import shutil
 import subprocess
 import time
 
-from folder_trees import SYN, Failed, Served, expect, plain, position_of, put_into, read, syn, write
+from folder_trees import Skipped, expect, plain, position_of, put_into, read, syn, write
+from program import SYN, Failed, Served
 
 
 def import_refused(_source):
@@ -100,8 +101,8 @@ def joined(name, tree, more):
     put_into(image, tree)
     write(name, more)
     told = syn("import", image, "1", name, "papers", wanted=1)
-    with Served(image) as address:
-        served = syn("import", "--served", address, "1", name, "papers", wanted=1)
+    with Served(image) as server:
+        served = syn("import", "--served", server.address, "1", name, "papers", wanted=1)
     expect(served == told, f"{served} is told of what is served, and {told} of a file")
     return told
 
@@ -163,8 +164,7 @@ def full_disk(source):
     os.mkdir("disk")
     mount = ["mount", "-t", "tmpfs", "-o", "size=256k", "none", "disk"]
     if os.geteuid() != 0 or subprocess.run(mount, capture_output=True, check=False).returncode:
-        print("full_disk: no file system of its own can be mounted here")
-        return
+        raise Skipped("no file system of its own can be mounted here")
     try:
         on_full_disk(tree)
     finally:

@@ -2,18 +2,17 @@
 import os
 import pathlib
 import pty
-import socket
 import stat
 import subprocess
 
-TOP = pathlib.Path(__file__).resolve().parents[1]
-SYN = os.environ.get("SYN", str(TOP / "crates/syn/out/syn"))
+from program import SYN, Failed
+
 MODES = [0o644, 0o644, 0o600, 0o755, 0o444]
 NAMES = ["a", "b", "c", "a b", "line\nfeed", "é", "x" * 64, "-n", "~", "#"]
 
 
-class Failed(Exception):
-    """What should hold does not."""
+class Skipped(Exception):
+    """This cannot be tried on this machine."""
 
 
 def syn(*words, given=b"", wanted=0, user=None):
@@ -158,28 +157,3 @@ def on_terminal(*words):
         program.wait()
     os.close(parent)
     return b"".join(said)
-
-
-def free_ports():
-    """Two ports of this machine that nobody listens at."""
-    with socket.socket() as one, socket.socket() as other:
-        one.bind(("127.0.0.1", 0))
-        other.bind(("127.0.0.1", 0))
-        return one.getsockname()[1], other.getsockname()[1]
-
-
-class Served:
-    """A server of the image, which is stopped at the end."""
-
-    def __init__(self, image):
-        self.address = f"127.0.0.1:{free_ports()[0]}"
-        self.server = subprocess.Popen([SYN, "serve", image, self.address],
-                                       stdout=subprocess.DEVNULL, stderr=subprocess.PIPE)
-        expect(self.server.stderr.readline() == b"serving\n", "the server does not serve")
-
-    def __enter__(self):
-        return self.address
-
-    def __exit__(self, *_):
-        self.server.kill()
-        self.server.communicate()
