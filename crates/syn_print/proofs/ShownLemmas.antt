@@ -226,6 +226,15 @@ module _ {D : Type 0} {disk : Ghosts D} where
       shows_tree ListsByHistory (λ side. Stands side.replica.now history) history
       (stays_good history) (history-is_tree history stands.remembers.lawful) old new scan stands is
 
+  -- and so it is of each scan that a call answers
+  pub shows_each : {A E : Type 0} (history : History) (old new : ReplicaSide D disk)
+      (scan_in : A → SideScan) (result : Result A E) → Stands old.replica.now history
+      → IfOk result (λ a. IsScanned ListsByHistory old (scan_in a) new)
+      → IfOk result (λ a. scan_of (found_of (scan_in a)) ≡ scan_of_tree (tree_of history))
+  shows_each history old new scan_in (Ok a) stands is =
+      shows_replica history old new (scan_in a) stands is
+  shows_each history old new scan_in (Err e) stands is = tt
+
 -- what holds of a plan in three parts holds of it
 pub planned_so : {A E : Type 0} (P Q R W : A → Type 0) → ((a : A) → P a → Q a → R a → W a)
     → (r : Result A E) → IfOk r P → IfOk r Q → IfOk r R → IfOk r W

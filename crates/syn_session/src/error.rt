@@ -1,4 +1,4 @@
-//! Why a session does not start, or does not go on for lack of memory.
+//! Why a session does not start, or finds no memory to go on.
 ghost use Rattle.std.specs.Prelude.{◌≡◌, Some};
 ghost use Rattle.syn_model.specs.Refusal.{number, name_of};
 ghost use Rattle.syn_refusal.specs.Refusals.{cause_of};
@@ -10,7 +10,7 @@ use syn_recon::PlanError;
 use syn_refusal::Refusal;
 use thiserror::Error;
 
-/// Why a session does not start. One that runs does not go on for lack of memory alone.
+/// Why a session does not start. One that runs is refused for lack of memory alone.
 #[derive(Clone, Copy, Debug, PartialEq, Eq, Error)]
 pub enum SessionError {
     /// 7: the last session has the greatest number.

@@ -1,12 +1,12 @@
 use Rattle.std.proofs.Common.{◌≡◌, ◌∙◌, ap₂, option_map, subst, sym}
-use Rattle.std.proofs.lemmas.Result.{IfErr-weaker, IfOk-weaker}
+use Rattle.std.proofs.lemmas.Result.{IfErr-weaker}
 use Rattle.syn_path.specs.Sides.{which_of}
 use Rattle.syn_refusal.specs.Refusals.{cause_of}
 use Rattle.syn_model.specs.Dirty.{Scan}
 use Rattle.syn_model.specs.History.{tree_of}
 use Rattle.syn_model.specs.Plan.{plan, scan_of as scan_of_tree}
 use Rattle.syn_print.proofs.ShownLemmas.{ListsByHistory, cause_so, not_shown_replica, planned_so}
-use Rattle.syn_print.proofs.ShownLemmas.{shows_replica}
+use Rattle.syn_print.proofs.ShownLemmas.{shows_each, shows_replica}
 use Rattle.syn_print.specs.Listings.{IsScanned}
 use Rattle.syn_print.specs.declared.plan.Planned.{Planned}
 use Rattle.syn_recon.specs.Items.{items_of}
@@ -41,21 +41,15 @@ returns-clause-items g c on_left on_right left_stands right_stands =
 
 pub returns-clause-left : goal.returns-clause-left
 returns-clause-left g c history stands =
-    let left = c.new-left.result in
-    let good : Stands left.replica.now history =
-    subst (λ r. Stands r history) (sym c.new-left.ensures) stands in
-    IfOk-weaker c.plan_between.result _ _
-    (λ planned on. shows_replica history left c.plan_between.new.left planned.left good on)
-    c.plan_between.ensures.left
+    shows_each history c.new-left.result c.plan_between.new.left
+    (λ (planned : Planned). planned.left) c.plan_between.result
+    (subst (λ r. Stands r history) (sym c.new-left.ensures) stands) c.plan_between.ensures.left
 
 pub returns-clause-right : goal.returns-clause-right
 returns-clause-right g c history stands =
-    let right = c.new-right.result in
-    let good : Stands right.replica.now history =
-    subst (λ r. Stands r history) (sym c.new-right.ensures) stands in
-    IfOk-weaker c.plan_between.result _ _
-    (λ planned on. shows_replica history right c.plan_between.new.right planned.right good on)
-    c.plan_between.ensures.right
+    shows_each history c.new-right.result c.plan_between.new.right
+    (λ (planned : Planned). planned.right) c.plan_between.result
+    (subst (λ r. Stands r history) (sym c.new-right.ensures) stands) c.plan_between.ensures.right
 
 pub returns-clause-cause : goal.returns-clause-cause
 returns-clause-cause g c on_left on_right left_stands right_stands =
