@@ -39,17 +39,23 @@ mod command;
 mod files;
 mod format;
 mod simulation;
+mod streams;
 
 use command::command;
 use std::alloc::Global;
-use std::io::{self, BufWriter, IsTerminal};
+use std::io::{self, BufWriter, ErrorKind, IsTerminal};
 use std::process::ExitCode;
-use syn_command::{Failure, report};
+use streams::open_closed_streams;
+use syn_command::{Failure, Status, report};
 
 fn main(rt: HostRuntime) -> ExitCode {
+    if let Err(error) = open_closed_streams(&rt) {
+        return refused(&rt, error);
+    }
     let alloc = rt.alloc();
     let owned = match own_words(&rt, alloc) {
         Ok(owned) => owned,
+        Err(error) if error.kind() == ErrorKind::InvalidData => return no_text(&rt),
         Err(error) => return refused(&rt, error),
     };
     let words: Vec<&str> = match owned.iter().map(|word| word.as_str()).collect(alloc) {
@@ -78,8 +84,18 @@ fn own_words(rt: &HostRuntime, alloc: Global) -> io::Result<Vec<String>> {
     Ok(std::env::args(rt)?.collect(alloc)?)
 }
 
-/// Tells that the command was refused before it was read: it is out of memory, or the words are no
-/// text.
+/// Tells that the words are no command, since one of them is no text.
+fn no_text(rt: &HostRuntime) -> ExitCode {
+    let _ = write!(
+        rt.stderr(),
+        "error: an argument is no text: each has to be UTF-8\n\n\
+            For more information, try '--help'.\n"
+    );
+    ExitCode::from(Status::Usage.code())
+}
+
+/// Tells that the command was refused before it was read: it is out of memory, or a standard stream
+/// was closed and nothing could be opened in its place.
 fn refused(rt: &HostRuntime, error: io::Error) -> ExitCode {
     let status = report(None, &Err(Failure::from(error)), &mut rt.stderr());
     ExitCode::from(status.code())
