@@ -115,6 +115,10 @@ impl Path {
         ensures ok { IfOk result (λ path. (path ≡ self.now ++ name.now ∷ []) × IsPath path) }
         ensures bad { IfErr result (λ e. e ≡ PathError.BadPath
             → ¬ IsPath (self.now ++ name.now ∷ [])) }
+
+        // The limits are looked at before memory is asked for.
+        ensures memory { IfErr result (λ e. e ≡ PathError.Memory
+            → IsPath (self.now ++ name.now ∷ [])) }
     {
         if self.names.len() >= 16
             || spelled_len(self.names.as_slice()) + 1 + name.as_str().len() > 255

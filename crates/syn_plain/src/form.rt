@@ -5,7 +5,8 @@ ghost use Rattle.std.specs.FinMap.{get};
 ghost use Rattle.syn_model.specs.Tree.{empty_directory, is_directory, subtree, replace, IsTree};
 ghost use Rattle.syn_model.specs.Event.{after_edit};
 ghost use Rattle.syn_model.specs.Limits.{fits_replica};
-ghost use Rattle.syn_model.specs.Standing.{edit_refusal};
+ghost use Rattle.syn_model.specs.Refusal.{first_cause};
+ghost use Rattle.syn_model.specs.Standing.{edit_refusal, place_causes};
 ghost use Rattle.syn_tree.specs.Contents.{found_content};
 ghost use Rattle.syn_tree.specs.Edits.{edit_of};
 ghost use Rattle.syn_tree.specs.Lists.{listing, replace_refusal};
@@ -58,7 +59,9 @@ pub trait TreeForm: Drop + Sized {
         ensures same { OnErr result (tree self.new ≡ tree self.old) }
         ensures allowed { OnOk result (edit_refusal (tree self.old) (edit_of edit) ≡ None) }
         ensures refused { IfErr result (λ e. e ≢ TreeError.Memory
-            → edit_refusal (tree self.old) (edit_of edit) ≡ Some (refusal_of e)) };
+            → edit_refusal (tree self.old) (edit_of edit) ≡ Some (refusal_of e)) }
+        ensures memory { IfErr result (λ e. e ≡ TreeError.Memory
+            → edit_refusal (tree self.old) (edit_of edit) ≡ None) };
 
     /// Puts what is given in the place of all that is at and below the path, or takes it out.
     ///
@@ -71,7 +74,9 @@ pub trait TreeForm: Drop + Sized {
         ensures allowed { OnOk result
             (replace_refusal (tree self.old) path.now (part_of new) ≡ None) }
         ensures refused { IfErr result (λ e. e ≢ TreeError.Memory
-            → replace_refusal (tree self.old) path.now (part_of new) ≡ Some (refusal_of e)) };
+            → replace_refusal (tree self.old) path.now (part_of new) ≡ Some (refusal_of e)) }
+        ensures memory { IfErr result (λ e. e ≡ TreeError.Memory
+            → first_cause (place_causes (tree self.old) path.now) ≡ None) };
 
     /// It stands for a tree whose root is a directory, within the limits of a replica.
     fn keeps(&self)

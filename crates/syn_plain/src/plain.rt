@@ -7,7 +7,8 @@ ghost use Rattle.syn_model.specs.Tree.{empty_directory, is_directory, subtree, r
 ghost use Rattle.syn_model.specs.Event.{after_edit};
 ghost use Rattle.syn_model.specs.Limits.{fits_replica};
 ghost use Rattle.syn_model.specs.Path.{is_root, parent};
-ghost use Rattle.syn_model.specs.Standing.{edit_refusal};
+ghost use Rattle.syn_model.specs.Refusal.{first_cause};
+ghost use Rattle.syn_model.specs.Standing.{edit_refusal, place_causes};
 ghost use Rattle.syn_placed.specs.Pairs.{AreRising, is_child};
 ghost use Rattle.syn_tree.specs.Change.{ArePlaced, taken_from};
 ghost use Rattle.syn_tree.specs.Contents.{found_content};
@@ -100,6 +101,8 @@ impl PlainTree {
         ensures allowed { OnOk result (edit_refusal self.old (edit_of edit) ≡ None) }
         ensures refused { IfErr result (λ e. e ≢ TreeError.Memory
             → edit_refusal self.old (edit_of edit) ≡ Some (refusal_of e)) }
+        ensures memory { IfErr result (λ e. e ≡ TreeError.Memory
+            → edit_refusal self.old (edit_of edit) ≡ None) }
     {
         self.check(&edit)?;
         match edit {
@@ -134,6 +137,8 @@ impl PlainTree {
         ensures allowed { OnOk result (replace_refusal self.old path.now (part_of new) ≡ None) }
         ensures refused { IfErr result (λ e. e ≢ TreeError.Memory
             → replace_refusal self.old path.now (part_of new) ≡ Some (refusal_of e)) }
+        ensures memory { IfErr result (λ e. e ≡ TreeError.Memory
+            → first_cause (place_causes self.old path.now) ≡ None) }
     {
         self.check_place(path)?;
         let added = placed(alloc, &path.key(), new)?;

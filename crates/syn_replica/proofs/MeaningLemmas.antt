@@ -71,14 +71,15 @@ by_own Touched memory bytes value means h = absurd h
 by_own OldSession memory bytes value means h = absurd h
 by_own Damaged memory bytes value means (inl nothing) =
     inl (record { value = value; means = means; nothing = nothing })
-by_own Damaged memory bytes value means (inr less) =
-    inr (record {
+by_own Damaged memory bytes value means (inr (inl less)) =
+    inr (inl (record {
       standing = less.standing;
       gives = record { value = value; means = means; gives = less.gives };
       fewer = less.fewer;
-    })
-by_own WrongPair memory bytes value means h =
-    record { value = value; means = means; other = h }
+    }))
+by_own Damaged memory bytes value means (inr (inr other)) =
+    inr (inr (record { value = value; means = means; other = other }))
+by_own WrongPair memory bytes value means h = absurd h
 by_own OldVersion memory bytes value means h = absurd h
 
 pub reopen_refusal : (e : ReplicaError) (memory : Remembered) (bytes : List ℕ) →

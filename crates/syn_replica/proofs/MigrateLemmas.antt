@@ -24,7 +24,7 @@ use Rattle.syn_standing.specs.declared.error.ReplicaError.TheVariants.{Journal, 
 use Rattle.syn_standing.specs.declared.error.ReplicaError.TheVariants.{OldSession, Damaged}
 use Rattle.syn_standing.specs.declared.error.ReplicaError.TheVariants.{WrongPair, OldVersion}
 use Rattle.syn_replica.specs.Disks.{DiskGives, DiskKeepsIn, DiskStandsIn, IsOldDisk, IsOpenRefusal}
-use Rattle.syn_replica.specs.Migrating.{IsMigrateRefusal, IsOldAndFull, KeepsOrMigrates}
+use Rattle.syn_replica.specs.Migrating.{IsAtGreatest, IsMigrateRefusal, KeepsOrMigrates}
 use Rattle.syn_journaled.specs.Endings.{Reads}
 use Rattle.syn_standing.specs.Refusals.{refusal_of}
 use Rattle.syn_replica.specs.Replica.{Stands, disk_of, pair_of, standing_shown}
@@ -103,19 +103,22 @@ by_meaning OldVersion bytes value means old h = absurd h
 module _ (stands : ImageStands) (fit : ImagesFit) where
   -- an image that is too long is none of a standing, so that the generation is the greatest
   at_greatest : (bytes : List ℕ) → IsUnwritten (λ m. m.pair) GivesOld image_of bytes →
-      IsOldAndFull bytes
+      IsAtGreatest bytes
   at_greatest bytes h = by_cause h.cause
     where
       fits : length (image_of h.state) ≤ longest_image
       fits = fit h.state.pair h.state.standing h.held.given.1
 
       by_cause : (h.generation + 1 ≡ 2 ^ 64) ⊎ (longest_image < length (image_of h.state)) →
-          IsOldAndFull bytes
+          IsAtGreatest bytes
       by_cause (inl last) = record {
+        pair = h.state.pair;
+        fits = h.held.fits;
+        standing = h.state.standing;
         value = h.value;
         generation = h.generation;
         journal = h.held.journal;
-        old = old_of h.state.pair h.value.image h.value.payloads _ h.held.given.0;
+        gives = h.held.given.0;
         greatest = last;
       }
       by_cause (inr long) = absurd (omega (arith, fits, long))

@@ -57,8 +57,7 @@ unread_old OldVersion image payloads h damaged other = absurd h
 
 pub no_next : (e : ReplicaError) (memory : Remembered) (image : Bytes) (payloads : List Bytes) →
     IsOfMeaning e → (e ≡ Damaged → GivesNothing image payloads) →
-    (e ≡ WrongPair → GivesOtherPair (Some memory.pair) image payloads) →
-    IsNoNext e memory image payloads
+    (e ≡ WrongPair → GivesOtherPair None image payloads) → IsNoNext e memory image payloads
 no_next (Tree e) memory image payloads h damaged other = absurd h
 no_next (History e) memory image payloads h damaged other = absurd h
 no_next (Journal e) memory image payloads h damaged other = absurd h
@@ -66,7 +65,8 @@ no_next Memory memory image payloads h damaged other = tt
 no_next Touched memory image payloads h damaged other = absurd h
 no_next OldSession memory image payloads h damaged other = absurd h
 no_next Damaged memory image payloads h damaged other = inl (damaged refl)
-no_next WrongPair memory image payloads h damaged other = other refl
+no_next WrongPair memory image payloads h damaged other =
+    absurd (asked_none (other refl).wanted_is)
 no_next OldVersion memory image payloads h damaged other = absurd h
 
 -- where they give what is remembered, memory alone is refused
@@ -81,15 +81,16 @@ own_memory one Touched memory image payloads fits gives h = absurd h
 own_memory one OldSession memory image payloads fits gives h = absurd h
 own_memory one Damaged memory image payloads fits gives (inl nothing) =
     absurd (nothing memory.pair memory.standing fits gives)
-own_memory one Damaged memory image payloads fits gives (inr less) =
+own_memory one Damaged memory image payloads fits gives (inr (inl less)) =
     let same = (one current_version image payloads memory.pair memory.pair less.standing
     memory.standing fits fits less.gives gives).1 in
     let as_many : less.standing.position ≡ memory.standing.position =
     ap (λ (s : Standing). s.position) same in
     let fewer = less.fewer in
     absurd (omega (arith, as_many, fewer))
-own_memory one WrongPair memory image payloads fits gives other =
+own_memory one Damaged memory image payloads fits gives (inr (inr other)) =
     let same = (one current_version image payloads memory.pair other.pair memory.standing
     other.standing fits other.fits gives other.gives).0 in
     absurd (other.differ (sym (same_Some _ _ other.wanted_is) ∙ same))
+own_memory one WrongPair memory image payloads fits gives h = absurd h
 own_memory one OldVersion memory image payloads fits gives h = absurd h

@@ -76,18 +76,19 @@ module _ (one : OneIsGiven) (pair : ℕ) (bytes : List ℕ) (history : History) 
   outside OldSession position early h = absurd h
   outside Damaged position early (inl u) =
       absurd (u.nothing pair (standing_of history) fits (given u.value u.means))
-  outside Damaged position early (inr f) =
+  outside Damaged position early (inr (inl f)) =
       let same = (one current_version f.gives.value.image f.gives.value.payloads pair pair
       f.standing (standing_of history) fits fits f.gives.gives
       (given f.gives.value f.gives.means)).1 in
       let long : f.standing.position ≡ length history = ap (λ (s : Standing). s.position) same in
       let few = f.fewer in
       absurd (omega (arith, early, long, few))
-  outside WrongPair position early o =
+  outside Damaged position early (inr (inr o)) =
       let other = o.other in
       let same = (one current_version o.value.image o.value.payloads pair other.pair
       (standing_of history) other.standing fits other.fits (given o.value o.means) other.gives).0 in
       absurd (other.differ (sym (asked_is pair other.asked other.wanted_is) ∙ same))
+  outside WrongPair position early h = absurd h
   outside OldVersion position early h = absurd h
 
 -- a disk that stands for a history no shorter than what is remembered is not opened for them alone

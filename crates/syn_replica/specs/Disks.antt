@@ -101,9 +101,11 @@ IsOpenRefusal OldVersion wanted bytes = IsOldDisk bytes
 IsOpenRefusal _ wanted bytes = ⊥
 
 -- why it is not opened again by a replica of the pair that remembers so many events, which has no
--- refusal of its own for an image of version 1
+-- refusal of its own for an image of version 1 or of another pair
 abbrev pub IsReopenRefusal : ReplicaError → ℕ → ℕ → List ℕ → Type 0
 IsReopenRefusal Damaged pair position bytes =
-    MeansNothingIn current_version bytes ⊎ GivesFewer pair position bytes
+    MeansNothingIn current_version bytes
+    ⊎ (GivesFewer pair position bytes ⊎ IsOfOtherPair (Some pair) bytes)
+IsReopenRefusal WrongPair pair position bytes = ⊥
 IsReopenRefusal OldVersion pair position bytes = ⊥
 IsReopenRefusal error pair position bytes = IsOpenRefusal error (Some pair) bytes

@@ -1,11 +1,11 @@
 -- What a migration leaves of a disk of version 1, and why a disk is not migrated.
-use Rattle.std.specs.Prelude.{◌≡◌, ◌⊎◌, ◌+◌, ◌^◌, ℕ, List, None}
+use Rattle.std.specs.Prelude.{◌≡◌, ◌⊎◌, ◌+◌, ◌^◌, ◌<◌, ℕ, List, None}
 use Rattle.syn_disk.specs.declared.disk.Disk.{Ghosts}
 use Rattle.syn_journal.specs.Layout.{Value, HasJournal, image_alone}
 use Rattle.syn_journal.specs.Journal as journal
 use Rattle.syn_journal.specs.declared.error.JournalError.TheVariants as journal_error
 use Rattle.syn_model.specs.History.{History, standing_of}
-use Rattle.syn_model.specs.Image.{IsOldImage, image_spelling}
+use Rattle.syn_model.specs.Image.{GivesIn, IsOldImage, image_spelling}
 use Rattle.syn_model.specs.Standing.{Standing}
 use Rattle.syn_model.specs.Version.{One}
 use Rattle.syn_standing.specs.declared.error.ReplicaError.{ReplicaError}
@@ -48,13 +48,24 @@ pub record IsOldAndFull (bytes : List ℕ) : Type 0 where
   pub old : IsOldImage value.image
   pub greatest : generation + 1 ≡ 2 ^ 64
 
+-- in version 1 the disk gives a standing, and its generation is the greatest
+pub record IsAtGreatest (bytes : List ℕ) : Type 0 where
+  pub pair : ℕ
+  pub fits : pair < 2 ^ 64
+  pub standing : Standing
+  pub value : Value
+  pub generation : ℕ
+  pub journal : HasJournal bytes value generation
+  pub gives : GivesIn One pair value.image value.payloads standing
+  pub greatest : generation + 1 ≡ 2 ^ 64
+
 -- a disk of version 1 that gives nothing in it
 abbrev pub IsOldUnlawful : List ℕ → Type 0
 IsOldUnlawful bytes = IsOldDisk bytes × MeansNothingIn One bytes
 
 -- why a disk is not migrated, and what that says of its bytes
 abbrev pub IsMigrateRefusal : ReplicaError → List ℕ → Type 0
-IsMigrateRefusal (Journal journal_error.Full) bytes = IsOldAndFull bytes
+IsMigrateRefusal (Journal journal_error.Full) bytes = IsAtGreatest bytes
 IsMigrateRefusal Damaged bytes = IsUnlawful bytes ⊎ IsOldUnlawful bytes
 IsMigrateRefusal WrongPair bytes = ⊥
 IsMigrateRefusal OldVersion bytes = ⊥

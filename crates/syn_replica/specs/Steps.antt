@@ -63,6 +63,12 @@ replace_refusal room history token path since new =
     ++ (place_causes (tree_of history) path ++ (full_causes (replace (tree_of history) path new)
     ++ (position_causes history ++ room_causes room (Replaced token path since new)))))
 
+-- why it is not made, as far as that is found before memory is asked for
+abbrev pub early_refusal : History → Token → Path → ℕ → Option Refusal
+early_refusal history token path since =
+    first_cause ((is_old_token history token, OldSession) ∷ since_causes history path since
+    ++ place_causes (tree_of history) path)
+
 -- how a token stands
 abbrev pub how_stands : History → Token → TokenStanding
 how_stands history token =

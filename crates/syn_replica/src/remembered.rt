@@ -88,8 +88,8 @@ impl State for Remembered {
         Ok(Remembered { pair, standing })
     }
 
-    /// Refused 19 too where they give fewer events than are remembered, so that no reopening goes
-    /// back.
+    /// Refused 19 too where they are of another pair, and where they give fewer events than are
+    /// remembered, so that no reopening goes back.
     fn read_again(
         &self,
         alloc: Global,
@@ -98,7 +98,10 @@ impl State for Remembered {
     ) -> Result<Remembered, ReplicaError> {
         opening_laws();
         has_64_bits(self.pair);
-        let (pair, standing) = read_replica(alloc, Version::Two, image, Some(self.pair), payloads)?;
+        let (pair, standing) = read_replica(alloc, Version::Two, image, None, payloads)?;
+        if pair != self.pair {
+            return Err(ReplicaError::Damaged);
+        }
         if standing.trail().position() < self.standing.trail().position() {
             return Err(ReplicaError::Damaged);
         }

@@ -17,7 +17,7 @@ use Rattle.syn_standing.specs.Refusals.{refusal_of}
 use Rattle.syn_replica.specs.Refusals.{IsOneOf, replace_refusals, outside_refusals}
 use Rattle.syn_replica.specs.Replica.{disk_of, room_shown, standing_shown, Stands}
 use Rattle.syn_replica.specs.Replica.{KeepsBeforeOrAfter}
-use Rattle.syn_replica.specs.Steps.{is_done, is_done_at, replaced, replace_refusal}
+use Rattle.syn_replica.specs.Steps.{early_refusal, is_done, is_done_at, replaced, replace_refusal}
 use Rattle.syn_standing.specs.declared.error.ReplicaError.{ReplicaError}
 use Rattle.syn_replica.specs.declared.replica.Replica.{Replica}
 use Rattle.syn_shared.specs.Machines.{WritesEvent, IsRefusedEarly}
@@ -55,6 +55,9 @@ pub record Replaces {D : Type 0} {disk : Ghosts D} (token : Token) (path : Path)
       → replace_refusal (room_shown found) history token path since new ≡ Some why
       → IsErrAnd answer (λ e. (refusal_of e ≡ why) ⊎ (refusal_of e ≡ Memory))
   pub refusals : IfErr answer (IsOneOf replace_refusals)
+  -- the token, the touches and the place are looked at before memory is asked for
+  pub memory : (history : History) → Stands found history → IfErr answer (λ e.
+      refusal_of e ≡ Memory → early_refusal history token path since ≡ None)
   -- what it made of the replica, and what its device was asked
   pub machine : Writes found left (unless (is_done_at (standing_shown found) token)
       (Replaced token path since new)) (ended refusal_of answer)

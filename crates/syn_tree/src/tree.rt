@@ -7,7 +7,8 @@ ghost use Rattle.syn_model.specs.Tree.{empty_directory, is_directory, subtree, r
 ghost use Rattle.syn_model.specs.Event.{Chmod, Put, after_edit};
 ghost use Rattle.syn_model.specs.Limits.{children, fits_part, fits_paths, fits_replica};
 ghost use Rattle.syn_model.specs.Path.{parent};
-ghost use Rattle.syn_model.specs.Standing.{edit_refusal};
+ghost use Rattle.syn_model.specs.Refusal.{first_cause};
+ghost use Rattle.syn_model.specs.Standing.{edit_refusal, place_causes};
 ghost use Rattle.syn_placed.specs.Pairs.{AreRising, is_child};
 ghost use Rattle.syn_tree.specs.Change.{IsPreparedFor, after_change};
 ghost use Rattle.syn_tree.specs.Edits.{edit_of};
@@ -102,6 +103,8 @@ impl Tree {
         ensures allowed { IfOk result (λ _. edit_refusal self.now (edit_of edit) ≡ None) }
         ensures refused { IfErr result (λ e. e ≢ TreeError.Memory
             → edit_refusal self.now (edit_of edit) ≡ Some (refusal_of e)) }
+        ensures memory { IfErr result (λ e. e ≡ TreeError.Memory
+            → edit_refusal self.now (edit_of edit) ≡ None) }
     {
         self.check(&edit)?;
         self.prepare_allowed(alloc, edit)
@@ -172,6 +175,10 @@ impl Tree {
             replace_refusal self.now path.now (part_of new) ≡ None) }
         ensures refused { IfErr result (λ e. e ≢ TreeError.Memory
             → replace_refusal self.now path.now (part_of new) ≡ Some (refusal_of e)) }
+
+        // The place is looked at before memory is asked for.
+        ensures memory { IfErr result (λ e. e ≡ TreeError.Memory
+            → first_cause (place_causes self.now path.now) ≡ None) }
     {
         self.check_place(path)?;
         let at = path.key();
@@ -189,6 +196,7 @@ impl Tree {
     /// Why a replacement is refused, as far as that is seen without memory: 6 at the root, 2 where
     /// the parent is no directory, and 7 where a file is longer than a file may be.
     pub fn check_part(&self, path: &Path, new: Option<&Node>) -> Result<(), TreeError>
+        ensures place { OnOk result (first_cause (place_causes self.now path.now) ≡ None) }
         ensures brief { OnOk result (fits_part
             (part_of (option_map (λ there. there.now) new.entry)) ≡ true) }
         ensures paths { OnOk result (fits_paths
@@ -224,6 +232,8 @@ impl Tree {
         ensures allowed { OnOk result (edit_refusal self.old (edit_of edit) ≡ None) }
         ensures refused { IfErr result (λ e. e ≢ TreeError.Memory
             → edit_refusal self.old (edit_of edit) ≡ Some (refusal_of e)) }
+        ensures memory { IfErr result (λ e. e ≡ TreeError.Memory
+            → edit_refusal self.old (edit_of edit) ≡ None) }
     {
         let change = self.prepare(alloc, edit)?;
         self.make(change);
@@ -245,6 +255,8 @@ impl Tree {
         ensures allowed { OnOk result (replace_refusal self.old path.now (part_of new) ≡ None) }
         ensures refused { IfErr result (λ e. e ≢ TreeError.Memory
             → replace_refusal self.old path.now (part_of new) ≡ Some (refusal_of e)) }
+        ensures memory { IfErr result (λ e. e ≡ TreeError.Memory
+            → first_cause (place_causes self.old path.now) ≡ None) }
     {
         let change = self.prepare_replace(alloc, path, new)?;
         self.make(change);

@@ -55,8 +55,8 @@ pub record GivesLess (memory : Remembered) (image : Bytes) (payloads : List Byte
 abbrev pub IsNoNext : ReplicaError → Remembered → Bytes → List Bytes → Type 0
 IsNoNext Memory memory image payloads = Unit {0}
 IsNoNext Damaged memory image payloads =
-    GivesNothing image payloads ⊎ GivesLess memory image payloads
-IsNoNext WrongPair memory image payloads = GivesOtherPair (Some memory.pair) image payloads
+    GivesNothing image payloads
+    ⊎ (GivesLess memory image payloads ⊎ GivesOtherPair (Some memory.pair) image payloads)
 IsNoNext _ memory image payloads = ⊥
 
 -- and its pair fits in 64 bits

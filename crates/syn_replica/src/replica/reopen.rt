@@ -24,9 +24,9 @@ impl<D: Disk> Replica<D> {
     ///
     /// Refused 9 where a device call fails, 18 where the disk holds no image, 19 where it means
     /// nothing that a replica of the pair holds or gives fewer events than the replica remembers,
-    /// 20 where it is of another pair, and 11 where memory is refused. After 11 the replica is as
-    /// it was, halted or not; after any other refusal it is halted. One that was halted then shows
-    /// what it showed. Nothing is written.
+    /// and 11 where memory is refused. After 11 the replica is as it was, halted or not; after any
+    /// other refusal it is halted. One that was halted then shows what it showed. Nothing is
+    /// written.
     pub fn reopen(&mut self, alloc: Global) -> Result<(), ReplicaError>
         // It shows what the disk gives, and stands for each history that the disk stands for.
         ensures given { OnOk result

@@ -18,7 +18,7 @@ ghost use Rattle.syn_replica.specs.Refusals.{begin_refusals, fetch_refusals, rep
 ghost use Rattle.syn_replica.specs.Calls.{unless};
 ghost use Rattle.syn_replica.specs.Steps.{begun, begin_refusal, is_done, is_done_at, piece};
 ghost use Rattle.syn_standing.specs.Causes.{since_causes};
-ghost use Rattle.syn_replica.specs.Steps.{replaced, replace_refusal, how_stands};
+ghost use Rattle.syn_replica.specs.Steps.{early_refusal, how_stands, replaced, replace_refusal};
 ghost use Rattle.std.specs.Prelude.{◌==◌, None, IfSome, option_map};
 
 use super::Replica;
@@ -212,6 +212,11 @@ impl<D: Disk> Replica<D> {
             → IsErrAnd result (λ e. (refusal_of e ≡ why) ⊎ (refusal_of e ≡ Memory)) }
         ensures refusals { IfErr result (IsOneOf replace_refusals) }
 
+        // The token, the touches and the place are looked at before memory is asked for.
+        ensures memory { (history : History) → Stands self.old history
+            → IfErr result (λ e. refusal_of e ≡ Memory
+            → early_refusal history (token_of token) path.now since ≡ None) }
+
         // The event is written where the token is not done.
         ensures machine { Writes self.old self.new
             (unless (is_done_at (standing_shown self.old) (token_of token))
@@ -252,6 +257,12 @@ impl<D: Disk> Replica<D> {
         ensures untouched { (history : History) → standing_shown self.now ≡ standing_of history
             → IfOk result (λ found. IfSome found
             (λ _. first_cause (since_causes history path.now since) ≡ None)) }
+        ensures early { (history : History) → standing_shown self.now ≡ standing_of history
+            → IfOk result (λ found. IfSome found
+            (λ _. early_refusal history (token_of token.now) path.now since ≡ None)) }
+        ensures memory { (history : History) → standing_shown self.now ≡ standing_of history
+            → IfErr result (λ e. refusal_of e ≡ Memory
+            → early_refusal history (token_of token.now) path.now since ≡ None) }
         ensures cause { (room : ℕ) (history : History)
             → standing_shown self.now ≡ standing_of history → ¬ IsHalted self.now
             → IfErr result (λ e. (refusal_of e ≡ Memory) ⊎ (replace_refusal room history

@@ -1,4 +1,4 @@
-use Rattle.std.proofs.Common.{◌≡◌, ◌<◌, ◌∙◌, ap, inr, refl, subst, sym}
+use Rattle.std.proofs.Common.{◌≡◌, ◌<◌, ◌∙◌, ap, arith, inl, inr, refl, subst}
 use Rattle.syn_history.specs.Past.{Past}
 use Rattle.syn_model.proofs.ExitLemmas.{if_err_of_exit}
 use Rattle.syn_model.specs.Image.{Gives}
@@ -10,21 +10,47 @@ use Rattle.syn_standing.specs.declared.error.ReplicaError.TheVariants.{Damaged}
 use Rattle.syn_replica.proofs.RememberedLemmas.{no_next, own_memory, same_memory}
 use Rattle.syn_replica.proofs.remembered.RememberedState.read_again.Goals as goal
 
+-- ---- it is of another pair
+
+pub returns-then-pair-self-clause-unread : goal.returns-then-pair-self-clause-unread
+returns-then-pair-self-clause-unread c =
+    let own = c.args.self.now in (
+      c.has_64_bits.ensures,
+      inr (inr (record {
+        pair = c.in_ok-pair.pair;
+        fits = c.in_ok-pair.ensures.fits;
+        standing = c.in_ok-pair.standing;
+        gives = c.in_ok-pair.ensures.gives;
+        asked = own.pair;
+        wanted_is = refl;
+        differ = λ same. let other = c.if-pair-self.true in omega (arith, other, same);
+      })),
+    )
+
+pub returns-then-pair-self-clause-own : goal.returns-then-pair-self-clause-own
+returns-then-pair-self-clause-own c given =
+    let unread = returns-then-pair-self-clause-unread c in
+    own_memory c.opening_laws.ensures.one Damaged c.args.self.now c.args.image.now
+    (bytes_of_each c.args.payloads.now) unread.0 given unread.1
+
+-- ---- it has fewer events
+
 pub returns-then-position-clause-unread : goal.returns-then-position-clause-unread
 returns-then-position-clause-unread c =
     let own = c.args.self.now in
-    let wanted = c.in_ok-pair.ensures.wanted own.pair refl in (
+    let pair : c.in_ok-pair.pair ≡ own.pair =
+    (let same = c.if-pair-self.false in omega (arith, same)) in (
       c.has_64_bits.ensures,
-      inr (record {
+      inr (inl (record {
         standing = c.in_ok-pair.standing;
         gives = subst (λ n. Gives n c.args.image.now (bytes_of_each c.args.payloads.now)
-            c.in_ok-pair.standing) (sym wanted) c.in_ok-pair.ensures.gives;
+            c.in_ok-pair.standing) pair c.in_ok-pair.ensures.gives;
         fewer = subst (λ n. c.in_ok-pair.standing.position < n)
             (c.position-2.ensures ∙ ap (λ (p : Past). p.position) c.trail-2.ensures)
             (subst (λ n. n < c.position-2.result)
             (c.position.ensures ∙ ap (λ (p : Past). p.position) c.trail.ensures)
             c.if-position.true);
-      }),
+      })),
     )
 
 pub returns-then-position-clause-own : goal.returns-then-position-clause-own

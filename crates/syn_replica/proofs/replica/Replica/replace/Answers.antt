@@ -12,13 +12,13 @@ use Rattle.syn_replica.specs.Refusals.{IsOneOf, outside_refusals, replace_refusa
 use Rattle.syn_standing.specs.Refusals.{refusal_of}
 use Rattle.syn_replica.specs.Replica.{Stands, KeepsBeforeOrAfter, room_shown}
 use Rattle.syn_replica.specs.Replica.{standing_shown, disk_of}
-use Rattle.syn_replica.specs.Steps.{is_done_at}
+use Rattle.syn_replica.specs.Steps.{is_done_at, replace_refusal}
 use Rattle.syn_replica.specs.inner.Additions.{checking_refusals}
 use Rattle.syn_replica.proofs.RoomLemmas.{added_refusals, refused_at, replaced_among, room_at}
 use Rattle.syn_replica.proofs.RoomLemmas.{update_refused}
 use Rattle.syn_replica.proofs.RefusalLemmas.{inner_among, inner_refusals, never, not_full_device}
 use Rattle.syn_replica.proofs.RefusalLemmas.{not_full_halted, or_outside, same_refusal}
-use Rattle.syn_model.proofs.ExitLemmas.{is_err_of_exit}
+use Rattle.syn_model.proofs.ExitLemmas.{if_err_of_exit, is_err_of_exit}
 use Rattle.syn_replica.proofs.CallLemmas.{done_before, exits_early, exits_halted, not_refused}
 use Rattle.syn_replica.specs.Calls.{Writes, unless}
 use Rattle.syn_journaled.specs.Endings.{ended}
@@ -122,6 +122,27 @@ pub returns-in_err-check_room-clause-any_moment : goal.returns-in_err-check_room
 returns-in_err-check_room-clause-any_moment g c history stands =
     not_written g.met.D.Disk.only_now c.args.self.now history stands _
     (inl (keeps_now c.args.self.now history stands))
+
+pub returns-in_err-check_room-clause-cause : goal.returns-in_err-check_room-clause-cause
+returns-in_err-check_room-clause-cause g c history stands =
+    let room = room_shown c.args.self.now in
+    let token = token_of c.args.token in
+    let new = part_of c.args.new in
+    let same = stands.remembers.standing in
+    let rest = found_as room history token c.args.path.now c.args.since new _
+    (standing_shown c.args.self.now) c.in_ok-path.field-0 c.in-Some.path same
+    c.in_ok-path.ensures.found (c.in_ok-path.ensures.untouched history same) c.in-Some.is in
+    let event = Replaced token c.in-Some.path c.args.since new in
+    let adds = c.in_ok-payload.ensures.adds in
+    let told = c.in_err-check_room.ensures.refused in
+    let long = subst (λ n. room < n) (c.len.ensures ∙ (c.in_ok-payload.payload.ok.0
+    ∙ ap length adds.spelled)) told.1 in
+    let full = room_at room (standing_shown c.args.self.now) event adds.allowed.not_refused long in
+    if_err_of_exit c.from_residual-in_err-check_room.result c.in_err-check_room.field-0.0
+    (λ e. IsOneOf outside_refusals e
+    ⊎ (replace_refusal room history token c.args.path.now c.args.since new ≡ Some (refusal_of e)))
+    c.from_residual-in_err-check_room.ensures.1
+    (inr (sym rest ∙ (full ∙ sym (ap (λ x. Some (refusal_of x)) told.0))))
 
 pub returns-in_err-check_room-clause-refused : goal.returns-in_err-check_room-clause-refused
 returns-in_err-check_room-clause-refused g c history why stands done e =

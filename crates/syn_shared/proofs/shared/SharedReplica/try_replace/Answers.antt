@@ -35,6 +35,7 @@ returns-clause-held g c =
       cause = c.replace-answer.ensures.cause;
       refused = c.replace-answer.ensures.refused;
       refusals = c.replace-answer.ensures.refusals;
+      memory = c.replace-answer.ensures.memory;
       machine = c.replace-answer.ensures.machine;
     }))
 
