@@ -13,9 +13,12 @@ use Rattle.syn_message.specs.declared.reply.Reply.{Reply}
 use Rattle.syn_model.specs.Refusal.{Touched}
 use Rattle.syn_model.specs.Spelling.{spelling}
 use Rattle.syn_model.specs.Tree.{Tree}
-use Rattle.syn_user.specs.Sides.{ArePiecesOf, AreFetched, IsHeard, IsReplied, IsTouchedSince}
-use Rattle.syn_user.specs.Sides.{Pieces, SideLine, asking_at, bytes_of, root_from}
+use Rattle.syn_refusal.specs.Refusals.{cause_of}
+use Rattle.syn_user.specs.Sides.{ArePiecesOf, AreFetched, IsHeard, IsRefusedFor, IsReplied}
+use Rattle.syn_user.specs.Sides.{IsTouchedSince, NoPieces, Pieces, SideLine, asking_at, bytes_of}
+use Rattle.syn_user.specs.Sides.{root_from}
 use Rattle.syn_user.specs.declared.error.UserError.{UserError}
+use Rattle.syn_user.specs.declared.error.UserError.TheVariants as has
 
 -- the line once a request was written
 abbrev pub sent_line : SideLine → Option Bytes → SideLine
@@ -96,6 +99,21 @@ module _ (position : ℕ) (a b c : SideLine) (bytes : Bytes) (offset : ℕ)
     touched = subst (λ n. IsReplied b c (root_from position n) (Refused Touched))
         (ends ∙ ap length (sym same)) is;
   }
+
+  pub refused_so : (error : UserError) → Gathers position a b bytes
+      → IsRefusedFor b c (root_from position offset) error → NoPieces position a c error
+  refused_so (has.Refused why) (pieces, came, same) is = record {
+    pieces = pieces;
+    between = b;
+    came = came;
+    refused = subst (λ n. IsReplied b c (root_from position n) (Refused (cause_of why)))
+        (ends ∙ ap length (sym same)) is;
+  }
+  refused_so has.Device gathered is = tt
+  refused_so has.Memory gathered is = tt
+  refused_so has.BadFrame gathered is = tt
+  refused_so has.TooLarge gathered is = tt
+  refused_so has.BadMessage gathered is = tt
 
 pub pieces_of : (position : ℕ) (a b : SideLine) (bytes : Bytes) (tree : Tree)
     → Gathers position a b bytes → spelling tree ≡ bytes → ArePiecesOf position a b tree

@@ -1,5 +1,5 @@
 -- What a side of a session is asked over a connection, what it tells, and the tree that it tells.
-use Rattle.std.specs.Prelude.{◌≡◌, ◌+◌, ℕ, List, [], ◌∷◌, length, Option, Some, flat_map}
+use Rattle.std.specs.Prelude.{◌≡◌, ◌≤◌, ◌+◌, ℕ, List, [], ◌∷◌, length, Option, Some, flat_map}
 use Rattle.std.specs.Io.KnownBytes.{Appends}
 use Rattle.syn_headline.specs.Side.{Fetch, ListAt, Listed, NotDir, Piece, Refused, Reply, Request}
 use Rattle.syn_link.specs.Frames.{Bytes, frame_of}
@@ -10,11 +10,13 @@ use Rattle.syn_model.specs.Refusal.{Touched}
 use Rattle.syn_model.specs.Spelling.{spelling}
 use Rattle.syn_model.specs.Tree.{Tree}
 use Rattle.syn_refusal.specs.Refusals.{cause_of}
+use Rattle.syn_refusal.specs.declared.refusal.Refusal.{Refusal}
+use Rattle.syn_refusal.specs.declared.refusal.Refusal.TheVariants as refusal
 use Rattle.syn_user.specs.Exchanges.{number_after}
 use Rattle.syn_user.specs.declared.error.UserError.{UserError}
 use Rattle.syn_user.specs.declared.error.UserError.TheVariants as has
 use Rattle.syn_user.specs.declared.side.SideConnection.{SideConnection}
-use Rattle.syn_user.specs.declared.side.TheConstants.{SESSION}
+use Rattle.syn_user.specs.declared.side.TheConstants.{MOST_TRIES, SESSION}
 
 -- what the reader is to give, what came and was not handed out, what the writer has, and the number
 -- of the next request
@@ -102,6 +104,19 @@ pub record IsTouchedSince (position : ℕ) (old new : SideLine) : Type 0 where
   pub touched : IsReplied between new (root_from position (length (bytes_of pieces)))
       (Refused Touched)
 
+-- some pieces came, and after them a refusal of the replica's
+pub record IsRefusedAfter (position : ℕ) (old new : SideLine) (why : Refusal) : Type 0 where
+  pub pieces : Pieces
+  pub between : SideLine
+  pub came : AreFetched position old 0 pieces between
+  pub refused : IsReplied between new (root_from position (length (bytes_of pieces)))
+      (Refused (cause_of why))
+
+-- a refusal of the replica's is the reason why no tree came at the position
+abbrev pub NoPieces : ℕ → SideLine → SideLine → UserError → Type 0
+NoPieces position old new (has.Refused why) = IsRefusedAfter position old new why
+NoPieces position old new _ = Unit {0}
+
 -- the root was listed, from the position
 abbrev pub TellsPosition : ℕ → SideLine → SideLine → Type 0
 TellsPosition position old new =
@@ -115,3 +130,16 @@ pub data ShowsTree (position : ℕ) (tree : Tree) (new : SideLine) : SideLine �
   again : (earlier : ℕ) (old listed touched : SideLine) → TellsPosition earlier old listed →
       IsTouchedSince earlier listed touched → ShowsTree position tree new touched →
       ShowsTree position tree new old
+
+-- Why no tree came, after so many that were edited while their pieces came: the replica refused to
+-- list its root, or to give a piece; or so many were edited as are asked for at most.
+pub data NoTree (new : SideLine) (error : UserError) : ℕ → SideLine → Type 0 where
+  unlisted : (edited : ℕ) (old : SideLine) → IsRefusedFor old new (ListAt []) error →
+      NoTree new error edited old
+  unfetched : (edited position : ℕ) (old listed : SideLine) → TellsPosition position old listed →
+      NoPieces position listed new error → NoTree new error edited old
+  once_more : (edited position : ℕ) (old listed touched : SideLine) →
+      TellsPosition position old listed → IsTouchedSince position listed touched →
+      NoTree new error (edited + 1) touched → NoTree new error edited old
+  too_often : (edited : ℕ) → MOST_TRIES ≤ edited → error ≡ has.Refused refusal.Touched →
+      NoTree new error edited new

@@ -6,7 +6,8 @@ ghost use Rattle.syn_message.specs.Requests.{IsLawfulAsking, asking_spelling, re
 ghost use Rattle.syn_model.specs.Path.{IsPath};
 ghost use Rattle.syn_model.specs.Refusal as why;
 ghost use Rattle.syn_user.specs.Sides.{ArePiecesOf, IsHeard, IsListing, IsRefusedFor, IsReplied};
-ghost use Rattle.syn_user.specs.Sides.{IsTouchedSince, ShowsTree, TellsPosition, asking_with};
+ghost use Rattle.syn_user.specs.Sides.{IsTouchedSince, NoPieces, NoTree, ShowsTree};
+ghost use Rattle.syn_user.specs.Sides.{TellsPosition, asking_with};
 ghost use Rattle.syn_user.specs.Sides.{root_from, side_line};
 ghost use Rattle.syn_user.specs.inner.Parts.{is_refusal};
 
@@ -28,7 +29,7 @@ pub(crate) const SESSION: u64 = 1;
 const MOST_PIECES: u32 = 17;
 
 /// How often the whole tree is begun anew, where somebody edits meanwhile.
-const MOST_TRIES: u32 = 100;
+pub(crate) const MOST_TRIES: u32 = 100;
 
 /// A connection to a served replica: what replies are read from, what requests are written to, and
 /// what came and was not handed out yet. Requests are numbered from 0. No session begins by them,
@@ -85,8 +86,11 @@ impl<R: Read, W: Write> SideConnection<R, W> {
         ensures shown { IfOk result (λ found. ShowsTree found.0 found.1
             (side_line R.remaining W.contents self.new)
             (side_line R.remaining W.contents self.old)) }
+        ensures refused { IfErr result (λ error.
+            NoTree (side_line R.remaining W.contents self.new) error 0
+            (side_line R.remaining W.contents self.old)) }
     {
-        for _ in 0..MOST_TRIES {
+        for _tried in 0..MOST_TRIES {
             let position = self.position(alloc)?;
             if let Some(tree) = self.tree_at(alloc, position)? {
                 return Ok((position, tree));
@@ -97,9 +101,12 @@ impl<R: Read, W: Write> SideConnection<R, W> {
 
     /// The position of the replica. It is refused as `list` is.
     fn position(&mut self, alloc: Global) -> Result<u64, UserError>
-        ensures { IfOk result (λ position. TellsPosition position
+        ensures told { IfOk result (λ position. TellsPosition position
             (side_line R.remaining W.contents self.old)
             (side_line R.remaining W.contents self.new)) }
+        ensures refused { IfErr result
+            (IsRefusedFor (side_line R.remaining W.contents self.old)
+            (side_line R.remaining W.contents self.new) (ListAt [])) }
     {
         match self.list(alloc, &Path::root(alloc))? {
             Reply::Listed { position, .. } => Ok(position),
@@ -117,6 +124,9 @@ impl<R: Read, W: Write> SideConnection<R, W> {
         ensures none { IfOk result (λ found. IfNone found (IsTouchedSince position
             (side_line R.remaining W.contents self.old)
             (side_line R.remaining W.contents self.new))) }
+        ensures refused { IfErr result (NoPieces position
+            (side_line R.remaining W.contents self.old)
+            (side_line R.remaining W.contents self.new)) }
     {
         let mut gathered = Gathered::new(alloc);
         for _ in 0..MOST_PIECES {
@@ -147,6 +157,9 @@ impl<R: Read, W: Write> SideConnection<R, W> {
             (IsReplied (side_line R.remaining W.contents self.old)
             (side_line R.remaining W.contents self.new) (root_from position offset)
             (Refused why.Touched))) }
+        ensures refused { IfErr result
+            (IsRefusedFor (side_line R.remaining W.contents self.old)
+            (side_line R.remaining W.contents self.new) (root_from position offset)) }
     {
         is_lawful_fetch(position, offset);
         let request = Request::Fetch {

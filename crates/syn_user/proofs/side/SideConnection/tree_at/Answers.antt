@@ -1,6 +1,7 @@
 use Rattle.std.proofs.Common.{◌++◌, ◌∙◌, ap, subst, sym}
-use Rattle.syn_user.proofs.SideLemmas.{Gathers, piece_gathered, pieces_of, touched_so}
-use Rattle.syn_user.specs.Sides.{side_line}
+use Rattle.syn_model.proofs.ExitLemmas.{if_err_of_exit}
+use Rattle.syn_user.proofs.SideLemmas.{Gathers, piece_gathered, pieces_of, refused_so, touched_so}
+use Rattle.syn_user.specs.Sides.{NoPieces, side_line}
 use Rattle.syn_user.proofs.side.SideConnection.tree_at.Goals as goal
 
 pub returns-in_default-clause-none : goal.returns-in_default-clause-none
@@ -8,14 +9,23 @@ returns-in_default-clause-none g c =
     touched_so _ _ _ _ _ _ c.offset.ensures c.loop.invariant
     (rw c.in_default.is at c.in_ok-total.ensures.none)
 
+pub returns-in_err-total-clause-refused : goal.returns-in_err-total-clause-refused
+returns-in_err-total-clause-refused g c =
+    let line = side_line g.R.Read.remaining g.W.Write.contents in
+    let error = c.in_err-total.field-0.0 in
+    if_err_of_exit c.from_residual.result error
+    (NoPieces c.args.position (line c.args.self.now) (line c.piece.new.self))
+    c.from_residual.ensures.1 (refused_so _ _ _ _ _ _ c.offset.ensures error c.loop.invariant
+    c.in_err-total.ensures.refused)
+
 pub returns-then-is_whole-clause-tree : goal.returns-then-is_whole-clause-tree
 returns-then-is_whole-clause-tree g c =
     let came = rw c.in-Some.is at c.in_ok-total.ensures.piece in
     let so_far = c.loop.gathered.bytes.items in
     let all = piece_gathered _ _ _ _ so_far _ c.offset.ensures c.in-Some.bytes.items
     c.in-Some.total c.loop.invariant came in
-    let taken = c.in_ok-take.ensures ∙ ap (λ bs. so_far ++ bs) c.deref.ensures.value in
-    pieces_of _ _ _ _ _ all (c.in_ok-tree.ensures ∙ taken)
+    let taken = c.in_ok-take.ensures.taken ∙ ap (λ bs. so_far ++ bs) c.deref.ensures.value in
+    pieces_of _ _ _ _ _ all (c.in_ok-tree.ensures.tree ∙ taken)
 
 pub loop-preserved : goal.loop-preserved
 loop-preserved g c =
@@ -23,6 +33,6 @@ loop-preserved g c =
     let so_far = c.loop.gathered.bytes.items in
     let all = piece_gathered _ _ _ _ so_far _ c.offset.ensures c.in-Some.bytes.items
     c.in-Some.total c.loop.invariant came in
-    let taken = c.in_ok-take.ensures ∙ ap (λ bs. so_far ++ bs) c.deref.ensures.value in
+    let taken = c.in_ok-take.ensures.taken ∙ ap (λ bs. so_far ++ bs) c.deref.ensures.value in
     let line = side_line g.R.Read.remaining g.W.Write.contents in
     subst (Gathers c.args.position (line c.args.self.now) (line c.piece.new.self)) (sym taken) all
