@@ -7,9 +7,8 @@ use Rattle.syn_simulate.specs.Shown.{world_shown}
 use Rattle.syn_simulate.specs.Simulations.{RunsScript}
 use Rattle.syn_world.specs.declared.world.World.{World}
 
--- the world is the one after a script, and was printed
-pub record PrintsRun {D : Type 0} {disk : Ghosts D} (old new : Option (List ℕ))
+-- the world is the one after the script, and was printed
+pub record PrintsRun {D : Type 0} {disk : Ghosts D} (script : Text) (old new : Option (List ℕ))
     (world : World D disk) : Type 0 where
-  pub script : Text
   pub runs : RunsScript script world
   pub printed : Appends old new (world_shown world)

@@ -50,6 +50,11 @@ where
         ⊎ AsksHelp (map (λ word. word.now) words.entry.now) }
     ensures usage { result ≡ Status.Usage
         → (line : Line) → ¬ Asks (map (λ word. word.now) words.entry.now) line }
+
+    // Words that ask for nothing are told as such, or memory is refused while they are read.
+    ensures mistaken { ((line : Line) → ¬ Asks (map (λ word. word.now) words.entry.now) line)
+        → ¬ AsksHelp (map (λ word. word.now) words.entry.now)
+        → (result ≡ Status.Usage) ⊎ (result ≡ Status.Refused) }
 {
     let asked = match read_words(alloc, words) {
         Ok(asked) => asked,
@@ -83,6 +88,8 @@ where
 fn tell<O: Write, E: Write>(error: &LineError, output: &mut O, errors: &mut E) -> Status
     ensures done { result ≡ Status.Done → IsRequest error.now }
     ensures usage { result ≡ Status.Usage → IsMistake error.now }
+    ensures mistake { IsMistake error.now → ¬ IsRequest error.now → result ≡ Status.Usage }
+    ensures mistaken { ¬ IsRequest error.now → (result ≡ Status.Usage) ⊎ (result ≡ Status.Refused) }
 {
     match error {
         LineError::Memory => {

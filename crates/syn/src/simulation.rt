@@ -1,5 +1,5 @@
 //! What `syn simulate` prints.
-ghost use Rattle.std.specs.Prelude.{IfOk};
+ghost use Rattle.std.specs.Prelude.{◌≡◌, IfOk, IfSome};
 ghost use Rattle.syn.specs.Simulated.{PrintsRun};
 ghost use Rattle.syn_script.specs.Words.{Text};
 ghost use Rattle.syn_simulate.specs.Simulations.{RunsScript};
@@ -27,7 +27,8 @@ pub fn run_script<F: Files, O: Write>(
 ) -> Result<World<Cut<MemDisk>>, Failure>
 where
     F::File: HostFile,
-    ensures { IfOk result (PrintsRun (O.contents output.old) (O.contents output.new)) }
+    ensures { IfOk result (λ world. (script : Text)
+        × PrintsRun script (O.contents output.old) (O.contents output.new) world) }
 {
     let script = read_script(alloc, files, name)?;
     print_script(alloc, &script, output)
@@ -92,7 +93,8 @@ fn print_script<O: Write>(
     script: &[u8],
     output: &mut O,
 ) -> Result<World<Cut<MemDisk>>, Failure>
-    ensures { IfOk result (PrintsRun (O.contents output.old) (O.contents output.new)) }
+    ensures { IfOk result
+        (PrintsRun script.now (O.contents output.old) (O.contents output.new)) }
 {
     match simulate(alloc, script) {
         Ok(world) => print_world(alloc, world, output),
@@ -108,7 +110,7 @@ fn print_world<D: SimulatedDisk + Drop, O: Write>(
     output: &mut O,
 ) -> Result<World<D>, Failure>
     ensures { (script : Text) → RunsScript script world
-        → IfOk result (PrintsRun (O.contents output.old) (O.contents output.new)) }
+        → IfOk result (PrintsRun script (O.contents output.old) (O.contents output.new)) }
 {
     if was_short_of_memory(&world) {
         let_go(world);
@@ -137,9 +139,16 @@ where
     F::File: HostFile,
 {
     let mut file = files.open_file(OpenOptions::new().read(true), name)?;
-    let mut script = Vec::new(alloc);
-    file.read_to_end(&mut script)?;
-    Ok(script)
+    all_of(alloc, &mut file)
+}
+
+/// All that the reader gives.
+fn all_of<R: Read>(alloc: Global, reader: &mut R) -> Result<Vec<u8>, CommandError>
+    ensures { IfOk result (λ read. IfSome (R.remaining reader.old) (λ all. read.items ≡ all)) }
+{
+    let mut bytes = Vec::new(alloc);
+    reader.read_to_end(&mut bytes)?;
+    Ok(bytes)
 }
 
 /// Why the script was not run.
