@@ -45,7 +45,7 @@ mod streams;
 
 use command::command;
 use std::alloc::Global;
-use std::io::{self, BufWriter, ErrorKind, IsTerminal};
+use std::io::{self, BufWriter, ErrorKind, IsTerminal, Write};
 use std::process::ExitCode;
 use streams::open_closed_streams;
 use syn_command::{Failure, Status, report};
