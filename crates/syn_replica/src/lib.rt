@@ -16,8 +16,8 @@
 //!   `KeepsNoneOrAll`). It is refused for the first cause of the first that is refused, and then
 //!   none is made (`cause`, `refused`, `unchanged`). It takes the replica by value: refused, it
 //!   gives back the disk alone.
-//! - Each single one of them is refused for the first cause in the model's order, 8 as the last of them
-//!   (`refused`). Each refusal has its cause, but for lack of memory and a failed device call
+//! - Each call of one event is refused for the first cause in the model's order, 8 as the last of
+//!   them (`refused`). Each refusal has its cause, but for lack of memory and a failed device call
 //!   (`cause`). After any refusal but 9 the replica stands as it did (`unchanged`).
 //! - At any moment of such a call the disk stands for the history, or for the history with the
 //!   event (`any_moment`: `KeepsBeforeOrAfter`). Both come with the generation and with the bytes
