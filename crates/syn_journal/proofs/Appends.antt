@@ -1,28 +1,65 @@
 -- What a stop leaves during an append.
-use Rattle.std.proofs.Common.{◌≡◌, inl, inr, ℕ, ◌+◌, ◌≤◌, List, length, get_or, arith}
+use Rattle.std.proofs.Common.{◌≡◌, ◌<◌, inl, inr, ℕ, ◌+◌, ◌++◌, ◌∷◌, [], List, length, get_or, ap}
+use Rattle.std.proofs.Common.{arith, append-nil, drop, length-append, length-drop, sym, take, ◌-◌}
+use Rattle.std.proofs.Common.{◌∙◌}
+use Rattle.std.proofs.lemmas.List.{take_all}
+use Rattle.std.specs.Global.{Vec}
 use Rattle.std.proofs.lemmas.Bool.{cases_eq}
-use Rattle.syn_journal.specs.inner.Commit.{IsStagedOrOpened, body_of_record}
+use Rattle.std.specs.Int.{w32, to_be_bytes}
+use Rattle.syn_journal.specs.Batches.{bytes_of_each, records_size, with_payloads}
+use Rattle.syn_journal.specs.inner.Commit.{IsBodyOf, IsStagedOrOpened, body_of_record}
 use Rattle.syn_journal.specs.declared.half.Half.{Half}
-use Rattle.syn_journal.specs.Layout.{half_size, open_gate, start_of, Value, with_payload}
+use Rattle.syn_journal.specs.Layout.{half_size, open_gate, records_of, start_of, Value}
 use Rattle.syn_journal.specs.Layout.{IsBeforeOrAfter}
 use Rattle.syn_journal.specs.inner.Whole.{IsWhole}
 use Rattle.syn_journal.proofs.Whole.{after_gate, still_closed, now_open, long}
 use Rattle.syn_journal.proofs.Meanings.{has}
 
+-- what is written of one payload
+pub one_body : (payload body : List ℕ) → body ≡ body_of_record payload →
+    IsBodyOf (payload ∷ []) (5 + length payload) body
+one_body payload body is =
+    let word = to_be_bytes w32 (length payload) in
+    record {
+      spells =
+          ap (λ (l : List ℕ). open_gate ∷ l)
+          (is ∙ ap (λ (l : List ℕ). l ++ 0 ∷ []) (sym (append-nil (word ++ payload))));
+      sized =
+          omega (arith, length-append (word ++ payload) [], length-append word payload);
+      some = omega arith;
+    }
+
+-- and of several: all but the first gate
+all_but_first : (xs : List ℕ) → take (length xs - 1) (drop 1 xs) ≡ drop 1 xs
+all_but_first xs = take_all (length xs - 1) (drop 1 xs) (omega (arith, length-drop 1 xs))
+
+pub many_body : (payloads : List (Vec ℕ)) (size : ℕ) (records : List ℕ) →
+    records ≡ records_of (bytes_of_each payloads) ++ 0 ∷ [] →
+    size ≡ records_size (bytes_of_each payloads) → 0 < length payloads →
+    IsBodyOf (bytes_of_each payloads) size (take (length records - 1) (drop 1 records))
+many_body [] size records is sized some = absurd (omega (arith, some))
+many_body (payload ∷ payloads) size records is sized some =
+    record {
+      spells =
+          ap (λ (l : List ℕ). open_gate ∷ l)
+          (all_but_first records ∙ ap (λ (l : List ℕ). drop 1 l) is);
+      sized = sym sized;
+      some = omega (arith, sized);
+    }
+
 module _ (disk : List ℕ) (half : Half) (generation gate : ℕ) (value : Value)
-    (whole : IsWhole disk half generation gate value)
-    (payload body : List ℕ) (spells : body ≡ body_of_record payload)
-    (fits : gate + 6 + length payload ≤ half_size) where
+    (whole : IsWhole disk half generation gate value) (more : List (List ℕ)) (bytes : ℕ)
+    (body : List ℕ) (is : IsBodyOf more bytes body) (fits : gate + bytes < half_size) where
   pub before_or_after : (after : List ℕ) → IsStagedOrOpened disk (start_of half + gate) body after →
-      IsBeforeOrAfter value generation (with_payload value payload) generation after
+      IsBeforeOrAfter value generation (with_payloads value more) generation after
   before_or_after after (inl torn) =
       inl (has after half generation gate value
       (after_gate disk half generation gate value whole (length body) after
-      (omega (arith, long disk half generation gate value whole payload body spells fits)) torn))
+      (omega (arith, long disk half generation gate value whole more bytes body is fits)) torn))
   before_or_after after (inr torn) =
       elim (cases_eq (get_or after (start_of half + gate) 0) open_gate) [
-        | inl is_open ↦ inr (has after half generation (gate + (5 + length payload)) _ (now_open
-            disk half generation gate value whole payload body spells fits after torn is_open))
+        | inl is_open ↦ inr (has after half generation (gate + bytes) _ (now_open
+            disk half generation gate value whole more bytes body is fits after torn is_open))
         | inr closed ↦ inl (has after half generation gate value (still_closed disk half generation
-            gate value whole payload body spells fits after torn closed))
+            gate value whole more bytes body is fits after torn closed))
       ]

@@ -21,7 +21,7 @@ makes_more (suc m) n old mid new first second =
     subst (λ k. Makes k old new) (sym (one_more m n))
     (first.0, makes_more m n (after_call old) mid new first.1 second)
 
-no_call : (arms : Arms) → Makes 0 arms arms
+pub no_call : (arms : Arms) → Makes 0 arms arms
 unfolding Makes
 no_call arms = refl
 

@@ -1,4 +1,5 @@
 mod Appends
+mod Batches
 pub mod Calls
 mod Checkpoints
 mod Commits

@@ -2,7 +2,7 @@
 use Rattle.std.proofs.Common.{◌≡◌, ◌≢◌, ℕ, zero, suc, ◌+◌, ◌^◌, ◌<◌, ◌≤◌, true, false, ltb, List}
 use Rattle.std.proofs.Common.{[], ◌∷◌, ◌++◌, length, take, drop, Some, None, refl, sym, ◌∙◌, ap}
 use Rattle.std.proofs.Common.{subst, arith, length-append}
-use Rattle.std.proofs.lemmas.List.{append_assoc, take_at, drop_at}
+use Rattle.std.proofs.lemmas.List.{append-nil, append_assoc, take_at, drop_at}
 use Rattle.std.proofs.lemmas.Bool.Decides.{nat_tests}
 use Rattle.std.proofs.lemmas.Nat.{from_be_bytes-to_be_bytes_4}
 use Rattle.std.specs.Int.{w32, to_be_bytes, from_be_bytes}
@@ -85,14 +85,17 @@ records_broken (payload ∷ payloads) (suc fuel) rest long small enough =
     ∙ ap (and_before payload) (records_broken payloads fuel rest long (omega (arith, size, small))
     (omega (arith, size, size', enough)))
 
+-- some and then more
+pub records_of-append : (payloads more : List (List ℕ)) →
+    records_of (payloads ++ more) ≡ records_of payloads ++ records_of more
+records_of-append [] more = refl
+records_of-append (p ∷ payloads) more =
+    ap (λ (l : List ℕ). record_of p ++ l) (records_of-append payloads more)
+    ∙ sym (append_assoc (record_of p) (records_of payloads) (records_of more))
+
 -- one more at the end
 pub records_of-push : (payloads : List (List ℕ)) (payload : List ℕ) →
     records_of (payloads ++ payload ∷ []) ≡ records_of payloads ++ record_of payload
-records_of-push [] payload = append-nil' (record_of payload)
-  where
-    append-nil' : (xs : List ℕ) → xs ++ [] ≡ xs
-    append-nil' [] = refl
-    append-nil' (x ∷ xs) = ap (λ (l : List ℕ). x ∷ l) (append-nil' xs)
-records_of-push (p ∷ payloads) payload =
-    ap (λ (l : List ℕ). record_of p ++ l) (records_of-push payloads payload)
-    ∙ sym (append_assoc (record_of p) (records_of payloads) (record_of payload))
+records_of-push payloads payload =
+    records_of-append payloads (payload ∷ [])
+    ∙ ap (λ (l : List ℕ). records_of payloads ++ l) (append-nil (record_of payload))

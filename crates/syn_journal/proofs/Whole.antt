@@ -1,32 +1,32 @@
 -- How the two steps of an append change a disk whose current half is whole.
 use Rattle.std.proofs.Common.{◌≡◌, ◌≢◌, ◌⊎◌, inl, inr, ⊎_elim, ℕ, zero, suc, ◌+◌, ◌-◌, ◌==◌, ◌<◌}
-use Rattle.std.proofs.Common.{◌≤◌, Ok, List, [], ◌∷◌, ◌++◌, length, get_or, take, drop, sym, ◌∙◌}
-use Rattle.std.proofs.Common.{ap, subst, arith, length-append}
+use Rattle.std.proofs.Common.{◌≤◌, Ok, List, [], ◌∷◌, ◌++◌, length, get_or, take, drop, refl}
+use Rattle.std.proofs.Common.{sym, ◌∙◌, ap, subst, arith, length-append}
 use Rattle.std.proofs.lemmas.List.{get_or_append_left, get_or-append_right, append_assoc}
 use Rattle.std.specs.Int.{w32, w64, to_be_bytes, from_be_bytes}
 use Rattle.syn_disk.specs.Disk.{Torn, overwritten}
-use Rattle.syn_journal.specs.inner.Commit.{body_of_record}
+use Rattle.syn_journal.specs.Batches.{with_payloads}
+use Rattle.syn_journal.specs.inner.Commit.{IsBodyOf}
 use Rattle.syn_journal.specs.declared.half.Half.{Half}
 use Rattle.syn_journal.specs.declared.half.Half.TheVariants.{First, Second}
 use Rattle.syn_journal.specs.Layout.{half_size, open_gate, start_of, other_half, Value, is_open}
-use Rattle.syn_journal.specs.Layout.{generation_at, current, current_of, record_of, records_of}
-use Rattle.syn_journal.specs.Layout.{spelled, with_payload}
+use Rattle.syn_journal.specs.Layout.{generation_at, current, current_of, records_of, spelled}
 use Rattle.syn_journal.specs.inner.Whole.{IsWhole}
 use Rattle.syn_journal.proofs.Meanings.{within_disk, sizes}
 use Rattle.syn_journal.proofs.Parts.{same_part, part_is, part_add, length-overwritten}
 use Rattle.syn_journal.proofs.Parts.{overwritten-below, overwritten-in, overwritten-after, torn_by}
-use Rattle.syn_journal.proofs.Records.{records_of-push}
+use Rattle.syn_journal.proofs.Records.{records_of-append}
 
-spelled-push : (image : List ℕ) (payloads : List (List ℕ)) (payload : List ℕ) →
-    spelled image (payloads ++ payload ∷ []) ≡ spelled image payloads ++ record_of payload
+spelled-more : (image : List ℕ) (payloads more : List (List ℕ)) →
+    spelled image (payloads ++ more) ≡ spelled image payloads ++ records_of more
 unfolding spelled
-spelled-push image payloads payload =
+spelled-more image payloads more =
     ap (λ (l : List ℕ). to_be_bytes w32 (length image) ++ (image ++ l))
-    (records_of-push payloads payload)
+    (records_of-append payloads more)
     ∙ ap (λ (l : List ℕ). to_be_bytes w32 (length image) ++ l)
-    (sym (append_assoc image (records_of payloads) (record_of payload)))
+    (sym (append_assoc image (records_of payloads) (records_of more)))
     ∙ sym (append_assoc (to_be_bytes w32 (length image)) (image ++ records_of payloads)
-    (record_of payload))
+    (records_of more))
 
 -- a change inside one half leaves the other
 pub apart : (half : Half) (at n i : ℕ) → start_of half ≤ at → at + n ≤ start_of half + half_size →
@@ -110,17 +110,11 @@ module _ (disk : List ℕ) (half : Half) (generation gate : ℕ) (value : Value)
       (apart half (base + gate + 1) n i (omega arith) (omega arith) from (omega (arith, to))))
       (λ opened. whole.closed (sym (torn.before (base + gate) (omega arith)) ∙ opened))
 
-  -- a whole record after the gate, and any byte in the gate
-  module _ (payload body : List ℕ) (spells : body ≡ body_of_record payload)
-      (fits : gate + 6 + length payload ≤ half_size) where
-    pub long : length body ≡ 5 + length payload
-    long =
-        ap length spells ∙ omega (
-          arith,
-          length-append (to_be_bytes w32 (length payload) ++ payload)
-              (0 ∷ []),
-          length-append (to_be_bytes w32 (length payload)) payload,
-        )
+  -- whole records after the gate, and any byte in the gate
+  module _ (more : List (List ℕ)) (bytes : ℕ) (body : List ℕ) (is : IsBodyOf more bytes body)
+      (fits : gate + bytes < half_size) where
+    pub long : length body ≡ bytes
+    long = omega (arith, ap length is.spells, is.sized, length-append (records_of more) (0 ∷ []))
 
     in_disk : base + gate + 1 + length body ≤ length disk
     in_disk = omega (arith, within_disk half (length disk) whole.size, long)
@@ -154,64 +148,67 @@ module _ (disk : List ℕ) (half : Half) (generation gate : ℕ) (value : Value)
           IsWhole after half generation gate value
       still_closed closed = kept after size (λ i from to. below i to) outside closed
 
-      record_there : get_or after (base + gate) 0 ≡ open_gate → (k : ℕ) →
-          k < length (record_of payload) →
-          get_or after (base + gate + k) 0 ≡ get_or (record_of payload) k 0
-      record_there opened zero less = ap (λ j. get_or after j 0) (omega arith) ∙ opened
-      record_there opened (suc k) less =
-          let within : k < length (to_be_bytes w32 (length payload) ++ payload) =
-          omega (arith, less) in
-          ap (λ j. get_or after j 0) (omega arith) ∙ in_body k
-          (omega (arith, within, long, length-append (to_be_bytes w32 (length payload)) payload))
-          ∙ ap (λ (l : List ℕ). get_or l k 0) spells
-          ∙ get_or_append_left (to_be_bytes w32 (length payload) ++ payload) (0 ∷ []) 0 k within
-
-      length-record : length (record_of payload) ≡ 5 + length payload
-      length-record = omega (arith, length-append (to_be_bytes w32 (length payload)) payload)
-
       last : (k : ℕ) → k ≡ 0 → ◌≡◌ {A = ℕ} (get_or (0 ∷ []) k 0) 0
       last k none = ap (λ j. get_or {A = ℕ} (0 ∷ []) j 0) none
 
-      next_closed : get_or after (base + (gate + (5 + length payload))) 0 ≡ 0
-      next_closed =
-          ap (λ j. get_or after j 0) (omega arith) ∙ in_body (4 + length payload)
-          (omega (arith, long)) ∙ ap (λ (l : List ℕ). get_or l (4 + length payload) 0) spells
-          ∙ get_or-append_right (to_be_bytes w32 (length payload) ++ payload) (0 ∷ [])
-          (4 + length payload) (4 + length payload) 0
-          (length-append (to_be_bytes w32 (length payload)) payload) (omega arith)
-          ∙ last (4 + length payload - (4 + length payload)) (omega arith)
+      next_closed : get_or after (base + (gate + bytes)) 0 ≡ 0
+      next_closed = by_size bytes refl
+        where
+          at : (k : ℕ) → k < length body →
+              get_or after (base + gate + 1 + k) 0 ≡ get_or (records_of more ++ 0 ∷ []) (suc k) 0
+          at k less = in_body k less ∙ ap (λ (l : List ℕ). get_or l (suc k) 0) is.spells
 
-      front_now : get_or after (base + gate) 0 ≡ open_gate → take (gate + (5 + length payload) - 9)
-          (drop (base + 9) after) ≡ spelled value.image (value.payloads ++ payload ∷ [])
-      front_now opened =
-          let there : take (length (record_of payload)) (drop (base + gate) after)
-          ≡ record_of payload = part_is (record_of payload) after (base + gate)
-          (omega (arith, length-record, in_disk, size, long)) (record_there opened) in
-          let at_gate : base + 9 + (gate - 9) ≡ base + gate = omega (arith, nine) in
-          let more : take (5 + length payload) (drop (base + 9 + (gate - 9)) after)
-          ≡ record_of payload =
-          ap (λ j. take (5 + length payload) (drop j after)) at_gate ∙ subst
-          (λ k. take k (drop (base + gate) after) ≡ record_of payload) length-record there in
-          ap (λ k. take k (drop (base + 9) after)) (omega (arith, nine))
-          ∙ part_add (gate - 9) (5 + length payload) (base + 9) after
-          ∙ ap (λ (l : List ℕ). l ++ take (5 + length payload) (drop (base + 9 + (gate - 9)) after))
-          (same_part disk after (base + 9) (gate - 9) size
-          (λ i from to. below i (omega (arith, nine, to))) ∙ whole.front)
-          ∙ ap (λ (l : List ℕ). spelled value.image value.payloads ++ l) more
-          ∙ sym (spelled-push value.image value.payloads payload)
+          by_size : (n : ℕ) → n ≡ bytes → get_or after (base + (gate + bytes)) 0 ≡ 0
+          by_size zero none = absurd (omega (arith, none, is.some))
+          by_size (suc k) same =
+              ap (λ j. get_or after j 0) (omega (arith, same)) ∙ at k (omega (arith, same, long))
+              ∙ get_or-append_right (records_of more) (0 ∷ []) bytes (suc k) 0 is.sized
+              (omega (arith, same)) ∙ last (suc k - bytes) (omega (arith, same))
 
-      pub now_open : get_or after (base + gate) 0 ≡ open_gate →
-          IsWhole after half generation (gate + (5 + length payload)) (with_payload value payload)
-      now_open opened =
-          let here : SameHeader disk after half = λ i from to. below i (omega (arith, nine, to)) in
-          record {
-            size = size ∙ whole.size;
-            is_current = same_current disk after size half here outside ∙ whole.is_current;
-            numbered = same_generation disk after size half here ∙ whole.numbered;
-            front = front_now opened;
-            closed = λ still. absurd (omega (arith, next_closed, still));
-            within = omega arith;
-          }
+      module _ (opened : get_or after (base + gate) 0 ≡ open_gate) where
+        there : (k : ℕ) → k < length (open_gate ∷ body) →
+            get_or after (base + gate + k) 0 ≡ get_or (open_gate ∷ body) k 0
+        there zero less = ap (λ j. get_or after j 0) (omega arith) ∙ opened
+        there (suc k) less =
+            ap (λ j. get_or after j 0) (omega arith) ∙ in_body k (omega (arith, less))
+
+        records_there : (k : ℕ) → k < length (records_of more) →
+            get_or after (base + gate + k) 0 ≡ get_or (records_of more) k 0
+        records_there k less =
+            there k (omega (arith, less, long, is.sized))
+            ∙ ap (λ (l : List ℕ). get_or l k 0) is.spells
+            ∙ get_or_append_left (records_of more) (0 ∷ []) 0 k less
+
+        front_now : take (gate + bytes - 9) (drop (base + 9) after)
+            ≡ spelled value.image (value.payloads ++ more)
+        front_now =
+            let here : take (length (records_of more)) (drop (base + gate) after)
+            ≡ records_of more = part_is (records_of more) after (base + gate)
+            (omega (arith, is.sized, in_disk, size, long)) records_there in
+            let at_gate : base + 9 + (gate - 9) ≡ base + gate = omega (arith, nine) in
+            let added : take bytes (drop (base + 9 + (gate - 9)) after) ≡ records_of more =
+            ap (λ j. take bytes (drop j after)) at_gate ∙ subst
+            (λ k. take k (drop (base + gate) after) ≡ records_of more) is.sized here in
+            ap (λ k. take k (drop (base + 9) after)) (omega (arith, nine))
+            ∙ part_add (gate - 9) bytes (base + 9) after
+            ∙ ap (λ (l : List ℕ). l ++ take bytes (drop (base + 9 + (gate - 9)) after))
+            (same_part disk after (base + 9) (gate - 9) size
+            (λ i from to. below i (omega (arith, nine, to))) ∙ whole.front)
+            ∙ ap (λ (l : List ℕ). spelled value.image value.payloads ++ l) added
+            ∙ sym (spelled-more value.image value.payloads more)
+
+        pub now_open : IsWhole after half generation (gate + bytes) (with_payloads value more)
+        now_open =
+            let here : SameHeader disk after half =
+            λ i from to. below i (omega (arith, nine, to)) in
+            record {
+              size = size ∙ whole.size;
+              is_current = same_current disk after size half here outside ∙ whole.is_current;
+              numbered = same_generation disk after size half here ∙ whole.numbered;
+              front = front_now;
+              closed = λ still. absurd (omega (arith, next_closed, still));
+              within = omega arith;
+            }
 
     -- the other half's gate stays
     pub other_kept : is_open (overwritten (overwritten disk (base + gate + 1) body) (base + gate)
@@ -223,9 +220,9 @@ module _ (disk : List ℕ) (half : Half) (generation gate : ℕ) (value : Value)
         (omega (arith, length-overwritten disk (base + gate + 1) body in_disk, in_disk)) in
         same_gate disk after (size after torn) (other_half half) (outside after torn)
 
-    -- the whole record after the open gate
+    -- the whole records after the open gate
     pub appended : IsWhole (overwritten (overwritten disk (base + gate + 1) body) (base + gate)
-        (open_gate ∷ [])) half generation (gate + (5 + length payload)) (with_payload value payload)
+        (open_gate ∷ [])) half generation (gate + bytes) (with_payloads value more)
     appended =
         let in_mid : base + gate + 1 ≤ length (overwritten disk (base + gate + 1) body) =
         omega (arith, length-overwritten disk (base + gate + 1) body in_disk, in_disk) in

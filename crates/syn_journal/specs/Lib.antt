@@ -1,5 +1,6 @@
 pub mod Layout
 pub mod Opened
+pub mod Batches
 pub mod Journal
 pub mod Places
 pub mod Refusals

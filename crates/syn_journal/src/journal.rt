@@ -42,6 +42,7 @@ use crate::place::Place;
 use std::alloc::{AllocError, Global};
 use syn_disk::{Arm, DeviceFailed, Disk, Limit};
 
+mod batch;
 mod checkpoint;
 mod reopen;
 

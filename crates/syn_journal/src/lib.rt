@@ -10,6 +10,8 @@
 //! - `append`, where it succeeds, leaves `with_payload value payload` standing (`acknowledged`). At
 //!   any moment of the call the disk means the value with the payload or without it, with the same
 //!   generation (`any_moment`).
+//! - `append_all` does so with many payloads, of which a stop leaves all or none. The bytes are
+//!   those that an append of each would leave.
 //! - `checkpoint`, where it succeeds, leaves a new image standing, with no payload
 //!   (`acknowledged`), in the other half and with the next generation. At any moment of the call
 //!   the disk means the value before it, or the image alone with the next generation
@@ -26,11 +28,11 @@
 //!   it is as it was (`unchanged`). A change that was refused 9 left only the value before it or
 //!   the one after it. So one of the two is what is reopened, and 18 and 19 do not come.
 //! - `format` leaves the image with no payload. Of a stop inside it nothing is promised.
-//! - Device calls are counted (`calls`): where they succeed an append makes four, a checkpoint six
-//!   and a format seven, of which the disk was told to refuse none. Refused 9 they made at most so
-//!   many, and before the last of them the disk was told to refuse none. Otherwise they made none.
-//!   An opening makes a sync and then reads. Of those before the last, and after another answer
-//!   than 9 of all, the disk was told to refuse none.
+//! - Device calls are counted (`calls`): where they succeed an append makes four, of however many
+//!   payloads, a checkpoint six and a format seven, of which the disk was told to refuse none.
+//!   Refused 9 they made at most so many, and before the last of them the disk was told to refuse
+//!   none. Otherwise they made none. An opening makes a sync and then reads. Of those before the
+//!   last, and after another answer than 9 of all, the disk was told to refuse none.
 //! - `halt` makes each later change refused 10, until the journal is reopened. It serves a layer
 //!   that could not take what `reopen` gave. `halt_at` also has it show what it showed at a `place`
 //!   from before (`shows`), where it was halted then.
@@ -57,5 +59,5 @@ pub use error::JournalError;
 pub use half::HALF_SIZE;
 pub use journal::{Journal, Opened, Reopened};
 pub use laws::layout_laws;
-pub use layout::MAX_IMAGE;
+pub use layout::{MAX_IMAGE, RECORD_HEADER};
 pub use place::Place;

@@ -40,7 +40,7 @@ told journal.Damaged = refl
 pub same_error : (e f : JournalError) → Some (refusal_of e) ≡ Some (refusal_of f) → e ≡ f
 same_error e f is = sym (told e) ∙ (ap by_refusal (same_Some _ _ is) ∙ told f)
 
-counts : (e : JournalError) (old new : ℕ) → by_journal.CountsFailures e old new →
+pub counts : (e : JournalError) (old new : ℕ) → by_journal.CountsFailures e old new →
     CountsFailures (Some (refusal_of e)) old new
 counts journal.Full old new h = h
 counts journal.JournalFull old new h = h
@@ -50,7 +50,7 @@ counts journal.Memory old new h = h
 counts journal.NoImage old new h = h
 counts journal.Damaged old new h = h
 
-makes : (e : JournalError) (calls : ℕ) (old new : Arms) →
+pub makes : (e : JournalError) (calls : ℕ) (old new : Arms) →
     by_journal.MakesIfDevice e calls old new → MakesOrBreaks calls (Some (refusal_of e)) old new
 makes journal.Full calls old new h = h
 makes journal.JournalFull calls old new h = h

@@ -1,3 +1,4 @@
+pub mod Batches
 pub mod Endings
 pub mod Migrations
 pub mod Results

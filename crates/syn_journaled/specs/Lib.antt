@@ -1,4 +1,5 @@
 pub mod Endings
 pub mod Openings
 pub mod Journaled
+pub mod Batches
 pub mod Migrations

@@ -17,6 +17,7 @@ use std::alloc::Global;
 use syn_disk::{Arm, Disk, Limit};
 use syn_journal::{Journal, JournalError};
 
+mod batch;
 mod migrate;
 mod open;
 

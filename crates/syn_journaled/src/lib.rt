@@ -10,6 +10,10 @@
 //! - `format` writes the image of a state, with no payload (`formatted`).
 //! - `write` appends the payload of an update, and then makes the update (`journal`: `Appends`).
 //!   After any refusal the state is as it was (`state`).
+//! - `append_all` appends many payloads, all of them or none, to a journal that was taken from a
+//!   machine by `into_parts`, and goes on with the state that they lead to (`appended`: `HasAll`).
+//!   At any moment the disk has what it had, or that with all of them (`disk`: `AppendsAll`). Where
+//!   it is refused, the disk alone comes back.
 //! - `checkpoint` writes the image of the state in the place of the payloads (`journal`:
 //!   `Compacts`), and leaves the state (`state`).
 //! - `open` has in memory what the disk gives, and the disk gives nothing else (`opened`:

@@ -14,3 +14,4 @@ pub mod GrowthLemmas
 pub mod ReopenLemmas
 mod LawfulLemmas
 mod DigestLemmas
+pub mod BatchLemmas

@@ -1,6 +1,7 @@
 pub mod Disks
 pub mod Edits
 pub mod Steps
+pub mod Batches
 pub mod Replica
 pub mod Growth
 pub mod Calls

@@ -2,3 +2,4 @@
 pub mod Additions
 pub mod Memories
 pub mod Digests
+pub mod Batches

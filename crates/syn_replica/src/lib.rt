@@ -11,8 +11,13 @@
 //!   (`acknowledged`). `begin` adds the event of a session above the last, and none for the last
 //!   one again. `replace` checks the token, the path and the tree, and writes the event, in one
 //!   call. A token that was done before changes nothing (`again`).
-//! - Each of them is refused for the first cause in the model's order, 8 as the last of them
-//!   (`refused`). Each refusal has its cause, but for lack of memory and a failed device call
+//! - `edit_all` makes many edits at once: where it succeeds all of them stand (`acknowledged`), and
+//!   at any moment the disk stands for the history, or for that with all of them (`any_moment`:
+//!   `KeepsNoneOrAll`). It is refused for the first cause of the first that is refused, and then
+//!   none is made (`cause`, `refused`, `unchanged`). It takes the replica by value: refused, it
+//!   gives back the disk alone.
+//! - Each call of one event is refused for the first cause in the model's order, 8 as the last of
+//!   them (`refused`). Each refusal has its cause, but for lack of memory and a failed device call
 //!   (`cause`). After any refusal but 9 the replica stands as it did (`unchanged`).
 //! - At any moment of such a call the disk stands for the history, or for the history with the
 //!   event (`any_moment`: `KeepsBeforeOrAfter`). Both come with the generation and with the bytes

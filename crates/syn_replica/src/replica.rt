@@ -38,6 +38,7 @@ use syn_standing::{ReplicaError, Standing, Update, opening_laws};
 use syn_tree::{Content, Edit, Found, Tree, TreeError};
 use syn_wire::edit_length;
 
+mod batch;
 mod checkpoint;
 mod device;
 mod growth;

@@ -4,7 +4,8 @@ use Rattle.std.specs.Prelude.{length}
 use Rattle.std.specs.Int.{w32, w64, to_be_bytes}
 use Rattle.syn_disk.specs.Disk.{Torn, overwritten}
 use Rattle.syn_journal.specs.declared.half.Half.{Half}
-use Rattle.syn_journal.specs.Layout.{longest_image, start_of, other_half, is_open, Value}
+use Rattle.syn_journal.specs.Layout.{longest_image, open_gate, records_of, start_of, other_half}
+use Rattle.syn_journal.specs.Layout.{is_open, Value}
 use Rattle.syn_journal.specs.inner.Whole.{IsWhole}
 
 -- after the gate of a half: the generation, the image, and the closed gate after it
@@ -15,6 +16,13 @@ body_of_image generation image =
 -- after the gate of a record: the payload, and the closed gate after it
 abbrev pub body_of_record : List ℕ → List ℕ
 body_of_record payload = to_be_bytes w32 (length payload) ++ payload ++ 0 ∷ []
+
+-- This stands after the first gate of the records of these payloads, which take so many bytes: the
+-- records without that gate, and the closed gate after the last.
+pub record IsBodyOf (payloads : List (List ℕ)) (size : ℕ) (body : List ℕ) : Type 0 where
+  pub spells : open_gate ∷ body ≡ records_of payloads ++ 0 ∷ []
+  pub sized : length (records_of payloads) ≡ size
+  pub some : 0 < size
 
 -- any bytes after the gate, or any gate before the body
 abbrev pub IsStagedOrOpened : List ℕ → ℕ → List ℕ → List ℕ → Type 0
