@@ -1,7 +1,8 @@
 -- What a call of the coordinator is in the picture, and what its session then remembers.
 use Rattle.std.proofs.Common.{◌≡◌, ◌≢◌, ℕ, Bool, ◌&&◌, true≢false, List, ◌∷◌, ◌++◌, map, filter_map}
 use Rattle.std.proofs.Common.{length, refl, sym, ap, ◌∙◌, subst, Option, Some, None, is_some}
-use Rattle.std.proofs.Common.{append-nil, inl, inr, slice_get, take, option_map, [], ◌⊎◌}
+use Rattle.std.proofs.Common.{append-nil, inl, inr, slice_get, take, option_map, [], ◌⊎◌, ap₂}
+use Rattle.std.proofs.Common.{arith}
 use Rattle.std.specs.Prelude.{Contains, All, IfSome, IsSome}
 use Rattle.std.proofs.lemmas.List.Elements.{All-nil, All-contains_itself, Contains-append_left}
 use Rattle.std.proofs.lemmas.List.Elements.{All-append, All-weaker, All-contains}
@@ -10,7 +11,8 @@ use Rattle.std.proofs.Math.Seq.{take-length}
 use Rattle.std.proofs.lemmas.Option.{none-some}
 use Rattle.syn_model.specs.Path.{Path}
 use Rattle.syn_model.specs.Refusal.{Refusal, Memory}
-use Rattle.syn_model.specs.Archive.{Kept, CanKeep}
+use Rattle.syn_model.specs.Archive.{Kept, CanKeep, archive_of}
+use Rattle.syn_model.specs.Refusal as why
 use Rattle.syn_model.specs.Decision.{Item}
 use Rattle.syn_headline.specs.Side.{Request, ListAt, Reply, IsLawfulRequest}
 use Rattle.syn_headline.specs.Network.{Which, Left, Right, Message, Asks, AsksNothingTwice, Answers}
@@ -35,14 +37,17 @@ use Rattle.syn_headline.proofs.InOrder.{ListsInOrder, hearing_in_order, advanced
 use Rattle.syn_headline.proofs.InOrder.{asking_in_order, for_side}
 use Rattle.std.specs.List.{count_by}
 use Rattle.syn_headline.specs.Machine.{Up}
+use Rattle.syn_headline.proofs.WorldLemmas.{archive-append}
 use Rattle.syn_headline.specs.World as fine_world
 use Rattle.syn_headline.specs.World.{coordinator_goes}
 use Rattle.syn_headline.proofs.Invariant.{Plans, histories_of, IsHarmless, IsKept}
 use Rattle.syn_headline.proofs.SideSteps.{if_some}
-use Rattle.syn_headline.proofs.Sessions.{IsHeard}
-use Rattle.syn_headline.specs.Reported.{EndsSo, IsRefusedFor, with_answer, in_plan, out_of_memory}
-use Rattle.syn_headline.proofs.RefusedItems.{advances_refused}
-use Rattle.syn_headline.proofs.HeardPlans.{logged_as, logged_then, refused_before, settled_before}
+use Rattle.syn_headline.proofs.View.{halted_not_up}
+use Rattle.syn_headline.proofs.Sessions.{IsHeard, StandsOn, waits_on}
+use Rattle.syn_headline.specs.Reported.{EndsSo, IsPlanned, archive_found, at_record, through}
+use Rattle.syn_headline.specs.Reported.{out_of_memory, with_answer}
+use Rattle.syn_headline.proofs.RefusedItems.{advances_refused, breaks_at_record}
+use Rattle.syn_headline.proofs.HeardPlans.{logged_then, settled_before, stands_before}
 use Rattle.syn_headline.proofs.Tells.{Tells, ends_still}
 use Rattle.syn_headline.proofs.HeardLemmas.{list_of, has_plan, request_of_plan, due_of}
 use Rattle.syn_headline.proofs.HeardLemmas.{session_keeps, whole_parts, all_settled}
@@ -244,11 +249,45 @@ module _ (plans : Plans) (old : fine_world.World) (k : IsKept plans (picture_of 
     kept_then : kept_in_session (old.acknowledged ++ map Kept_by kept) ≡ r.kept ++ kept
     kept_then = session_keeps old.acknowledged r.kept (list_of plan) exchange kept h.kept due
 
-    refused_then : All (IsRefusedFor (list_of plan) (r.taken ++ exchange ∷ [])) walk.refused
-    refused_then =
-        advances_refused old.pair (list_of plan) exchange (r.taken ++ exchange ∷ [])
-        (Contains-push r.taken exchange) (fine.start_of old.coordinator r) walk kept
-        (refused_before old r h exchange plan logged has) advances
+    -- its plan stands in the log, and each refusal of it has its cause
+    stands_then : IfSome plan (StandsOn (old.log ++ logged) walk.journal.value later)
+    stands_then =
+        if_some plan
+        (StandsOn (old.log ++ logged) old.coordinator.journal.value (hearing r exchange))
+        (StandsOn (old.log ++ logged) walk.journal.value later)
+        (stands_before old r h exchange over.0 plan logged has) (λ one at had. record {
+          is = record {
+            made = had.is.made;
+            logged = had.is.logged;
+            of_session = had.is.of_session;
+            plan_is = had.is.plan_is;
+            unstable = had.is.unstable;
+            refused = advances_refused old.pair had.is.made exchange (r.taken ++ exchange ∷ [])
+                (Contains-push r.taken exchange) (fine.start_of old.coordinator r) walk r.kept kept
+                had.stands had.is.refused
+                (subst (λ l. fine.Advances old.pair l exchange (fine.start_of old.coordinator r)
+                kept walk) (ap list_of at ∙ sym had.is.plan_is) advances);
+          };
+          stands = left.value ∙ (ap (λ a. archive_of a kept) had.stands
+              ∙ sym (archive-append (archive_found had.is.made) r.kept kept));
+        })
+
+    -- without a plan it did nothing
+    unplanned_then : plan ≡ None → (walk.cursor ≡ 0) × (r.kept ++ kept ≡ []) × (walk.refused ≡ [])
+    unplanned_then none = by plan logged has none advances
+      where
+        by : (plan : Option (List Planned)) (logged : Log) →
+            fine.HasPlan old.coordinator.journal.value (hearing r exchange) plan logged →
+            plan ≡ None → fine.Advances old.pair (list_of plan) exchange
+            (fine.start_of old.coordinator r) kept walk →
+            (walk.cursor ≡ 0) × (r.kept ++ kept ≡ []) × (walk.refused ≡ [])
+        by _ _ fine.stays none goes =
+            let was = h.unplanned none in
+            let stays = nowhere old.pair exchange (fine.start_of old.coordinator r) walk kept
+            (subst (λ o. fine.Advances old.pair (list_of o) exchange
+            (fine.start_of old.coordinator r) kept walk) none goes) in
+            (stays.0 ∙ was.1, ap₂ (λ a b. a ++ b) was.2 stays.2, stays.1 ∙ was.3)
+        by _ _ (fine.makes made missing makes) none goes = absurd (none-some _ (sym none))
 
     settled_then : AllSettled (list_of plan) (r.kept ++ kept) walk
     settled_then =
@@ -280,6 +319,25 @@ module _ (plans : Plans) (old : fine_world.World) (k : IsKept plans (picture_of 
     all_settled_by over = subst (All (IsSettledBy (r.kept ++ kept) walk.refused))
         (take_whole (list_of plan) walk.cursor over) settled_then
 
+    -- why it ended
+    ended_so : (why : Option Refusal) →
+        EndsFor old.pair later exchange old.coordinator.journal.status walk why →
+        EndsSo (old.sent ++ []) later why
+    ended_so _ (fine.settled some over up) = through some (all_settled_by over)
+    ended_so _ (fine.fails was now) =
+        let at = breaks_at_record old.pair (list_of plan) exchange
+        (fine.start_of old.coordinator r) walk kept was
+        (λ up. halted_not_up (sym now ∙ up)) advances in
+        at_record at.planned exchange at.what why.Device at.at (Contains-push r.taken exchange)
+        at.due (0, omega arith, refl)
+    ended_so _ (fine.failed_before planned what at due was now) =
+        at_record planned exchange what why.Halted at (Contains-push r.taken exchange) due
+        (1, omega arith, refl)
+    ended_so _ (fine.no_room_left what full room) =
+        at_record full.to_keep.planned exchange what why.JournalFull full.to_keep.at
+        (Contains-push r.taken exchange) full.to_keep.due (2, omega arith, refl)
+    ended_so _ (fine.no_memory same) = out_of_memory
+
     -- what it reports
     tells_so : (why : Option Refusal) →
         EndsFor old.pair later exchange old.coordinator.journal.status walk why →
@@ -296,14 +354,13 @@ module _ (plans : Plans) (old : fine_world.World) (k : IsKept plans (picture_of 
               Contains-append_left old.sent [] _ was.0,
               Contains-append_left old.sent [] _ was.1,
             );
-        logged = logged_as old r h exchange plan logged has;
+        planned = if_some plan (StandsOn (old.log ++ logged) walk.journal.value later)
+            (IsPlanned (old.log ++ logged) later) stands_then (λ one _ had. had.is);
+        unplanned = λ none. (unplanned_then none).2;
         kept_is = ap kept_in_session (take-length (old.acknowledged ++ map Kept_by kept))
             ∙ kept_then;
         settled = settled_then;
-        refused = refused_then;
-        ends = in_plan old.pair exchange (fine.start_of old.coordinator r) walk kept why
-            (Contains-push r.taken exchange) advances refl ends;
-        through = λ none. let w = whole why ends none in (w.0, all_settled_by w.1);
+        ends = ended_so why ends;
       },
     )
 
@@ -437,19 +494,13 @@ module _ (plans : Plans) (old : fine_world.World) (k : IsKept plans (picture_of 
           (λ some. absurd (true≢false (sym some ∙ ap is_some (left.whole stays))))
           (inl (append-nil old.reports))
 
-      unplanned_on : (plan : Option (List Planned)) (logged : Log) →
+      unlogged_on : (plan : Option (List Planned)) (logged : Log) →
           fine.HasPlan old.coordinator.journal.value (hearing r exchange) plan logged →
-          fine.Advances old.pair (list_of plan) exchange
-          (fine.start_of old.coordinator r) kept walk → plan ≡ None →
-          All (λ made. made.session ≢ r.session) (old.log ++ logged) × (walk.cursor ≡ 0)
-      unplanned_on _ _ fine.stays goes none =
-          let was = h.unplanned none in (
-            subst (All (λ made. made.session ≢ r.session)) (sym (append-nil old.log)) was.0,
-            nowhere old.pair exchange (fine.start_of old.coordinator r) walk kept
-                (subst (λ o. fine.Advances old.pair (list_of o) exchange
-                (fine.start_of old.coordinator r) kept walk) none goes) ∙ was.1,
-          )
-      unplanned_on _ _ (fine.makes made missing makes) goes none = absurd (none-some _ (sym none))
+          plan ≡ None → All (λ made. made.session ≢ r.session) (old.log ++ logged)
+      unlogged_on _ _ fine.stays none =
+          subst (All (λ made. made.session ≢ r.session)) (sym (append-nil old.log))
+          (h.unplanned none).0
+      unlogged_on _ _ (fine.makes made missing makes) none = absurd (none-some _ (sym none))
 
       shown_on : (side : Which) (path : Path) →
           Contains (for_side asks_left asks_right side) (ListAt path) →
@@ -466,12 +517,15 @@ module _ (plans : Plans) (old : fine_world.World) (k : IsKept plans (picture_of 
             asking_in_order old.sent later
             (advanced_in_order old.sent (hearing r exchange) plan walk kept in_order_then) m
             k.sound.known asks_left asks_right shown_on;
-        unplanned = unplanned_on plan logged has advances;
+        unplanned = λ none. let is = unplanned_then none in
+            (unlogged_on plan logged has none, is.0, is.1, is.2);
         planned = logged_then old r h exchange plan logged has;
-        logged = logged_as old r h exchange plan logged has;
+        logged = if_some plan (StandsOn (old.log ++ logged) walk.journal.value later)
+            (StandsOn (old.log ++ logged) walk.journal.value on) stands_then
+            (λ one _ had. waits_on (old.log ++ logged) walk.journal.value later on.left on.right
+            one had);
         kept = kept_then;
         settled = settled_then;
-        refused = refused_then;
       }
 
   -- how an answer is taken

@@ -273,8 +273,9 @@ all_asked P session side Q h from (request ∷ more) all =
 
 -- without a plan there is nowhere to go
 pub nowhere : (pair : ℕ) (taken : Exchange) (walk later : Walk) (kept : List Kept) →
-    fine.Advances pair [] taken walk kept later → later.cursor ≡ walk.cursor
-nowhere pair taken walk _ _ (fine.stands _) = refl
+    fine.Advances pair [] taken walk kept later →
+    (later.cursor ≡ walk.cursor) × (later.refused ≡ walk.refused) × (kept ≡ [])
+nowhere pair taken walk _ _ (fine.stands _) = (refl, refl, refl)
 nowhere pair taken walk later kept (fine.conflicts _ _ _ planned path first at is more) =
     absurd (none-some _ at)
 nowhere pair taken walk later kept (fine.side_refuses _ _ _ planned why first at is for more) =
@@ -289,8 +290,8 @@ nowhere pair taken walk later kept
     absurd (none-some _ full.to_keep.at)
 nowhere pair taken walk _ _
     (fine.checkpoint_breaks _ what journal first full smaller compacts down) =
-    refl
+    absurd (none-some _ full.to_keep.at)
 nowhere pair taken walk later _ (fine.keeps _ _ what kept journal to_keep room kept_so up more) =
     absurd (none-some _ to_keep.at)
 nowhere pair taken walk _ kept (fine.record_breaks _ what _ journal to_keep room kept_so down) =
-    refl
+    absurd (none-some _ to_keep.at)

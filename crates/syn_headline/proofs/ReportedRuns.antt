@@ -11,8 +11,8 @@ use Rattle.syn_headline.specs.Planning.{Log}
 use Rattle.syn_headline.specs.Report.{Report}
 use Rattle.syn_headline.specs.Coordinator.{Running, report_of}
 use Rattle.syn_headline.specs.World as fine
-use Rattle.syn_headline.specs.Reported.{EndsSo, IsReportOf, with_answer, in_plan, unanswered}
-use Rattle.syn_headline.specs.Reported.{out_of_memory}
+use Rattle.syn_headline.specs.Reported.{EndsSo, IsReportOf, at_record, out_of_memory, through}
+use Rattle.syn_headline.specs.Reported.{unanswered, with_answer}
 use Rattle.syn_headline.specs.Picture.{Picture, SidePicture, set_side, Follows, same, edits, opens}
 use Rattle.syn_headline.specs.Picture.{changes, serves, starts_session, ticks_once, takes_answer}
 use Rattle.syn_headline.specs.Picture.{archive_changes, archive_opens, archive_recovers}
@@ -148,8 +148,9 @@ ends_still sent more running _ (with_answer exchange why was fault) = with_answe
   Contains-append_left sent more _ was.0,
   Contains-append_left sent more _ was.1,
 ) fault
-ends_still sent more running _ (in_plan pair taken first walk kept why was goes at ends) =
-    in_plan pair taken first walk kept why was goes at ends
+ends_still sent more running _ (through some settled) = through some settled
+ends_still sent more running _ (at_record planned exchange what why at was due is) =
+    at_record planned exchange what why at was due is
 ends_still sent more running _ (unanswered resent) = unanswered resent
 ends_still sent more running _ out_of_memory = out_of_memory
 
@@ -161,12 +162,11 @@ report_still sent more log plans kept running ended is = record {
     Contains-append_left sent more _ was.0,
     Contains-append_left sent more _ was.1,
   );
-  logged = more_logged log plans running.session running.plan is.logged;
+  planned = more_logged log plans running running.plan is.planned;
+  unplanned = is.unplanned;
   kept_is = is.kept_is;
   settled = is.settled;
-  refused = is.refused;
   ends = ends_still sent more running ended is.ends;
-  through = is.through;
 }
 
 -- it came no later than now, and tells what it did then

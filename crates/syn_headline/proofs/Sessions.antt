@@ -7,34 +7,56 @@ use Rattle.std.proofs.lemmas.List.Elements.{filter_map-append}
 use Rattle.syn_headline.specs.Side.{Request, Reply}
 use Rattle.syn_headline.specs.Network.{Which, Message, Asks, Answers}
 use Rattle.syn_headline.specs.Acknowledged.{Ack, kept_in, kept_in_session, since_start}
-use Rattle.syn_headline.specs.Coordinator.{Running, WasAsked, plan_of}
+use Rattle.syn_headline.specs.Coordinator.{Outstanding, Running, WasAsked, plan_of}
 use Rattle.syn_headline.specs.World.{World}
 use Rattle.syn_headline.proofs.Walks.{IsSettledBy}
 use Rattle.syn_headline.specs.Planning.{Planned, Log}
-use Rattle.syn_headline.specs.Reported.{IsRefusedFor}
+use Rattle.syn_headline.specs.Reported.{IsPlanned, archive_found}
+use Rattle.syn_model.specs.Archive.{Archive, archive_of}
 use Rattle.syn_headline.proofs.Remembers.{Remembers}
 use Rattle.syn_headline.proofs.InOrder.{ListsInOrder, SaysAfter, beside_in_order}
+
+-- the plan was logged, and the archive is what it was then, with what was recorded since
+pub record StandsOn (log : Log) (archive : Archive) (running : Running) (plan : List Planned)
+    : Type 0 where
+  pub is : IsPlanned log running plan
+  pub stands : archive ≡ archive_of (archive_found is.made) running.kept
+
+-- whatever waits then
+pub waits_on : (log : Log) (archive : Archive) (running : Running) (left right : List Outstanding)
+    (plan : List Planned) → StandsOn log archive running plan →
+    StandsOn log archive (record running { left = left; right = right }) plan
+waits_on log archive running left right plan had = record {
+  is = record {
+    made = had.is.made;
+    logged = had.is.logged;
+    of_session = had.is.of_session;
+    plan_is = had.is.plan_is;
+    unstable = had.is.unstable;
+    refused = had.is.refused;
+  };
+  stands = had.stands;
+}
 
 pub record IsHeard (world : World) (running : Running) : Type 0 where
   pub remembers : Remembers world.sent running
   pub in_order : ListsInOrder world.sent running
   pub unplanned : running.plan ≡ None →
       All (λ made. made.session ≢ running.session) world.log × (running.cursor ≡ 0)
+      × (running.kept ≡ []) × (running.refused ≡ [])
   pub planned : IsSome running.plan → Any (λ made. made.session ≡ running.session) world.log
-  pub logged : IfSome running.plan
-      (λ plan. Any (λ made. (made.session ≡ running.session) × (made.plan ≡ plan)) world.log)
+  pub logged : IfSome running.plan (StandsOn world.log world.coordinator.journal.value running)
   pub kept : kept_in_session world.acknowledged ≡ running.kept
   pub settled :
       All (IsSettledBy running.kept running.refused) (take running.cursor (plan_of running))
-  pub refused : All (IsRefusedFor (plan_of running) running.taken) running.refused
 
 -- the plan of a session stands in the log
-pub still_logged : (old new : Log) (session : ℕ) (plan : Option (List Planned)) → new ≡ old →
-    IfSome plan (λ plan. Any (λ made. (made.session ≡ session) × (made.plan ≡ plan)) old) →
-    IfSome plan (λ plan. Any (λ made. (made.session ≡ session) × (made.plan ≡ plan)) new)
-still_logged old new session plan same =
-    subst (λ log. IfSome plan
-    (λ plan. Any (λ made. (made.session ≡ session) × (made.plan ≡ plan)) log)) (sym same)
+pub still_logged : (old new : Log) (was now : Archive) (running : Running)
+    (plan : Option (List Planned)) → new ≡ old → now ≡ was →
+    IfSome plan (StandsOn old was running) → IfSome plan (StandsOn new now running)
+still_logged old new was now running plan same stays h =
+    subst (λ log. IfSome plan (StandsOn log now running)) (sym same)
+    (subst (λ archive. IfSome plan (StandsOn old archive running)) (sym stays) h)
 
 -- no request is among answers
 pub no_asks : (side at : Which) (session n : ℕ) (reply : Reply) (s m : ℕ) (request : Request) →
@@ -53,6 +75,7 @@ pub record GoesBeside (old new : World) : Type 0 where
       Contains more (Asks side session n request) → ⊥
   pub says : SaysAfter old.sent more
   pub log : new.log ≡ old.log
+  pub archive : new.coordinator.journal.value ≡ old.coordinator.journal.value
   pub acknowledged : new.acknowledged ≡ old.acknowledged ++ acks
   pub nothing_kept : filter_map kept_in acks ≡ []
 
@@ -81,7 +104,7 @@ heard_beside old new running g h = record {
       (beside_in_order old.sent g.more running h.remembers g.says h.in_order);
   unplanned =
       λ none. let was = h.unplanned none in
-      (subst (All (λ made. made.session ≢ running.session)) (sym g.log) was.0, was.1);
+      (subst (All (λ made. made.session ≢ running.session)) (sym g.log) was.0, was.1, was.2, was.3);
   planned =
       λ some. subst (Any (λ made. made.session ≡ running.session)) (sym g.log) (h.planned some);
   kept =
@@ -89,7 +112,7 @@ heard_beside old new running g h = record {
       ∙ (ap (fold since_start []) (filter_map-append kept_in old.acknowledged g.acks
       ∙ (ap (λ ks. filter_map kept_in old.acknowledged ++ ks) g.nothing_kept
       ∙ append-nil (filter_map kept_in old.acknowledged))) ∙ h.kept);
-  logged = still_logged old.log new.log running.session running.plan g.log h.logged;
+  logged = still_logged old.log new.log old.coordinator.journal.value
+      new.coordinator.journal.value running running.plan g.log g.archive h.logged;
   settled = h.settled;
-  refused = h.refused;
 }

@@ -30,6 +30,7 @@ use Rattle.syn_headline.specs.Picture.{Follows, FollowsAll, nothing_more, one_mo
 use Rattle.syn_headline.proofs.Invariant.{Plans, histories_of, IsKept, IsHarmless}
 use Rattle.syn_headline.specs.Runs.{picture_of, session_picture, coordinator_picture}
 use Rattle.syn_headline.proofs.MachineLemmas.{calls_leave, does_leave, left_not_up}
+use Rattle.syn_headline.proofs.Walks.{compacts_left}
 use Rattle.syn_headline.proofs.View.{not_up, neither, edits_follow, opens_follow, compacts_follow}
 use Rattle.syn_headline.proofs.View.{request_follows, device_follows}
 use Rattle.syn_headline.proofs.Heard.{sent_at}
@@ -89,10 +90,11 @@ view_archive_alone old journal =
     view_archive old journal [] ∙ ap with_acks (append-nil old.acknowledged)
 
 archive_beside : (old : World) (journal : Journaled Archive Kept) →
+    journal.value ≡ old.coordinator.journal.value →
     GoesBeside old (archive_writes old journal [])
-archive_beside old journal =
+archive_beside old journal stays =
     same_beside old (archive_writes old journal []) (append-nil old.sent) (append-nil old.log)
-    (append-nil old.acknowledged)
+    (append-nil old.acknowledged) stays
 
 still_running : (status : Status) (running : Option Running) →
     (option_map session_picture (running_after status running) ≡ option_map session_picture running)
@@ -148,7 +150,8 @@ opens_archive_follow plans old k h calls _ _ (opened room generation arms meets 
     let journal = reopened old.coordinator.journal room generation arms in (
       picture.archive_opens (view_archive_alone old journal),
       beside_heard old
-          (archive_writes old journal []) (archive_beside old journal) old.coordinator.running h,
+          (archive_writes old journal []) (archive_beside old journal refl)
+          old.coordinator.running h,
       inl (append-nil old.reports),
     )
 opens_archive_follow plans old k h calls _ _ (recovered arms kept meets is can) =
@@ -193,7 +196,8 @@ module _ (plans : Plans) (old : World) (k : IsKept plans (picture_of old))
   told_so made reasons f = (
     f.0,
     beside_heard made (refuses_with made reasons)
-        (same_beside made (refuses_with made reasons) refl refl refl) made.coordinator.running f.1,
+        (same_beside made (refuses_with made reasons) refl refl refl refl)
+        made.coordinator.running f.1,
     f.2,
   )
 
@@ -249,12 +253,13 @@ module _ (plans : Plans) (old : World) (k : IsKept plans (picture_of old))
       stays_so (coordinator_goes old old.coordinator no_call) (same_coordinator old)
 
   archive_so : (journal : Journaled Archive Kept) →
+      journal.value ≡ old.coordinator.journal.value →
       Follows (picture_of old) (picture_of (archive_writes old journal [])) →
       IsFollowed old (archive_writes old journal [])
-  archive_so journal follows = (
+  archive_so journal stays follows = (
     follows,
     after_running old (archive_writes old journal [])
-        journal.status old.coordinator.running (archive_beside old journal) h,
+        journal.status old.coordinator.running (archive_beside old journal stays) h,
     inl (append-nil old.reports),
   )
 
@@ -264,10 +269,12 @@ module _ (plans : Plans) (old : World) (k : IsKept plans (picture_of old))
       CoordinatorLeft next given
   coordinator_does_so call next given refusals so =
       does_leave (coordinator_kind old.pair) old.coordinator CoordinatorLeft coordinator_stays
-      (λ journal compacts. archive_so journal (compacts_archive_follow old journal compacts))
+      (λ journal compacts. archive_so journal
+      (compacts_left old.pair old.coordinator.journal journal compacts).0
+      (compacts_archive_follow old journal compacts))
       (λ calls journal kept opens. opens_archive_follow plans old k h calls journal kept opens)
       call (λ status arms failed left. archive_so
-      (after_device old.coordinator.journal status arms failed)
+      (after_device old.coordinator.journal status arms failed) refl
       (archive_device_follows old status arms failed
       (left_not_up old.coordinator.journal call status arms failed left)))
       next given refusals so

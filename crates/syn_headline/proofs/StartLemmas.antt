@@ -35,7 +35,6 @@ use Rattle.syn_headline.specs.Runs.{picture_of, session_picture, coordinator_pic
 use Rattle.syn_headline.proofs.Walks.{IsLeft, writes_left, keeps_due, IsSettledBy}
 use Rattle.syn_headline.proofs.Remembers.{Remembers, asking_remembers, asking_tells, asking_once}
 use Rattle.syn_headline.proofs.InOrder.{asking_in_order, nothing_in_order, for_side}
-use Rattle.syn_headline.specs.Reported.{IsRefusedFor}
 use Rattle.syn_headline.proofs.Tells.{Tells}
 use Rattle.syn_headline.proofs.Sessions.{IsHeard, GoesBeside, heard_beside}
 
@@ -61,6 +60,7 @@ given_beside old =
       says =
           λ side session n reply path later above position entries c. absurd (omega (arith, c.1));
       log = append-nil old.log;
+      archive = refl;
       acknowledged = refl;
       nothing_kept = refl;
     }
@@ -294,6 +294,8 @@ module _ (preference : Option Which) (plans : Plans) (old : fine_world.World)
                   old.sent
                   k.sound session next).0,
               refl,
+              refl,
+              refl,
             );
         planned = λ some. absurd (true≢false (sym some));
         logged = tt;
@@ -303,7 +305,6 @@ module _ (preference : Option Which) (plans : Plans) (old : fine_world.World)
             ∙ fold-append since_start
             [] (filter_map kept_in old.acknowledged) (Session session ∷ []);
         settled = All-nil (IsSettledBy [] []);
-        refused = All-nil (IsRefusedFor [] []);
       }
 
   pub starts_follow : (new : CoordinatorMachine) (call : Call) →

@@ -41,14 +41,16 @@ beside_heard old new g running h =
     if_some running (IsHeard old) (IsHeard new) h (λ r _ h. heard_beside old new r g h)
 
 pub same_beside : (old new : World) → new.sent ≡ old.sent → new.log ≡ old.log →
-    new.acknowledged ≡ old.acknowledged → GoesBeside old new
-same_beside old new sent log acks = record {
+    new.acknowledged ≡ old.acknowledged →
+    new.coordinator.journal.value ≡ old.coordinator.journal.value → GoesBeside old new
+same_beside old new sent log acks archive = record {
   more = [];
   acks = [];
   sent = sent ∙ sym (append-nil old.sent);
   no_request = λ side session n q c. absurd (omega (arith, c.1));
   says = λ side session n reply path later above position entries c. absurd (omega (arith, c.1));
   log = log;
+  archive = archive;
   acknowledged = acks ∙ sym (append-nil old.acknowledged);
   nothing_kept = refl;
 }
@@ -65,6 +67,7 @@ goes_beside old Left machine messages events none says =
       no_request = none;
       says = says;
       log = refl;
+      archive = refl;
       acknowledged = refl;
       nothing_kept = kept_events Left events;
     }
@@ -76,6 +79,7 @@ goes_beside old Right machine messages events none says =
       no_request = none;
       says = says;
       log = refl;
+      archive = refl;
       acknowledged = refl;
       nothing_kept = kept_events Right events;
     }

@@ -10,9 +10,10 @@ use Rattle.syn_headline.specs.Planning.{Planned, Log}
 use Rattle.syn_headline.specs.Coordinator.{Running, CoordinatorMachine, no_call, report_of}
 use Rattle.syn_headline.specs.World.{World, coordinator_goes}
 use Rattle.syn_headline.specs.Acknowledged.{kept_in_session}
-use Rattle.syn_headline.specs.Reported.{EndsSo, IsReportOf}
+use Rattle.syn_headline.specs.Reported.{EndsSo, IsPlanned, IsReportOf}
 use Rattle.syn_headline.proofs.HeardLemmas.{any_left}
-use Rattle.syn_headline.proofs.Sessions.{IsHeard, still_logged}
+use Rattle.syn_headline.proofs.Sessions.{IsHeard, StandsOn}
+use Rattle.syn_headline.proofs.SideSteps.{if_some}
 
 -- nothing, or the report of one session
 abbrev pub Tells : World → World → Type 0
@@ -23,12 +24,18 @@ Tells old new = (new.reports ≡ old.reports)
     (kept_in_session (take (length new.acknowledged) new.acknowledged)) running ended)
 
 -- a log that goes on has what was in it
-pub more_logged : (log more : Log) (session : ℕ) (plan : Option (List Planned)) →
-    IfSome plan (λ plan. Any (λ made. (made.session ≡ session) × (made.plan ≡ plan)) log) →
-    IfSome plan (λ plan. Any (λ made. (made.session ≡ session) × (made.plan ≡ plan)) (log ++ more))
-more_logged log more session None h = tt
-more_logged log more session (Some plan) h =
-    any_left (λ made. (made.session ≡ session) × (made.plan ≡ plan)) log more h
+pub more_logged : (log more : Log) (running : Running) (plan : Option (List Planned)) →
+    IfSome plan (IsPlanned log running) → IfSome plan (IsPlanned (log ++ more) running)
+more_logged log more running plan h =
+    if_some plan (IsPlanned log running) (IsPlanned (log ++ more) running) h
+    (λ one _ had. record {
+      made = had.made;
+      logged = Contains-append_left log more had.made had.logged;
+      of_session = had.of_session;
+      plan_is = had.plan_is;
+      unstable = had.unstable;
+      refused = had.refused;
+    })
 
 -- a session that ends where it stood
 pub ends_still : (old : World) (running : Running) (why : Refusal) (machine : CoordinatorMachine) →
@@ -44,13 +51,13 @@ ends_still old running why machine h ends = inr (
       Contains-append_left old.sent [] _ was.0,
       Contains-append_left old.sent [] _ was.1,
     );
-    logged = still_logged old.log (old.log ++ []) running.session running.plan
-        (append-nil old.log) h.logged;
+    planned = more_logged old.log [] running running.plan
+        (if_some running.plan (StandsOn old.log old.coordinator.journal.value running)
+        (IsPlanned old.log running) h.logged (λ plan _ had. had.is));
+    unplanned = λ none. (h.unplanned none).3;
     kept_is = ap kept_in_session (take-length (old.acknowledged ++ []))
         ∙ (ap kept_in_session (append-nil old.acknowledged) ∙ h.kept);
     settled = h.settled;
-    refused = h.refused;
     ends = ends;
-    through = λ none. absurd (none-some _ (sym none));
   },
 )

@@ -27,7 +27,8 @@ use Rattle.syn_headline.specs.Picture as picture
 use Rattle.syn_headline.proofs.Invariant.{Plans, histories_of, IsHarmless, IsKept, plan_in, IsFresh}
 use Rattle.syn_headline.specs.Runs.{picture_of, session_picture, coordinator_picture}
 use Rattle.syn_headline.proofs.InOrder.{IsSaid, no_answer, after_less}
-use Rattle.syn_headline.proofs.Sessions.{IsHeard, still_logged}
+use Rattle.syn_headline.proofs.Sessions.{IsHeard, StandsOn, still_logged, waits_on}
+use Rattle.syn_headline.proofs.SideSteps.{if_some}
 use Rattle.syn_headline.specs.Reported.{EndsSo, unanswered, out_of_memory}
 use Rattle.syn_headline.proofs.Tells.{Tells, ends_still}
 use Rattle.syn_headline.proofs.Rising.{once_more-length, once_more-rising, may_wait_again}
@@ -244,15 +245,23 @@ module _ (plans : Plans) (old : fine_world.World) (k : IsKept plans (picture_of 
           (said_again side one.number n said)) before;
     };
     unplanned =
-        λ none. let was = h.unplanned none in
-        (subst (All (λ made. made.session ≢ r.session)) (sym (append-nil old.log)) was.0, was.1);
+        λ none. let was = h.unplanned none in (
+          subst (All (λ made. made.session ≢ r.session)) (sym (append-nil old.log)) was.0,
+          was.1,
+          was.2,
+          was.3,
+        );
     planned =
         λ some. subst (Any (λ made. made.session ≡ r.session)) (sym (append-nil old.log))
         (h.planned some);
-    logged = still_logged old.log (old.log ++ []) r.session r.plan (append-nil old.log) h.logged;
+    logged = if_some r.plan (StandsOn (old.log ++ []) old.coordinator.journal.value r)
+        (StandsOn (old.log ++ []) old.coordinator.journal.value again)
+        (still_logged old.log (old.log ++ []) old.coordinator.journal.value
+        old.coordinator.journal.value r r.plan (append-nil old.log) refl h.logged)
+        (λ plan _ had. waits_on (old.log ++ []) old.coordinator.journal.value r
+        (once_more r.left) (once_more r.right) plan had);
     kept = ap kept_in_session (append-nil old.acknowledged) ∙ h.kept;
     settled = h.settled;
-    refused = h.refused;
   }
 
   unwritten : old.coordinator.journal.writing ≡ None

@@ -86,7 +86,7 @@ writes_left pair old _ what _ P up none can p (cut_after is fail stop) =
       up = λ _. none;
     }
 
-compacts_left : (pair : ℕ) (old new : Journaled Archive Kept) →
+pub compacts_left : (pair : ℕ) (old new : Journaled Archive Kept) →
     Compacts (archive_layout pair) old new → (new.value ≡ old.value) × (new.writing ≡ old.writing)
 compacts_left pair old _ (compacted arms meets) = (refl, refl)
 compacts_left pair old _ (not_compacted status arms failed down meets) = (refl, refl)
@@ -114,7 +114,7 @@ after_none old between new kept P value status l = record {
   up = l.up;
 }
 
-kept_both : (pair : ℕ) (old new : Journaled Archive Kept) (what : Kept) (kept : List Kept) →
+pub kept_both : (pair : ℕ) (old new : Journaled Archive Kept) (what : Kept) (kept : List Kept) →
     Keeps pair old what new kept → new.status ≡ Up →
     (new.value ≡ after_kept old.value what) × (new.writing ≡ old.writing)
 kept_both pair old _ what _ (writes _ _ (idle is)) up = (refl, refl)

@@ -1,18 +1,18 @@
 -- What each report of a run says: which session it is of, why that ended, and why its items were
 -- refused.
-use Rattle.std.specs.Prelude.{ℕ, ◌≡◌, true, List, take, slice_get, Option, Some, None, IsSome}
-use Rattle.std.specs.Prelude.{IfSome, All, Any, Contains}
+use Rattle.std.specs.Prelude.{ℕ, ◌≡◌, ◌++◌, true, List, [], ◌∷◌, take, slice_get, Option, Some}
+use Rattle.std.specs.Prelude.{None, IsSome, IfSome, All, Contains}
 use Rattle.syn_model.specs.Path.{Path}
-use Rattle.syn_model.specs.Refusal.{Refusal, Memory, Full, NoAnswer}
-use Rattle.syn_model.specs.Archive.{Archive, Kept, kept_refusal}
+use Rattle.syn_model.specs.Refusal.{Refusal, Memory, Full, NoAnswer, Device, Halted, JournalFull}
+use Rattle.syn_model.specs.Archive.{Archive, Kept, archive_of, kept_refusal}
 use Rattle.syn_model.specs.Decision.{Conflict, path_of}
 use Rattle.syn_headline.specs.Side.{Refused}
-use Rattle.syn_headline.specs.Network.{Sent, Asks, Answers}
+use Rattle.syn_headline.specs.Network.{Which, Sent, Asks, Answers}
 use Rattle.syn_headline.specs.Acknowledged.{Stores, kept_in_session}
-use Rattle.syn_headline.specs.Planning.{Planned, Log}
+use Rattle.syn_headline.specs.Planning.{Planned, SessionPlan, Log}
 use Rattle.syn_headline.specs.Report.{is_kept}
-use Rattle.syn_headline.specs.Coordinator.{Exchange, Running, Walk, IsFor, Advances, EndsFor}
-use Rattle.syn_headline.specs.Coordinator.{fault_of, plan_of, record_for, report_of, is_resent}
+use Rattle.syn_headline.specs.Coordinator.{Exchange, Running, IsFor, IsDue, is_unstable, fault_of}
+use Rattle.syn_headline.specs.Coordinator.{plan_of, record_for, report_of, is_resent}
 use Rattle.syn_headline.specs.Picture.{Picture}
 
 -- an item of a plan is settled: it is a conflict, or it was recorded, or refused
@@ -23,19 +23,39 @@ pub data IsSettledBy (kept : List Kept) (refused : List (Refusal × Path)) (plan
   as_refused : (why : Refusal) → Contains refused (why, path_of planned.item) →
       IsSettledBy kept refused planned
 
--- Why an item of a plan was refused: a side answered so to a request for it; or some archive would
--- refuse its record; or it is 7, as where there is no room and no checkpoint can be made
-pub data IsRefusedFor (plan : List Planned) (taken : List Exchange) : Refusal × Path → Type 0 where
+-- the archive that the session found as it made its plan
+abbrev pub archive_found : SessionPlan → Archive
+archive_found made = record { marks = made.archive; last_session = made.session }
+
+-- Why an item of a plan was refused, where the session took these answers and recorded this: a side
+-- answered so to a request for it; or the archive refuses its record, as it was after a first part
+-- of what was recorded; or its record was due, and it is 7: no checkpoint can make room for it
+pub data IsRefusedFor (made : SessionPlan) (taken : List Exchange) (kept : List Kept)
+    : Refusal × Path → Type 0 where
   by_side : (item : ℕ) (planned : Planned) (exchange : Exchange) (why : Refusal) →
-      slice_get plan item ≡ Some planned → Contains taken exchange →
+      slice_get made.plan item ≡ Some planned → Contains taken exchange →
       exchange.reply ≡ Refused why → IsFor item planned exchange.request →
-      IsRefusedFor plan taken (why, path_of planned.item)
-  by_archive : (item : ℕ) (planned : Planned) (what : Kept) (archive : Archive) (why : Refusal) →
-      slice_get plan item ≡ Some planned → record_for planned planned.item ≡ Some what →
-      kept_refusal archive what ≡ Some why →
-      IsRefusedFor plan taken (why, path_of planned.item)
-  by_journal : (item : ℕ) (planned : Planned) → slice_get plan item ≡ Some planned →
-      IsRefusedFor plan taken (Full, path_of planned.item)
+      IsRefusedFor made taken kept (why, path_of planned.item)
+  by_archive : (item : ℕ) (planned : Planned) (what : Kept) (before later : List Kept)
+      (why : Refusal) → slice_get made.plan item ≡ Some planned →
+      record_for planned planned.item ≡ Some what → kept ≡ before ++ later →
+      kept_refusal (archive_of (archive_found made) before) what ≡ Some why →
+      IsRefusedFor made taken kept (why, path_of planned.item)
+  by_journal : (item : ℕ) (planned : Planned) (exchange : Exchange) (what : Kept) →
+      slice_get made.plan item ≡ Some planned → Contains taken exchange →
+      IsDue item planned exchange what →
+      IsRefusedFor made taken kept (Full, path_of planned.item)
+
+-- The plan was logged for the session. Where its scans show an unstable path, the session took the
+-- answer that said so; and each item that was refused has its cause
+pub record IsPlanned (log : Log) (running : Running) (plan : List Planned) : Type 0 where
+  pub made : SessionPlan
+  pub logged : Contains log made
+  pub of_session : made.session ≡ running.session
+  pub plan_is : made.plan ≡ plan
+  pub unstable : (side : Which) (path : Path) → Contains (made.scan side).unstable path →
+      is_unstable running ≡ true
+  pub refused : All (IsRefusedFor made running.taken running.kept) running.refused
 
 -- the session asked a side for this, and took that answer
 abbrev pub WasExchanged : Sent → ℕ → Exchange → Type 0
@@ -43,40 +63,40 @@ WasExchanged sent session exchange =
     Contains sent (Asks exchange.side session exchange.number exchange.request)
     × Contains sent (Answers exchange.side session exchange.number exchange.reply)
 
--- Why a session ended: with an answer, as its fault says; as it went through its plan, with an
--- answer that it took, from some item to the one that it came to; since a request was resent too
--- often; or since memory was refused
+-- Why a session ended: each item of its plan is settled; or with an answer, as its fault says; or
+-- 9, 10 or 8 at an item whose record was due; since a request was resent too often; or since memory
+-- was refused
 pub data EndsSo (sent : Sent) (running : Running) : Option Refusal → Type 0 where
+  through : IsSome running.plan →
+      All (IsSettledBy running.kept running.refused) (plan_of running) → EndsSo sent running None
   with_answer : (exchange : Exchange) (why : Refusal) →
       WasExchanged sent running.session exchange →
       fault_of running.taken exchange.side exchange.request exchange.reply ≡ Some why →
       EndsSo sent running (Some why)
-  in_plan : (pair : ℕ) (taken : Exchange) (first walk : Walk) (kept : List Kept)
-      (why : Option Refusal) → Contains running.taken taken →
-      Advances pair (plan_of running) taken first kept walk → walk.cursor ≡ running.cursor →
-      EndsFor pair running taken first.journal.status walk why → EndsSo sent running why
+  at_record : (planned : Planned) (exchange : Exchange) (what : Kept) (why : Refusal) →
+      slice_get (plan_of running) running.cursor ≡ Some planned →
+      Contains running.taken exchange → IsDue running.cursor planned exchange what →
+      Contains (Device ∷ Halted ∷ JournalFull ∷ []) why → EndsSo sent running (Some why)
   unanswered : is_resent running ≡ true → EndsSo sent running (Some NoAnswer)
   out_of_memory : EndsSo sent running (Some Memory)
 
 -- The session as it ended. What it took was asked and answered; its plan is the one that was logged
--- for it; what it recorded is what the archive kept since its start. Each item that it came past is
--- settled, and all of them where nothing ended it early
+-- for it, and without one no item was refused; what it recorded is what the archive kept since its
+-- start. Each item that it came past is settled
 pub record IsReportOf (sent : Sent) (log : Log) (kept : List Kept) (running : Running)
     (ended : Option Refusal) : Type 0 where
   pub taken : (exchange : Exchange) → Contains running.taken exchange →
       WasExchanged sent running.session exchange
-  pub logged : IfSome running.plan
-      (λ plan. Any (λ made. (made.session ≡ running.session) × (made.plan ≡ plan)) log)
+  pub planned : IfSome running.plan (IsPlanned log running)
+  pub unplanned : running.plan ≡ None → running.refused ≡ []
   pub kept_is : kept ≡ running.kept
   pub settled : All (IsSettledBy running.kept running.refused) (take running.cursor
       (plan_of running))
-  pub refused : All (IsRefusedFor (plan_of running) running.taken) running.refused
   pub ends : EndsSo sent running ended
-  pub through : ended ≡ None →
-      IsSome running.plan × All (IsSettledBy running.kept running.refused) (plan_of running)
 
 -- Each report is that of such a session: its number, its counts, its conflicts in the plan's order,
--- what was refused, and whether it is complete
+-- what was refused, and whether it is complete. It is where nothing ended the session early, no
+-- item was refused, and no path of its scans was unstable
 abbrev pub EachReportTells : Stores → Picture → Type 0
 EachReportTells before world =
     All (λ told. (running : Running) × (ended : Option Refusal)
