@@ -9,8 +9,13 @@
 //! refused 9, or 11 where it is for lack of memory (`FolderError::refusal`). `SystemFolder` is a
 //! folder of the system with its tree in memory. What the standard library's calls do to a folder
 //! no clause says: that the system's folder follows the memory is taken as given.
+//!
+//! An `EditedFolder` is one that people go on editing. It shows the tree that was read of it, and
+//! has one call that changes it: `replace`, which puts a part in the place of another only where
+//! that is still what was read. That `SystemFolder` looks is taken as given, too.
 #![tactic(auto)]
 
+mod edited;
 mod error;
 mod export;
 mod folder;
@@ -18,6 +23,7 @@ mod import;
 mod stranger;
 mod system;
 
+pub use edited::EditedFolder;
 pub use error::FolderError;
 pub use export::{fill, mirror, update};
 pub use folder::Folder;

@@ -1,19 +1,24 @@
 //! A folder of the system.
+ghost use Rattle.std.specs.Prelude.{◌≡◌};
 
+use crate::edited::EditedFolder;
 use crate::error::FolderError;
 use crate::folder::Folder;
 use crate::stranger::Stranger;
-use std::alloc::Global;
+use std::alloc::{AllocError, Global};
 use std::fs::Files;
 use std::io;
 use syn_path::Path;
-use syn_tree::{Edit, Tree};
+use syn_tree::{Edit, Node, Tree};
 
 mod looks;
 mod reading;
+mod replacing;
 mod writing;
 
-use reading::read_folder;
+use looks::Looked;
+use reading::{FolderRead, read_folder};
+use replacing::Replacing;
 
 /// A folder of the system, with what stands in it in memory.
 ///
@@ -28,6 +33,8 @@ pub struct SystemFolder<'a, F> {
     /// What stands in it, as it was read and as it was written since.
     tree: Tree,
     strangers: Vec<Stranger>,
+    /// How each file and directory looked when it was read, in path order.
+    looks: Vec<Looked>,
 }
 
 impl<'a, F: Files> SystemFolder<'a, F> {
@@ -43,13 +50,18 @@ impl<'a, F: Files> SystemFolder<'a, F> {
         root: &'a str,
         at: &Path,
     ) -> Result<Self, FolderError> {
-        let (tree, strangers) = read_folder(alloc, files, root, at.key())?;
+        let FolderRead {
+            tree,
+            strangers,
+            looks,
+        } = read_folder(alloc, files, root, at.key())?;
         Ok(SystemFolder {
             files,
             root,
             is_missing: false,
             tree,
             strangers,
+            looks,
         })
     }
 
@@ -67,9 +79,47 @@ impl<'a, F: Files> SystemFolder<'a, F> {
                 is_missing: true,
                 tree: Tree::new(alloc)?,
                 strangers: Vec::new(alloc),
+                looks: Vec::new(alloc),
             }),
             _ => SystemFolder::open(alloc, files, root, &Path::root(alloc)),
         }
+    }
+}
+
+impl<F: Files> SystemFolder<'_, F> {
+    /// Makes the folder itself, where it is missing.
+    fn make_missing(&mut self) -> io::Result<()>
+        ensures tree { self.new.tree ≡ self.old.tree }
+        ensures strangers { self.new.strangers ≡ self.old.strangers }
+    {
+        if self.is_missing {
+            self.files.create_dir(self.root)?;
+            self.is_missing = false;
+        }
+        Ok(())
+    }
+
+    /// Writes what is given in the place of what was read at and below the path.
+    fn write(&mut self, alloc: Global, path: &Path, new: Option<&Node>) -> Result<(), FolderError>
+        ensures tree { self.new.tree ≡ self.old.tree }
+        ensures strangers { self.new.strangers ≡ self.old.strangers }
+    {
+        self.make_missing()?;
+        let replacing = Replacing {
+            files: self.files,
+            root: self.root,
+            tree: &self.tree,
+            looks: self.looks.as_slice(),
+        };
+        replacing.replace(alloc, path, new)
+    }
+}
+
+/// An equal node of its own, where there is one. Refused where memory is refused.
+fn copy_of(alloc: Global, node: Option<&Node>) -> Result<Option<Node>, AllocError> {
+    match node {
+        Some(node) => Ok(Some(node.copy(alloc)?)),
+        None => Ok(None),
     }
 }
 
@@ -87,10 +137,7 @@ impl<F: Files> Folder for SystemFolder<'_, F> {
     }
 
     fn found(&mut self) -> Result<(), FolderError> {
-        if self.is_missing {
-            self.files.create_dir(self.root)?;
-            self.is_missing = false;
-        }
+        self.make_missing()?;
         Ok(())
     }
 
@@ -98,5 +145,39 @@ impl<F: Files> Folder for SystemFolder<'_, F> {
         writing::make(alloc, self.files, self.root, &self.tree, &edit)?;
         let made = self.tree.apply(alloc, edit);
         made.map_err(|_| FolderError::System(io::ErrorKind::OutOfMemory.into()))
+    }
+}
+
+/// A file is looked at directly before another takes its place or it is removed: its bytes, and
+/// then its number, mode, length and times. Where nothing was, the file is linked to its name,
+/// which the system refuses where something is there by then. A directory is removed only where it
+/// is empty. What a replacement removes goes entry by entry, the last in path order first.
+///
+/// A name is synced before the call succeeds. A call that fails may have done a part of it: each
+/// path of the folder has then what it had, or nothing, or what it was to get.
+impl<F: Files> EditedFolder for SystemFolder<'_, F> {
+    ghost tree = { λ folder. folder.tree };
+
+    ghost strangers = { λ folder. folder.strangers.items };
+
+    fn tree(&self) -> &Tree {
+        &self.tree
+    }
+
+    fn strangers(&self) -> &[Stranger] {
+        self.strangers.as_slice()
+    }
+
+    fn replace(
+        &mut self,
+        alloc: Global,
+        path: &Path,
+        new: Option<Node>,
+    ) -> Result<(), FolderError> {
+        let copy = copy_of(alloc, new.as_ref())?;
+        let change = self.tree.prepare_replace(alloc, path, new)?;
+        self.write(alloc, path, copy.as_ref())?;
+        self.tree.make(change);
+        Ok(())
     }
 }

@@ -43,6 +43,13 @@ pub(super) struct Seen {
     pub(super) content: Content,
 }
 
+/// How a file or a directory of the folder looked when it was read.
+#[derive(Drop)]
+pub(super) struct Looked {
+    pub(super) path: Path,
+    pub(super) look: Look,
+}
+
 impl Seen {
     /// The same was seen.
     fn is_same(&self, other: &Seen) -> bool {

@@ -2,7 +2,7 @@
 
 use crate::error::FolderError;
 use crate::stranger::{Strangeness, Stranger};
-use crate::system::looks::{Look, Seen, is_gone, is_locked, note, note_changes};
+use crate::system::looks::{Look, Looked, Seen, is_gone, is_locked, note, note_changes};
 use std::alloc::{AllocError, Global};
 use std::fs::{Files, Metadata, OpenFile, OpenOptions};
 use std::io::{self, Read};
@@ -19,6 +19,15 @@ pub(super) const PART: &str =
 
 /// How many files, directories and others of a folder are looked at.
 const MOST_LOOKED: usize = 65_536;
+
+/// What stands in a folder.
+#[derive(Drop)]
+pub(super) struct FolderRead {
+    pub(super) tree: Tree,
+    pub(super) strangers: Vec<Stranger>,
+    /// How each file and directory of the tree looked, in path order.
+    pub(super) looks: Vec<Looked>,
+}
 
 /// A folder that is being read.
 #[derive(Drop)]
@@ -46,7 +55,7 @@ pub(super) fn read_folder<F: Files>(
     files: &F,
     root: &str,
     at: Key,
-) -> Result<(Tree, Vec<Stranger>), FolderError> {
+) -> Result<FolderRead, FolderError> {
     let first = Reading::of(alloc, files, root, at)?;
     if first.is_over() {
         return first.end(alloc);
@@ -56,18 +65,25 @@ pub(super) fn read_folder<F: Files>(
     second.end(alloc)
 }
 
-/// The tree of what was seen.
+/// The tree of what was seen, and how each of it looked.
 ///
 /// Refused 7 where it would pass a limit, and 11 where memory is refused.
-fn tree_of(alloc: Global, seen: Vec<Seen>) -> Result<Tree, TreeError> {
+fn tree_of(alloc: Global, seen: Vec<Seen>) -> Result<(Tree, Vec<Looked>), TreeError> {
     let mut found = Vec::new(alloc);
+    let mut looks = Vec::new(alloc);
     for one in seen {
-        if !one.path.names().is_empty() {
-            found.push(Entry::new(alloc, &one.path.key(), one.content)?)?;
+        let Seen {
+            path,
+            look,
+            content,
+        } = one;
+        if !path.names().is_empty() {
+            found.push(Entry::new(alloc, &path.key(), content)?)?;
+            looks.push(Looked { path, look })?;
         }
     }
     match Entries::from_vec(found) {
-        Some(entries) => Tree::from_entries(alloc, entries),
+        Some(entries) => Ok((Tree::from_entries(alloc, entries)?, looks)),
         None => Err(TreeError::Full),
     }
 }
@@ -86,7 +102,7 @@ fn strangeness_of(there: &Metadata) -> Option<Strangeness> {
 }
 
 /// The nine permission bits of a file; what else its mode has, a replica has not.
-fn mode_of(file: Metadata) -> Mode {
+pub(super) fn mode_of(file: Metadata) -> Mode {
     match Mode::new((file.permissions().mode() & 0o777) as u16) {
         Some(mode) => mode,
         None => Mode::NEW_FILE,
@@ -296,7 +312,7 @@ impl<'f, 'r, F: Files> Reading<'f, 'r, F> {
     }
 
     /// What was read of the folder.
-    fn end(mut self, alloc: Global) -> Result<(Tree, Vec<Stranger>), FolderError> {
+    fn end(mut self, alloc: Global) -> Result<FolderRead, FolderError> {
         if !self.changed.is_empty() {
             return Err(FolderError::Changed(self.changed));
         }
@@ -305,13 +321,23 @@ impl<'f, 'r, F: Files> Reading<'f, 'r, F> {
         } else {
             let seen = mem::replace(&mut self.seen, Vec::new(alloc));
             match tree_of(alloc, seen) {
-                Ok(tree) => return Ok((tree, self.strangers)),
+                Ok((tree, looks)) => {
+                    return Ok(FolderRead {
+                        tree,
+                        strangers: self.strangers,
+                        looks,
+                    });
+                }
                 Err(TreeError::Full) => Strangeness::Room,
                 Err(error) => return Err(FolderError::Tree(error)),
             }
         };
         self.note(alloc, Path::root(alloc), why)?;
-        Ok((Tree::new(alloc)?, self.strangers))
+        Ok(FolderRead {
+            tree: Tree::new(alloc)?,
+            strangers: self.strangers,
+            looks: Vec::new(alloc),
+        })
     }
 
     fn see(&mut self, path: Path, look: Look, content: Content) -> Result<(), FolderError> {
@@ -335,7 +361,12 @@ impl<'f, 'r, F: Files> Reading<'f, 'r, F> {
 }
 
 /// The names in the directory at the path, each with a zero byte after it.
-fn read_names<F: Files>(alloc: Global, files: &F, root: &str, path: &Path) -> io::Result<Vec<u8>> {
+pub(super) fn read_names<F: Files>(
+    alloc: Global,
+    files: &F,
+    root: &str,
+    path: &Path,
+) -> io::Result<Vec<u8>> {
     let mut place = place_of(alloc, root, path.names())?;
     // After the slash the system follows a symbolic link, which only the folder itself may be.
     if path.names().is_empty() {
@@ -356,7 +387,7 @@ fn read_names<F: Files>(alloc: Global, files: &F, root: &str, path: &Path) -> io
 }
 
 /// The name is that of something in the directory, and not of a part of an export.
-fn is_listed(name: &[u8]) -> bool {
+pub(super) fn is_listed(name: &[u8]) -> bool {
     !name.is_empty()
         && name != b".".as_slice()
         && name != b"..".as_slice()

@@ -49,7 +49,12 @@ pub(super) fn make<F: Files>(
 
 /// Each directory above the path is one, and no symbolic link to one: else something would be
 /// written outside of the folder.
-fn check_above<F: Files>(alloc: Global, files: &F, root: &str, path: &Path) -> io::Result<()> {
+pub(super) fn check_above<F: Files>(
+    alloc: Global,
+    files: &F,
+    root: &str,
+    path: &Path,
+) -> io::Result<()> {
     let names = path.names();
     for count in 1..names.len() {
         let above = place_of(alloc, root, &names[..count])?;
@@ -87,7 +92,7 @@ fn put<F: Files>(
 }
 
 /// The names of the directory that the path is in.
-fn above(path: &Path) -> &[Name] {
+pub(super) fn above(path: &Path) -> &[Name] {
     match path.names() {
         [] => path.names(),
         [above @ .., _] => above,
@@ -96,7 +101,12 @@ fn above(path: &Path) -> &[Name] {
 
 /// Writes the bytes into a file that is new, so that no symbolic link is followed. It has the mode
 /// whatever the process masks.
-fn write_new<F: Files>(files: &F, place: &str, mode: Mode, bytes: &[u8]) -> io::Result<()> {
+pub(super) fn write_new<F: Files>(
+    files: &F,
+    place: &str,
+    mode: Mode,
+    bytes: &[u8],
+) -> io::Result<()> {
     let mut file = OpenOptions::new()
         .write(true)
         .create_new(true)

@@ -1,0 +1,2 @@
+pub mod ShownLemmas
+mod ScanLemmas
