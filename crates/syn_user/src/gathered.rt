@@ -1,5 +1,6 @@
 //! The spelling of a tree, out of the pieces in which it comes.
-ghost use Rattle.std.specs.Prelude.{◌≡◌, ◌≤◌, ◌+◌, ◌++◌, [], IfErr, IfOk, OnOk, length, false, true};
+ghost use Rattle.std.specs.Prelude.{◌≡◌, ◌≤◌, ◌+◌, ◌++◌, [], IfErr, IfOk, OnOk, length};
+ghost use Rattle.std.specs.Prelude.{false, true};
 ghost use Rattle.syn_tree.specs.declared.measures.TheConstants.{LONGEST_SPELLING};
 ghost use Rattle.syn_model.specs.Spelling.{spelling};
 ghost use Rattle.syn_user.specs.inner.Parts.{is_refusal};
