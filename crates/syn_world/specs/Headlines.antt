@@ -31,8 +31,8 @@ AreSafe may_leave before disks world =
     (shown : Shown) → MayHold may_leave disks shown →
     IsCrashSafe before (picture_of world) shown
 
--- A world that was opened from the disks went by these steps to this one, and no machine counts more
--- failures in them than its disk. Whatever a stop may then leave on the later disks is safe
+-- A world that was opened from the disks went by these steps to this one, and no machine counts
+-- more failures in them than its disk. Whatever a stop may then leave on the later disks is safe
 pub record IsSafeRun {D : Type 0} (disk : Ghosts D) (pair : ℕ) (disks later : Disks D)
     (stores : Stores) (steps : List Step) (new : ModelWorld) : Type 0 where
   pub old : ModelWorld

@@ -1,10 +1,20 @@
 use Rattle.std.proofs.Common.{Ok, refl, subst, sym}
+use Rattle.syn_headline.specs.World.{Edits}
+use Rattle.syn_path.specs.Sides.{which_of}
 use Rattle.syn_world.specs.Failures.{failures_in}
-use Rattle.syn_world.proofs.FailureLemmas.{counts_still}
 use Rattle.syn_world.specs.Runs.{Attempts, no_memory, steps}
 use Rattle.syn_world.specs.Steps.{step_of}
+use Rattle.syn_world.proofs.FailureLemmas.{counts_still}
 use Rattle.syn_world.proofs.RunLemmas.{stays_so}
 use Rattle.syn_world.proofs.running.Running.step.Goals as goal
+
+pub returns-in-Ok : goal.returns-in-Ok
+returns-in-Ok g c model is =
+    subst (λ s. Attempts model (failures_in c.args.self) (step_of s) c.edit.result)
+    (sym c.in-Edit.is)
+    (subst (λ e. Attempts model (failures_in c.args.self)
+    (Edits (which_of c.in-Edit.side) c.in-Edit.user e) c.edit.result)
+    c.in-Ok.ensures (steps (c.edit.ensures model is)))
 
 pub returns-in-Deliver : goal.returns-in-Deliver
 returns-in-Deliver g c model is =
