@@ -11,6 +11,7 @@ use Rattle.syn_simulate.specs.declared.player.Player.{Player}
 use Rattle.syn_simulate.specs.declared.turn.Turn.{Turn}
 use Rattle.syn_simulate.proofs.LineLemmas.{begins_moves, plays_moves}
 use Rattle.syn_simulate.proofs.MoveLemmas.{moves_run, stays_noted}
+use Rattle.syn_world.specs.Failures.{Counts}
 use Rattle.syn_world.specs.Runs.{HasMade, HasTried}
 use Rattle.syn_world.specs.Worlds.{AreLeft, HasMachines, IsWorld, message_of, sent_by, sent_in}
 use Rattle.syn_world.specs.declared.world.Disks.{Disks}
@@ -65,16 +66,16 @@ module _ {D : Type 0} {disk : Ghosts D} where
     }
 
     -- the world after a step, and what is then delivered
-    pub step_made : (step : Step) (player : Player D disk) (world : World D disk)
+    pub step_made : (before : Counts) (step : Step) (player : Player D disk) (world : World D disk)
         (flags : Vec Bool) (turns : Vec Turn) → IsPlayer player old
-        → HasMade old.world step world → AreFlags flags (noted old step)
+        → HasMade old.world before step world → AreFlags flags (noted old step)
         → HasPlayed (Says (step ∷ [])) old (record {
           world = world;
           delivered = flags;
           lowest = player.lowest;
           turns = turns;
         })
-    step_made step player world flags turns was so are =
+    step_made before step player world flags turns was so are =
         has_played (Says (step ∷ [])) (step ∷ []) (after_step old step so.new) _
         (refl, one old step so.new so.steps)
         (record {
@@ -90,11 +91,11 @@ module _ {D : Type 0} {disk : Ghosts D} where
         has_begun (Says (step ∷ [])) [] old disks (step ∷ [], refl, refl) left
 
     -- or the disks as it left them
-    pub step_cut : (step : Step) (world : World D disk) (disks : Disks D)
-        → HasTried old.world step world
+    pub step_cut : (before : Counts) (step : Step) (world : World D disk) (disks : Disks D)
+        → HasTried old.world before step world
         → ((model : ModelWorld) → HasMachines world model → AreLeft disk.may_leave disks model)
         → HasBegun disk (Says (step ∷ [])) old disks
-    step_cut step world disks so left = elim so.steps [
+    step_cut before step world disks so left = elim so.steps [
       | inl goes ↦
           has_begun (Says (step ∷ [])) (step ∷ []) (after_step old step so.new) disks
           ([], refl, one old step so.new goes) (left so.new so.has)

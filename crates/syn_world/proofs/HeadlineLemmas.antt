@@ -1,7 +1,7 @@
 -- A run of a world from three disks, and the opening after it.
 use Rattle.std.proofs.Common.{◌≡◌, ◌∙◌, ◌<◌, ℕ, List, Result, Ok, Err, Some, ap, option_map}
-use Rattle.std.proofs.Common.{refl, subst, sym}
-use Rattle.std.specs.Prelude.{◌^◌, IfErr, IfOk}
+use Rattle.std.proofs.Common.{◌+◌, ◌≤◌, [], append-nil, arith, inr, refl, subst, sym}
+use Rattle.std.specs.Prelude.{◌^◌, IfErr, IfOk, MatchResult}
 use Rattle.syn_disk.specs.Arms.{Arms, no_arms}
 use Rattle.syn_disk.specs.declared.disk.Disk.{Ghosts}
 use Rattle.syn_headline.specs.Acknowledged.{Stores}
@@ -9,22 +9,27 @@ use Rattle.syn_headline.specs.Coordinator.{CoordinatorMachine}
 use Rattle.syn_headline.specs.Runs.{picture_of, stores_of}
 use Rattle.syn_headline.specs.Network.{Left, Right, Which}
 use Rattle.syn_headline.specs.SideMachine.{SideMachine}
-use Rattle.syn_headline.specs.World.{World as ModelWorld, Runs, Step, side_of}
+use Rattle.syn_headline.specs.World.{World as ModelWorld, At, Coordinator, Runs, Step, side_of}
 use Rattle.syn_host.specs.Coordinators.{IsCoordinator, archive_disk}
 use Rattle.syn_host.specs.Sides.{IsHost, side_disk}
-use Rattle.syn_host.specs.Starts.{IsFree}
+use Rattle.syn_host.specs.Starts.{CountsFailure, IsFree, IsFromOutside}
 use Rattle.syn_host.specs.declared.coordinator.CoordinatorHost.{CoordinatorHost}
 use Rattle.syn_host.specs.declared.coordinator.CoordinatorHost.TheVariants as machine
 use Rattle.syn_host.specs.declared.side.SideHost.{SideHost}
 use Rattle.syn_host.specs.declared.side.SideHost.TheVariants as host
 use Rattle.syn_model.specs.Path.{Bytes}
+use Rattle.syn_model.specs.Refusal as why
+use Rattle.syn_refusal.specs.Refusals.{cause_of}
 use Rattle.syn_recovery.specs.Headline.{Disks as Shown, DisksStand, Headline, IsCrashSafe}
 use Rattle.syn_recovery.specs.Headline.{IsOpenedFrom, MayBeLeft, disk_of}
 use Rattle.syn_recovery.specs.Machines.{of_archive, of_side}
 use Rattle.syn_recovery.specs.Meaning.{MayBeOf}
-use Rattle.syn_world.specs.Headlines.{AreSafe, IsSafeRun, MayHold, MayRun, Recovers}
+use Rattle.syn_world.specs.Headlines.{AreSafe, EndsSafely, IsSafeRun, MayHold, MayRun, Recovers}
+use Rattle.syn_world.specs.Headlines.{RefusedComeBack}
+use Rattle.syn_refusal.specs.declared.refusal.Refusal.{Refusal}
+use Rattle.syn_world.specs.Failures.{CountAlike, FailWithDisks, disks_in, failures_on}
 use Rattle.syn_world.specs.Openings.{AreFree, ComeBack, HoldsDisks, OpensFrom, StandFor}
-use Rattle.syn_world.specs.Openings.{disks_in, shown_on}
+use Rattle.syn_world.specs.Openings.{AreOfPair, CountsAsOpened, StopsDisks, failed_calls, shown_on}
 use Rattle.syn_world.specs.Worlds.{AreLeft, RunsMachines, running_in}
 use Rattle.syn_world.specs.declared.running.Running.{Running}
 use Rattle.syn_world.specs.declared.world.Disks.{Disks}
@@ -83,13 +88,16 @@ module _ {D : Type 0} (may_leave : D → Bytes → Type 0) (disks : Disks D) (mo
 pub safe_run : {D : Type 0} (disk : Ghosts D) (pair : ℕ) (disks later : Disks D)
     (stores : Stores) (steps : List Step) (old new : ModelWorld) → Headline
     → IsOpenedFrom pair (shown_on disk.seen disks) old → stores_of old ≡ stores
-    → Runs old steps new → AreLeft disk.may_leave later new
+    → Runs old steps new
+    → FailWithDisks old new (failures_on disk.failures disks) (failures_on disk.failures later)
+    → AreLeft disk.may_leave later new
     → IsSafeRun disk pair disks later stores steps new
-safe_run disk pair disks later stores steps old new headline opened same runs left = record {
+safe_run disk pair disks later stores steps old new headline opened same runs counts left = record {
   old = old;
   opened = opened;
   stores_are = same;
   runs = runs;
+  counts = counts;
   pair_is = run_keeps_pair old steps new runs ∙ opened.pair_is;
   safe = λ shown holds. subst (λ s. IsCrashSafe s (picture_of new) shown) same
       (headline pair (shown_on disk.seen disks) shown old new steps opened runs
@@ -174,7 +182,7 @@ holds_before may_leave old new back shown holds = record {
 module _ {D : Type 0} (disk : Ghosts D) (pair : ℕ) (disks later stopped : Disks D)
     (stores : Stores) (steps : List Step) (new : ModelWorld)
     (run : IsSafeRun disk pair disks later stores steps new)
-    (back : ComeBack disk.may_leave later stopped) where
+    (stops : StopsDisks disk.may_leave disk.failures later stopped) where
   -- so a run is safe with them, too
   pub safe_stopped : IsSafeRun disk pair disks stopped stores steps new
   safe_stopped = record {
@@ -182,9 +190,12 @@ module _ {D : Type 0} (disk : Ghosts D) (pair : ℕ) (disks later stopped : Disk
     opened = run.opened;
     stores_are = run.stores_are;
     runs = run.runs;
+    counts = λ machine.
+        let was = run.counts machine in
+        let same = stops.count machine in omega (arith, was, same);
     pair_is = run.pair_is;
     safe = λ shown holds. run.safe shown
-        (holds_before disk.may_leave later stopped back shown holds);
+        (holds_before disk.may_leave later stopped stops.back shown holds);
   }
 
   -- and a world may run from them again
@@ -212,3 +223,70 @@ module _ {D : Type 0} (disk : Ghosts D) (pair : ℕ) (disks later stopped : Disk
 pub holds_in : {D : Type 0} {disk : Ghosts D} (world : World D disk) (running : Running D disk)
     → running_in world ≡ Some running → HoldsDisks world (disks_in running)
 holds_in world running there = ap (option_map disks_in) there
+
+-- from a world that was just opened no disk has counted fewer failed calls since
+pub counted_more : {D : Type 0} (disk : Ghosts D) (pair : ℕ) (disks later : Disks D)
+    (stores : Stores) (steps : List Step) (new : ModelWorld)
+    → IsSafeRun disk pair disks later stores steps new
+    → failed_calls disk.failures disks ≤ failed_calls disk.failures later
+counted_more disk pair disks later stores steps new run =
+    let left = run.counts (At Left) in
+    let right = run.counts (At Right) in
+    let archive = run.counts Coordinator in
+    let none_left = run.opened.start.left.0.4 in
+    let none_right = run.opened.start.right.0.4 in
+    let none_archive = run.opened.start.coordinator.0.4 in
+    omega (arith, left, right, archive, none_left, none_right, none_archive)
+
+-- what an opening of stopped disks counts, as of the disks before the stop
+pub recovered_counts : {D : Type 0} (disk : Ghosts D) (disks stopped : Disks D)
+    (result : Result (World D disk) (Refusal × Disks D))
+    → CountAlike (failures_on disk.failures stopped) (failures_on disk.failures disks)
+    → failed_calls disk.failures stopped ≡ failed_calls disk.failures disks
+    → MatchResult result (λ world. CountsAsOpened world stopped)
+    (λ refused. CountsFailure refused.0 (failed_calls disk.failures stopped)
+    (failed_calls disk.failures refused.1))
+    → MatchResult result (λ world. CountsAsOpened world disks)
+    (λ refused. CountsFailure refused.0 (failed_calls disk.failures disks)
+    (failed_calls disk.failures refused.1))
+recovered_counts disk disks stopped (Ok world) alike same counts = λ running there machine.
+    counts running there machine ∙ alike machine
+recovered_counts disk disks stopped (Err refused) alike same counts =
+    subst (λ n. CountsFailure refused.0 n (failed_calls disk.failures refused.1)) same counts
+
+-- where the disks of a run are not opened again, they come back as it left them
+pub ends_safely : {D : Type 0} (disk : Ghosts D) (pair : ℕ) (disks stopped : Disks D)
+    (stores : Stores) (steps : List Step) (new : ModelWorld)
+    → IsSafeRun disk pair disks stopped stores steps new
+    → (result : Result (World D disk) (Refusal × Disks D))
+    → IfErr result (λ refused. IsFromOutside refused.0)
+    → IfErr result (λ refused. ComeBack disk.may_leave stopped refused.1)
+    → EndsSafely pair disks stores steps result
+ends_safely disk pair disks stopped stores steps new run (Ok world) cause back = tt
+ends_safely disk pair disks stopped stores steps new run (Err refused) cause back = inr (record {
+  cause = cause;
+  later = stopped;
+  part = record { made = steps; rest = []; all = append-nil steps; new = new; run = run };
+  back = back;
+})
+
+-- and a call failed in the run or in the opening after it
+pub failed_since : {D : Type 0} (disk : Ghosts D) (disks stopped : Disks D)
+    (result : Result (World D disk) (Refusal × Disks D))
+    → failed_calls disk.failures disks ≤ failed_calls disk.failures stopped
+    → MatchResult result (λ world. CountsAsOpened world stopped)
+    (λ refused. CountsFailure refused.0 (failed_calls disk.failures stopped)
+    (failed_calls disk.failures refused.1))
+    → IfErr result (λ refused. cause_of refused.0 ≡ why.Device
+    → failed_calls disk.failures disks < failed_calls disk.failures refused.1)
+failed_since disk disks stopped (Ok world) more counts = tt
+failed_since disk disks stopped (Err refused) more counts = λ device.
+    let grew = counts.grew device in omega (arith, more, grew)
+
+-- disks from which a world was opened were of one pair
+pub of_pair : {D : Type 0} {disk : Ghosts D} (may_leave : D → Bytes → Type 0) (seen : D → Bytes)
+    (disks : Disks D) (result : Result (World D disk) (Refusal × Disks D))
+    → (pair : ℕ) × AreOfPair (shown_on seen disks) pair
+    → IfErr result (λ refused. RefusedComeBack may_leave seen disks refused.1)
+of_pair may_leave seen disks (Ok world) are = tt
+of_pair may_leave seen disks (Err refused) are = inr are

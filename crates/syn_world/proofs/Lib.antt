@@ -1,3 +1,4 @@
+mod FailureLemmas
 mod StepLemmas
 mod WorldLemmas
 mod CoordinatorLemmas

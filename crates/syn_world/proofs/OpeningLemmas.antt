@@ -1,11 +1,11 @@
 -- What an opening of the coordinator's disk found is in the lists of the world.
-use Rattle.std.proofs.Common.{None, Option, Some, IfSome, ap, option_map}
+use Rattle.std.proofs.Common.{◌≡◌, None, Option, Some, IfSome, ap, option_map}
 use Rattle.std.specs.Prelude.{Result}
 use Rattle.syn_disk.specs.declared.disk.Disk.{Ghosts}
 use Rattle.syn_headline.specs.Coordinator.{Call, CoordinatorMachine}
 use Rattle.syn_headline.specs.World.{World as ModelWorld, Step, Steps}
 use Rattle.syn_host.specs.CoordinatorOpenings.{gives_found}
-use Rattle.syn_host.specs.Coordinators.{IsCoordinator}
+use Rattle.syn_host.specs.Coordinators.{IsCoordinator, archive_disk}
 use Rattle.syn_host.specs.Outcomes.{Tells, causes_in}
 use Rattle.syn_host.specs.declared.coordinator.open.CoordinatorOpening.{CoordinatorOpening}
 use Rattle.syn_host.specs.declared.outcome.CoordinatorOutcome.{CoordinatorOutcome}
@@ -16,6 +16,8 @@ use Rattle.syn_coordinator.specs.Coordinators.{in_report}
 use Rattle.syn_session.specs.Reports.{report_model}
 use Rattle.syn_session.specs.Sendings.{messages_of}
 use Rattle.syn_image.specs.declared.kept.Kept.{Kept as Record}
+use Rattle.syn_recovery.specs.Calls.{CountsNoMore}
+use Rattle.syn_world.specs.Failures.{disks_in, failures_in, last_of}
 use Rattle.syn_world.specs.Worlds.{EndsSo, Goes, GoesSo, IsListed, IsRunning, RunsMachines}
 use Rattle.syn_world.specs.Worlds.{TellsFound}
 use Rattle.syn_world.specs.declared.running.Running.{Running}
@@ -43,14 +45,17 @@ module _ {D : Type 0} {disk : Ghosts D} (world : Running D disk) (old : ModelWor
       → IsCoordinator old.pair opening.coordinator next
       → Steps old step (coordinator_next old next (gives_found opening.found)
       (causes_in opening.refused))
+      → CountsNoMore (disk.failures (archive_disk world.coordinator))
+      (disk.failures (archive_disk opening.coordinator)) old.coordinator.journal next.journal
+      → disks_in (last_of result) ≡ disks_in (record world { coordinator = opening.coordinator })
       → ((was new : ModelWorld) (made : Call) (refusals : List Refusal)
       → RunsMachines (record world { coordinator = opening.coordinator }) new
       → IsListed world.lists was → IfSome outcome (λ told. Tells told made refusals)
       → Goes was new made refusals → EndsSo result new)
-      → GoesSo old step result
-  goes_found step next host steps told =
+      → GoesSo old (failures_in world) step result
+  goes_found step next host steps counts same told =
       goes_so world old is (record {
         coordinator = opening.coordinator;
         outcome = outcome;
       }) result step next (gives_found opening.found) (causes_in opening.refused) host
-      (found_tells outcome opening.found opening.refused tells) steps told
+      (found_tells outcome opening.found opening.refused tells) steps counts same told

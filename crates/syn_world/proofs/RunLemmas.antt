@@ -7,10 +7,12 @@ use Rattle.std.proofs.lemmas.List.{append_assoc}
 use Rattle.syn_disk.specs.declared.disk.Disk.{Ghosts}
 use Rattle.syn_headline.specs.Network.{Message as Sent}
 use Rattle.syn_headline.specs.World.{World as ModelWorld, Step, Steps, Runs}
+use Rattle.syn_world.specs.Failures.{Counts, FailWithDisks, failures_in}
 use Rattle.syn_world.specs.Runs.{Attempts, EndsWithin, HasMade, HasRun, HasTried, no_memory, steps}
 use Rattle.syn_world.specs.Worlds.{HasMachines, IsRunning, IsWorld, RunsMachines, StaysSo}
 use Rattle.syn_world.specs.Worlds.{is_spent, message_of, running_in}
 use Rattle.syn_world.specs.declared.lists.Message.{Message}
+use Rattle.syn_world.proofs.FailureLemmas.{counts_more}
 use Rattle.syn_world.specs.declared.running.Running.{Running}
 use Rattle.syn_world.specs.declared.world.World.{World}
 
@@ -43,22 +45,24 @@ module _ {D : Type 0} {disk : Ghosts D} (model : ModelWorld) (world : World D di
       subst (λ r. RunsMachines r model) (sym (value_is running has.running (same ∙ has.there)))
       has.are
 
-module _ {D : Type 0} {disk : Ghosts D} (old : ModelWorld) (step : Step) where
+module _ {D : Type 0} {disk : Ghosts D} (old : ModelWorld) (before : Counts) (step : Step) where
   -- a step that takes no memory
-  pub stays_so : (running : Running D disk) → StaysSo old step running
-      → Attempts old step (Ok running)
-  stays_so running so = steps (record { new = so.new; steps = so.steps; ends = so.is })
+  pub stays_so : (running : Running D disk) → StaysSo old before step running
+      → Attempts old before step (Ok running)
+  stays_so running so =
+      steps (record { new = so.new; steps = so.steps; ends = so.is; counts = so.counts })
 
   -- the world with the machines after a step that was made
   pub has_made : (next : Running D disk) (world : World D disk) → running_in world ≡ Some next
-      → is_spent world ≡ false → Attempts {D = D} {disk = disk} old step (Ok next)
-      → HasMade old step world
+      → is_spent world ≡ false → Attempts {D = D} {disk = disk} old before step (Ok next)
+      → HasMade old before step world
   has_made next world there goes (steps so) = record {
     new = so.new;
     steps = so.steps;
     is = record { running = next; there = there; is = so.ends; goes = goes };
+    counts = so.counts;
   }
-  has_made next world there goes (no_memory running is are) =
+  has_made next world there goes (no_memory running is are counts) =
       absurd (ok_not_err next running is)
     where
       ok_not_err : (a b : Running D disk)
@@ -72,13 +76,14 @@ module _ {D : Type 0} {disk : Ghosts D} (old : ModelWorld) (step : Step) where
 
   -- or after one that was refused
   pub has_tried : (last : Running D disk) (world : World D disk) → running_in world ≡ Some last
-      → Attempts {D = D} {disk = disk} old step (Err last) → HasTried old step world
+      → Attempts {D = D} {disk = disk} old before step (Err last) → HasTried old before step world
   has_tried last world there (steps so) = record {
     new = so.new;
     steps = inl so.steps;
     has = record { running = last; there = there; are = so.ends };
+    counts = so.counts;
   }
-  has_tried last world there (no_memory running is are) = record {
+  has_tried last world there (no_memory running is are counts) = record {
     new = old;
     steps = inr refl;
     has = record {
@@ -86,6 +91,8 @@ module _ {D : Type 0} {disk : Ghosts D} (old : ModelWorld) (step : Step) where
       there = there;
       are = subst (λ r. RunsMachines r old) (back_is last running is) are;
     };
+    counts = subst (λ r. FailWithDisks old old before (failures_in r)) (back_is last running is)
+        counts;
   }
     where
       in_err : Running D disk → Result (Running D disk) (Running D disk) → Running D disk
@@ -97,21 +104,23 @@ module _ {D : Type 0} {disk : Ghosts D} (old : ModelWorld) (step : Step) where
           let other : Result (Running D disk) (Running D disk) = Err b in one ≡ other → b ≡ a
       back_is a b e = sym (ap (in_err a) e)
 
-module _ {D : Type 0} {disk : Ghosts D} (old : ModelWorld) where
+module _ {D : Type 0} {disk : Ghosts D} (old : ModelWorld) (before : Counts) where
   -- the world after the next step
   pub runs_on : (made : List Step) (step : Step) (world next : World D disk)
-      (had : HasRun old made world) → HasMade had.new step next
-      → HasRun old (made ++ step ∷ []) next
+      (had : HasRun old before made world) → HasMade had.new (failures_in had.is.running) step next
+      → HasRun old before (made ++ step ∷ []) next
   runs_on made step world next had so = record {
     new = so.new;
     runs = runs_more old had.new so.new made step had.runs so.steps;
     is = so.is;
+    counts = counts_more old had.new so.new before (failures_in had.is.running)
+        (failures_in so.is.running) had.counts so.counts;
   }
 
   -- or where it was refused
   pub ends_with : (made : List Step) (step : Step) (rest : List Step) (world last : World D disk)
-      (had : HasRun old made world) → HasTried had.new step last
-      → EndsWithin old (made ++ step ∷ rest) last
+      (had : HasRun old before made world) → HasTried had.new (failures_in had.is.running) step last
+      → EndsWithin old before (made ++ step ∷ rest) last
   ends_with made step rest world last had so = elim so.steps [
     | inl goes ↦ record {
       made = made ++ step ∷ [];
@@ -120,6 +129,8 @@ module _ {D : Type 0} {disk : Ghosts D} (old : ModelWorld) where
       new = so.new;
       runs = runs_more old had.new so.new made step had.runs goes;
       has = so.has;
+      counts = counts_more old had.new so.new before (failures_in had.is.running)
+          (failures_in so.has.running) had.counts so.counts;
     }
     | inr same ↦ record {
       made = made;
@@ -127,7 +138,15 @@ module _ {D : Type 0} {disk : Ghosts D} (old : ModelWorld) where
       all = refl;
       new = had.new;
       runs = had.runs;
-      has = subst (λ w. HasMachines last w) same so.has;
+      has = record {
+        running = so.has.running;
+        there = so.has.there;
+        are = subst (RunsMachines so.has.running) same so.has.are;
+      };
+      counts = counts_more old had.new had.new before (failures_in had.is.running)
+          (failures_in so.has.running) had.counts
+          (subst (λ w. FailWithDisks had.new w (failures_in had.is.running)
+          (failures_in so.has.running)) same so.counts);
     }
   ]
 

@@ -12,12 +12,15 @@ use Rattle.syn_headline.specs.World.{Tick, Ticks, coordinator_does, coordinator_
 use Rattle.syn_headline.specs.World.{to_coordinator}
 use Rattle.syn_headline.specs.World as model
 use Rattle.syn_host.specs.CoordinatorSteps.{CallIsStep, Unrefused}
-use Rattle.syn_host.specs.Coordinators.{CoordinatorStep, IsCoordinator}
+use Rattle.syn_host.specs.Coordinators.{CoordinatorStep, IsCoordinator, archive_disk}
 use Rattle.syn_host.specs.Outcomes.{Tells}
 use Rattle.syn_host.specs.declared.coordinator.CoordinatorCall.{CoordinatorCall}
 use Rattle.syn_model.specs.Refusal.{Refusal}
+use Rattle.syn_recovery.specs.Calls.{CountsNoMore}
+use Rattle.syn_world.specs.Failures.{disks_in, failures_in, last_of}
 use Rattle.syn_world.specs.Worlds.{EndsSo, Goes, GoesSo, IsListed, IsRunning, RunsMachines}
 use Rattle.syn_world.specs.declared.running.Running.{Running}
+use Rattle.syn_world.proofs.FailureLemmas.{archive_counts}
 
 -- the world after a call of its coordinator
 abbrev pub coordinator_next : ModelWorld → CoordinatorMachine → Call → List Refusal → ModelWorld
@@ -96,8 +99,12 @@ module _ {D : Type 0} {disk : Ghosts D} (world : Running D disk) (old : ModelWor
   pub goes_so : (step : model.Step) (next : CoordinatorMachine) (made : Call)
       (refusals : List Refusal) → IsCoordinator old.pair call.coordinator next
       → IfSome call.outcome (λ told. Tells told made refusals)
-      → Steps old step (coordinator_next old next made refusals) → ToldBy → GoesSo old step result
-  goes_so step next made refusals host tells steps told = record {
+      → Steps old step (coordinator_next old next made refusals)
+      → CountsNoMore (disk.failures (archive_disk world.coordinator))
+      (disk.failures (archive_disk call.coordinator)) old.coordinator.journal next.journal
+      → disks_in (last_of result) ≡ disks_in (record world { coordinator = call.coordinator })
+      → ToldBy → GoesSo old (failures_in world) step result
+  goes_so step next made refusals host tells steps counts same told = record {
     new = coordinator_next old next made refusals;
     steps = steps;
     ends = told old (coordinator_next old next made refusals) made refusals (record {
@@ -111,16 +118,20 @@ module _ {D : Type 0} {disk : Ghosts D} (world : Running D disk) (old : ModelWor
       reports = refl;
       refusals_are = refl;
     });
+    counts = archive_counts disk old (coordinator_next old next made refusals) (disks_in world)
+        (disks_in (last_of result)) (archive_disk call.coordinator) same counts refl refl;
   }
 
-pub goes_coordinator : {D : Type 0} {disk : Ghosts D} {before : ℕ} (world : Running D disk)
+pub goes_coordinator : {D : Type 0} {disk : Ghosts D} (world : Running D disk)
     (old : ModelWorld) (is : IsRunning world old) (Whole : CoordinatorStep)
     (call : CoordinatorCall D disk)
-    (so : CallIsStep old.pair old.coordinator before Whole call)
+    (so : CallIsStep old.pair old.coordinator (disk.failures (archive_disk world.coordinator))
+    Whole call)
     (result : Result (Running D disk) (Running D disk)) (step : model.Step)
     → (Whole so.goes.next so.made so.refusals
     → Steps old step (coordinator_next old so.goes.next so.made so.refusals))
-    → ToldBy world old is call result → GoesSo old step result
-goes_coordinator world old is Whole call so result step lift told =
+    → disks_in (last_of result) ≡ disks_in (record world { coordinator = call.coordinator })
+    → ToldBy world old is call result → GoesSo old (failures_in world) step result
+goes_coordinator world old is Whole call so result step lift same told =
     goes_so world old is call result step so.goes.next so.made so.refusals so.goes.is so.tells
-    (lift so.goes.step) told
+    (lift so.goes.step) so.goes.counts same told

@@ -6,7 +6,8 @@ use Rattle.syn_headline.specs.Acknowledged.{Stores}
 use Rattle.syn_headline.specs.Runs.{stores_of}
 use Rattle.syn_headline.specs.Headline.{IsPair}
 use Rattle.syn_headline.specs.Network.{Which, Left, Right}
-use Rattle.syn_headline.specs.World.{World as ModelWorld, side_of}
+use Rattle.syn_headline.specs.World.{World as ModelWorld, At, side_of}
+use Rattle.syn_headline.specs.World as worlds
 use Rattle.syn_host.specs.Starts.{CanStart, StartsCoordinator, StartsSide}
 use Rattle.syn_host.specs.declared.coordinator.CoordinatorHost.TheVariants as machine
 use Rattle.syn_host.specs.declared.side.SideHost.TheVariants as host
@@ -17,10 +18,15 @@ use Rattle.syn_refusal.specs.Refusals.{cause_of}
 use Rattle.syn_recovery.specs.Headline.{disk_of}
 use Rattle.syn_recovery.specs.Machines.{of_archive, of_side}
 use Rattle.syn_recovery.specs.Meaning.{IsOf}
+use Rattle.syn_coordinator.specs.Coordinators.{device_of}
 use Rattle.syn_coordinator.specs.declared.coordinator.Coordinator.{Coordinator}
-use Rattle.syn_world.specs.Openings.{OpensFrom, StandFor, shown_on}
+use Rattle.syn_replica.specs.Replica.{disk_of as replica_disk}
+use Rattle.syn_world.specs.Failures.{CountAlike, failures_in, failures_on}
+use Rattle.syn_world.specs.Openings.{CountsAsOpened, OpensFrom, StandFor, shown_on}
 use Rattle.syn_world.specs.Worlds.{is_spent, message_of, report_in, running_in, told_in}
 use Rattle.syn_world.specs.declared.lists.Lists.{Lists}
+use Rattle.syn_world.specs.declared.running.Running.{Running}
+use Rattle.syn_world.proofs.RunLemmas.{value_is}
 use Rattle.syn_world.specs.declared.world.Disks.{Disks}
 use Rattle.syn_world.specs.declared.world.World.{World}
 
@@ -121,3 +127,39 @@ module _ {D : Type 0} (disk : Ghosts D) (pair : ℕ) (disks : Disks D) (stores :
         };
         stores_are = stores_are;
       }
+
+-- and its disks have counted as many failed calls as those that it was opened from
+pub opened_counts : {D : Type 0} (disk : Ghosts D) (disks : Disks D) (left right : UpSide D disk)
+    (coordinator : Coordinator D disk) (number : ℕ) (lists : Lists) (world : World D disk)
+    → running_in world ≡ Some (record {
+      pair = number;
+      left = host.Up left;
+      right = host.Up right;
+      coordinator = machine.Up coordinator;
+      lists = lists;
+    }) → disk.failures (replica_disk left.replica) ≡ disk.failures disks.left
+    → disk.failures (replica_disk right.replica) ≡ disk.failures disks.right
+    → disk.failures (device_of coordinator) ≡ disk.failures disks.archive
+    → CountsAsOpened world disks
+opened_counts {D} disk disks left right coordinator number lists world there on_left on_right
+    on_archive running is =
+    subst (λ r. CountAlike (failures_in r) (failures_on disk.failures disks))
+    (value_is opened running (sym there ∙ is)) alike
+  where
+    opened : Running D disk
+    opened = record {
+      pair = number;
+      left = host.Up left;
+      right = host.Up right;
+      coordinator = machine.Up coordinator;
+      lists = lists;
+    }
+
+    alike : CountAlike (failures_on disk.failures (record {
+      left = replica_disk left.replica;
+      right = replica_disk right.replica;
+      archive = device_of coordinator;
+    })) (failures_on disk.failures disks)
+    alike (At Left) = on_left
+    alike (At Right) = on_right
+    alike worlds.Coordinator = on_archive

@@ -12,6 +12,7 @@ use Rattle.syn_recovery.specs.Headline.{Disks as Shown, IsCrashSafe, IsOpenedFro
 use Rattle.syn_refusal.specs.Refusals.{cause_of}
 use Rattle.syn_refusal.specs.declared.refusal.Refusal.{Refusal}
 use Rattle.syn_world.specs.Openings.{AreOfPair, ComeBack, HoldsDisks, OpensFrom, RefusesDisks}
+use Rattle.syn_world.specs.Failures.{FailWithDisks, failures_on}
 use Rattle.syn_world.specs.Openings.{StandFor, failed_calls, shown_on}
 use Rattle.syn_world.specs.Worlds.{IsWorld}
 use Rattle.syn_world.specs.declared.world.Disks.{Disks}
@@ -30,14 +31,16 @@ AreSafe may_leave before disks world =
     (shown : Shown) → MayHold may_leave disks shown →
     IsCrashSafe before (picture_of world) shown
 
--- A world that was opened from the disks went by these steps to this one, and whatever a stop may
--- then leave on the later disks is safe
+-- A world that was opened from the disks went by these steps to this one, and no machine counts
+-- more failures in them than its disk. Whatever a stop may then leave on the later disks is safe
 pub record IsSafeRun {D : Type 0} (disk : Ghosts D) (pair : ℕ) (disks later : Disks D)
     (stores : Stores) (steps : List Step) (new : ModelWorld) : Type 0 where
   pub old : ModelWorld
   pub opened : IsOpenedFrom pair (shown_on disk.seen disks) old
   pub stores_are : stores_of old ≡ stores
   pub runs : Runs old steps new
+  pub counts : FailWithDisks old new (failures_on disk.failures disks)
+      (failures_on disk.failures later)
   pub pair_is : new.pair ≡ pair
   pub safe : AreSafe disk.may_leave stores later new
 
@@ -65,16 +68,20 @@ pub record IsNotOpened {D : Type 0} (disk : Ghosts D) (disks : Disks D)
       (failed_calls disk.failures refused.1)
   pub back : ComeBack disk.may_leave disks refused.1
 
--- memory was refused after a first part of the steps, perhaps none or all of them, and the disks
--- come back as that part left them
-pub record IsCutShort {D : Type 0} (disk : Ghosts D) (pair : ℕ) (disks : Disks D)
-    (stores : Stores) (steps : List Step) (refused : Refusal × Disks D) : Type 0 where
-  pub memory : cause_of refused.0 ≡ why.Memory
+-- a first part of the steps, perhaps none or all of them, left these later disks
+pub record RunsInPart {D : Type 0} (disk : Ghosts D) (pair : ℕ) (disks later : Disks D)
+    (stores : Stores) (steps : List Step) : Type 0 where
   pub made : List Step
   pub rest : List Step
   pub all : made ++ rest ≡ steps
   pub new : ModelWorld
-  pub run : IsSafeRun disk pair disks refused.1 stores made new
+  pub run : IsSafeRun disk pair disks later stores made new
+
+-- memory was refused after a first part of the steps, and the disks come back as that left them
+pub record IsCutShort {D : Type 0} (disk : Ghosts D) (pair : ℕ) (disks : Disks D)
+    (stores : Stores) (steps : List Step) (refused : Refusal × Disks D) : Type 0 where
+  pub memory : cause_of refused.0 ≡ why.Memory
+  pub part : RunsInPart disk pair disks refused.1 stores steps
 
 -- A run from disks of a pair that stand for these stores
 abbrev pub RunsSafely : {D : Type 0} → {disk : Ghosts D} → ℕ → Disks D → Stores → List Step →
@@ -106,6 +113,29 @@ pub record Recovers {D : Type 0} {disk : Ghosts D} (disks : Disks D) (before : S
   pub might_hold : MayHold disk.may_leave disks shown
   pub safe : IsCrashSafe before (picture_of run) shown
   pub opens : OpensFrom run.pair shown safe.now world
+
+-- memory was refused, or a call of a disk failed, after a first part of the steps, and the disks
+-- come back as that left them
+pub record EndsInPart {D : Type 0} (disk : Ghosts D) (pair : ℕ) (disks : Disks D)
+    (stores : Stores) (steps : List Step) (refused : Refusal × Disks D) : Type 0 where
+  pub cause : IsFromOutside refused.0
+  pub later : Disks D
+  pub part : RunsInPart disk pair disks later stores steps
+  pub back : ComeBack disk.may_leave later refused.1
+
+-- Where no world is opened again, none was opened at all, or the run ended after a first part
+abbrev pub EndsSafely : {D : Type 0} → {disk : Ghosts D} → ℕ → Disks D → Stores → List Step →
+    Result (World D disk) (Refusal × Disks D) → Type 0
+EndsSafely {D} {disk} pair disks stores steps (Ok world) = Unit {0}
+EndsSafely {D} {disk} pair disks stores steps (Err refused) =
+    IsNotOpened disk disks refused ⊎ EndsInPart disk pair disks stores steps refused
+
+-- What comes back where a call is refused: the disks, on which a stop leaves nothing new; or they
+-- were of one pair, and a world was opened from them first
+abbrev pub RefusedComeBack : {D : Type 0} → (D → Bytes → Type 0) → (D → Bytes) → Disks D →
+    Disks D → Type 0
+RefusedComeBack may_leave seen disks back = ComeBack may_leave disks back
+    ⊎ ((pair : ℕ) × AreOfPair (shown_on seen disks) pair)
 
 -- A world that was opened again after a run of these steps and a stop of all machines: the run was
 -- safe with whatever a stop may leave, and this is what was opened of it

@@ -1,3 +1,4 @@
+pub mod Failures
 pub mod Worlds
 pub mod Steps
 pub mod Runs

@@ -6,12 +6,11 @@ use Rattle.syn_disk.specs.declared.disk.Disk.{Ghosts}
 use Rattle.syn_headline.specs.Acknowledged.{Stores}
 use Rattle.syn_headline.specs.Runs.{stores_of}
 use Rattle.syn_headline.specs.World.{World as ModelWorld}
-use Rattle.syn_host.specs.Coordinators.{archive_disk}
-use Rattle.syn_host.specs.Sides.{side_disk}
 use Rattle.syn_host.specs.Starts.{HoldsArchive, HoldsReplica, IsFree, RefusesArchive, RefusesSide}
 use Rattle.syn_model.specs.Path.{Bytes}
 use Rattle.syn_recovery.specs.Headline.{Disks as Shown, DisksStand, IsOpenedFrom}
 use Rattle.syn_refusal.specs.declared.refusal.Refusal.{Refusal}
+use Rattle.syn_world.specs.Failures.{CountAlike, disks_in, failures_in, failures_on}
 use Rattle.syn_world.specs.Worlds.{IsWorld, running_in}
 use Rattle.syn_world.specs.declared.running.Running.{Running}
 use Rattle.syn_world.specs.declared.world.Disks.{Disks}
@@ -64,25 +63,15 @@ abbrev pub failed_calls : {D : Type 0} → (D → ℕ) → Disks D → ℕ
 failed_calls failures disks =
     failures disks.left + failures disks.right + failures disks.archive
 
--- the three disks of what runs
-abbrev pub disks_in : {D : Type 0} → {disk : Ghosts D} → Running D disk → Disks D
-disks_in running = record {
-  left = side_disk running.left;
-  right = side_disk running.right;
-  archive = archive_disk running.coordinator;
-}
-
 -- these are the three disks of the world
 abbrev pub HoldsDisks : {D : Type 0} → {disk : Ghosts D} → World D disk → Disks D → Type 0
 HoldsDisks world disks = option_map disks_in (running_in world) ≡ Some disks
 
--- and so many calls of them failed
-abbrev pub failed_by : {D : Type 0} → {disk : Ghosts D} → (D → ℕ) → Option (Running D disk) → ℕ
-failed_by failures (Some running) = failed_calls failures (disks_in running)
-failed_by failures None = 0
-
-abbrev pub failed_in : {D : Type 0} → {disk : Ghosts D} → (D → ℕ) → World D disk → ℕ
-failed_in failures world = failed_by failures (running_in world)
+-- each of the world's disks has counted as many failed calls as the one that it was opened from
+abbrev pub CountsAsOpened : {D : Type 0} → {disk : Ghosts D} → World D disk → Disks D → Type 0
+CountsAsOpened {D} {disk} world disks = (running : Running D disk) →
+    running_in world ≡ Some running →
+    CountAlike (failures_in running) (failures_on disk.failures disks)
 
 -- a stop leaves on each of the disks only what it might have left before
 pub record ComeBack {D : Type 0} (may_leave : D → Bytes → Type 0) (old new : Disks D)
@@ -95,7 +84,7 @@ pub record ComeBack {D : Type 0} (may_leave : D → Bytes → Type 0) (old new :
 pub record StopsDisks {D : Type 0} (may_leave : D → Bytes → Type 0) (failures : D → ℕ)
     (old new : Disks D) : Type 0 where
   pub back : ComeBack may_leave old new
-  pub count : failed_calls failures new ≡ failed_calls failures old
+  pub count : CountAlike (failures_on failures new) (failures_on failures old)
 
 -- none of the disks was stopped, and nothing is armed at them
 pub record AreFree {D : Type 0} (arms : D → Arms) (disks : Disks D) : Type 0 where

@@ -38,6 +38,7 @@ use Rattle.syn_keep.specs.Tries.{listed}
 use Rattle.syn_session.specs.declared.report.Report.{Report}
 use Rattle.syn_image.specs.Archives.{kept_of}
 use Rattle.syn_image.specs.declared.kept.Kept.{Kept as KeptBy}
+use Rattle.syn_world.specs.Failures.{Counts, FailWithDisks, failures_in, last_of}
 use Rattle.syn_world.specs.declared.lists.Ack.{Ack}
 use Rattle.syn_world.specs.declared.lists.Ack.TheVariants as acks
 use Rattle.syn_world.specs.declared.lists.Lists.{Lists}
@@ -209,12 +210,14 @@ abbrev pub EndsSo : {D : Type 0} → {disk : Ghosts D} → Result (Running D dis
 EndsSo {D} {disk} result model =
     MatchResult result (λ world. IsRunning world model) (λ world. RunsMachines world model)
 
--- a step of the world is one of the model
-pub record GoesSo {D : Type 0} {disk : Ghosts D} (old : ModelWorld) (step : Step)
+-- a step of the world is one of the model, and no machine counts more failures in it than its disk,
+-- which had counted so many before
+pub record GoesSo {D : Type 0} {disk : Ghosts D} (old : ModelWorld) (before : Counts) (step : Step)
     (result : Result (Running D disk) (Running D disk)) : Type 0 where
   pub new : ModelWorld
   pub steps : Steps old step new
   pub ends : EndsSo result new
+  pub counts : FailWithDisks old new before (failures_in (last_of result))
 
 -- what came of a side's step is in the lists
 pub record Notes (old new : Lists) (side : Side) (outcome : Outcome) : Type 0 where
@@ -282,8 +285,9 @@ pub record GrowsBy (old new : ModelWorld) (side : Which) (messages : List Sent)
   pub refusals : new.refusals ≡ old.refusals
 
 -- one that takes no memory
-pub record StaysSo {D : Type 0} {disk : Ghosts D} (old : ModelWorld) (step : Step)
-    (world : Running D disk) : Type 0 where
+pub record StaysSo {D : Type 0} {disk : Ghosts D} (old : ModelWorld) (before : Counts)
+    (step : Step) (world : Running D disk) : Type 0 where
   pub new : ModelWorld
   pub steps : Steps old step new
   pub is : IsRunning world new
+  pub counts : FailWithDisks old new before (failures_in world)

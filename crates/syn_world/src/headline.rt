@@ -1,14 +1,14 @@
 //! A run of a world from three disks to what a stop may leave on them, and the opening after it.
-ghost use Rattle.std.specs.Prelude.{◌≡◌, ◌⊎◌, ◌<◌, ◌^◌, ℕ, IfErr, IfOk, MatchResult, map};
+ghost use Rattle.std.specs.Prelude.{◌≡◌, ◌≢◌, ◌⊎◌, ◌<◌, ◌^◌, ℕ, IfErr, IfOk, MatchResult, map};
 ghost use Rattle.syn_headline.specs.Acknowledged.{Stores};
 ghost use Rattle.syn_headline.specs.World.{World as ModelWorld};
 ghost use Rattle.syn_host.specs.Starts.{CountsFailure, IsFromOutside};
 ghost use Rattle.syn_model.specs.Refusal as why;
 ghost use Rattle.syn_refusal.specs.Refusals.{cause_of};
 ghost use Rattle.syn_world.specs.Headlines.{AreSafe, FindsCause, FindsPair, Recovers, RunsSafely};
-ghost use Rattle.syn_world.specs.Headlines.{RunsAndRecovers};
-ghost use Rattle.syn_world.specs.Openings.{AreOfPair, ComeBack, RefusesDisks, StandFor};
-ghost use Rattle.syn_world.specs.Openings.{failed_calls, failed_in, shown_on};
+ghost use Rattle.syn_world.specs.Headlines.{EndsSafely, RefusedComeBack, RunsAndRecovers};
+ghost use Rattle.syn_world.specs.Openings.{AreOfPair, ComeBack, CountsAsOpened, RefusesDisks};
+ghost use Rattle.syn_world.specs.Openings.{StandFor, failed_calls, shown_on};
 ghost use Rattle.syn_world.specs.Steps.{step_of};
 ghost use Rattle.syn_world.specs.Worlds.{pair_in};
 
@@ -42,6 +42,11 @@ pub fn run<D: SimulatedDisk>(
         ⊎ RefusesDisks (shown_on D.Limit.seen disks) refused.0) }
     ensures failures { IfErr result (λ refused. cause_of refused.0 ≡ why.Device
         → failed_calls D.Limit.failures disks < failed_calls D.Limit.failures refused.1) }
+    // Refused disks come back: nothing was written where no world was opened from them.
+    ensures back { IfErr result (λ refused.
+        RefusedComeBack D.Limit.may_leave D.Limit.seen disks refused.1) }
+    ensures opened { IfErr result (λ refused. cause_of refused.0 ≢ why.Memory
+        → ComeBack D.Limit.may_leave disks refused.1) }
 {
     headline();
     match World::open(alloc, disks) {
@@ -73,7 +78,7 @@ pub fn recover<D: SimulatedDisk>(
     ensures pair { IfOk result (λ world. FindsPair D.Limit.may_leave disks (pair_in world)) }
     ensures cause { IfErr result (λ refused. FindsCause D.Limit.may_leave disks refused.0) }
     ensures failures { MatchResult result
-        (λ world. failed_in D.Limit.failures world ≡ failed_calls D.Limit.failures disks)
+        (λ world. CountsAsOpened world disks)
         (λ refused. CountsFailure refused.0 (failed_calls D.Limit.failures disks)
         (failed_calls D.Limit.failures refused.1)) }
 {
@@ -90,7 +95,8 @@ pub fn recover<D: SimulatedDisk>(
 /// What is opened stands for what the run acknowledged, in order, with at most the one change that
 /// each machine was making. The disks are to stand for a pair, with none stopped and nothing armed.
 ///
-/// Refused as [`run`] and [`recover`] are; from disks of a pair, 9 and 11 alone.
+/// Refused as [`run`] and [`recover`] are; from disks of a pair, 9 and 11 alone. The disks come
+/// back as they were, or as a first part of the steps left them.
 pub fn run_and_recover<D: SimulatedDisk>(
     alloc: Global,
     disks: Disks<D>,
@@ -102,6 +108,17 @@ pub fn run_and_recover<D: SimulatedDisk>(
     ensures refused { (pair : ℕ) (stores : Stores)
         → StandFor D.Limit.seen D.Limit.arms pair disks stores
         → IfErr result (λ refused. IsFromOutside refused.0) }
+    ensures ended { (pair : ℕ) (stores : Stores)
+        → StandFor D.Limit.seen D.Limit.arms pair disks stores
+        → EndsSafely pair disks stores (map step_of steps.now) result }
+    ensures failures { (pair : ℕ) (stores : Stores)
+        → StandFor D.Limit.seen D.Limit.arms pair disks stores
+        → IfErr result (λ refused. cause_of refused.0 ≡ why.Device
+        → failed_calls D.Limit.failures disks < failed_calls D.Limit.failures refused.1) }
+
+    // Of any disks, whatever they hold: those of no pair come back.
+    ensures back { IfErr result (λ refused.
+        RefusedComeBack D.Limit.may_leave D.Limit.seen disks refused.1) }
 {
     match run(alloc, disks, steps) {
         Ok(world) => recover(alloc, world.into_disks()),

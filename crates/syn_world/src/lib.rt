@@ -16,6 +16,8 @@
 //!   of what it hands over, though no clause says when. The machines are then as that step of the
 //!   definitions leaves them, or as they were (`HasTried`). Each later step is refused 11, and
 //!   changes nothing (`again`).
+//! - No machine counts more failed calls in a step than its disk (`FailWithDisks`), and so none in
+//!   a run. So where no call of a disk failed, no step of its machine is refused 9.
 //! - Each reply in the lists can be sent (`lawful` of `IsListed`): its bytes or entries are not too
 //!   many, and the names of a listing rise.
 //! - An opening acknowledges the event or the record that was being written, where the disk has it.
@@ -27,15 +29,16 @@
 //!   (`refused`). On a refusal nothing new may be left on a disk (`back`).
 //! - Of any disks: what it opens is of one pair (`pair`), and a refusal has the cause of the first
 //!   disk that is refused (`cause`: `RefusesDisks`). The disks count more failed calls than before
-//!   exactly where it is refused 9 (`failures`).
+//!   exactly where it is refused 9, and each as many where it succeeds (`failures`).
 //! - `run` opens such a world and goes by the steps (`RunsSafely`): whatever a stop may leave on
 //!   the disks after them is crash safe (`AreSafe`), by the sentences of `syn_recovery`. The disks
 //!   come back where nothing was opened (`IsNotOpened`), or after a first part of the steps where
-//!   memory was refused (`IsCutShort`).
+//!   memory was refused (`IsCutShort`). Of any disks: those of no pair come back (`back`).
 //! - `recover` opens the disks of a safe run, as a stop might have left them (`Recovers`). Of any
 //!   disks it says `pair`, `cause` and `failures`, as `World::open` does.
 //! - `run_and_recover` runs, stops all machines and opens what their disks hold
-//!   (`RunsAndRecovers`). It is refused 9 or 11 alone.
+//!   (`RunsAndRecovers`). It is refused 9 or 11 alone, and the disks come back then as a first part
+//!   of the steps left them (`EndsSafely`). A 9 says that a call of a disk failed (`failures`).
 #![tactic(auto)]
 
 mod headline;

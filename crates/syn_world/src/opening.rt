@@ -2,8 +2,8 @@
 ghost use Rattle.std.specs.Prelude.{◌≡◌, ℕ, [], IfErr, IfOk, MatchResult};
 ghost use Rattle.syn_headline.specs.Acknowledged.{Stores};
 ghost use Rattle.syn_host.specs.Starts.{CountsFailure, IsFromOutside};
-ghost use Rattle.syn_world.specs.Openings.{AreOfPair, ComeBack, OpensFrom, RefusesDisks};
-ghost use Rattle.syn_world.specs.Openings.{StandFor, failed_calls, failed_in, shown_on};
+ghost use Rattle.syn_world.specs.Openings.{AreOfPair, ComeBack, CountsAsOpened, OpensFrom};
+ghost use Rattle.syn_world.specs.Openings.{RefusesDisks, StandFor, failed_calls, shown_on};
 ghost use Rattle.syn_world.specs.Worlds.{pair_in};
 
 use crate::lists::Lists;
@@ -36,7 +36,7 @@ impl<D: SimulatedDisk> World<D> {
         ensures cause { IfErr result
             (λ refused. RefusesDisks (shown_on D.Limit.seen disks) refused.0) }
         ensures failures { MatchResult result
-            (λ world. failed_in D.Limit.failures world ≡ failed_calls D.Limit.failures disks)
+            (λ world. CountsAsOpened world disks)
             (λ refused. CountsFailure refused.0 (failed_calls D.Limit.failures disks)
             (failed_calls D.Limit.failures refused.1)) }
     {

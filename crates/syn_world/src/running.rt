@@ -35,14 +35,16 @@ pub struct Running<D: Disk> {
 
 impl<D: SimulatedDisk> Running<D> {
     ghost use Rattle.syn_host.specs.Outcomes.{Acknowledges, Tells, refused_in};
+    ghost use Rattle.syn_world.specs.Failures.{disks_in, last_of};
     ghost use Rattle.syn_world.specs.Worlds.{EndsSo, Goes, Grows, GrowsBy, IsListed};
     ghost use Rattle.syn_world.specs.Worlds.{RunsMachines};
 
-    /// What came of a side's step is in the lists.
+    /// What came of a side's step is in the lists. The machines stay as they are.
     fn noted(self, side: Side, outcome: Outcome) -> Result<Running<D>, Running<D>>
-        ensures { (old new : ModelWorld) (events : List Event) → RunsMachines self new
+        ensures ends { (old new : ModelWorld) (events : List Event) → RunsMachines self new
             → IsListed self.lists old → Acknowledges outcome events
             → Grows old new (which_of side) events outcome → EndsSo result new }
+        ensures disks { disks_in (last_of result) ≡ disks_in self }
     {
         let mut world = self;
         if world.lists.note(side, outcome) {
@@ -52,7 +54,8 @@ impl<D: SimulatedDisk> Running<D> {
         }
     }
 
-    /// A side's answer to the request with that number is in the lists.
+    /// A side's answer to the request with that number is in the lists. The machines stay as they
+    /// are.
     fn heard(
         self,
         side: Side,
@@ -61,12 +64,13 @@ impl<D: SimulatedDisk> Running<D> {
         reply: Option<Reply>,
         outcome: Outcome,
     ) -> Result<Running<D>, Running<D>>
-        ensures { (old new : ModelWorld) (events : List Event) → RunsMachines self new
+        ensures ends { (old new : ModelWorld) (events : List Event) → RunsMachines self new
             → IsListed self.lists old → Acknowledges outcome events → refused_in outcome ≡ []
             → IfSome reply (λ said. IsLawfulReply (reply_of said))
             → GrowsBy old new (which_of side)
             (says (which_of side) session number (option_map reply_of reply)) events
             → EndsSo result new }
+        ensures disks { disks_in (last_of result) ≡ disks_in self }
     {
         let mut world = self;
         let heard = world.lists.hear(side, session, number, reply);
@@ -79,12 +83,13 @@ impl<D: SimulatedDisk> Running<D> {
     }
 
     /// What came of a step of the coordinator is in the lists. There is none where memory for it
-    /// was refused.
+    /// was refused. The machines stay as they are.
     fn told(self, outcome: Option<CoordinatorOutcome>) -> Result<Running<D>, Running<D>>
-        ensures { (old new : ModelWorld) (made : Call) (refusals : List Cause)
+        ensures ends { (old new : ModelWorld) (made : Call) (refusals : List Cause)
             → RunsMachines self new → IsListed self.lists old
             → IfSome outcome (λ told. Tells told made refusals) → Goes old new made refusals
             → EndsSo result new }
+        ensures disks { disks_in (last_of result) ≡ disks_in self }
     {
         let mut world = self;
         match outcome {

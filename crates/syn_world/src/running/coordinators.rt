@@ -7,13 +7,14 @@ use std::alloc::Global;
 use syn_host::SimulatedDisk;
 
 impl<D: SimulatedDisk> Running<D> {
+    ghost use Rattle.syn_world.specs.Failures.{failures_in};
     ghost use Rattle.syn_world.specs.Worlds.{GoesSo, IsRunning, StaysSo};
 
     /// The device call of the coordinator with this number from now on fails, and is not made; at 0
     /// none does.
     pub(crate) fn fail_coordinator(self, call: u64) -> Running<D>
         ensures { (model : ModelWorld) → IsRunning self model
-            → StaysSo model (Fail Coordinator call) result }
+            → StaysSo model (failures_in self) (Fail Coordinator call) result }
     {
         Running {
             coordinator: self.coordinator.fail(call),
@@ -25,7 +26,7 @@ impl<D: SimulatedDisk> Running<D> {
     /// last of them; at 0 it stops at once.
     pub(crate) fn stop_coordinator(self, calls: u64) -> Running<D>
         ensures { (model : ModelWorld) → IsRunning self model
-            → StaysSo model (Stop Coordinator calls) result }
+            → StaysSo model (failures_in self) (Stop Coordinator calls) result }
     {
         Running {
             coordinator: self.coordinator.stop(calls),
@@ -36,7 +37,7 @@ impl<D: SimulatedDisk> Running<D> {
     /// The coordinator makes a checkpoint.
     pub(crate) fn checkpoint_coordinator(self, alloc: Global) -> Result<Running<D>, Running<D>>
         ensures { (model : ModelWorld) → IsRunning self model
-            → GoesSo model (Checkpoint Coordinator) result }
+            → GoesSo model (failures_in self) (Checkpoint Coordinator) result }
     {
         let mut world = self;
         let call = world.coordinator.checkpoint(alloc);

@@ -8,13 +8,14 @@ use syn_host::SimulatedDisk;
 
 impl<D: SimulatedDisk> Running<D> {
     ghost use Rattle.syn_world.specs.Runs.{Attempts};
+    ghost use Rattle.syn_world.specs.Failures.{failures_in};
     ghost use Rattle.syn_world.specs.Worlds.{IsRunning};
 
     /// The message that was sent with this number is delivered, again if it was before. The first
     /// has the number 0. One that was never sent does nothing.
     pub(crate) fn deliver(self, alloc: Global, message: usize) -> Result<Running<D>, Running<D>>
         ensures { (model : ModelWorld) → IsRunning self model
-            → Attempts model (Deliver message) result }
+            → Attempts model (failures_in self) (Deliver message) result }
     {
         match self.lists.sent.get(message) {
             None => Ok(self),

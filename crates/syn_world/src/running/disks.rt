@@ -13,7 +13,8 @@ use crate::world::Disks;
 use syn_host::{CoordinatorHost, SideHost, SimulatedDisk};
 
 impl<D: SimulatedDisk> Running<D> {
-    ghost use Rattle.syn_world.specs.Openings.{AreFree, StopsDisks, disks_in};
+    ghost use Rattle.syn_world.specs.Failures.{disks_in};
+    ghost use Rattle.syn_world.specs.Openings.{AreFree, StopsDisks};
     ghost use Rattle.syn_world.specs.Worlds.{AreLeft, RunsMachines};
 
     /// Stops each machine that is up, and gives the three disks.

@@ -9,6 +9,7 @@ use syn_host::SimulatedDisk;
 use syn_script::Machine;
 
 impl<D: SimulatedDisk> Running<D> {
+    ghost use Rattle.syn_world.specs.Failures.{failures_in};
     ghost use Rattle.syn_world.specs.Worlds.{GoesSo, IsRunning, StaysSo};
 
     /// The machine makes a checkpoint.
@@ -18,7 +19,7 @@ impl<D: SimulatedDisk> Running<D> {
         machine: Machine,
     ) -> Result<Running<D>, Running<D>>
         ensures { (model : ModelWorld) → IsRunning self model
-            → GoesSo model (Checkpoint (machine_of machine)) result }
+            → GoesSo model (failures_in self) (Checkpoint (machine_of machine)) result }
     {
         match machine {
             Machine::Side(side) => self.checkpoint_side(alloc, side),
@@ -30,7 +31,7 @@ impl<D: SimulatedDisk> Running<D> {
     /// none does.
     pub(crate) fn fail(self, machine: Machine, call: u64) -> Running<D>
         ensures { (model : ModelWorld) → IsRunning self model
-            → StaysSo model (Fail (machine_of machine) call) result }
+            → StaysSo model (failures_in self) (Fail (machine_of machine) call) result }
     {
         match machine {
             Machine::Side(side) => self.fail_side(side, call),
@@ -42,7 +43,7 @@ impl<D: SimulatedDisk> Running<D> {
     /// 0 it stops at once.
     pub(crate) fn stop(self, machine: Machine, calls: u64) -> Running<D>
         ensures { (model : ModelWorld) → IsRunning self model
-            → StaysSo model (Stop (machine_of machine) calls) result }
+            → StaysSo model (failures_in self) (Stop (machine_of machine) calls) result }
     {
         match machine {
             Machine::Side(side) => self.stop_side(side, calls),
@@ -57,7 +58,7 @@ impl<D: SimulatedDisk> Running<D> {
         machine: Machine,
     ) -> Result<Running<D>, Running<D>>
         ensures { (model : ModelWorld) → IsRunning self model
-            → GoesSo model (Open (machine_of machine)) result }
+            → GoesSo model (failures_in self) (Open (machine_of machine)) result }
     {
         match machine {
             Machine::Side(side) => self.open_side(alloc, side),
@@ -68,7 +69,7 @@ impl<D: SimulatedDisk> Running<D> {
     /// The machine opens its own disk again, unless it is down.
     pub(crate) fn reopen(self, alloc: Global, machine: Machine) -> Result<Running<D>, Running<D>>
         ensures { (model : ModelWorld) → IsRunning self model
-            → GoesSo model (Reopen (machine_of machine)) result }
+            → GoesSo model (failures_in self) (Reopen (machine_of machine)) result }
     {
         match machine {
             Machine::Side(side) => self.reopen_side(alloc, side),

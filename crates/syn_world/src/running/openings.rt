@@ -1,6 +1,7 @@
 //! The openings of the world's coordinator.
 ghost use Rattle.std.specs.Prelude.{IfSome};
 ghost use Rattle.syn_headline.specs.World.{World as ModelWorld, Coordinator, Open, Reopen};
+ghost use Rattle.syn_world.specs.Failures.{failures_in};
 ghost use Rattle.syn_world.specs.Worlds.{TellsFound};
 
 use super::Running;
@@ -16,7 +17,7 @@ impl<D: SimulatedDisk> Running<D> {
     /// is acknowledged where its disk has it.
     pub(crate) fn open_coordinator(self, alloc: Global) -> Result<Running<D>, Running<D>>
         ensures { (model : ModelWorld) → IsRunning self model
-            → GoesSo model (Open Coordinator) result }
+            → GoesSo model (failures_in self) (Open Coordinator) result }
     {
         let mut world = self;
         let opening = world.coordinator.open(alloc, world.pair);
@@ -28,7 +29,7 @@ impl<D: SimulatedDisk> Running<D> {
     /// being written is acknowledged where its disk has it.
     pub(crate) fn reopen_coordinator(self, alloc: Global) -> Result<Running<D>, Running<D>>
         ensures { (model : ModelWorld) → IsRunning self model
-            → GoesSo model (Reopen Coordinator) result }
+            → GoesSo model (failures_in self) (Reopen Coordinator) result }
     {
         let mut world = self;
         let opening = world.coordinator.reopen(alloc);

@@ -9,13 +9,14 @@ use syn_host::SimulatedDisk;
 
 impl<D: SimulatedDisk> Running<D> {
     ghost use Rattle.syn_world.specs.Runs.{Attempts};
+    ghost use Rattle.syn_world.specs.Failures.{failures_in};
     ghost use Rattle.syn_world.specs.Worlds.{IsRunning};
 
     /// The machines after a step. They are the error where memory is refused for one of the
     /// world's lists, or for a copy of what the step hands over.
     pub(crate) fn step(self, alloc: Global, step: &Step) -> Result<Running<D>, Running<D>>
         ensures { (model : ModelWorld) → IsRunning self model
-            → Attempts model (step_of step.now) result }
+            → Attempts model (failures_in self) (step_of step.now) result }
     {
         match step {
             Step::Edit(side, user, edit) => match edit.copy(alloc) {

@@ -13,6 +13,7 @@ use syn_message::Reply;
 use syn_path::Side;
 
 impl<D: SimulatedDisk> Running<D> {
+    ghost use Rattle.syn_world.specs.Failures.{failures_in};
     ghost use Rattle.syn_world.specs.Worlds.{GoesSo, IsRunning};
 
     /// The coordinator starts a session, which prefers a side or none, unless its machine is down.
@@ -22,7 +23,7 @@ impl<D: SimulatedDisk> Running<D> {
         preference: Option<Side>,
     ) -> Result<Running<D>, Running<D>>
         ensures { (model : ModelWorld) → IsRunning self model
-            → GoesSo model (Start (option_map which_of preference)) result }
+            → GoesSo model (failures_in self) (Start (option_map which_of preference)) result }
     {
         let mut world = self;
         let call = world.coordinator.start(alloc, preference);
@@ -32,7 +33,8 @@ impl<D: SimulatedDisk> Running<D> {
 
     /// Some time goes by at the coordinator without an answer.
     pub(crate) fn tick(self, alloc: Global) -> Result<Running<D>, Running<D>>
-        ensures { (model : ModelWorld) → IsRunning self model → GoesSo model Tick result }
+        ensures { (model : ModelWorld) → IsRunning self model
+            → GoesSo model (failures_in self) Tick result }
     {
         let mut world = self;
         let call = world.coordinator.tick(alloc);
@@ -52,7 +54,7 @@ impl<D: SimulatedDisk> Running<D> {
         ensures { (model : ModelWorld) (message : ℕ) → IsRunning self model
             → slice_get model.sent message
             ≡ Some (Answers (which_of from) session number (reply_of reply))
-            → GoesSo model (Deliver message) result }
+            → GoesSo model (failures_in self) (Deliver message) result }
     {
         // What no side may say is not in the list.
         if !can_be_sent(&reply) {

@@ -15,6 +15,7 @@ use syn_path::Side;
 use syn_tree::Edit;
 
 impl<D: SimulatedDisk> Running<D> {
+    ghost use Rattle.syn_world.specs.Failures.{failures_in};
     ghost use Rattle.syn_world.specs.Worlds.{GoesSo, IsRunning, StaysSo};
 
     /// A user makes an edit at a side.
@@ -26,7 +27,7 @@ impl<D: SimulatedDisk> Running<D> {
         edit: Edit,
     ) -> Result<Running<D>, Running<D>>
         ensures { (model : ModelWorld) → IsRunning self model
-            → GoesSo model (Edits (which_of side) user (edit_of edit)) result }
+            → GoesSo model (failures_in self) (Edits (which_of side) user (edit_of edit)) result }
     {
         let mut world = self;
         match side {
@@ -46,7 +47,7 @@ impl<D: SimulatedDisk> Running<D> {
     /// A side makes a checkpoint.
     pub(crate) fn checkpoint_side(self, alloc: Global, side: Side) -> Result<Running<D>, Running<D>>
         ensures { (model : ModelWorld) → IsRunning self model
-            → GoesSo model (Checkpoint (At (which_of side))) result }
+            → GoesSo model (failures_in self) (Checkpoint (At (which_of side))) result }
     {
         let mut world = self;
         match side {
@@ -66,7 +67,7 @@ impl<D: SimulatedDisk> Running<D> {
     /// A side's machine is started again, if it is down.
     pub(crate) fn open_side(self, alloc: Global, side: Side) -> Result<Running<D>, Running<D>>
         ensures { (model : ModelWorld) → IsRunning self model
-            → GoesSo model (Open (At (which_of side))) result }
+            → GoesSo model (failures_in self) (Open (At (which_of side))) result }
     {
         let mut world = self;
         match side {
@@ -86,7 +87,7 @@ impl<D: SimulatedDisk> Running<D> {
     /// A side opens its own disk again, unless its machine is down.
     pub(crate) fn reopen_side(self, alloc: Global, side: Side) -> Result<Running<D>, Running<D>>
         ensures { (model : ModelWorld) → IsRunning self model
-            → GoesSo model (Reopen (At (which_of side))) result }
+            → GoesSo model (failures_in self) (Reopen (At (which_of side))) result }
     {
         let mut world = self;
         match side {
@@ -107,7 +108,7 @@ impl<D: SimulatedDisk> Running<D> {
     /// does.
     pub(crate) fn fail_side(self, side: Side, call: u64) -> Running<D>
         ensures { (model : ModelWorld) → IsRunning self model
-            → StaysSo model (Fail (At (which_of side)) call) result }
+            → StaysSo model (failures_in self) (Fail (At (which_of side)) call) result }
     {
         match side {
             Side::Left => Running {
@@ -125,7 +126,7 @@ impl<D: SimulatedDisk> Running<D> {
     /// them; at 0 it stops at once.
     pub(crate) fn stop_side(self, side: Side, calls: u64) -> Running<D>
         ensures { (model : ModelWorld) → IsRunning self model
-            → StaysSo model (Stop (At (which_of side)) calls) result }
+            → StaysSo model (failures_in self) (Stop (At (which_of side)) calls) result }
     {
         match side {
             Side::Left => Running {
@@ -151,7 +152,7 @@ impl<D: SimulatedDisk> Running<D> {
         ensures { (model : ModelWorld) (message : ℕ) → IsRunning self model
             → slice_get model.sent message
             ≡ Some (Asks (which_of side) session number (request_of request))
-            → GoesSo model (Deliver message) result }
+            → GoesSo model (failures_in self) (Deliver message) result }
     {
         let mut world = self;
         match side {

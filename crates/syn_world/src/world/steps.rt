@@ -9,6 +9,7 @@ use std::alloc::{AllocError, Global};
 use syn_host::SimulatedDisk;
 
 impl<D: SimulatedDisk> World<D> {
+    ghost use Rattle.syn_world.specs.Failures.{failures_in};
     ghost use Rattle.syn_world.specs.Headlines.{HasRunSafely, MayRun};
     ghost use Rattle.syn_world.specs.Openings.{AreFree, HoldsDisks, StopsDisks};
     ghost use Rattle.syn_world.specs.Runs.{RunsSo, StepsSo};
@@ -19,8 +20,8 @@ impl<D: SimulatedDisk> World<D> {
     /// a copy of what the step hands over; the machines may have made it. From then on each step is
     /// refused 11, and changes nothing.
     pub fn step(&mut self, alloc: Global, step: &Step) -> Result<(), AllocError>
-        ensures steps { (model : ModelWorld) → IsWorld self.old model
-            → StepsSo model (step_of step.now) result self.new }
+        ensures steps { (model : ModelWorld) (is : IsWorld self.old model)
+            → StepsSo model (failures_in is.running) (step_of step.now) result self.new }
         ensures spends { OnErr result (is_spent self.new ≡ true) }
         ensures again { is_spent self.old ≡ true → OnOk result ⊥ × (self.new ≡ self.old) }
     {
@@ -45,8 +46,8 @@ impl<D: SimulatedDisk> World<D> {
 
     /// Makes these steps, one after another, until one is refused 11.
     pub(crate) fn go_by(&mut self, alloc: Global, steps: &[Step]) -> Result<(), AllocError>
-        ensures { (model : ModelWorld) → IsWorld self.old model
-            → RunsSo model (map step_of steps.now) result self.new }
+        ensures { (model : ModelWorld) (is : IsWorld self.old model)
+            → RunsSo model (failures_in is.running) (map step_of steps.now) result self.new }
     {
         for step in steps {
             match self.step(alloc, step) {

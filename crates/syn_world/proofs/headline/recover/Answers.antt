@@ -1,11 +1,12 @@
-use Rattle.std.proofs.Common.{◌≡◌, arith, subst}
-use Rattle.std.specs.Prelude.{MatchResult}
-use Rattle.syn_host.specs.Starts.{CountsFailure}
+use Rattle.std.proofs.Common.{◌≡◌, arith}
+use Rattle.syn_headline.specs.Network.{Left, Right}
+use Rattle.syn_headline.specs.World.{At, Coordinator}
+use Rattle.syn_world.specs.Failures.{CountAlike, failures_on}
 use Rattle.syn_world.specs.Headlines.{MayHold}
-use Rattle.syn_world.specs.Openings.{failed_calls, failed_in, shown_on}
+use Rattle.syn_world.specs.Openings.{failed_calls, shown_on}
 use Rattle.syn_world.specs.declared.world.Disks.{Disks}
 use Rattle.syn_world.proofs.HeadlineLemmas.{AreStopped, found, if_err, if_ok, might_hold, recovers}
-use Rattle.syn_world.proofs.HeadlineLemmas.{stand}
+use Rattle.syn_world.proofs.HeadlineLemmas.{recovered_counts, stand}
 use Rattle.syn_world.proofs.headline.recover.Goals as goal
 
 -- the disks as they are found after the stop
@@ -84,7 +85,11 @@ returns-clause-failures g c =
       c.after_stop-2.ensures.count,
       c.after_stop-3.ensures.count,
     ) in
-    subst (λ n. MatchResult c.open.result
-    (λ world. failed_in g.D.Disk.failures world ≡ n)
-    (λ refused. CountsFailure refused.0 n (failed_calls g.D.Disk.failures refused.1))) same
+    recovered_counts g.D.Disk c.args.disks (stopped_disks g c) c.open.result alike same
     c.open.ensures.failures
+  where
+    alike : CountAlike (failures_on g.D.Disk.failures (stopped_disks g c))
+        (failures_on g.D.Disk.failures c.args.disks)
+    alike (At Left) = c.after_stop.ensures.count
+    alike (At Right) = c.after_stop-2.ensures.count
+    alike Coordinator = c.after_stop-3.ensures.count

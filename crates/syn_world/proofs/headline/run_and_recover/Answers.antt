@@ -6,10 +6,12 @@ use Rattle.syn_headline.specs.World.{Step}
 use Rattle.syn_host.specs.Starts.{IsFromOutside}
 use Rattle.syn_refusal.specs.declared.refusal.Refusal.{Refusal}
 use Rattle.syn_world.specs.Headlines.{HasRunSafely, IsCutShort, IsNotOpened, IsSafeRun}
+use Rattle.syn_world.specs.Headlines.{EndsInPart}
 use Rattle.syn_world.specs.Openings.{StandFor}
 use Rattle.syn_world.specs.Steps.{step_of}
 use Rattle.syn_world.specs.declared.world.Disks.{Disks}
-use Rattle.syn_world.proofs.HeadlineLemmas.{if_ok, safe_stopped}
+use Rattle.syn_world.proofs.HeadlineLemmas.{counted_more, ends_safely, failed_since, if_ok, of_pair}
+use Rattle.syn_world.proofs.HeadlineLemmas.{safe_stopped}
 use Rattle.syn_world.proofs.headline.run_and_recover.Goals as goal
 
 -- the disks that the run left, with what holds of them
@@ -22,7 +24,7 @@ module _ (g : _) (c : goal.After-recover g) (pair : ℕ) (stores : Stores)
       (map step_of c.args.steps.now) had.new
   run = safe_stopped g.D.Disk pair c.args.disks had.later c.into_disks.result stores
       (map step_of c.args.steps.now) had.new had.run
-      (c.into_disks.ensures.stopped had.later had.holds).back
+      (c.into_disks.ensures.stopped had.later had.holds)
 
   fits : had.new.pair < 2 ^ 64
   fits = subst (λ p. p < 2 ^ 64) (sym run.pair_is) all.fits
@@ -54,3 +56,48 @@ pub returns-in-Err-clause-refused : goal.returns-in-Err-clause-refused
 returns-in-Err-clause-refused g c pair stores all =
     from_outside g.D.Disk pair c.args.disks stores (map step_of c.args.steps.now)
     c.in-Err.refused (c.in-Err.ensures.safe pair stores all)
+
+pub returns-in-Ok-clause-ended : goal.returns-in-Ok-clause-ended
+returns-in-Ok-clause-ended g c pair stores all =
+    ends_safely g.D.Disk pair c.args.disks c.into_disks.result stores
+    (map step_of c.args.steps.now) (had g c pair stores all).new (run g c pair stores all)
+    c.recover.result (returns-in-Ok-clause-refused g c pair stores all) c.recover.ensures.back
+
+cut_or_not : {D : Type 0} (disk : Ghosts D) (pair : ℕ) (disks : Disks D) (stores : Stores)
+    (steps : List Step) (refused : Refusal × Disks D)
+    → IsNotOpened disk disks refused ⊎ IsCutShort disk pair disks stores steps refused
+    → IsNotOpened disk disks refused ⊎ EndsInPart disk pair disks stores steps refused
+cut_or_not disk pair disks stores steps refused (inl not) = inl not
+cut_or_not disk pair disks stores steps refused (inr short) = inr (record {
+  cause = inr short.memory;
+  later = refused.1;
+  part = short.part;
+  back = record {
+    left = λ bytes left. left;
+    right = λ bytes left. left;
+    archive = λ bytes left. left;
+  };
+})
+
+pub returns-in-Err-clause-ended : goal.returns-in-Err-clause-ended
+returns-in-Err-clause-ended g c pair stores all =
+    cut_or_not g.D.Disk pair c.args.disks stores (map step_of c.args.steps.now) c.in-Err.refused
+    (c.in-Err.ensures.safe pair stores all)
+
+pub returns-in-Ok-clause-failures : goal.returns-in-Ok-clause-failures
+returns-in-Ok-clause-failures g c pair stores all =
+    let more = counted_more g.D.Disk pair c.args.disks c.into_disks.result stores
+    (map step_of c.args.steps.now) (had g c pair stores all).new (run g c pair stores all) in
+    failed_since g.D.Disk c.args.disks c.into_disks.result c.recover.result more
+    c.recover.ensures.failures
+
+pub returns-in-Err-clause-failures : goal.returns-in-Err-clause-failures
+returns-in-Err-clause-failures g c pair stores all = c.in-Err.ensures.failures
+
+pub returns-in-Ok-clause-back : goal.returns-in-Ok-clause-back
+returns-in-Ok-clause-back g c =
+    of_pair (g.D.Disk.may_leave) g.D.Disk.seen c.args.disks c.recover.result
+    c.in-Ok.ensures.pair
+
+pub returns-in-Err-clause-back : goal.returns-in-Err-clause-back
+returns-in-Err-clause-back g c = c.in-Err.ensures.back

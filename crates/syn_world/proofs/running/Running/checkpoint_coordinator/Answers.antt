@@ -12,4 +12,5 @@ returns g c model is =
     c.checkpoint-call.result
     (c.checkpoint-call.ensures model.pair model.coordinator is.machines.coordinator)
     c.told.result (Checkpoint Coordinator) (lift_coordinator model
-    (Does (coordinator_kind model.pair) model.coordinator one.Checkpoint) _ _ _) c.told.ensures
+    (Does (coordinator_kind model.pair) model.coordinator one.Checkpoint) _ _ _)
+    c.told.ensures.disks c.told.ensures.ends

@@ -4,6 +4,8 @@ use Rattle.std.proofs.lemmas.Option.{slice_get_past, slice_get_read}
 use Rattle.syn_headline.specs.Network.{Asks, Answers}
 use Rattle.syn_headline.specs.World.{Delivers, no_message}
 use Rattle.syn_path.specs.Sides.{which_of}
+use Rattle.syn_world.specs.Failures.{failures_in}
+use Rattle.syn_world.proofs.FailureLemmas.{counts_still}
 use Rattle.syn_world.specs.Runs.{no_memory, steps}
 use Rattle.syn_world.specs.declared.lists.Message.TheVariants as messages
 use Rattle.syn_world.proofs.RunLemmas.{sent_is}
@@ -17,6 +19,7 @@ returns-in-None g c model is = steps (record {
       (ap (λ l. slice_get l c.args.message) (sym c.deref.ensures.value)
       ∙ slice_get_past _ _ c.in-None.ensures.lookup.3))) no_message;
   ends = is;
+  counts = counts_still model (failures_in c.args.self);
 })
 
 pub returns-in-Ok : goal.returns-in-Ok
@@ -34,7 +37,7 @@ returns-in-Ok g c model is =
 
 pub returns-in-Err : goal.returns-in-Err
 returns-in-Err g c model is =
-    no_memory c.args.self refl is.machines
+    no_memory c.args.self refl is.machines (counts_still model (failures_in c.args.self))
 
 pub returns-in-Ok-copy : goal.returns-in-Ok-copy
 returns-in-Ok-copy g c model is =
@@ -51,4 +54,4 @@ returns-in-Ok-copy g c model is =
 
 pub returns-in-Err-copy : goal.returns-in-Err-copy
 returns-in-Err-copy g c model is =
-    no_memory c.args.self refl is.machines
+    no_memory c.args.self refl is.machines (counts_still model (failures_in c.args.self))

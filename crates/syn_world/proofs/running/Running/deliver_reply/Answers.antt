@@ -25,4 +25,5 @@ returns g c model message is sent =
     reply)) c.hear-call.result
     (c.hear-call.ensures model.pair model.coordinator is.machines.coordinator)
     c.told.result (Deliver message)
-    (lift_reply model _ _ _ message from c.args.session c.args.number reply sent) c.told.ensures
+    (lift_reply model _ _ _ message from c.args.session c.args.number reply sent)
+    c.told.ensures.disks c.told.ensures.ends

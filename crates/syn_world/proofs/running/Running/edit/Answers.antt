@@ -1,12 +1,15 @@
-use Rattle.std.proofs.Common.{[], subst, sym}
+use Rattle.std.proofs.Common.{[], refl, subst, sym}
 use Rattle.syn_headline.specs.Network.{Left, Right}
 use Rattle.syn_headline.specs.SideMachine.{UserEdits}
 use Rattle.syn_headline.specs.World.{Edits}
 use Rattle.syn_host.specs.Outcomes.{refused_in}
+use Rattle.syn_host.specs.Sides.{side_disk}
 use Rattle.syn_model.specs.Event.{Edited}
 use Rattle.syn_path.specs.Sides.{which_of}
 use Rattle.syn_tree.specs.Edits.{edit_of}
+use Rattle.syn_world.specs.Failures.{disks_in, failures_in, last_of}
 use Rattle.syn_world.specs.Worlds.{GoesSo}
+use Rattle.syn_world.proofs.FailureLemmas.{left_counts, right_counts}
 use Rattle.syn_world.proofs.StepLemmas.{lift_side, side_next}
 use Rattle.syn_world.proofs.WorldLemmas.{goes_left, goes_right}
 use Rattle.syn_world.proofs.running.Running.edit.Goals as goal
@@ -15,7 +18,8 @@ pub returns-in-Left : goal.returns-in-Left
 returns-in-Left g c model is =
     let call = c.edit-call.result in
     let so = c.edit-call.ensures model.pair model.left is.machines.left in
-    subst (λ s. GoesSo model (Edits (which_of s) c.args.user (edit_of c.args.edit)) c.noted.result)
+    subst (λ s. GoesSo model (failures_in c.args.self)
+    (Edits (which_of s) c.args.user (edit_of c.args.edit)) c.noted.result)
     (sym c.in-Left.is) (record {
       new = side_next model Left so.next [] so.events (refused_in call.outcome);
       steps =
@@ -23,14 +27,19 @@ returns-in-Left g c model is =
           (edit_of c.args.edit)))
           so.next so.events (refused_in call.outcome) so.step;
       ends = goes_left c.args.self model is call so.next so.events so.acknowledges so.is
-          c.noted.result c.noted.ensures;
+          c.noted.result c.noted.ensures.ends;
+      counts = left_counts g.D.Disk model
+          (side_next model Left so.next [] so.events (refused_in call.outcome))
+          (disks_in c.args.self) (disks_in (last_of c.noted.result)) (side_disk call.side)
+          c.noted.ensures.disks so.counts refl refl;
     })
 
 pub returns-in-Right : goal.returns-in-Right
 returns-in-Right g c model is =
     let call = c.edit-call-in-Right.result in
     let so = c.edit-call-in-Right.ensures model.pair model.right is.machines.right in
-    subst (λ s. GoesSo model (Edits (which_of s) c.args.user (edit_of c.args.edit))
+    subst (λ s. GoesSo model (failures_in c.args.self)
+    (Edits (which_of s) c.args.user (edit_of c.args.edit))
     c.noted-in-Right.result) (sym c.in-Right.is) (record {
       new = side_next model Right so.next [] so.events (refused_in call.outcome);
       steps =
@@ -38,5 +47,9 @@ returns-in-Right g c model is =
           (edit_of c.args.edit)))
           so.next so.events (refused_in call.outcome) so.step;
       ends = goes_right c.args.self model is call so.next so.events so.acknowledges so.is
-          c.noted-in-Right.result c.noted-in-Right.ensures;
+          c.noted-in-Right.result c.noted-in-Right.ensures.ends;
+      counts = right_counts g.D.Disk model
+          (side_next model Right so.next [] so.events (refused_in call.outcome))
+          (disks_in c.args.self) (disks_in (last_of c.noted-in-Right.result)) (side_disk call.side)
+          c.noted-in-Right.ensures.disks so.counts refl refl;
     })

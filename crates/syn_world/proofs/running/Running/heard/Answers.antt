@@ -2,8 +2,8 @@ use Rattle.std.proofs.Common.{◌≡◌, true}
 use Rattle.syn_world.proofs.ListLemmas.{is_heard}
 use Rattle.syn_world.proofs.running.Running.heard.Goals as goal
 
-pub returns-then-noted : goal.returns-then-noted
-returns-then-noted g c old new events runs listed told none lawful grows =
+pub returns-then-noted-clause-ends : goal.returns-then-noted-clause-ends
+returns-then-noted-clause-ends g c old new events runs listed told none lawful grows =
     let first : c.hear-heard.result ≡ true = cc in
     let second : c.note-noted.result ≡ true = cc in
     record {

@@ -18,4 +18,4 @@ returns g c model is =
     goes_found c.args.self model is c.open-opening.result c.opened_with.result
     c.opened_with.ensures c.told.result (Open Coordinator) so.next so.is
     (lift_coordinator model (OpensDown (coordinator_kind model.pair) model.coordinator) so.next _ _
-    so.step) c.told.ensures
+    so.step) so.counts c.told.ensures.disks c.told.ensures.ends

@@ -12,4 +12,4 @@ returns g c model is =
     goes_found c.args.self model is c.reopen-opening.result c.opened_with.result
     c.opened_with.ensures c.told.result (Reopen Coordinator) so.next so.is
     (lift_coordinator model (Does (coordinator_kind model.pair) model.coordinator one.Reopen)
-    so.next _ _ so.step) c.told.ensures
+    so.next _ _ so.step) so.counts c.told.ensures.disks c.told.ensures.ends

@@ -13,4 +13,4 @@ returns g c model is =
     (c.start-call.ensures model.pair model.coordinator is.machines.coordinator)
     c.told.result (Start (option_map which_of c.args.preference))
     (lift_coordinator model (Starts model.pair (option_map which_of c.args.preference)
-    model.coordinator) _ _ _) c.told.ensures
+    model.coordinator) _ _ _) c.told.ensures.disks c.told.ensures.ends

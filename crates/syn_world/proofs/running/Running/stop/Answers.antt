@@ -1,16 +1,19 @@
 use Rattle.std.proofs.Common.{subst, sym}
 use Rattle.syn_headline.specs.World.{Stop}
 use Rattle.syn_world.specs.Steps.{machine_of}
+use Rattle.syn_world.specs.Failures.{failures_in}
 use Rattle.syn_world.specs.Worlds.{StaysSo}
 use Rattle.syn_world.proofs.running.Running.stop.Goals as goal
 
 pub returns-in-Side : goal.returns-in-Side
 returns-in-Side g c model is =
-    subst (λ m. StaysSo model (Stop (machine_of m) c.args.calls) c.stop_side.result)
+    subst (λ m. StaysSo model (failures_in c.args.self) (Stop (machine_of m) c.args.calls)
+    c.stop_side.result)
     (sym c.in-Side.is)
     (c.stop_side.ensures model is)
 
 pub returns-in-Coordinator : goal.returns-in-Coordinator
 returns-in-Coordinator g c model is =
-    subst (λ m. StaysSo model (Stop (machine_of m) c.args.calls) c.stop_coordinator.result)
+    subst (λ m. StaysSo model (failures_in c.args.self) (Stop (machine_of m) c.args.calls)
+    c.stop_coordinator.result)
     (sym c.in-Coordinator.is) (c.stop_coordinator.ensures model is)

@@ -9,4 +9,4 @@ returns g c model is =
     goes_coordinator c.args.self model is (Unrefused (CoordinatorTicks model.coordinator))
     c.tick-call.result
     (c.tick-call.ensures model.pair model.coordinator is.machines.coordinator)
-    c.told.result Tick (lift_tick model _ _ _) c.told.ensures
+    c.told.result Tick (lift_tick model _ _ _) c.told.ensures.disks c.told.ensures.ends

@@ -4,8 +4,8 @@ use Rattle.syn_host.specs.Outcomes.{Tells}
 use Rattle.syn_world.proofs.ListLemmas.{is_listed}
 use Rattle.syn_world.proofs.running.Running.told.Goals as goal
 
-pub returns-then-take : goal.returns-then-take
-returns-then-take g c old new made refusals runs listed told goes =
+pub returns-then-take-clause-ends : goal.returns-then-take-clause-ends
+returns-then-take-clause-ends g c old new made refusals runs listed told goes =
     let kept : c.take.result ≡ true = cc in
     record {
       machines = record {

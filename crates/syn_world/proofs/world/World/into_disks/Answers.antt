@@ -1,5 +1,6 @@
 use Rattle.std.proofs.Common.{◌∙◌, ap, option_map, subst, sym}
-use Rattle.syn_world.specs.Openings.{StopsDisks, disks_in}
+use Rattle.syn_world.specs.Failures.{disks_in}
+use Rattle.syn_world.specs.Openings.{StopsDisks}
 use Rattle.syn_world.proofs.HeadlineLemmas.{may_run}
 use Rattle.syn_world.proofs.RunLemmas.{machines_out, value_is}
 use Rattle.syn_world.proofs.world.World.into_disks.Goals as goal
@@ -24,7 +25,7 @@ returns-clause-free g c model has =
 pub returns-clause-again : goal.returns-clause-again
 returns-clause-again g c pair disks stores steps fits run =
     may_run g.D.Disk pair disks run.later c.into_disks.result stores steps run.new run.run
-    (returns-clause-stopped g c run.later run.holds).back fits
+    (returns-clause-stopped g c run.later run.holds) fits
     (returns-clause-free g c run.new (record {
       running = run.is.running;
       there = run.is.there;

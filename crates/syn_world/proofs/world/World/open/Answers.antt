@@ -1,10 +1,11 @@
 use Rattle.std.proofs.Common.{◌∙◌, Some, ap, arith, inl, inr, refl, subst, sym}
 use Rattle.syn_host.specs.Starts.{CanStart, HoldsReplica, StartsCoordinator}
 use Rattle.syn_recovery.specs.Machines.{of_archive}
-use Rattle.syn_world.specs.Openings.{AreOfPair, failed_by, shown_on}
+use Rattle.syn_world.specs.Openings.{AreOfPair, shown_on}
 use Rattle.syn_world.specs.Worlds.{pair_by}
 use Rattle.syn_world.specs.Openings.{refuses_archive, refuses_left, refuses_right}
-use Rattle.syn_world.proofs.WorldOpenLemmas.{archive_can, left_can, right_can, world_opens}
+use Rattle.syn_world.proofs.WorldOpenLemmas.{archive_can, left_can, opened_counts, right_can}
+use Rattle.syn_world.proofs.WorldOpenLemmas.{world_opens}
 use Rattle.syn_world.proofs.world.World.open.Goals as goal
 
 pub returns-in-Err-clause-refused : goal.returns-in-Err-clause-refused
@@ -65,14 +66,10 @@ returns-in-Ok-start_coordinator-clause-pair g c =
 pub returns-in-Ok-start_coordinator-clause-failures :
     goal.returns-in-Ok-start_coordinator-clause-failures
 returns-in-Ok-start_coordinator-clause-failures g c =
-    let same = ap (failed_by g.D.Disk.failures) c.of.ensures.running in
-    omega (
-      arith,
-      same,
-      c.in-Ok.ensures.failures,
-      c.in-Ok-start_side.ensures.failures,
-      c.in-Ok-start_coordinator.ensures.failures,
-    )
+    opened_counts g.D.Disk c.args.disks c.in-Ok.left c.in-Ok-start_side.right
+    c.in-Ok-start_coordinator.coordinator c.pair-pair.result c.no_lists.result c.of.result
+    c.of.ensures.running c.in-Ok.ensures.failures c.in-Ok-start_side.ensures.failures
+    c.in-Ok-start_coordinator.ensures.failures
 
 pub returns-in-Err-clause-cause : goal.returns-in-Err-clause-cause
 returns-in-Err-clause-cause g c = refuses_left c.in-Err.ensures.cause
