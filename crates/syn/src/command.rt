@@ -17,10 +17,10 @@ use std::time::Clock;
 use syn_command::{CommandError, EditsTold, Failure, Outcome, Status, print_meanings, report};
 use syn_file::HostFile;
 use syn_files::{
-    Between, NamedDisks, Pairing, Telling, edit, export, import, migrate, print_image, print_log,
-    print_numbers, print_plan, run_session, serve_named, show,
+    NamedDisks, Telling, edit, export, import, migrate, print_image, print_log, print_numbers,
+    print_plan, run_session, serve_named, show,
 };
-use syn_words::{Line, LineError, read_words};
+use syn_words::{ImageLine, Line, LineError, read_words};
 
 /// Carries out what the words ask for, of which the first is the program's own name. What is asked
 /// for goes to `output`, and why it is refused to `errors`, with what is told of a session. Whether
@@ -60,28 +60,35 @@ where
         Ok(asked) => asked,
         Err(error) => return tell(&error, output, errors),
     };
-    let telling = telling_of(asked.is_verbose, is_terminal);
-    let told = EditsTold {
-        each: asked.is_verbose,
-        counts: is_terminal,
-    };
-    let answer = carry_out(
+    let context = Context {
         rt,
         alloc,
-        &asked.line,
-        telling,
-        told,
         files,
-        &DisksInFiles(files),
-        input,
-        output,
-        errors,
-    );
+        disks: &DisksInFiles(files),
+        telling: telling_of(asked.is_verbose, is_terminal),
+        told: EditsTold {
+            each: asked.is_verbose,
+            counts: is_terminal,
+        },
+    };
+    let answer = carry_out(&context, &asked.line, input, output, errors);
     if asked.is_verbose {
         report(Some(&asked.line), &answer, errors)
     } else {
         report(None, &answer, errors)
     }
+}
+
+/// What a command works with: the machine, its files, and disks, which may be any; and how much it
+/// tells of what it does.
+#[derive(Drop)]
+struct Context<'c, H, F, N> {
+    rt: &'c H,
+    alloc: Global,
+    files: &'c F,
+    disks: &'c N,
+    telling: Telling,
+    told: EditsTold,
 }
 
 /// Tells why the words are no command, or the help or the version where the words ask for it.
@@ -129,15 +136,10 @@ fn telling_of(is_verbose: bool, is_terminal: bool) -> Telling {
     }
 }
 
-/// Carries out the line, and answers what it came to. The disks may be any.
+/// Carries out the line, and answers what it came to.
 fn carry_out<H, F, N, I, O, E>(
-    rt: &H,
-    alloc: Global,
+    context: &Context<'_, H, F, N>,
     line: &Line<'_>,
-    telling: Telling,
-    told: EditsTold,
-    files: &F,
-    disks: &N,
     input: &mut I,
     output: &mut O,
     errors: &mut E,
@@ -152,16 +154,29 @@ where
     O: Write,
     E: Write,
 {
-    let outcome = match (session_of(line), line) {
-        (Some(pairing), Line::Plan { .. }) => print_plan(rt, alloc, disks, pairing, output)?,
-        (Some(pairing), _) => run_session(rt, alloc, disks, pairing, telling, output, errors)?,
-        (None, Line::Import(line)) => {
-            let position = import(rt, alloc, disks, files, line, told, errors)?;
-            writeln!(output, "ok {position}")?;
+    let (rt, alloc, disks) = (context.rt, context.alloc, context.disks);
+    let outcome = match line {
+        Line::Session(pairing) => {
+            run_session(rt, alloc, disks, *pairing, context.telling, output, errors)?
+        }
+        Line::Plan(pairing) => print_plan(rt, alloc, disks, *pairing, output)?,
+        Line::Edit(line) => done_at(edit(rt, alloc, line, disks, input)?, output)?,
+        Line::Import(line) => {
+            let (files, told) = (context.files, context.told);
+            done_at(import(rt, alloc, disks, files, line, told, errors)?, output)?
+        }
+        Line::Export(line) => done_at(export(rt, alloc, disks, context.files, line)?, output)?,
+        Line::Image(line) => carry_out_on_image(context, line, output)?,
+        Line::Serve {
+            file,
+            address,
+            connections,
+        } => {
+            serve_named(rt, alloc, disks, file, address, *connections)?;
             Outcome::Done
         }
-        (None, _) => {
-            carry_out_one(rt, alloc, line, files, disks, input, output)?;
+        Line::Simulate { script, is_traced } => {
+            play_script(alloc, context.files, script, *is_traced, output)?;
             Outcome::Done
         }
     };
@@ -169,97 +184,41 @@ where
     Ok(outcome)
 }
 
-/// What the session of the line is of, where the line runs or plans one.
-fn session_of<'a>(line: &Line<'a>) -> Option<Pairing<'a>> {
-    let (between, archive, preference) = match *line {
-        Line::Sync {
-            archive,
-            left,
-            right,
-            preference,
-        } => (Between::Servers { left, right }, archive, preference),
-        Line::Run {
-            left,
-            right,
-            archive,
-            preference,
-        } => (Between::Named { left, right }, archive, preference),
-        Line::Plan {
-            left,
-            right,
-            archive,
-            is_served,
-            preference,
-        } => (between(left, right, is_served), archive, preference),
-        _ => return None,
-    };
-    Some(Pairing {
-        between,
-        archive,
-        preference,
-    })
+/// Tells that the command was done, as the last event of the replica, which has this position.
+fn done_at<O: Write>(position: u64, output: &mut O) -> Result<Outcome, Failure> {
+    writeln!(output, "ok {position}")?;
+    Ok(Outcome::Done)
 }
 
-/// The replicas of these names, or those that are served at these addresses.
-fn between<'a>(left: &'a str, right: &'a str, is_served: bool) -> Between<'a> {
-    if is_served {
-        Between::Servers { left, right }
-    } else {
-        Between::Named { left, right }
-    }
-}
-
-/// Carries out a line that is about no session, and is no import.
-fn carry_out_one<H, F, N, I, O>(
-    rt: &H,
-    alloc: Global,
-    line: &Line<'_>,
-    files: &F,
-    disks: &N,
-    input: &mut I,
+/// Carries out a line about an image, and answers what it came to.
+fn carry_out_on_image<H, F, N, O>(
+    context: &Context<'_, H, F, N>,
+    line: &ImageLine<'_>,
     output: &mut O,
-) -> Result<(), Failure>
+) -> Result<Outcome, Failure>
 where
-    H: Net<Listener = TcpListener, Stream = TcpStream> + Threads + Wait + Clock + Eprint,
-    H: Copy + Sync,
+    H: Net<Listener = TcpListener, Stream = TcpStream> + Clock,
     F: Files,
     F::File: HostFile,
     N: NamedDisks,
-    I: Read,
     O: Write,
 {
+    let (rt, alloc, disks) = (context.rt, context.alloc, context.disks);
     match line {
-        Line::Format { kind, pair, file } => {
-            format(alloc, files, file, *kind, *pair)?;
+        ImageLine::Format { kind, pair, file } => {
+            format(alloc, context.files, file, *kind, *pair)?;
             writeln!(output, "ok")?;
         }
-        Line::Edit(line) => {
-            let position = edit(rt, alloc, line, disks, input)?;
-            writeln!(output, "ok {position}")?;
-        }
-        Line::Show { place } => print_image(rt, alloc, disks, *place, output)?,
-        Line::ShowPath { place, path } => show(rt, alloc, disks, *place, path, output)?,
-        Line::Check { file } => print_numbers(alloc, disks, file, output)?,
-        Line::Migrate { file } => {
+        ImageLine::Show { place } => print_image(rt, alloc, disks, *place, output)?,
+        ImageLine::ShowPath { place, path } => show(rt, alloc, disks, *place, path, output)?,
+        ImageLine::Check { file } => print_numbers(alloc, disks, file, output)?,
+        ImageLine::Migrate { file } => {
             migrate(alloc, disks, file)?;
             writeln!(output, "ok")?;
         }
-        Line::Log { file, lines } => print_log(alloc, disks, file, *lines, output)?,
-        Line::Export(line) => {
-            let position = export(rt, alloc, disks, files, line)?;
-            writeln!(output, "ok {position}")?;
-        }
-        Line::Serve {
-            file,
-            address,
-            connections,
-        } => serve_named(rt, alloc, disks, file, address, *connections)?,
-        Line::Simulate { script, is_traced } => {
-            play_script(alloc, files, script, *is_traced, output)?;
-        }
-        Line::Import(_) | Line::Sync { .. } | Line::Run { .. } | Line::Plan { .. } => {}
+        ImageLine::Log { file, lines } => print_log(alloc, disks, file, *lines, output)?,
     }
-    Ok(())
+    Ok(Outcome::Done)
 }
 
 /// Runs the script in the file, and draws its steps first where they are traced.

@@ -6,12 +6,12 @@ use crate::error::CommandError;
 use crate::failure::Failure;
 use crate::outcome::Outcome;
 use crate::status::{Status, status_in};
-use std::io::Write;
+use std::io::{self, Write};
 use syn_disk::DISK_SIZE;
 use syn_file::OpenError;
 use syn_folder::FolderError;
 use syn_refusal::Refusal;
-use syn_words::Line;
+use syn_words::{Between, ImageLine, Line};
 
 /// The status of the answer. A refusal is told in one line, and where `asked` is given in a second
 /// one in plain words. Of a script the first faulty line is told.
@@ -67,40 +67,40 @@ fn refuse<E: Write>(error: &CommandError, errors: &mut E) {
     }
 }
 
-/// What was refused, of which file or path, and what the system said of it, where it said
-/// something.
-fn explain<E: Write>(line: &Line<'_>, error: &CommandError, errors: &mut E) {
-    let _ = match line {
-        Line::Format { file, .. }
-        | Line::Check { file }
-        | Line::Migrate { file }
-        | Line::Log { file, .. } => write!(errors, "syn: {file}"),
-        Line::Show { place } => write!(errors, "syn: {}", place.as_str()),
+/// What the line is about: its files, paths, folders and addresses.
+fn name_line<E: Write>(line: &Line<'_>, errors: &mut E) -> io::Result<()> {
+    match line {
+        Line::Image(image) => name_image_line(image, errors),
         Line::Edit(edit) => write!(errors, "syn: {} in {}", edit.path, edit.place.as_str()),
-        Line::ShowPath { place, path } => write!(errors, "syn: {path} in {}", place.as_str()),
         Line::Export(line) => write!(errors, "syn: {} into {}", line.place.as_str(), line.folder),
         Line::Import(line) => write!(errors, "syn: {} into {}", line.folder, line.place.as_str()),
         Line::Serve { file, address, .. } => write!(errors, "syn: {file} at {address}"),
-        Line::Sync {
-            archive,
-            left,
-            right,
-            ..
+        Line::Session(pairing) | Line::Plan(pairing) => {
+            let (Between::Files { left, right } | Between::Servers { left, right }) =
+                pairing.between;
+            let archive = pairing.archive;
+            write!(errors, "syn: {left} and {right} with {archive}")
         }
-        | Line::Run {
-            left,
-            right,
-            archive,
-            ..
-        }
-        | Line::Plan {
-            left,
-            right,
-            archive,
-            ..
-        } => write!(errors, "syn: {left} and {right} with {archive}"),
         Line::Simulate { script, .. } => write!(errors, "syn: {script}"),
-    };
+    }
+}
+
+/// What a line about an image is about.
+fn name_image_line<E: Write>(line: &ImageLine<'_>, errors: &mut E) -> io::Result<()> {
+    match line {
+        ImageLine::Format { file, .. }
+        | ImageLine::Check { file }
+        | ImageLine::Migrate { file }
+        | ImageLine::Log { file, .. } => write!(errors, "syn: {file}"),
+        ImageLine::Show { place } => write!(errors, "syn: {}", place.as_str()),
+        ImageLine::ShowPath { place, path } => write!(errors, "syn: {path} in {}", place.as_str()),
+    }
+}
+
+/// What was refused, of which file or path, and what the system said of it, where it said
+/// something.
+fn explain<E: Write>(line: &Line<'_>, error: &CommandError, errors: &mut E) {
+    let _ = name_line(line, errors);
     let refusal = error.refusal();
     let plain = refusal.explanation();
     let _ = match error {

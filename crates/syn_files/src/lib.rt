@@ -29,4 +29,4 @@ pub use images::{edit, migrate, print_image, print_log, print_numbers, show};
 pub use named::NamedDisks;
 pub use network::serve_named;
 pub use plans::print_plan;
-pub use sessions::{Between, Pairing, Telling, run_session};
+pub use sessions::{Telling, run_session};

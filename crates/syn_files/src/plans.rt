@@ -1,7 +1,6 @@
 //! What a session of images that have names, or of served replicas, would do.
 
 use crate::named::{NamedDisks, archive_to_read};
-use crate::sessions::{Between, Pairing};
 use crate::side_by_side::{Images, images_in};
 use std::alloc::Global;
 use std::io::Write;
@@ -19,6 +18,7 @@ use syn_refusal::Refusal;
 use syn_replica::Replica;
 use syn_standing::ReplicaError;
 use syn_user::SideConnection;
+use syn_words::{Between, Pairing};
 
 /// Prints what a session of the replicas and their archive would do, and answers what there is to
 /// do. Nothing is written, and no session begins.
@@ -47,7 +47,7 @@ pub fn print_plan<H: Net<Stream = TcpStream> + Threads + Sync, N: NamedDisks, O:
             let planned = plan_between(alloc, &mut left, &mut right, archive.tree(), preference);
             print_planned(alloc, planned, archive.tree(), output)
         }
-        Between::Named { left, right } => {
+        Between::Files { left, right } => {
             if left == right {
                 return Err(CommandError::Open(OpenError::Busy));
             }

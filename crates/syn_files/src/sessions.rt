@@ -24,24 +24,7 @@ use syn_replica::Replica;
 use syn_session::Report;
 use syn_shared::SharedReplica;
 use syn_sync::{Progress, Unwatched, Watch};
-
-/// What a session is between.
-#[derive(Clone, Copy, Debug)]
-pub enum Between<'a> {
-    /// The replicas that are served at these addresses, each `HOST:PORT`.
-    Servers { left: &'a str, right: &'a str },
-    /// The replicas of these names.
-    Named { left: &'a str, right: &'a str },
-}
-
-/// Two replicas and their archive, and the side that goes to the other where both changed.
-#[derive(Clone, Copy, Debug)]
-pub struct Pairing<'a> {
-    pub between: Between<'a>,
-    /// The name of the archive.
-    pub archive: &'a str,
-    pub preference: Option<Side>,
-}
+use syn_words::{Between, Pairing};
 
 /// How much is told of a session as it goes.
 #[derive(Clone, Copy, Debug, PartialEq, Eq)]
@@ -127,7 +110,7 @@ where
                 output,
             )
         }
-        Between::Named { left, right } => {
+        Between::Files { left, right } => {
             let name = pairing.archive;
             let images = images_in(rt, alloc, disks, left, right, name, Access::Write)?;
             drive_opened(rt, alloc, images, pairing.preference, watch, output)

@@ -10,10 +10,14 @@ use Rattle.syn_words.specs.Reads.{AreGiven, HasMode, HasPlace, HasUser, HasValue
 use Rattle.syn_words.specs.Reads.{HasNumber, IsGiven, IsNoMode, TakesPreference, IsOtherSide}
 use Rattle.syn_words.specs.Reads.{IsNoNumber, IsNumber, IsOtherKind, IsWrong, IsWrongIn}
 use Rattle.syn_words.specs.Reads.{MayHaveNumber, MayHaveSide, NothingReads, kind_word, side_word}
-use Rattle.syn_words.specs.Reads.{verb_of}
+use Rattle.syn_words.specs.Reads.{HasImageValues, HasSides, image_verb, session_verb, verb_of}
 use Rattle.syn_words.specs.Verbs.{edit_verb, name_of, values_of, word_of}
+use Rattle.syn_words.specs.declared.line.Between.{Between}
+use Rattle.syn_words.specs.declared.line.Between.TheVariants.{Files, Servers}
 use Rattle.syn_words.specs.declared.line.EditKind.{EditKind}
 use Rattle.syn_words.specs.declared.line.EditKind.TheVariants as kind
+use Rattle.syn_words.specs.declared.line.ImageLine.{ImageLine}
+use Rattle.syn_words.specs.declared.line.ImageLine.TheVariants as image
 use Rattle.syn_words.specs.declared.line.Line.{Line}
 use Rattle.syn_words.specs.declared.line.Line.TheVariants as line
 use Rattle.syn_words.specs.declared.line.ReplicaPlace.{ReplicaPlace}
@@ -82,30 +86,52 @@ edit_given rows kind.Remove has given = given
 edit_given rows (kind.Chmod mode) has given =
     (given.0, (given.1.0, (given.1.1.0, ((mode_digits (mode_of mode), has), tt))))
 
+image_given : (rows : List Row) (l : ImageLine) → HasImageValues rows l →
+    AreGiven rows (values_of (image_verb l))
+image_given rows (image.Format kind pair file) has =
+    ((kind_word kind, has.0), ((has.1.0, has.1.1), ((file.now, has.2), tt)))
+image_given rows (image.Show place) has = (file_given rows place has.0, tt)
+image_given rows (image.ShowPath place path) has = (file_given rows place has.0, tt)
+image_given rows (image.Check file) has = ((file.now, has), tt)
+image_given rows (image.Migrate file) has = ((file.now, has), tt)
+image_given rows (image.Log file lines) has = ((file.now, has.0), tt)
+
+left_given : (rows : List Row) (between : Between) → HasSides rows between →
+    IsGiven rows (name_of value.Left)
+left_given rows (Files left right) has = (left.now, has.0)
+left_given rows (Servers left right) has = (left.now, has.0)
+
+right_given : (rows : List Row) (between : Between) → HasSides rows between →
+    IsGiven rows (name_of value.Right)
+right_given rows (Files left right) has = (right.now, has.1)
+right_given rows (Servers left right) has = (right.now, has.1)
+
+-- in whichever order a command has them
+session_given : (rows : List Row) (between : Between) → IsGiven rows (name_of value.Left) →
+    IsGiven rows (name_of value.Right) → IsGiven rows (name_of value.Archive) →
+    AreGiven rows (values_of (session_verb between))
+session_given rows (Files left right) one other archive = (one, (other, (archive, tt)))
+session_given rows (Servers left right) one other archive = (archive, (one, (other, tt)))
+
 pub values_given : (rows : List Row) (l : Line) → HasValues rows l →
     AreGiven rows (values_of (verb_of l))
-values_given rows (line.Format kind pair file) has =
-    ((kind_word kind, has.0), ((has.1.0, has.1.1), ((file.now, has.2), tt)))
+values_given rows (line.Image about) has = image_given rows about has
 values_given rows (line.Edit edit) has =
     edit_given rows edit.kind has.3
     (file_given rows edit.place has.0, ((has.1.0, has.1.1), ((edit.path.now, has.2), tt)))
-values_given rows (line.Show place) has = (file_given rows place has.0, tt)
-values_given rows (line.ShowPath place path) has = (file_given rows place has.0, tt)
-values_given rows (line.Check file) has = ((file.now, has), tt)
-values_given rows (line.Migrate file) has = ((file.now, has), tt)
-values_given rows (line.Log file lines) has = ((file.now, has.0), tt)
 values_given rows (line.Export exported) has =
     (file_given rows exported.place has.0, ((exported.folder.now, has.1), tt))
 values_given rows (line.Import imported) has =
     (file_given rows imported.place has.0, ((has.1.0, has.1.1), ((imported.folder.now, has.2), tt)))
 values_given rows (line.Serve file address connections) has =
     ((file.now, has.0), ((address.now, has.1), tt))
-values_given rows (line.Sync archive left right preference) has =
-    ((archive.now, has.0), ((left.now, has.1), ((right.now, has.2), tt)))
-values_given rows (line.Run left right archive preference) has =
-    ((left.now, has.0), ((right.now, has.1), ((archive.now, has.2), tt)))
-values_given rows (line.Plan left right archive is_served preference) has =
-    ((left.now, has.0), ((right.now, has.1), ((archive.now, has.2), tt)))
+values_given rows (line.Session pairing) has =
+    session_given rows pairing.between (left_given rows pairing.between has.sides)
+    (right_given rows pairing.between has.sides) (pairing.archive.now, has.archive)
+values_given rows (line.Plan pairing) has = (
+  left_given rows pairing.between has.0.sides,
+  (right_given rows pairing.between has.0.sides, ((pairing.archive.now, has.0.archive), tt)),
+)
 values_given rows (line.Simulate script is_traced) has = ((script.now, has.0), tt)
 
 -- ---- what is missing was not given
@@ -135,6 +161,7 @@ no_optional_number : (rows : List Row) (id : Text) (most : Option ℕ) → IsNoN
 no_optional_number rows id None wrong has = no_text _ wrong.0 has wrong.1
 no_optional_number rows id (Some n) wrong has = no_number 64 rows id n wrong has
 
+-- the command of an edit, of a session or of an image is none of the others
 is_edit : Verb → Bool
 is_edit verb.Put = true
 is_edit verb.MakeDir = true
@@ -152,34 +179,89 @@ edit_is (kind.Chmod mode) = refl
 no_edit : (kind : EditKind) (v : Verb) → edit_verb kind ≡ v → is_edit v ≡ false → ⊥
 no_edit kind v same none = true≢false (sym (edit_is kind) ∙ (ap is_edit same ∙ none))
 
+is_session : Verb → Bool
+is_session verb.Run = true
+is_session verb.Sync = true
+is_session _ = false
+
+session_is : (between : Between) → is_session (session_verb between) ≡ true
+unfolding is_session
+session_is (Files left right) = refl
+session_is (Servers left right) = refl
+
+no_session : (between : Between) (v : Verb) → session_verb between ≡ v → is_session v ≡ false → ⊥
+no_session between v same none =
+    true≢false (sym (session_is between) ∙ (ap is_session same ∙ none))
+
+is_image : Verb → Bool
+is_image verb.Format = true
+is_image verb.Show = true
+is_image verb.Check = true
+is_image verb.Migrate = true
+is_image verb.Log = true
+is_image _ = false
+
+image_is : (l : ImageLine) → is_image (image_verb l) ≡ true
+unfolding is_image
+image_is (image.Format kind pair file) = refl
+image_is (image.Show place) = refl
+image_is (image.ShowPath place path) = refl
+image_is (image.Check file) = refl
+image_is (image.Migrate file) = refl
+image_is (image.Log file lines) = refl
+
+no_image : (l : ImageLine) (v : Verb) → image_verb l ≡ v → is_image v ≡ false → ⊥
+no_image l v same none = true≢false (sym (image_is l) ∙ (ap is_image same ∙ none))
+
+no_session_edits : (between : Between) → IsEdit (session_verb between) → ⊥
+no_session_edits (Files left right) is = is
+no_session_edits (Servers left right) is = is
+
+no_image_edits : (l : ImageLine) → IsEdit (image_verb l) → ⊥
+no_image_edits (image.Format kind pair file) is = is
+no_image_edits (image.Show place) is = is
+no_image_edits (image.ShowPath place path) is = is
+no_image_edits (image.Check file) is = is
+no_image_edits (image.Migrate file) is = is
+no_image_edits (image.Log file lines) is = is
+
 module _ (rows : List Row) where
   kind_right : (l : Line) → verb_of l ≡ verb.Format → IsOtherKind rows → HasValues rows l → ⊥
-  unfolding is_edit
-  kind_right (line.Format kind pair file) is wrong has =
+  unfolding is_edit is_session
+  kind_right (line.Image (image.Format kind pair file)) is wrong has =
       wrong.2 kind (same_Some wrong.0 (kind_word kind) (sym wrong.1 ∙ has.0))
   kind_right (line.Edit edit) is wrong has = no_edit edit.kind verb.Format is refl
+  kind_right (line.Session pairing) is wrong has =
+      no_session pairing.between verb.Format is refl
   kind_right _ is wrong has = cc
 
   pair_right : (l : Line) → verb_of l ≡ verb.Format → IsNoNumber 64 rows (name_of value.Pair) →
       HasValues rows l → ⊥
-  unfolding is_edit
-  pair_right (line.Format kind pair file) is wrong has =
+  unfolding is_edit is_session
+  pair_right (line.Image (image.Format kind pair file)) is wrong has =
       no_number 64 rows (name_of value.Pair) pair wrong has.1
   pair_right (line.Edit edit) is wrong has = no_edit edit.kind verb.Format is refl
+  pair_right (line.Session pairing) is wrong has =
+      no_session pairing.between verb.Format is refl
   pair_right _ is wrong has = cc
 
   editor_right : (l : Line) → IsEdit (verb_of l) → IsNoNumber 32 rows (name_of value.User) →
       HasValues rows l → ⊥
   editor_right (line.Edit edit) is wrong has =
       no_number 32 rows (name_of value.User) edit.user wrong has.1
+  editor_right (line.Image about) is wrong has = no_image_edits about is
+  editor_right (line.Session pairing) is wrong has = no_session_edits pairing.between is
   editor_right _ is wrong has = is
 
   importer_right : (l : Line) → verb_of l ≡ verb.Import → IsNoNumber 32 rows (name_of value.User) →
       HasValues rows l → ⊥
-  unfolding is_edit
+  unfolding is_edit is_session is_image
   importer_right (line.Import imported) is wrong has =
       no_number 32 rows (name_of value.User) imported.user wrong has.1
+  importer_right (line.Image about) is wrong has = no_image about verb.Import is refl
   importer_right (line.Edit edit) is wrong has = no_edit edit.kind verb.Import is refl
+  importer_right (line.Session pairing) is wrong has =
+      no_session pairing.between verb.Import is refl
   importer_right _ is wrong has = cc
 
   -- a mode that is given is one
@@ -189,7 +271,10 @@ module _ (rows : List Row) where
   no_mode _ is wrong has = cc
 
   mode_right : (l : Line) → verb_of l ≡ verb.Chmod → IsNoMode rows → HasValues rows l → ⊥
+  unfolding is_session is_image
+  mode_right (line.Image about) is wrong has = no_image about verb.Chmod is refl
   mode_right (line.Edit edit) is wrong has = no_mode edit.kind is wrong has.3
+  mode_right (line.Session pairing) is wrong has = no_session pairing.between verb.Chmod is refl
   mode_right _ is wrong has = cc
 
   user_right : (l : Line) → HasUser (verb_of l) → IsNoNumber 32 rows (name_of value.User) →
@@ -199,18 +284,22 @@ module _ (rows : List Row) where
 
   connections_right : (l : Line) → verb_of l ≡ verb.Serve →
       IsNoNumber 64 rows (name_of value.Connections) → HasValues rows l → ⊥
-  unfolding is_edit
+  unfolding is_edit is_session is_image
   connections_right (line.Serve file address connections) is wrong has =
       no_optional_number rows (name_of value.Connections) connections wrong has.2
+  connections_right (line.Image about) is wrong has = no_image about verb.Serve is refl
   connections_right (line.Edit edit) is wrong has = no_edit edit.kind verb.Serve is refl
+  connections_right (line.Session pairing) is wrong has =
+      no_session pairing.between verb.Serve is refl
   connections_right _ is wrong has = cc
 
   lines_right : (l : Line) → verb_of l ≡ verb.Log → IsNoNumber 64 rows (name_of value.Lines) →
       HasValues rows l → ⊥
-  unfolding is_edit
-  lines_right (line.Log file lines) is wrong has =
+  unfolding is_edit is_session
+  lines_right (line.Image (image.Log file lines)) is wrong has =
       no_optional_number rows (name_of value.Lines) lines wrong has.1
   lines_right (line.Edit edit) is wrong has = no_edit edit.kind verb.Log is refl
+  lines_right (line.Session pairing) is wrong has = no_session pairing.between verb.Log is refl
   lines_right _ is wrong has = cc
 
   -- a side that is given is one
@@ -225,14 +314,21 @@ module _ (rows : List Row) where
   no_edit_prefers kind.Remove takes = takes
   no_edit_prefers (kind.Chmod mode) takes = takes
 
+  no_image_prefers : (l : ImageLine) → TakesPreference (image_verb l) → ⊥
+  no_image_prefers (image.Format kind pair file) takes = takes
+  no_image_prefers (image.Show place) takes = takes
+  no_image_prefers (image.ShowPath place path) takes = takes
+  no_image_prefers (image.Check file) takes = takes
+  no_image_prefers (image.Migrate file) takes = takes
+  no_image_prefers (image.Log file lines) takes = takes
+
   preference_right : (l : Line) → TakesPreference (verb_of l) → IsOtherSide rows →
       HasValues rows l → ⊥
-  preference_right (line.Sync archive left right preference) takes wrong has =
-      no_side preference wrong has.3
-  preference_right (line.Run left right archive preference) takes wrong has =
-      no_side preference wrong has.3
-  preference_right (line.Plan left right archive is_served preference) takes wrong has =
-      no_side preference wrong has.4
+  preference_right (line.Session pairing) takes wrong has =
+      no_side pairing.preference wrong has.preference
+  preference_right (line.Plan pairing) takes wrong has =
+      no_side pairing.preference wrong has.0.preference
+  preference_right (line.Image about) takes wrong has = no_image_prefers about takes
   preference_right (line.Edit edit) takes wrong has = no_edit_prefers edit.kind takes
   preference_right _ takes wrong has = takes
 

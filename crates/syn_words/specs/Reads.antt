@@ -15,14 +15,19 @@ use Rattle.syn_words.specs.App.{syn_app}
 use Rattle.syn_words.specs.Verbs.{edit_verb, name_of, values_of, word_of}
 use Rattle.syn_words.specs.declared.error.LineError.{LineError}
 use Rattle.syn_words.specs.declared.error.LineError.TheVariants.{Usage, Value, Memory}
+use Rattle.syn_words.specs.declared.line.Between.{Between}
+use Rattle.syn_words.specs.declared.line.Between.TheVariants.{Files, Servers}
 use Rattle.syn_words.specs.declared.line.EditKind.{EditKind}
 use Rattle.syn_words.specs.declared.line.EditKind.TheVariants as kind
 use Rattle.syn_words.specs.declared.line.Existing.{Existing}
 use Rattle.syn_words.specs.declared.line.Existing.TheVariants.{Refused, Updated, Mirrored}
 use Rattle.syn_words.specs.declared.line.ImageKind.{ImageKind}
 use Rattle.syn_words.specs.declared.line.ImageKind.TheVariants.{Replica, Archive}
+use Rattle.syn_words.specs.declared.line.ImageLine.{ImageLine}
+use Rattle.syn_words.specs.declared.line.ImageLine.TheVariants as image
 use Rattle.syn_words.specs.declared.line.Line.{Line}
 use Rattle.syn_words.specs.declared.line.Line.TheVariants as line
+use Rattle.syn_words.specs.declared.line.Pairing.{Pairing}
 use Rattle.syn_words.specs.declared.line.ReplicaPlace.{ReplicaPlace}
 use Rattle.syn_words.specs.declared.line.ReplicaPlace.TheVariants as place
 use Rattle.syn_words.specs.declared.value.ValueName.{ValueName}
@@ -99,37 +104,69 @@ TakesPreference verb.Run = Unit {0}
 TakesPreference verb.Plan = Unit {0}
 TakesPreference _ = ⊥
 
+-- the command of a line about an image
+abbrev pub image_verb : ImageLine → Verb
+image_verb (image.Format kind pair file) = verb.Format
+image_verb (image.Show place) = verb.Show
+image_verb (image.ShowPath place path) = verb.Show
+image_verb (image.Check file) = verb.Check
+image_verb (image.Migrate file) = verb.Migrate
+image_verb (image.Log file lines) = verb.Log
+
+-- the command that runs a session
+abbrev pub session_verb : Between → Verb
+session_verb (Files left right) = verb.Run
+session_verb (Servers left right) = verb.Sync
+
 -- the command of a line
 abbrev pub verb_of : Line → Verb
-verb_of (line.Format kind pair file) = verb.Format
+verb_of (line.Image about) = image_verb about
 verb_of (line.Edit edit) = edit_verb edit.kind
-verb_of (line.Show place) = verb.Show
-verb_of (line.ShowPath place path) = verb.Show
-verb_of (line.Check file) = verb.Check
-verb_of (line.Migrate file) = verb.Migrate
-verb_of (line.Log file lines) = verb.Log
 verb_of (line.Export exported) = verb.Export
 verb_of (line.Import imported) = verb.Import
 verb_of (line.Serve file address connections) = verb.Serve
-verb_of (line.Sync archive left right preference) = verb.Sync
-verb_of (line.Run left right archive preference) = verb.Run
-verb_of (line.Plan left right archive is_served preference) = verb.Plan
+verb_of (line.Session pairing) = session_verb pairing.between
+verb_of (line.Plan pairing) = verb.Plan
 verb_of (line.Simulate script is_traced) = verb.Simulate
+
+-- the values of a line about an image are those that are given
+abbrev pub HasImageValues : List Row → ImageLine → Type 0
+HasImageValues rows (image.Format kind pair file) =
+    HasText rows (name_of value.Kind) (kind_word kind)
+    × HasNumber 64 rows (name_of value.Pair) pair × HasText rows (name_of value.File) file.now
+HasImageValues rows (image.Show place) = HasPlace rows place
+    × (first_of (name_of value.Path) rows ≡ None)
+HasImageValues rows (image.ShowPath place path) = HasPlace rows place
+    × HasText rows (name_of value.Path) path.now
+HasImageValues rows (image.Check file) = HasText rows (name_of value.File) file.now
+HasImageValues rows (image.Migrate file) = HasText rows (name_of value.File) file.now
+HasImageValues rows (image.Log file lines) = HasText rows (name_of value.File) file.now
+    × MayHaveNumber 64 rows (name_of value.Lines) lines
+
+-- what the session is between: what is given as the left, and what as the right
+abbrev pub HasSides : List Row → Between → Type 0
+HasSides rows (Files left right) = HasText rows (name_of value.Left) left.now
+    × HasText rows (name_of value.Right) right.now
+HasSides rows (Servers left right) = HasText rows (name_of value.Left) left.now
+    × HasText rows (name_of value.Right) right.now
+
+-- servers are asked exactly where the flag is used
+abbrev pub AreServed : List Row → Between → Type 0
+AreServed rows (Files left right) = ¬ IsSet rows (codes "served")
+AreServed rows (Servers left right) = IsSet rows (codes "served")
+
+-- the two sides of a session, its archive and the side that it prefers are those that are given
+pub record HasPairing (rows : List Row) (pairing : Pairing) : Type 0 where
+  pub sides : HasSides rows pairing.between
+  pub archive : HasText rows (name_of value.Archive) pairing.archive.now
+  pub preference : MayHaveSide rows pairing.preference
 
 -- the values of a line are those that are given
 abbrev pub HasValues : List Row → Line → Type 0
-HasValues rows (line.Format kind pair file) = HasText rows (name_of value.Kind) (kind_word kind)
-    × HasNumber 64 rows (name_of value.Pair) pair × HasText rows (name_of value.File) file.now
+HasValues rows (line.Image about) = HasImageValues rows about
 HasValues rows (line.Edit edit) = HasPlace rows edit.place
     × HasNumber 32 rows (name_of value.User) edit.user
     × HasText rows (name_of value.Path) edit.path.now × HasMode rows edit.kind
-HasValues rows (line.Show place) = HasPlace rows place × (first_of (name_of value.Path) rows ≡ None)
-HasValues rows (line.ShowPath place path) = HasPlace rows place
-    × HasText rows (name_of value.Path) path.now
-HasValues rows (line.Check file) = HasText rows (name_of value.File) file.now
-HasValues rows (line.Migrate file) = HasText rows (name_of value.File) file.now
-HasValues rows (line.Log file lines) = HasText rows (name_of value.File) file.now
-    × MayHaveNumber 64 rows (name_of value.Lines) lines
 HasValues rows (line.Export exported) = HasPlace rows exported.place
     × HasText rows (name_of value.Folder) exported.folder.now
     × MayHaveText rows (name_of value.Path) exported.path × HasExisting rows exported.existing
@@ -141,16 +178,8 @@ HasValues rows (line.Import imported) = HasPlace rows imported.place
 HasValues rows (line.Serve file address connections) = HasText rows (name_of value.File) file.now
     × HasText rows (name_of value.Address) address.now
     × MayHaveNumber 64 rows (name_of value.Connections) connections
-HasValues rows (line.Sync archive left right preference) =
-    HasText rows (name_of value.Archive) archive.now × HasText rows (name_of value.Left) left.now
-    × HasText rows (name_of value.Right) right.now × MayHaveSide rows preference
-HasValues rows (line.Run left right archive preference) = HasText rows (name_of value.Left) left.now
-    × HasText rows (name_of value.Right) right.now
-    × HasText rows (name_of value.Archive) archive.now × MayHaveSide rows preference
-HasValues rows (line.Plan left right archive is_served preference) =
-    HasText rows (name_of value.Left) left.now × HasText rows (name_of value.Right) right.now
-    × HasText rows (name_of value.Archive) archive.now
-    × (IsTrue is_served ↔ IsSet rows (codes "served")) × MayHaveSide rows preference
+HasValues rows (line.Session pairing) = HasPairing rows pairing
+HasValues rows (line.Plan pairing) = HasPairing rows pairing × AreServed rows pairing.between
 HasValues rows (line.Simulate script is_traced) = HasText rows (name_of value.Script) script.now
     × (IsTrue is_traced ↔ IsSet rows (codes "trace"))
 

@@ -21,7 +21,8 @@ mod words;
 
 pub use error::LineError;
 pub use line::{
-    Asked, EditKind, EditLine, Existing, ExportLine, ImageKind, ImportLine, Line, ReplicaPlace,
+    Asked, Between, EditKind, EditLine, Existing, ExportLine, ImageKind, ImageLine, ImportLine,
+    Line, Pairing, ReplicaPlace,
 };
 pub use value::ValueName;
 pub use verb::Verb;

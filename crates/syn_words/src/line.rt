@@ -87,17 +87,34 @@ pub struct ImportLine<'a> {
     pub is_skipping: bool,
 }
 
-/// A command with its values.
+/// What a session is between.
 #[derive(Clone, Copy, Debug, PartialEq, Eq)]
-pub enum Line<'a> {
+pub enum Between<'a> {
+    /// The replicas in the files of these names.
+    Files { left: &'a str, right: &'a str },
+    /// The replicas that are served at these addresses, each HOST:PORT. A text is looked at when it
+    /// is used.
+    Servers { left: &'a str, right: &'a str },
+}
+
+/// Two replicas and their archive, and the side that goes to the other where both changed.
+#[derive(Clone, Copy, Debug, PartialEq, Eq)]
+pub struct Pairing<'a> {
+    pub between: Between<'a>,
+    /// The file of the archive.
+    pub archive: &'a str,
+    pub preference: Option<Side>,
+}
+
+/// What is done about an image.
+#[derive(Clone, Copy, Debug, PartialEq, Eq)]
+pub enum ImageLine<'a> {
     /// Makes the file an image of the kind, for the pair.
     Format {
         kind: ImageKind,
         pair: u64,
         file: &'a str,
     },
-    /// Edits a replica.
-    Edit(EditLine<'a>),
     /// Prints a whole image.
     Show {
         place: ReplicaPlace<'a>,
@@ -120,6 +137,15 @@ pub enum Line<'a> {
         file: &'a str,
         lines: Option<u64>,
     },
+}
+
+/// A command with its values.
+#[derive(Clone, Copy, Debug, PartialEq, Eq)]
+pub enum Line<'a> {
+    /// Makes, prints or migrates an image.
+    Image(ImageLine<'a>),
+    /// Edits a replica.
+    Edit(EditLine<'a>),
     /// Writes what a directory of a replica has into a folder.
     Export(ExportLine<'a>),
     /// Makes a directory of a replica what a folder is.
@@ -130,29 +156,10 @@ pub enum Line<'a> {
         address: &'a str,
         connections: Option<u64>,
     },
-    /// Runs a session of the replicas that are served at two addresses, with the archive in a file.
-    Sync {
-        archive: &'a str,
-        left: &'a str,
-        right: &'a str,
-        preference: Option<Side>,
-    },
-    /// Runs a session of the replicas and the archive in three files.
-    Run {
-        left: &'a str,
-        right: &'a str,
-        archive: &'a str,
-        preference: Option<Side>,
-    },
-    /// Prints what a session would do of the replicas in two files, or that are served at two
-    /// addresses, and of the archive in a file.
-    Plan {
-        left: &'a str,
-        right: &'a str,
-        archive: &'a str,
-        is_served: bool,
-        preference: Option<Side>,
-    },
+    /// Runs a session.
+    Session(Pairing<'a>),
+    /// Prints what a session would do.
+    Plan(Pairing<'a>),
     /// Runs the steps of a script on a world of three machines in memory, and tells each of them
     /// where it is traced.
     Simulate {

@@ -8,7 +8,10 @@ ghost use Rattle.syn_tree.specs.Modes.{mode_digits, mode_of};
 ghost use Rattle.syn_words.specs.inner.Lacking.{IsLack, IsLineOf};
 
 use crate::error::LineError;
-use crate::line::{EditKind, EditLine, Existing, ExportLine, ImageKind, ImportLine, Line};
+use crate::line::{
+    Between, EditKind, EditLine, Existing, ExportLine, ImageKind, ImageLine, ImportLine, Line,
+    Pairing,
+};
 use crate::value::ValueName;
 use crate::values::{image_kind, is_set, mode, number, optional_text, place, side, text, user};
 use crate::verb::Verb;
@@ -45,7 +48,7 @@ fn format_line<'a>(found: &ArgMatches<'a>) -> Result<Line<'a>, LineError>
     let kind = kind_given(found)?;
     let pair = pair_given(found)?;
     let file = text(found, ValueName::File)?;
-    Ok(Line::Format { kind, pair, file })
+    Ok(Line::Image(ImageLine::Format { kind, pair, file }))
 }
 
 fn kind_given(found: &ArgMatches<'_>) -> Result<ImageKind, LineError>
@@ -125,8 +128,8 @@ fn show_line<'a>(found: &ArgMatches<'a>) -> Result<Line<'a>, LineError>
 {
     let place = place(found)?;
     match optional_text(found, ValueName::Path) {
-        Some(path) => Ok(Line::ShowPath { place, path }),
-        None => Ok(Line::Show { place }),
+        Some(path) => Ok(Line::Image(ImageLine::ShowPath { place, path })),
+        None => Ok(Line::Image(ImageLine::Show { place })),
     }
 }
 
@@ -135,7 +138,7 @@ fn check_line<'a>(found: &ArgMatches<'a>) -> Result<Line<'a>, LineError>
     ensures lacks { IfErr result (IsLack Verb.Check (rows_of (found_of found.now))) }
 {
     let file = text(found, ValueName::File)?;
-    Ok(Line::Check { file })
+    Ok(Line::Image(ImageLine::Check { file }))
 }
 
 fn migrate_line<'a>(found: &ArgMatches<'a>) -> Result<Line<'a>, LineError>
@@ -143,7 +146,7 @@ fn migrate_line<'a>(found: &ArgMatches<'a>) -> Result<Line<'a>, LineError>
     ensures lacks { IfErr result (IsLack Verb.Migrate (rows_of (found_of found.now))) }
 {
     let file = text(found, ValueName::File)?;
-    Ok(Line::Migrate { file })
+    Ok(Line::Image(ImageLine::Migrate { file }))
 }
 
 fn log_line<'a>(found: &ArgMatches<'a>) -> Result<Line<'a>, LineError>
@@ -152,7 +155,7 @@ fn log_line<'a>(found: &ArgMatches<'a>) -> Result<Line<'a>, LineError>
 {
     let file = text(found, ValueName::File)?;
     let lines = lines_given(found)?;
-    Ok(Line::Log { file, lines })
+    Ok(Line::Image(ImageLine::Log { file, lines }))
 }
 
 fn lines_given(found: &ArgMatches<'_>) -> Result<Option<u64>, LineError>
@@ -246,12 +249,11 @@ fn sync_line<'a>(found: &ArgMatches<'a>) -> Result<Line<'a>, LineError>
     let left = text(found, ValueName::Left)?;
     let right = text(found, ValueName::Right)?;
     let preference = preference_given(found, Verb::Sync)?;
-    Ok(Line::Sync {
+    Ok(Line::Session(Pairing {
+        between: Between::Servers { left, right },
         archive,
-        left,
-        right,
         preference,
-    })
+    }))
 }
 
 fn run_line<'a>(found: &ArgMatches<'a>) -> Result<Line<'a>, LineError>
@@ -262,12 +264,11 @@ fn run_line<'a>(found: &ArgMatches<'a>) -> Result<Line<'a>, LineError>
     let right = text(found, ValueName::Right)?;
     let archive = text(found, ValueName::Archive)?;
     let preference = preference_given(found, Verb::Run)?;
-    Ok(Line::Run {
-        left,
-        right,
+    Ok(Line::Session(Pairing {
+        between: Between::Files { left, right },
         archive,
         preference,
-    })
+    }))
 }
 
 /// The side that a session prefers, where one is given.
@@ -289,15 +290,17 @@ fn plan_line<'a>(found: &ArgMatches<'a>) -> Result<Line<'a>, LineError>
     let left = text(found, ValueName::Left)?;
     let right = text(found, ValueName::Right)?;
     let archive = text(found, ValueName::Archive)?;
-    let is_served = is_set(found, "served");
+    let between = if is_set(found, "served") {
+        Between::Servers { left, right }
+    } else {
+        Between::Files { left, right }
+    };
     let preference = preference_given(found, Verb::Plan)?;
-    Ok(Line::Plan {
-        left,
-        right,
+    Ok(Line::Plan(Pairing {
+        between,
         archive,
-        is_served,
         preference,
-    })
+    }))
 }
 
 fn simulate_line<'a>(found: &ArgMatches<'a>) -> Result<Line<'a>, LineError>
