@@ -1,5 +1,6 @@
 -- What the edits of an import leave.
-use Rattle.std.proofs.Common.{◌≡◌, ◌∙◌, ◌++◌, ◌∷◌, [], List, ℕ, map, fold, refl, ap, subst}
+use Rattle.std.proofs.Common.{◌≡◌, ◌∙◌, ◌++◌, ◌∷◌, [], List, ℕ, map, fold, refl, ap, subst, inl}
+use Rattle.std.proofs.Common.{inr, Result, Ok, Err, MatchResult}
 use Rattle.syn_change.specs.Changes.{AreChanges, after_edits}
 use Rattle.syn_model.specs.Event.{Edit, Edited, after_event}
 use Rattle.syn_model.specs.History.{History, tree_of}
@@ -8,14 +9,16 @@ use Rattle.syn_model.specs.Standing.{Standing}
 use Rattle.syn_model.specs.Tree.{Tree, empty_directory, replace, subtree}
 use Rattle.syn_model.proofs.TreeLemmas.{subtree-replace}
 use Rattle.syn_disk.specs.declared.disk.Disk.{Ghosts}
+use Rattle.syn_journal.proofs.Moments.{weakened}
 use Rattle.syn_replica.specs.Edits.{event_by}
 use Rattle.syn_replica.specs.Disks.{DiskStands}
-use Rattle.syn_replica.specs.Replica.{Stands, pair_of, tree_shown}
+use Rattle.syn_replica.specs.Replica.{Stands, disk_of, pair_of, tree_shown}
 use Rattle.syn_replica.specs.declared.replica.Replica.{Replica}
 use Rattle.syn_tree.specs.Edits.{edit_of}
 use Rattle.syn_tree.specs.declared.edit.Edit.{Edit as Planned}
-use Rattle.syn_command.proofs.MomentLemmas.{Leaves, weaker}
-use Rattle.syn_command.specs.Imports.{IsBegun, IsImported, LeavesImport, before, begun}
+use Rattle.syn_command.proofs.MomentLemmas.{Leaves}
+use Rattle.syn_command.specs.Imports.{IsImported, LeavesImport, NoneOrAll, after, before}
+use Rattle.syn_command.specs.Imports.{disk_left}
 
 -- the tree of a history with edits of a user after it
 edits_after : (tree : Tree) (user : ℕ) (edits : List Edit) →
@@ -74,26 +77,41 @@ module _ {D : Type 0} {disk : Ghosts D} (old new : Replica D disk) (user : ℕ) 
       ∙ (tree_of-edits history user (map edit_of edits) ∙ made.make)) in
       ap (λ (t : Tree). subtree t path) now ∙ subtree-replace (tree_of history) path part
 
-module _ {D : Type 0} {disk : Ghosts D} (old new : Replica D disk) (user : ℕ) (path : Path)
-    (part : Tree) (history : History) (stood : Stands old history) where
+-- what holds of the disk on either way out holds of the one that is left
+pub left_of : {D E : Type 0} {disk : Ghosts D} (result : Result (Replica D disk) (E × D))
+    (P : D → Type 0) → MatchResult result (λ replica. P (disk_of replica)) (λ refused. P refused.1)
+    → P (disk_left result)
+left_of (Ok replica) P met = met
+left_of (Err refused) P met = met
+
+module _ {D : Type 0} {disk : Ghosts D} (old : Replica D disk) (left : D) (user : ℕ)
+    (path : Path) (part : Tree) (history : History) (stood : Stands old history) where
   -- what a stop leaves before any edit
   pub leaves_before :
-      Leaves old new (λ bytes. DiskStands (pair_of old) bytes history)
-      → Leaves old new (LeavesImport (pair_of old) history user path part)
+      Leaves disk (disk_of old) left (λ bytes. DiskStands (pair_of old) bytes history)
+      → Leaves disk (disk_of old) left
+      (LeavesImport (pair_of old) history user path part)
   leaves_before still =
-      weaker old new (λ bytes. DiskStands (pair_of old) bytes history)
+      weakened disk.moment disk.left_since (disk_of old) left
+      (λ bytes. DiskStands (pair_of old) bytes history)
       (LeavesImport (pair_of old) history user path part) (λ bytes is. before is) still
 
-  -- a beginning of the edits that were planned is one of those that put the part in its place
+  -- the edits that were planned put the part in its place
   pub leaves_import : (edits : List Planned)
       → AreChanges (tree_shown old) (replace (tree_shown old) path part) (map edit_of edits)
-      → Leaves old new (IsBegun (pair_of old) history (map (event_by user) edits))
-      → Leaves old new (LeavesImport (pair_of old) history user path part)
+      → Leaves disk (disk_of old) left
+      (NoneOrAll (pair_of old) history (map (event_by user) edits))
+      → Leaves disk (disk_of old) left
+      (LeavesImport (pair_of old) history user path part)
   leaves_import edits changes leaves =
       let was : tree_shown old ≡ tree_of history =
       ap (λ (s : Standing). s.tree) stood.remembers.standing in
       let made = planned_over (tree_shown old) (tree_of history) path part edits was changes in
-      weaker old new (IsBegun (pair_of old) history (map (event_by user) edits))
-      (LeavesImport (pair_of old) history user path part) (λ bytes is. begun (map edit_of edits)
-      made (subst (λ es. IsBegun (pair_of old) history es bytes) (mapped edit_of user edits) is))
-      leaves
+      weakened disk.moment disk.left_since (disk_of old) left
+      (NoneOrAll (pair_of old) history (map (event_by user) edits))
+      (LeavesImport (pair_of old) history user path part) (λ bytes is. elim is [
+        | inl none ↦ before none
+        | inr all ↦ after (map edit_of edits) made
+            (subst (λ es. DiskStands (pair_of old) bytes (history ++ es))
+            (mapped edit_of user edits) all)
+      ]) leaves

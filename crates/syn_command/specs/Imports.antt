@@ -1,5 +1,5 @@
 -- What an import makes of a replica.
-use Rattle.std.specs.Prelude.{◌≡◌, ◌≢◌, ◌⊎◌, ◌++◌, ℕ, false, List, Some, map}
+use Rattle.std.specs.Prelude.{◌≡◌, ◌≢◌, ◌⊎◌, ◌++◌, ℕ, false, List, Some, Result, Ok, Err, map}
 use Rattle.syn_change.specs.Changes.{AreChanges, IsNeeded, IsRefusedAmong}
 use Rattle.syn_disk.specs.declared.disk.Disk.{Ghosts}
 use Rattle.syn_model.specs.Event.{Edit, Edited}
@@ -7,7 +7,7 @@ use Rattle.syn_model.specs.History.{History, tree_of}
 use Rattle.syn_model.specs.Path.{Path, is_root}
 use Rattle.syn_model.specs.Tree.{Tree, replace}
 use Rattle.syn_replica.specs.Disks.{DiskStands}
-use Rattle.syn_replica.specs.Replica.{Stands}
+use Rattle.syn_replica.specs.Replica.{Stands, disk_of}
 use Rattle.syn_replica.specs.declared.replica.Replica.{Replica}
 use Rattle.syn_folder.specs.declared.error.FolderError.TheVariants as planned
 use Rattle.syn_tree.specs.Lists.{replace_refusal}
@@ -16,21 +16,24 @@ use Rattle.syn_tree.specs.declared.error.TreeError.TheVariants.{Memory}
 use Rattle.syn_command.specs.declared.error.CommandError.{CommandError}
 use Rattle.syn_command.specs.declared.error.CommandError.TheVariants.{Folder}
 
--- a stop leaves the history with a beginning of the events after it
-pub record IsBegun (pair : ℕ) (history events : History) (bytes : List ℕ) : Type 0 where
-  pub front : History
-  pub others : History
-  pub are : events ≡ front ++ others
-  pub stands : DiskStands pair bytes (history ++ front)
+-- the disk that a call leaves: the replica's, or the one that comes back
+abbrev pub disk_left : {D E : Type 0} → {disk : Ghosts D} → Result (Replica D disk) (E × D) → D
+disk_left (Ok replica) = disk_of replica
+disk_left (Err refused) = refused.1
 
--- a stop leaves the history, or that with a beginning of edits of the user after it, each of which
--- is needed and which all together would put the part in its place
+-- a stop leaves the history, or that with all of the events after it
+abbrev pub NoneOrAll : ℕ → History → History → List ℕ → Type 0
+NoneOrAll pair history events bytes =
+    DiskStands pair bytes history ⊎ DiskStands pair bytes (history ++ events)
+
+-- a stop leaves the history, or that with edits of the user after it, each of which is needed and
+-- which all together put the part in its place
 pub data LeavesImport (pair : ℕ) (history : History) (user : ℕ) (path : Path) (part : Tree)
     (bytes : List ℕ) : Type 0 where
   before : DiskStands pair bytes history → LeavesImport pair history user path part bytes
-  begun : (edits : List Edit)
+  after : (edits : List Edit)
       → AreChanges (tree_of history) (replace (tree_of history) path part) edits
-      → IsBegun pair history (map (Edited user) edits) bytes
+      → DiskStands pair bytes (history ++ map (Edited user) edits)
       → LeavesImport pair history user path part bytes
 
 -- it stands for the history with edits of the user, each of which is needed and which put the part

@@ -1,18 +1,19 @@
-//! What is told of the edits of an import while they are made.
+//! What is told of the edits of an import.
 
+use std::alloc::{AllocError, Global};
 use std::io::Write;
+use syn_tree::Edit;
 
 /// What a terminal takes for: back to the beginning of the line, and nothing in it.
 const CLEARED: &str = "\r\x1b[K";
 
-/// How much is told of the edits of an import while they are made. What cannot be written is left
-/// out.
+/// How much is told of the edits of an import. What cannot be written is left out.
 #[derive(Clone, Copy, Debug, PartialEq, Eq)]
 pub struct EditsTold {
     /// Each edit has a line, once it is made.
     pub each: bool,
-    /// A last line says how many of all are made. It is written again in its place, so it wants a
-    /// terminal.
+    /// A last line says how many of all a server has made. It is written again in its place, so it
+    /// wants a terminal.
     pub counts: bool,
 }
 
@@ -38,4 +39,29 @@ impl EditsTold {
             let _ = errors.flush();
         }
     }
+}
+
+/// What is told of the edit.
+pub(crate) fn edit_line(alloc: Global, edit: &Edit) -> Result<String, AllocError> {
+    match edit {
+        Edit::Put(path, _) => format!(in alloc; "put {path}\n"),
+        Edit::MakeDir(path) => format!(in alloc; "mkdir {path}\n"),
+        Edit::Remove(path) => format!(in alloc; "rm {path}\n"),
+        Edit::Chmod(path, mode) => format!(in alloc; "chmod {mode} {path}\n"),
+    }
+}
+
+/// What is told of edits that are made at once: nothing where none is told.
+pub(crate) fn lines_of(
+    alloc: Global,
+    edits: &[Edit],
+    told: EditsTold,
+) -> Result<String, AllocError> {
+    let mut lines = String::new(alloc);
+    if told.each {
+        for edit in edits {
+            lines.push_str(&edit_line(alloc, edit)?)?;
+        }
+    }
+    Ok(lines)
 }

@@ -1,5 +1,5 @@
-//! Makes a part of a replica what another tree is, in a file or after a server.
-ghost use Rattle.std.specs.Prelude.{◌≡◌, ◌≢◌, ◌⊎◌, ◌+◌, ◌++◌, ◌∷◌, [], false, length, map};
+//! Makes a part of a replica what another tree is.
+ghost use Rattle.std.specs.Prelude.{◌≡◌, ◌⊎◌, ◌++◌, [], false, map};
 ghost use Rattle.std.specs.Prelude.{IfErr, IfOk, OnOk};
 ghost use Rattle.syn_folder.specs.Strangers.{directory_at, skipped};
 ghost use Rattle.syn_model.specs.History.{History};
@@ -8,72 +8,71 @@ ghost use Rattle.syn_replica.specs.Edits.{event_by};
 ghost use Rattle.syn_replica.specs.Refusals.{IsOneOf, edit_refusals};
 ghost use Rattle.syn_disk.specs.Stops.{LeavesOnly};
 ghost use Rattle.syn_replica.specs.Disks.{DiskStands};
-ghost use Rattle.syn_replica.specs.Replica.{Stands, disk_of, pair_of, position_shown, tree_shown};
+ghost use Rattle.syn_replica.specs.Replica.{Stands, disk_of, pair_of, tree_shown};
 ghost use Rattle.syn_command.specs.Errors.{IsOfEdits, IsOfFolder};
-ghost use Rattle.syn_command.specs.Imports.{IsBegun, IsImported, IsPlanRefusal, LeavesImport};
-ghost use Rattle.syn_command.specs.Sent.{AreMadeInPart, AreMadeInTurn};
-ghost use Rattle.syn_tree.specs.Edits.{edit_of};
-ghost use Rattle.syn_user.specs.Lines.{line_of};
+ghost use Rattle.syn_command.specs.Imports.{IsImported, IsPlanRefusal, LeavesImport, NoneOrAll};
+ghost use Rattle.syn_command.specs.Imports.{disk_left};
 
-use crate::edits_told::EditsTold;
+use crate::edits_told::{EditsTold, lines_of};
 use crate::error::CommandError;
 use crate::planning::plan_import;
-use std::alloc::{AllocError, Global};
-use std::io::{Read, Write};
+use std::alloc::Global;
+use std::io::Write;
 use syn_disk::Disk;
 use syn_folder::{Folder, FolderError, all_known, skipping};
 use syn_path::Path;
-use syn_refusal::Refusal;
 use syn_replica::Replica;
 use syn_standing::ReplicaError;
 use syn_tree::{Edit, Tree};
-use syn_user::UserConnection;
 
-/// The bytes of the longest record of an edit, and some more: a file of 16,384 bytes and its path.
-const LONGEST_RECORD: usize = 17_408;
+/// The bytes of the records of the longest import, and some more: each of them is needed, so that
+/// they have no more than the names and the bytes of a replica that is full, twice.
+const LONGEST_IMPORT: usize = 1_400_000;
 
-/// Makes what is at and below the path what stands in the folder, by edits of the user, and answers
-/// the new position. Where it is that already, no edit is made. What can stand in no replica is
-/// left out where `is_skipping` says so: the replica keeps what it has there. What is left out is
-/// told to `errors`, and of the edits as much as `told` says.
+/// Makes what is at and below the path what stands in the folder, by edits of the user, all of them
+/// or none. Where it is that already, no edit is made. What can stand in no replica is left out
+/// where `is_skipping` says so: the replica keeps what it has there. What is left out is told to
+/// `errors`, and then each edit where `told` says so.
 ///
-/// Before any edit is made it is refused 7 where something can stand in no replica and is not left
-/// out, and as `import_part` is. Else it is refused as that, too.
+/// Refused 7 where something can stand in no replica and is not left out, and as `import_part` is.
+/// The disk comes back.
 pub fn import_folder<D: Disk, F: Folder, E: Write>(
     alloc: Global,
-    replica: &mut Replica<D>,
+    replica: Replica<D>,
     user: u32,
     path: &Path,
     folder: &F,
     is_skipping: bool,
     told: EditsTold,
     errors: &mut E,
-) -> Result<u64, CommandError>
+) -> Result<Replica<D>, (CommandError, D)>
     ensures known { is_skipping ≡ false → OnOk result (F.strangers folder.now ≡ []) }
-    ensures part { (history : History) → Stands replica.old history → F.strangers folder.now ≡ []
-        → OnOk result (subtree (tree_shown replica.new) path.now ≡ F.tree folder.now) }
-    ensures imported { (history : History) → Stands replica.old history
-        → OnOk result (IsImported history user path.now
-        (skipped (directory_at (tree_shown replica.old) path.now) (F.tree folder.now)
-        (F.strangers folder.now)) replica.new) }
+    ensures part { (history : History) → Stands replica history → F.strangers folder.now ≡ []
+        → IfOk result (λ new. subtree (tree_shown new) path.now ≡ F.tree folder.now) }
+    ensures imported { (history : History) → Stands replica history
+        → IfOk result (IsImported history user path.now
+        (skipped (directory_at (tree_shown replica) path.now) (F.tree folder.now)
+        (F.strangers folder.now))) }
 
-    // Whenever the machine stops, the disk has the history with a beginning of the edits.
-    ensures any_moment { (history : History) → Stands replica.old history
-        → LeavesOnly D.moment D.left_since (disk_of replica.old) (disk_of replica.new)
-        (LeavesImport (pair_of replica.old) history user path.now
-        (skipped (directory_at (tree_shown replica.old) path.now) (F.tree folder.now)
+    // Whenever the machine stops, the disk has the history, or that with all of the edits.
+    ensures any_moment { (history : History) → Stands replica history
+        → LeavesOnly D.moment D.left_since (disk_of replica) (disk_left result)
+        (LeavesImport (pair_of replica) history user path.now
+        (skipped (directory_at (tree_shown replica) path.now) (F.tree folder.now)
         (F.strangers folder.now))) }
 
     // Where it is what the folder is already, no edit is made.
-    ensures none { (history : History) → Stands replica.old history → F.strangers folder.now ≡ []
-        → subtree (tree_shown replica.old) path.now ≡ F.tree folder.now
-        → OnOk result (Stands replica.new history) }
-    ensures refused { IfErr result (λ e. IsOfFolder e → replica.new ≡ replica.old) }
-    ensures refusals { IfErr result (λ e. IsOfFolder e ⊎ IsOfEdits e) }
-    ensures position { IfOk result (λ position. position ≡ position_shown replica.new) }
+    ensures none { (history : History) → Stands replica history → F.strangers folder.now ≡ []
+        → subtree (tree_shown replica) path.now ≡ F.tree folder.now
+        → IfOk result (λ new. Stands new history) }
+    ensures refused { IfErr result (λ refused. IsOfFolder refused.0
+        → refused.1 ≡ disk_of replica) }
+    ensures refusals { IfErr result (λ refused. IsOfFolder refused.0 ⊎ IsOfEdits refused.0) }
 {
-    let part = part_of(alloc, folder, is_skipping, replica.tree(), path, errors)?;
-    import_part(alloc, replica, user, path, &part, told, errors)
+    match part_of(alloc, folder, is_skipping, replica.tree(), path, errors) {
+        Ok(part) => import_part(alloc, replica, user, path, &part, told, errors),
+        Err(error) => Err((CommandError::from(error), replica.into_disk())),
+    }
 }
 
 /// What of the folder goes to the path of the tree: all of it, or what can stand in a replica,
@@ -103,218 +102,118 @@ pub fn part_of<F: Folder, E: Write>(
     Ok(part)
 }
 
-/// Puts the tree in the place of what is at and below the path, by edits of the user, and answers
-/// the new position. Where it is there already, no edit is made. As much of the edits as `told`
-/// says is told to `errors`.
+/// Puts the tree in the place of what is at and below the path, by edits of the user, all of them or
+/// none. Where it is there already, no edit is made. Each edit is told to `errors`, where `told`
+/// says so, once they are made.
 ///
-/// Before any edit is made it is refused 2 where the path's parent is no directory, and 7 where the
-/// replica would pass a limit: that limit is told to `errors`. Else it is refused as the replica
-/// refuses an edit: then the edits before that one stand, and the same call makes the others. Room
-/// is made in the journal as it is needed.
+/// Refused 2 where the path's parent is no directory, and 7 where the replica would pass a limit:
+/// that limit is told to `errors`. Else it is refused as the replica refuses edits, or a checkpoint,
+/// which makes room for them where there may be too little. The disk comes back.
 pub fn import_part<D: Disk, E: Write>(
     alloc: Global,
-    replica: &mut Replica<D>,
+    replica: Replica<D>,
     user: u32,
     path: &Path,
     part: &Tree,
     told: EditsTold,
     errors: &mut E,
-) -> Result<u64, CommandError>
-    ensures position { IfOk result (λ position. position ≡ position_shown replica.new) }
-    ensures part { (history : History) → Stands replica.old history
-        → OnOk result (subtree (tree_shown replica.new) path.now ≡ part.now) }
-    ensures imported { (history : History) → Stands replica.old history
-        → OnOk result (IsImported history user path.now part.now replica.new) }
+) -> Result<Replica<D>, (CommandError, D)>
+    ensures part { (history : History) → Stands replica history
+        → IfOk result (λ new. subtree (tree_shown new) path.now ≡ part.now) }
+    ensures imported { (history : History) → Stands replica history
+        → IfOk result (IsImported history user path.now part.now) }
 
-    // Whenever the machine stops, the disk has the history with a beginning of the edits.
-    ensures any_moment { (history : History) → Stands replica.old history
-        → LeavesOnly D.moment D.left_since (disk_of replica.old) (disk_of replica.new)
-        (LeavesImport (pair_of replica.old) history user path.now part.now) }
+    // Whenever the machine stops, the disk has the history, or that with all of the edits.
+    ensures any_moment { (history : History) → Stands replica history
+        → LeavesOnly D.moment D.left_since (disk_of replica) (disk_left result)
+        (LeavesImport (pair_of replica) history user path.now part.now) }
 
     // Where the tree is there already, no edit is made.
-    ensures none { (history : History) → Stands replica.old history
-        → subtree (tree_shown replica.old) path.now ≡ part.now
-        → OnOk result (Stands replica.new history) }
+    ensures none { (history : History) → Stands replica history
+        → subtree (tree_shown replica) path.now ≡ part.now
+        → IfOk result (λ new. Stands new history) }
 
-    // What is refused by the plan is refused before any edit, and for a cause.
-    ensures refused { IfErr result (λ e. IsOfFolder e → replica.new ≡ replica.old) }
-    ensures cause { IfErr result (λ e. IsOfFolder e
-        → IsPlanRefusal (tree_shown replica.old) path.now part.now e) }
-    ensures refusals { IfErr result (λ e. IsOfFolder e ⊎ IsOfEdits e) }
+    // What is refused by the plan is refused before anything is written, and for a cause.
+    ensures refused { IfErr result (λ refused. IsOfFolder refused.0
+        → refused.1 ≡ disk_of replica) }
+    ensures cause { IfErr result (λ refused. IsOfFolder refused.0
+        → IsPlanRefusal (tree_shown replica) path.now part.now refused.0) }
+    ensures refusals { IfErr result (λ refused. IsOfFolder refused.0 ⊎ IsOfEdits refused.0) }
 {
-    let edits = plan_import(alloc, replica.tree(), path, part, errors)?;
-    make_edits(alloc, replica, user, edits, told, errors)?;
-    Ok(replica.position())
+    match plan_import(alloc, replica.tree(), path, part, errors) {
+        Ok(edits) => make_edits(alloc, replica, user, edits, told, errors),
+        Err(error) => Err((CommandError::from(error), replica.into_disk())),
+    }
 }
 
-/// Makes the edits, as edits of the user.
+/// Makes the edits, as edits of the user, and tells them then.
 fn make_edits<D: Disk, E: Write>(
     alloc: Global,
-    replica: &mut Replica<D>,
+    replica: Replica<D>,
     user: u32,
     edits: Vec<Edit>,
     told: EditsTold,
     errors: &mut E,
-) -> Result<(), CommandError>
-    ensures made { (history : History) → Stands replica.old history
-        → OnOk result (Stands replica.new (history ++ map (event_by user) edits.items)) }
-    ensures any_moment { (history : History) → Stands replica.old history
-        → LeavesOnly D.moment D.left_since (disk_of replica.old) (disk_of replica.new)
-        (IsBegun (pair_of replica.old) history (map (event_by user) edits.items)) }
-    ensures refused { IfErr result (λ e. ¬ IsOfFolder e) }
-    ensures refusals { IfErr result IsOfEdits }
+) -> Result<Replica<D>, (CommandError, D)>
+    ensures made { (history : History) → Stands replica history
+        → IfOk result (λ new. Stands new (history ++ map (event_by user) edits.items)) }
+    ensures any_moment { (history : History) → Stands replica history
+        → LeavesOnly D.moment D.left_since (disk_of replica) (disk_left result)
+        (NoneOrAll (pair_of replica) history (map (event_by user) edits.items)) }
+    ensures refused { IfErr result (λ refused. ¬ IsOfFolder refused.0) }
+    ensures refusals { IfErr result (λ refused. IsOfEdits refused.0) }
 {
-    let made = make_each(alloc, replica, user, edits, told, errors);
-    told.end(errors);
-    made
-}
-
-/// The same, with the line of the counts left standing.
-fn make_each<D: Disk, E: Write>(
-    alloc: Global,
-    replica: &mut Replica<D>,
-    user: u32,
-    edits: Vec<Edit>,
-    told: EditsTold,
-    errors: &mut E,
-) -> Result<(), CommandError>
-    ensures made { (history : History) → Stands replica.old history
-        → OnOk result (Stands replica.new (history ++ map (event_by user) edits.items)) }
-    ensures any_moment { (history : History) → Stands replica.old history
-        → LeavesOnly D.moment D.left_since (disk_of replica.old) (disk_of replica.new)
-        (IsBegun (pair_of replica.old) history (map (event_by user) edits.items)) }
-    ensures refused { IfErr result (λ e. ¬ IsOfFolder e) }
-    ensures refusals { IfErr result IsOfEdits }
-{
-    let all = edits.len();
-    let mut made: usize = 0;
-    for edit in edits {
-        let line = line_of(alloc, &edit)?;
-        edit_with_room(alloc, replica, user, edit)?;
-        made = made.saturating_add(1);
-        told.tell(&line, made, all, errors);
+    let lines = match lines_of(alloc, &edits, told) {
+        Ok(lines) => lines,
+        Err(error) => return Err((CommandError::from(error), replica.into_disk())),
+    };
+    match edit_with_room(alloc, replica, user, edits) {
+        Ok(edited) => {
+            let _ = errors.write_all(lines.as_bytes());
+            Ok(edited)
+        }
+        Err((error, disk)) => Err((CommandError::from(error), disk)),
     }
-    Ok(())
 }
 
-/// Makes the edit, and room for it in the journal first where there may be too little.
+/// Makes the edits, and room for them in the journal first where there may be too little.
 fn edit_with_room<D: Disk>(
     alloc: Global,
-    replica: &mut Replica<D>,
+    replica: Replica<D>,
     user: u32,
-    edit: Edit,
-) -> Result<(), ReplicaError>
-    ensures made { (history : History) → Stands replica.old history
-        → OnOk result (Stands replica.new (history ++ event_by user edit ∷ [])) }
-    ensures any_moment { (history : History) → Stands replica.old history
-        → LeavesOnly D.moment D.left_since (disk_of replica.old) (disk_of replica.new)
-        (IsBegun (pair_of replica.old) history (event_by user edit ∷ [])) }
-    ensures pair { pair_of replica.new ≡ pair_of replica.old }
-    ensures refusals { IfErr result (IsOneOf edit_refusals) }
-{
-    make_room(alloc, replica)?;
-    replica.edit(alloc, user, edit)?;
-    Ok(())
-}
-
-/// Makes room in the journal, where there may be too little for an edit.
-fn make_room<D: Disk>(alloc: Global, replica: &mut Replica<D>) -> Result<(), ReplicaError>
-    ensures made { (history : History) → Stands replica.old history
-        → OnOk result (Stands replica.new history) }
-    ensures any_moment { (history : History) → Stands replica.old history
-        → LeavesOnly D.moment D.left_since (disk_of replica.old) (disk_of replica.new)
-        (λ bytes. DiskStands (pair_of replica.old) bytes history) }
-    ensures pair { pair_of replica.new ≡ pair_of replica.old }
-    ensures refusals { IfErr result (IsOneOf edit_refusals) }
-{
-    if replica.room() < LONGEST_RECORD {
-        replica.checkpoint(alloc)
-    } else {
-        Ok(())
-    }
-}
-
-/// Asks a server for the edits, as edits of the user, and answers the position after them. The
-/// first is asked of a replica that has the position. As much of the edits as `told` says is told
-/// to `errors`.
-///
-/// Refused as the server refuses an edit: then those before it stand. Refused 13 where the answer
-/// to one shows that somebody else edits the replica: then that one stands, too.
-pub fn send_edits<R: Read, W: Write, E: Write>(
-    alloc: Global,
-    connection: &mut UserConnection<R, W>,
-    user: u32,
-    position: u64,
     edits: Vec<Edit>,
-    told: EditsTold,
-    errors: &mut E,
-) -> Result<u64, CommandError>
-    ensures last { IfOk result (λ last. last ≡ position + length edits.items) }
-    ensures made { OnOk result (AreMadeInTurn user
-        (line_of R.remaining W.contents connection.old) position (map edit_of edits.items)
-        (line_of R.remaining W.contents connection.new)) }
-    ensures stopped { IfErr result (AreMadeInPart user
-        (line_of R.remaining W.contents connection.old) position (map edit_of edits.items)
-        (line_of R.remaining W.contents connection.new)) }
+) -> Result<Replica<D>, (ReplicaError, D)>
+    ensures made { (history : History) → Stands replica history
+        → IfOk result (λ new. Stands new (history ++ map (event_by user) edits.items)) }
+    ensures any_moment { (history : History) → Stands replica history
+        → LeavesOnly D.moment D.left_since (disk_of replica) (disk_left result)
+        (NoneOrAll (pair_of replica) history (map (event_by user) edits.items)) }
+    ensures refusals { IfErr result (λ refused. IsOneOf edit_refusals refused.0) }
 {
-    let sent = send_each(alloc, connection, user, position, edits, told, errors);
-    told.end(errors);
-    sent
+    if edits.is_empty() {
+        return Ok(replica);
+    }
+    with_room(alloc, replica)?.edit_all(alloc, user, edits)
 }
 
-/// The same, with the line of the counts left standing.
-fn send_each<R: Read, W: Write, E: Write>(
+/// The replica with room in its journal for the edits of any import.
+fn with_room<D: Disk>(
     alloc: Global,
-    connection: &mut UserConnection<R, W>,
-    user: u32,
-    position: u64,
-    edits: Vec<Edit>,
-    told: EditsTold,
-    errors: &mut E,
-) -> Result<u64, CommandError>
-    ensures last { IfOk result (λ last. last ≡ position + length edits.items) }
-    ensures made { OnOk result (AreMadeInTurn user
-        (line_of R.remaining W.contents connection.old) position (map edit_of edits.items)
-        (line_of R.remaining W.contents connection.new)) }
-    ensures stopped { IfErr result (AreMadeInPart user
-        (line_of R.remaining W.contents connection.old) position (map edit_of edits.items)
-        (line_of R.remaining W.contents connection.new)) }
+    mut replica: Replica<D>,
+) -> Result<Replica<D>, (ReplicaError, D)>
+    ensures made { (history : History) → Stands replica history
+        → IfOk result (λ new. Stands new history) }
+    ensures any_moment { (history : History) → Stands replica history
+        → LeavesOnly D.moment D.left_since (disk_of replica) (disk_left result)
+        (λ bytes. DiskStands (pair_of replica) bytes history) }
+    ensures pair { IfOk result (λ new. pair_of new ≡ pair_of replica) }
+    ensures refusals { IfErr result (λ refused. IsOneOf edit_refusals refused.0) }
 {
-    let all = edits.len();
-    let mut count: usize = 0;
-    let mut last = position;
-    for edit in edits {
-        let line = line_of(alloc, &edit)?;
-        let made = connection.edit(alloc, user, edit)?;
-        count = count.saturating_add(1);
-        told.tell(&line, count, all, errors);
-        last = next_position(last, made)?;
+    if replica.room() >= LONGEST_IMPORT {
+        return Ok(replica);
     }
-    Ok(last)
-}
-
-/// The position that an edit is answered with, which has to be the one after the last.
-///
-/// Refused 13 where it is another: somebody else edited the replica.
-fn next_position(last: u64, made: u64) -> Result<u64, CommandError>
-    ensures next { IfOk result (λ next. next ≡ last + 1) }
-    ensures made { OnOk result (made ≡ last + 1) }
-    ensures refused { IfErr result (λ e. (e ≡ CommandError.Refused Refusal.Touched)
-        × (made ≢ last + 1)) }
-{
-    if last < made && made - last == 1 {
-        Ok(made)
-    } else {
-        Err(CommandError::Refused(Refusal::Touched))
-    }
-}
-
-/// What is told of the edit.
-fn line_of(alloc: Global, edit: &Edit) -> Result<String, AllocError> {
-    match edit {
-        Edit::Put(path, _) => format!(in alloc; "put {path}\n"),
-        Edit::MakeDir(path) => format!(in alloc; "mkdir {path}\n"),
-        Edit::Remove(path) => format!(in alloc; "rm {path}\n"),
-        Edit::Chmod(path, mode) => format!(in alloc; "chmod {mode} {path}\n"),
+    match replica.checkpoint(alloc) {
+        Ok(()) => Ok(replica),
+        Err(error) => Err((error, replica.into_disk())),
     }
 }

@@ -35,11 +35,11 @@
 //!   refusal leaves the folder as it was, unless a call of the system fails (`refused`).
 //! - `import_folder` makes what is at a path of a replica the tree of a folder (`part`). Then the
 //!   replica stands for the history with edits of the user after it (`imported`), and for the same
-//!   history where the tree was there already (`none`). The answer is its position (`position`).
-//!   What can stand in no replica refuses it (`known`), or is skipped: then the replica keeps what
-//!   it has there. A stop at any time leaves the history with a beginning of these edits
-//!   (`any_moment`). What the plan refuses leaves the replica as it was (`refused`). `import_part`
-//!   is the same with a tree, and `part_of` the tree that a folder gives. `plan_import` gives the
+//!   history where the tree was there already (`none`). What can stand in no replica refuses it
+//!   (`known`), or is skipped: then the replica keeps what it has there. A stop at any time leaves
+//!   the history alone or with all of these edits (`any_moment`). What the plan refuses leaves the
+//!   disk as it was (`refused`). `import_part` is the same with a tree, and `part_of` the tree that
+//!   a folder gives. `plan_import` gives the
 //!   edits: each of them is needed, and no two are alike (`changes`). It tells which limit they
 //!   would pass.
 //! - `send_edits` asks a server for such edits. Where it succeeds, they were asked for one after
@@ -57,6 +57,7 @@ mod image;
 mod import;
 mod outcome;
 mod planning;
+mod sending;
 mod show;
 mod status;
 mod telling;
@@ -68,9 +69,10 @@ pub use error::CommandError;
 pub use export::export_part;
 pub use failure::Failure;
 pub use image::{Image, format_image, migrate_image, open_image};
-pub use import::{import_folder, import_part, part_of, send_edits};
+pub use import::{import_folder, import_part, part_of};
 pub use outcome::{Outcome, outcome_of, outcome_planned};
 pub use planning::plan_import;
+pub use sending::send_edits;
 pub use show::{show_image, show_path};
 pub use status::Status;
 pub use telling::{print_meanings, report};

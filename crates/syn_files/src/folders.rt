@@ -56,8 +56,9 @@ pub fn export<H: Net<Stream = TcpStream>, N: NamedDisks, F: Files>(
 ///
 /// A text that names no path is refused. Else it is refused as the folder is read, as an opening
 /// is, 7 where something stands in the folder that can stand in no replica and nothing is to be
-/// skipped, and as the replica or the server refuses the edits. It is refused 13 where somebody
-/// else edits what is served meanwhile: a beginning of the edits stands then.
+/// skipped, and as the replica or the server refuses the edits. Into a file all edits go, or none. A
+/// server makes them one after another, and those before a refusal stand; it is refused 13 where
+/// somebody else edits the replica meanwhile.
 pub fn import<H: Net<Stream = TcpStream>, N: NamedDisks, F: Files, E: Write>(
     rt: &H,
     alloc: Global,
@@ -75,17 +76,19 @@ pub fn import<H: Net<Stream = TcpStream>, N: NamedDisks, F: Files, E: Write>(
     let (user, is_skipping) = (line.user, line.is_skipping);
     match line.place {
         ReplicaPlace::File(name) => {
-            let mut replica = replica_in(alloc, disks, name)?;
-            import_folder(
+            let replica = replica_in(alloc, disks, name)?;
+            let imported = import_folder(
                 alloc,
-                &mut replica,
+                replica,
                 user,
                 &path,
                 &folder,
                 is_skipping,
                 told,
                 errors,
-            )
+            );
+            let replica = imported.map_err(|(error, _)| error)?;
+            Ok(replica.position())
         }
         ReplicaPlace::Served(address) => {
             let stream = reach(rt, address)?;

@@ -1,29 +1,42 @@
-use Rattle.std.proofs.Common.{◌∷◌, []}
-use Rattle.syn_command.proofs.MomentLemmas.{edit_leaves, none_begun, weaker}
+use Rattle.std.proofs.Common.{map, subst, sym}
+use Rattle.syn_command.proofs.ImportLemmas.{left_of}
+use Rattle.syn_command.proofs.MomentLemmas.{Leaves, at_once, none_made}
 use Rattle.syn_command.proofs.import.edit_with_room.Goals as goal
-use Rattle.syn_command.specs.Imports.{IsBegun}
-use Rattle.syn_replica.specs.Disks.{DiskStands}
+use Rattle.syn_command.specs.Imports.{NoneOrAll, disk_left}
+use Rattle.syn_journal.proofs.Moments.{in_turn, weakened}
+use Rattle.syn_model.proofs.ExitLemmas.{exit_is}
+use Rattle.syn_replica.specs.Batches.{KeepsNoneOrAll}
 use Rattle.syn_replica.specs.Edits.{event_by}
-use Rattle.syn_replica.specs.Replica.{pair_of}
+use Rattle.syn_replica.specs.Replica.{disk_of, pair_of}
 
-pub returns-in_err-make_room-clause-any_moment : goal.returns-in_err-make_room-clause-any_moment
-returns-in_err-make_room-clause-any_moment g c history stands =
-    let old = c.args.replica.now in
-    let event = event_by c.args.user c.args.edit in
-    weaker old c.make_room.new.replica (λ bytes. DiskStands (pair_of old) bytes history)
-    (IsBegun (pair_of old) history (event ∷ [])) (none_begun (pair_of old) history (event ∷ []))
-    (c.in_err-make_room.ensures.any_moment history stands)
+pub returns-in_err-with_room-clause-any_moment : goal.returns-in_err-with_room-clause-any_moment
+returns-in_err-with_room-clause-any_moment g c history stands =
+    let old = c.args.replica in
+    let refused = c.in_err-with_room.field-0.0 in
+    let P = NoneOrAll (pair_of old) history (map (event_by c.args.user) c.args.edits.items) in
+    subst (λ result. Leaves g.D.Disk (disk_of old) (disk_left result) P)
+    (sym (exit_is c.from_residual.result refused c.from_residual.ensures.1))
+    (none_made g.D.Disk (disk_of old) refused.1 (pair_of old) history
+    (map (event_by c.args.user) c.args.edits.items)
+    (c.in_err-with_room.ensures.any_moment history stands))
 
-pub returns-in_err-edit-clause-any_moment : goal.returns-in_err-edit-clause-any_moment
-returns-in_err-edit-clause-any_moment g c history stands =
-    edit_leaves c.args.replica.now c.make_room.new.replica c.edit.new.self history
-    (event_by c.args.user c.args.edit) c.in_ok-make_room.ensures.pair
-    (c.in_ok-make_room.ensures.any_moment history stands)
-    (c.in_err-edit.ensures.any_moment history (c.in_ok-make_room.ensures.made history stands))
+pub returns-clause-made : goal.returns-clause-made
+returns-clause-made g c history stands =
+    c.edit_all.ensures.acknowledged history (c.in_ok-with_room.ensures.made history stands)
 
 pub returns-clause-any_moment : goal.returns-clause-any_moment
 returns-clause-any_moment g c history stands =
-    edit_leaves c.args.replica.now c.make_room.new.replica c.edit.new.self history
-    (event_by c.args.user c.args.edit) c.in_ok-make_room.ensures.pair
-    (c.in_ok-make_room.ensures.any_moment history stands)
-    (c.in_ok-edit.ensures.any_moment history (c.in_ok-make_room.ensures.made history stands))
+    let old = c.args.replica in
+    let roomy = c.in_ok-with_room.field-0 in
+    let events = map (event_by c.args.user) c.args.edits.items in
+    let left = disk_left c.edit_all.result in
+    let P = NoneOrAll (pair_of old) history events in
+    let Q = KeepsNoneOrAll roomy history events in
+    in_turn g.D.Disk.moment g.D.Disk.left_since (disk_of old) (disk_of roomy) left P
+    (none_made g.D.Disk (disk_of old) (disk_of roomy) (pair_of old) history events
+    (c.in_ok-with_room.ensures.any_moment history stands))
+    (weakened g.D.Disk.moment g.D.Disk.left_since (disk_of roomy) left Q P
+    (λ bytes keeps. subst (λ pair. NoneOrAll pair history events bytes)
+    c.in_ok-with_room.ensures.pair (at_once roomy history events bytes keeps))
+    (left_of c.edit_all.result (λ disk. Leaves g.D.Disk (disk_of roomy) disk Q)
+    (c.edit_all.ensures.any_moment history (c.in_ok-with_room.ensures.made history stands))))

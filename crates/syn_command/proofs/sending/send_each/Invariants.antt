@@ -2,7 +2,7 @@ use Rattle.std.proofs.Common.{◌≡◌, ◌+◌, ◌++◌, length, map}
 use Rattle.syn_command.specs.Sent.{AreMadeInTurn}
 use Rattle.syn_tree.specs.Edits.{edit_of}
 use Rattle.syn_user.specs.Lines.{line_of}
-use Rattle.syn_command.proofs.import.send_each.Given as goal
+use Rattle.syn_command.proofs.sending.send_each.Given as goal
 
 abbrev pub invariant-loop-edit : goal.invariant-loop-edit
 invariant-loop-edit g l =

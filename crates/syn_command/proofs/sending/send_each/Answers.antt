@@ -11,7 +11,7 @@ use Rattle.syn_refusal.specs.declared.refusal.Refusal.TheVariants.{Touched}
 use Rattle.syn_tree.specs.Edits.{edit_of}
 use Rattle.syn_user.specs.Exchanges.{IsTold}
 use Rattle.syn_user.specs.Lines.{line_of}
-use Rattle.syn_command.proofs.import.send_each.Goals as goal
+use Rattle.syn_command.proofs.sending.send_each.Goals as goal
 
 pub loop-edit-preserved : goal.loop-edit-preserved
 loop-edit-preserved g c =

@@ -1,0 +1,88 @@
+//! Asks a server for the edits of an import.
+ghost use Rattle.std.specs.Prelude.{◌≡◌, ◌≢◌, ◌+◌, length, map, IfErr, IfOk, OnOk};
+ghost use Rattle.syn_command.specs.Sent.{AreMadeInPart, AreMadeInTurn};
+ghost use Rattle.syn_tree.specs.Edits.{edit_of};
+ghost use Rattle.syn_user.specs.Lines.{line_of};
+
+use crate::edits_told::{EditsTold, edit_line};
+use crate::error::CommandError;
+use std::alloc::Global;
+use std::io::{Read, Write};
+use syn_refusal::Refusal;
+use syn_tree::Edit;
+use syn_user::UserConnection;
+
+/// Asks a server for the edits, as edits of the user, and answers the position after them. The
+/// first is asked of a replica that has the position. As much of the edits as `told` says is told
+/// to `errors`.
+///
+/// Refused as the server refuses an edit: then those before it stand. Refused 13 where the answer
+/// to one shows that somebody else edits the replica: then that one stands, too.
+pub fn send_edits<R: Read, W: Write, E: Write>(
+    alloc: Global,
+    connection: &mut UserConnection<R, W>,
+    user: u32,
+    position: u64,
+    edits: Vec<Edit>,
+    told: EditsTold,
+    errors: &mut E,
+) -> Result<u64, CommandError>
+    ensures last { IfOk result (λ last. last ≡ position + length edits.items) }
+    ensures made { OnOk result (AreMadeInTurn user
+        (line_of R.remaining W.contents connection.old) position (map edit_of edits.items)
+        (line_of R.remaining W.contents connection.new)) }
+    ensures stopped { IfErr result (AreMadeInPart user
+        (line_of R.remaining W.contents connection.old) position (map edit_of edits.items)
+        (line_of R.remaining W.contents connection.new)) }
+{
+    let sent = send_each(alloc, connection, user, position, edits, told, errors);
+    told.end(errors);
+    sent
+}
+
+/// The same, with the line of the counts left standing.
+fn send_each<R: Read, W: Write, E: Write>(
+    alloc: Global,
+    connection: &mut UserConnection<R, W>,
+    user: u32,
+    position: u64,
+    edits: Vec<Edit>,
+    told: EditsTold,
+    errors: &mut E,
+) -> Result<u64, CommandError>
+    ensures last { IfOk result (λ last. last ≡ position + length edits.items) }
+    ensures made { OnOk result (AreMadeInTurn user
+        (line_of R.remaining W.contents connection.old) position (map edit_of edits.items)
+        (line_of R.remaining W.contents connection.new)) }
+    ensures stopped { IfErr result (AreMadeInPart user
+        (line_of R.remaining W.contents connection.old) position (map edit_of edits.items)
+        (line_of R.remaining W.contents connection.new)) }
+{
+    let all = edits.len();
+    let mut count: usize = 0;
+    let mut last = position;
+    for edit in edits {
+        let line = edit_line(alloc, &edit)?;
+        let made = connection.edit(alloc, user, edit)?;
+        count = count.saturating_add(1);
+        told.tell(&line, count, all, errors);
+        last = next_position(last, made)?;
+    }
+    Ok(last)
+}
+
+/// The position that an edit is answered with, which has to be the one after the last.
+///
+/// Refused 13 where it is another: somebody else edited the replica.
+fn next_position(last: u64, made: u64) -> Result<u64, CommandError>
+    ensures next { IfOk result (λ next. next ≡ last + 1) }
+    ensures made { OnOk result (made ≡ last + 1) }
+    ensures refused { IfErr result (λ e. (e ≡ CommandError.Refused Refusal.Touched)
+        × (made ≢ last + 1)) }
+{
+    if last < made && made - last == 1 {
+        Ok(made)
+    } else {
+        Err(CommandError::Refused(Refusal::Touched))
+    }
+}
