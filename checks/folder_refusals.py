@@ -142,9 +142,7 @@ def on_full_disk(tree):
     """An import and an export of the tree, on a disk that has too little room for it at first."""
     syn("format", "replica", "7", "disk/image")
     expect("refused 9 Device" in syn("import", "disk/image", "1", "folder", wanted=1), "an import")
-    made = position_of("disk/image")
-    syn("export", "disk/image", "made")
-    expect(0 < made < 30 and read("made") == dict(sorted(tree.items())[:made]), "a beginning")
+    expect(position_of("disk/image") == 0, "an import that had no room made an edit")
     shutil.copy("disk/image", "image")
     os.remove("disk/image")
     syn("import", "image", "1", "folder")
@@ -158,7 +156,7 @@ def on_full_disk(tree):
 
 
 def full_disk(source):
-    """What a full disk refuses 9 is a beginning, of whole edits or files, and is ended later."""
+    """A full disk refuses an import 9 whole, and leaves whole files of an export, ended later."""
     tree = {f"f{number:02}": plain(source.randbytes(16000)) for number in range(30)}
     write("folder", tree)
     os.mkdir("disk")

@@ -51,10 +51,10 @@ pub fn sync<H: Net<Listener = TcpListener, Stream = TcpStream>, C: Disk, V: Watc
     ensures ended { OnOk result (runs coordinator.new ≡ false) }
     ensures goes { OnOk result (is_stopped (C.Disk.arms (device_of coordinator.new)) ≡ false) }
 {
-    let Ok(left) = reach(rt, left) else {
+    let Some(left) = reach_side(rt, left, Side::Left, watch) else {
         return Err(Refusal::Device);
     };
-    let Ok(right) = reach(rt, right) else {
+    let Some(right) = reach_side(rt, right, Side::Right, watch) else {
         return Err(Refusal::Device);
     };
     if are_of_one(&left, &right) {
@@ -62,6 +62,22 @@ pub fn sync<H: Net<Listener = TcpListener, Stream = TcpStream>, C: Disk, V: Watc
     }
     let streams = Streams::new(&left, &right);
     drive(alloc, coordinator, streams, preference, watch)
+}
+
+/// A connection to the server of a side. Where it cannot be reached, that is told.
+fn reach_side<H: Net<Stream = TcpStream>, V: Watch>(
+    rt: &H,
+    address: &str,
+    side: Side,
+    watch: &mut V,
+) -> Option<TcpStream> {
+    match reach(rt, address) {
+        Ok(stream) => Some(stream),
+        Err(error) => {
+            watch.unreached(side, &error);
+            None
+        }
+    }
 }
 
 /// Serves both replicas on loopback ports that the system picks, drives one session with the two

@@ -5,7 +5,7 @@ ghost use Rattle.syn_sync.specs.Progresses.{writer_in};
 use crate::told::{carried_line, conflict_line, count_line, marked_line, refused_line};
 use crate::watch::Watch;
 use std::alloc::{AllocError, Global};
-use std::io::Write;
+use std::io::{self, Write};
 use syn_image::Kept;
 use syn_message::{Answered, Reply, Request};
 use syn_path::{Path, Side};
@@ -193,6 +193,14 @@ impl<W: Write> Progress<W> {
 }
 
 impl<W: Write> Watch for Progress<W> {
+    fn unreached(&mut self, side: Side, why: &io::Error) {
+        let name = match side {
+            Side::Left => "left",
+            Side::Right => "right",
+        };
+        let _ = writeln!(self.writer, "syn: the {name} server cannot be reached: {why}");
+    }
+
     fn sent(&mut self, sending: &Sending) {
         match &sending.asked.request {
             Request::Fetch { path, offset, .. } => {

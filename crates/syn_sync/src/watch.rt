@@ -1,5 +1,6 @@
 //! Who is told how a session goes.
 
+use std::io;
 use syn_image::Kept;
 use syn_message::Answered;
 use syn_path::Side;
@@ -8,6 +9,9 @@ use syn_session::Sending;
 /// Is told what happens in a session, as it happens. It sees the session, and changes nothing of
 /// it. No clause says what it is told.
 pub trait Watch {
+    /// The side cannot be reached, for this reason of the system. No session runs then.
+    fn unreached(&mut self, side: Side, why: &io::Error);
+
     /// The request was sent. Where its link was closed, nothing was written.
     fn sent(&mut self, sending: &Sending);
 
@@ -27,6 +31,8 @@ pub trait Watch {
 pub struct Unwatched;
 
 impl Watch for Unwatched {
+    fn unreached(&mut self, _side: Side, _why: &io::Error) {}
+
     fn sent(&mut self, _sending: &Sending) {}
 
     fn heard(&mut self, _from: Side, _answered: &Answered) {}

@@ -11,12 +11,12 @@ returns-in_default-clause-drives g c = λ pair machine stands.
 pub returns-in_default-clause-refused : goal.returns-in_default-clause-refused
 returns-in_default-clause-refused g c = λ pair machine stands. unreached refl
 
-pub returns-in_default-reach-clause-drives : goal.returns-in_default-reach-clause-drives
-returns-in_default-reach-clause-drives g c = λ pair machine stands.
+pub returns-in_default-reach_side-clause-drives : goal.returns-in_default-reach_side-clause-drives
+returns-in_default-reach_side-clause-drives g c = λ pair machine stands.
     untouched c.args.coordinator.now pair machine Device stands
 
-pub returns-in_default-reach-clause-refused : goal.returns-in_default-reach-clause-refused
-returns-in_default-reach-clause-refused g c = λ pair machine stands. unreached refl
+pub returns-in_default-reach_side-clause-refused : goal.returns-in_default-reach_side-clause-refused
+returns-in_default-reach_side-clause-refused g c = λ pair machine stands. unreached refl
 
 pub returns-clause-refused : goal.returns-clause-refused
 returns-clause-refused g c = λ pair machine stands.
