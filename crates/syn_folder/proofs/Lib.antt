@@ -1,1 +1,4 @@
 mod FolderLemmas
+mod LookLemmas
+mod PictureLemmas
+mod WalkLemmas

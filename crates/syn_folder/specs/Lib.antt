@@ -1,2 +1,3 @@
+pub mod Looks
 pub mod Refusals
 pub mod Strangers

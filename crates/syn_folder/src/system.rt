@@ -1,5 +1,6 @@
 //! A folder of the system.
-ghost use Rattle.std.specs.Prelude.{◌≡◌};
+ghost use Rattle.std.specs.Prelude.{◌≡◌, IfOk};
+ghost use Rattle.syn_folder.specs.Looks.{IsFolderRead, IsReadOrMissing};
 
 use crate::edited::EditedFolder;
 use crate::error::FolderError;
@@ -11,13 +12,18 @@ use std::io;
 use syn_path::Path;
 use syn_tree::{Edit, Node, Tree};
 
+mod listing;
+mod looking;
 mod looks;
+mod picture;
 mod reading;
 mod replacing;
+mod walking;
 mod writing;
 
 use looks::Looked;
-use reading::{FolderRead, read_folder};
+use picture::FolderRead;
+use reading::read_folder;
 use replacing::Replacing;
 
 /// A folder of the system, with what stands in it in memory.
@@ -44,12 +50,11 @@ impl<'a, F: Files> SystemFolder<'a, F> {
     ///
     /// Refused 9 where it cannot be read or is none, 13 where something changed while it was read,
     /// and 11 where memory is refused.
-    pub fn open(
-        alloc: Global,
-        files: &'a F,
-        root: &'a str,
-        at: &Path,
-    ) -> Result<Self, FolderError> {
+    pub fn open(alloc: Global, files: &'a F, root: &'a str, at: &Path) -> Result<Self, FolderError>
+        ensures { IfOk result (λ folder. IsFolderRead at.now
+            (⟦<SystemFolder<'a, F> as Folder>⟧.tree folder)
+            (⟦<SystemFolder<'a, F> as Folder>⟧.strangers folder)) }
+    {
         let FolderRead {
             tree,
             strangers,
@@ -67,11 +72,11 @@ impl<'a, F: Files> SystemFolder<'a, F> {
 
     /// The same for the root, where the folder may be missing. It is made as soon as something is
     /// written. Refused as `open` is.
-    pub fn open_or_missing(
-        alloc: Global,
-        files: &'a F,
-        root: &'a str,
-    ) -> Result<Self, FolderError> {
+    pub fn open_or_missing(alloc: Global, files: &'a F, root: &'a str) -> Result<Self, FolderError>
+        ensures { IfOk result (λ folder. IsReadOrMissing
+            (⟦<SystemFolder<'a, F> as Folder>⟧.tree folder)
+            (⟦<SystemFolder<'a, F> as Folder>⟧.strangers folder)) }
+    {
         match files.metadata(root) {
             Err(error) if error.kind() == io::ErrorKind::NotFound => Ok(SystemFolder {
                 files,

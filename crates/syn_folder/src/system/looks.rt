@@ -1,11 +1,13 @@
-//! What was seen in a folder, and what changed between two readings of it.
+//! What the system shows of a folder: one look at each path.
+ghost use Rattle.std.specs.Fs.{metadata_len, metadata_mode};
+ghost use Rattle.std.specs.Prelude.{◌≡◌, ◌%◌};
+ghost use Rattle.syn_tree.specs.Modes.{mode_of};
 
-use std::alloc::{AllocError, Global};
+use crate::stranger::Strangeness;
 use std::fs::Metadata;
-use std::io;
-use std::os::unix::fs::MetadataExt;
+use std::os::unix::fs::{MetadataExt, PermissionsExt};
 use syn_path::Path;
-use syn_tree::Content;
+use syn_tree::Mode;
 
 /// What the system tells of a file or of a directory that differs as soon as it is written, gets
 /// another mode, or is another one of the same name. A directory is written where a name comes or
@@ -22,25 +24,83 @@ pub(super) struct Look {
 
 impl Look {
     /// What it tells of this one.
-    pub(super) fn of(there: &Metadata) -> Look {
+    pub(super) fn of(there: &Metadata) -> Look
+        ensures mode { result.mode ≡ metadata_mode there.now }
+        ensures length { result.length ≡ metadata_len there.now }
+    {
         Look {
             device: there.dev(),
             node: there.ino(),
-            mode: there.mode(),
-            length: there.size(),
+            mode: there.permissions().mode(),
+            length: there.len(),
             modified: (there.mtime(), there.mtime_nsec()),
             changed: (there.ctime(), there.ctime_nsec()),
         }
     }
+
+    /// The nine permission bits of a file; what else the system's mode has, a replica has not.
+    pub(super) fn file_mode(self) -> Mode
+        ensures { mode_of result ≡ self.mode % 512 }
+    {
+        let Some(mode) = Mode::new((self.mode % 512) as u16) else {
+            unreachable!()
+        };
+        mode
+    }
 }
 
-/// A file or a directory of the folder, or the folder itself: how it looked before it was read, and
-/// what was read.
+/// What the system shows at a path.
+#[derive(Drop)]
+pub(super) enum Shown {
+    /// A directory, and the names in it, each with a zero byte after it.
+    Directory(Look, Vec<u8>),
+    /// A directory with more names than one of a replica may have, and these names.
+    Crowded(Vec<u8>),
+    /// A file, and its bytes.
+    File(Look, Vec<u8>),
+    /// Something that can stand in no replica, for this reason.
+    Strange(Strangeness),
+    /// A file whose bytes nobody read, since there are too many files and directories.
+    Unread,
+    /// Something that was gone, or another, when it was looked at once more.
+    Changed,
+}
+
+impl Shown {
+    /// It is a file or a directory that a replica can have.
+    pub(super) fn is_node(&self) -> bool {
+        matches!(self, Shown::Directory(..) | Shown::File(..))
+    }
+
+    /// The same file or directory is shown.
+    fn is_same_node(&self, other: &Shown) -> bool {
+        match (self, other) {
+            (Shown::Directory(look, _), Shown::Directory(other, _)) => look == other,
+            (Shown::File(look, bytes), Shown::File(other, other_bytes)) => {
+                look == other && bytes == other_bytes
+            }
+            _ => false,
+        }
+    }
+}
+
+/// A path of the folder, or the folder itself, and what was shown there.
 #[derive(Drop)]
 pub(super) struct Seen {
     pub(super) path: Path,
-    pub(super) look: Look,
-    pub(super) content: Content,
+    pub(super) shown: Shown,
+}
+
+impl Seen {
+    /// The same file or directory was seen.
+    pub(super) fn is_same_node(&self, other: &Seen) -> bool {
+        self.path == other.path && self.shown.is_same_node(&other.shown)
+    }
+
+    /// A file or a directory was seen at the path.
+    pub(super) fn is_node_at(&self, path: &Path) -> bool {
+        self.shown.is_node() && self.path == *path
+    }
 }
 
 /// How a file or a directory of the folder looked when it was read.
@@ -48,74 +108,4 @@ pub(super) struct Seen {
 pub(super) struct Looked {
     pub(super) path: Path,
     pub(super) look: Look,
-}
-
-impl Seen {
-    /// The same was seen.
-    fn is_same(&self, other: &Seen) -> bool {
-        self.path == other.path
-            && self.look == other.look
-            && is_same_content(&self.content, &other.content)
-    }
-}
-
-fn is_same_content(one: &Content, other: &Content) -> bool {
-    match (one, other) {
-        (Content::Dir, Content::Dir) => true,
-        (Content::File(mode, bytes), Content::File(other_mode, other_bytes)) => {
-            mode.is_same(*other_mode) && bytes == other_bytes
-        }
-        _ => false,
-    }
-}
-
-/// Puts to the changed paths those at which the two readings saw something else.
-///
-/// Refused where memory is refused.
-pub(super) fn note_changes(
-    alloc: Global,
-    first: &[Seen],
-    second: &[Seen],
-    changed: &mut Vec<Path>,
-) -> Result<(), AllocError> {
-    for (index, one) in first.iter().enumerate() {
-        let is_there = match second.get(index) {
-            Some(other) => other.is_same(one),
-            None => false,
-        };
-        if !is_there && !second.iter().any(|other| other.is_same(one)) {
-            note(alloc, &one.path, changed)?;
-        }
-    }
-    for (index, other) in second.iter().enumerate() {
-        let is_there = match first.get(index) {
-            Some(one) => one.path == other.path,
-            None => false,
-        };
-        if !is_there && !first.iter().any(|one| one.path == other.path) {
-            note(alloc, &other.path, changed)?;
-        }
-    }
-    Ok(())
-}
-
-/// Puts the path to the changed ones, unless it is among them.
-pub(super) fn note(alloc: Global, path: &Path, changed: &mut Vec<Path>) -> Result<(), AllocError> {
-    if !changed.iter().any(|other| other == path) {
-        changed.push(path.copy(alloc)?)?;
-    }
-    Ok(())
-}
-
-/// Nothing is there any more, or what was a directory above it is none.
-pub(super) fn is_gone(error: &io::Error) -> bool {
-    matches!(
-        error.kind(),
-        io::ErrorKind::NotFound | io::ErrorKind::NotADirectory
-    )
-}
-
-/// It may not be read, or what is above it.
-pub(super) fn is_locked(error: &io::Error) -> bool {
-    error.kind() == io::ErrorKind::PermissionDenied
 }

@@ -1,8 +1,9 @@
 //! Replaces a part of a folder that others edit, where it still is what was read.
 
 use crate::error::FolderError;
-use crate::system::looks::{Look, Looked, is_gone};
-use crate::system::reading::{PART, is_listed, mode_of, place_of, read_names};
+use crate::system::listing::{PART, is_listed};
+use crate::system::looking::{is_gone, place_of, read_names};
+use crate::system::looks::{Look, Looked};
 use crate::system::writing::{above, check_above, write_new};
 use std::alloc::Global;
 use std::fs::{Files, OpenFile, OpenOptions};
@@ -138,7 +139,7 @@ impl<F: Files> Replacing<'_, F> {
             Err(error) => return Err(error),
         }
         match self.files.symlink_metadata(place) {
-            Ok(there) => Ok(Look::of(&there) == look && mode_of(there).is_same(mode)),
+            Ok(there) => Ok(Look::of(&there) == look && look.file_mode().is_same(mode)),
             Err(error) if is_gone(&error) => Ok(false),
             Err(error) => Err(error),
         }

@@ -1,6 +1,7 @@
 //! Edits of a folder of the system.
 
-use crate::system::reading::{PART, place_of};
+use crate::system::listing::PART;
+use crate::system::looking::place_of;
 use std::alloc::Global;
 use std::fs::{Files, OpenFile, OpenOptions, Permissions};
 use std::io::{self, Write};

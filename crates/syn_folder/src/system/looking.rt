@@ -1,0 +1,217 @@
+//! Looks at what stands in a folder of the system.
+ghost use Rattle.std.specs.IoError.{error_kind};
+ghost use Rattle.std.specs.Prelude.{◌≡◌, IfErr, IfOk, Some, None};
+ghost use Rattle.syn_folder.specs.Looks.{IsOfDirectory, IsWhyStrange, shown_of};
+
+use crate::error::FolderError;
+use crate::stranger::Strangeness;
+use crate::system::listing::is_listed;
+use crate::system::looks::{Look, Shown};
+use std::alloc::{AllocError, Global};
+use std::fs::{Files, Metadata, OpenFile, OpenOptions};
+use std::io::{self, Read};
+use syn_path::{Name, Path, PathError};
+use syn_tree::{LONGEST_FILE, MOST_CHILDREN};
+
+/// Looks at the folder itself, which may be a symbolic link to one. Refused where the system
+/// refuses it.
+pub(super) fn look_at_folder<F: Files>(
+    alloc: Global,
+    files: &F,
+    root: &str,
+) -> Result<Shown, FolderError>
+    ensures { IfOk result IsOfDirectory }
+{
+    let there = files.metadata(root)?;
+    let path = Path::root(alloc);
+    let listing = read_names(alloc, files, root, &path)?;
+    list(alloc, files, root, &path, &there, listing)
+}
+
+/// Looks at what stands at the path. Where there are too many files already, the bytes of one are
+/// not read.
+///
+/// Refused 9 where the system refuses it otherwise than for what is gone or may not be read, and 11
+/// where memory is refused.
+pub(super) fn look_at<F: Files>(
+    alloc: Global,
+    files: &F,
+    root: &str,
+    path: &Path,
+    are_enough: bool,
+) -> Result<Shown, FolderError> {
+    let place = place_of(alloc, root, path.names())?;
+    let there = match files.symlink_metadata(place.as_str()) {
+        Ok(there) => there,
+        Err(error) => return unseen(error),
+    };
+    if let Some(why) = strangeness_of(&there) {
+        return Ok(Shown::Strange(why));
+    }
+    if there.is_dir() {
+        match read_names(alloc, files, root, path) {
+            Ok(listing) => list(alloc, files, root, path, &there, listing),
+            Err(error) => unseen(error),
+        }
+    } else if are_enough {
+        Ok(Shown::Unread)
+    } else {
+        read(alloc, files, place.as_str(), &there)
+    }
+}
+
+/// Reads the file at the place, which looked so.
+fn read<F: Files>(
+    alloc: Global,
+    files: &F,
+    place: &str,
+    there: &Metadata,
+) -> Result<Shown, FolderError> {
+    let mut options = OpenOptions::new();
+    let file = match options.read(true).open(files, place) {
+        Ok(file) => file,
+        Err(error) => return unseen(error),
+    };
+    let look = Look::of(there);
+    if Look::of(&file.metadata()?) != look {
+        return Ok(Shown::Changed);
+    }
+    let mut bytes = Vec::new(alloc);
+    file.take(LONGEST_FILE as u64).read_to_end(&mut bytes)?;
+    Ok(Shown::File(look, bytes))
+}
+
+/// The directory at the path, which looked so, with these names.
+fn list<F: Files>(
+    alloc: Global,
+    files: &F,
+    root: &str,
+    path: &Path,
+    there: &Metadata,
+    listing: Vec<u8>,
+) -> Result<Shown, FolderError>
+    ensures { IfOk result IsOfDirectory }
+{
+    if is_crowded(alloc, files, root, path, &listing)? {
+        Ok(Shown::Crowded(listing))
+    } else {
+        Ok(Shown::Directory(Look::of(there), listing))
+    }
+}
+
+/// The directory at the path has more files and directories that a replica can have than one of a
+/// replica may have. Where there are few names they are not looked at.
+fn is_crowded<F: Files>(
+    alloc: Global,
+    files: &F,
+    root: &str,
+    path: &Path,
+    listing: &[u8],
+) -> Result<bool, FolderError> {
+    let names = listing.split(|byte| *byte == 0);
+    if names.filter(|name| is_listed(name)).count() <= MOST_CHILDREN {
+        return Ok(false);
+    }
+    let mut count: usize = 0;
+    for name in listing.split(|byte| *byte == 0) {
+        if is_listed(name) && is_known(alloc, files, root, path, name)? {
+            count = count.saturating_add(1);
+        }
+    }
+    Ok(count > MOST_CHILDREN)
+}
+
+/// What has the name in the directory at the path is a file or a directory that a replica can have.
+fn is_known<F: Files>(
+    alloc: Global,
+    files: &F,
+    root: &str,
+    path: &Path,
+    name: &[u8],
+) -> Result<bool, FolderError> {
+    let name = match Name::from_bytes(alloc, name) {
+        Ok(name) => name,
+        Err(PathError::BadPath) => return Ok(false),
+        Err(error) => return Err(FolderError::from(error)),
+    };
+    let mut place = place_of(alloc, root, path.names())?;
+    place.push('/')?;
+    place.push_str(name.as_str())?;
+    match files.symlink_metadata(place.as_str()) {
+        Ok(there) => Ok(strangeness_of(&there).is_none()),
+        Err(_) => Ok(false),
+    }
+}
+
+/// Why what looks so can stand in no replica; none where it can.
+fn strangeness_of(there: &Metadata) -> Option<Strangeness>
+    ensures { IsWhyStrange there.now result }
+{
+    if there.is_dir() {
+        None
+    } else if !there.is_file() {
+        Some(Strangeness::Kind)
+    } else if there.len() > LONGEST_FILE as u64 {
+        Some(Strangeness::Size)
+    } else {
+        None
+    }
+}
+
+/// What the system does not show for this reason: it is gone, or may not be read. Any other is
+/// refused.
+fn unseen(error: io::Error) -> Result<Shown, FolderError>
+    ensures shown { IfOk result (λ shown. shown_of (error_kind error) ≡ Some shown) }
+    ensures refused { IfErr result (λ e. (e ≡ FolderError.System error)
+        × (shown_of (error_kind error) ≡ None)) }
+{
+    match error.kind() {
+        io::ErrorKind::NotFound | io::ErrorKind::NotADirectory => Ok(Shown::Changed),
+        io::ErrorKind::PermissionDenied => Ok(Shown::Strange(Strangeness::Locked)),
+        _ => Err(FolderError::System(error)),
+    }
+}
+
+/// Nothing is there any more, or what was a directory above it is none.
+pub(super) fn is_gone(error: &io::Error) -> bool {
+    matches!(
+        error.kind(),
+        io::ErrorKind::NotFound | io::ErrorKind::NotADirectory
+    )
+}
+
+/// The names in the directory at the path, each with a zero byte after it.
+pub(super) fn read_names<F: Files>(
+    alloc: Global,
+    files: &F,
+    root: &str,
+    path: &Path,
+) -> io::Result<Vec<u8>> {
+    let mut place = place_of(alloc, root, path.names())?;
+    // After the slash the system follows a symbolic link, which only the folder itself may be.
+    if path.names().is_empty() {
+        place.push('/')?;
+    }
+    let mut dir = files.open_dir(place.as_str())?;
+    let mut names = Vec::new(alloc);
+    // The system wants room for the longest name at each read.
+    let mut chunk = [0; 4096];
+    for _ in 0..u64::MAX {
+        let count = dir.read(&mut chunk)?;
+        if count == 0 {
+            break;
+        }
+        names.extend_from_slice(&chunk[..count])?;
+    }
+    Ok(names)
+}
+
+/// The path of the system to what has these names in the folder.
+pub(super) fn place_of(alloc: Global, root: &str, names: &[Name]) -> Result<String, AllocError> {
+    let mut place = String::from_str(alloc, root)?;
+    for name in names {
+        place.push('/')?;
+        place.push_str(name.as_str())?;
+    }
+    Ok(place)
+}
