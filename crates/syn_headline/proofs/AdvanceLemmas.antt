@@ -1,12 +1,19 @@
 -- Each step of a run keeps the invariant, and its replacements are legal.
-use Rattle.std.proofs.Common.{◌≡◌, refl, sym, subst, Option, None, inl, inr, ◌⊎◌, ◌∙◌}
+use Rattle.std.proofs.Common.{◌≡◌, refl, sym, subst, List, Option, None, inl, inr, ◌⊎◌, ◌∙◌}
 use Rattle.std.specs.Prelude.{IfSome}
 use Rattle.syn_model.specs.Event.{Edited}
+use Rattle.syn_model.specs.Refusal.{Refusal}
 use Rattle.syn_headline.specs.Side.{Staging}
+use Rattle.syn_headline.specs.SideMachine.{staging_after}
+use Rattle.syn_headline.specs.Picture.{session_after}
+use Rattle.syn_headline.specs.World.{At, Coordinator, Step}
 use Rattle.syn_headline.specs.Network.{Which}
 use Rattle.syn_headline.specs.Picture.{Picture, side_of, Follows, same, edits, opens, changes}
 use Rattle.syn_headline.specs.Picture.{serves, starts_session, ticks_once, takes_answer}
 use Rattle.syn_headline.specs.Picture.{archive_changes, archive_opens, archive_recovers}
+use Rattle.syn_headline.proofs.Heard.{sent_at}
+use Rattle.syn_headline.proofs.View.{staged_or_none}
+use Rattle.syn_headline.proofs.SettledLemmas.{settles_not_up, running_or_none}
 use Rattle.syn_headline.proofs.Invariant.{Plans, histories_of, IsSoundStaging, IsKept}
 use Rattle.syn_headline.proofs.SideRuns.{Advances, next_same, stays, side_settles, was_written}
 use Rattle.syn_headline.proofs.SideRuns.{writes_advances, opens_advances, request_advances}
@@ -25,33 +32,39 @@ staged_still plans old k which staging (inr none) =
     subst (λ o. IfSome o (IsSoundStaging plans (histories_of old) which)) (sym none) tt
 
 -- each step keeps the invariant, and its replacements are legal
-pub step_advances : (plans : Plans) (old : Picture) (k : IsKept plans old) (new : Picture) →
-    Follows old new → Advances plans old new
-step_advances plans old k new (same e) = stays plans old new k e
+pub step_advances : (plans : Plans) (old : Picture) (k : IsKept plans old) (new : Picture)
+    {step : Step} {told : List Refusal} → Follows old new step told → Advances plans old new
+step_advances plans old k new (same step told idle e) = stays plans old new k e
 step_advances plans old k new (edits which user edit machine events allowed up g e) =
     writes_advances plans old k which (Edited user edit) allowed tt machine events new up g e
-step_advances plans old k new (opens which machine events g e) =
+step_advances plans old k new (opens which step machine events by g e) =
     opens_advances plans old k which machine events new g e
-step_advances plans old k new (changes which status staging up stays e) =
+step_advances plans old k new (changes which step status told settles e) =
+    let was = side_of old which in
+    let staging = staging_after status was.side.staging in
     side_settles plans old k which (record (side_of old which) {
       status = status;
       side = record { history = (side_of old which).side.history; staging = staging };
     }) new refl
-    (staged_still plans old k which staging stays)
-    (was_written plans old k which status up
+    (staged_still plans old k which staging (staged_or_none status was.side.staging))
+    (was_written plans old k which status
+    (settles_not_up (At which) was.status status settles)
     (record { history = (side_of old which).side.history; staging = staging }) refl)
     (e ∙ next_same old which _)
-step_advances plans old k new (serves which session number request asked g) =
-    request_advances plans old k which session number request asked new g
-step_advances plans old k new (starts_session g reports) = start_advances plans old k new g
-step_advances plans old k new (ticks_once g reports) =
+step_advances plans old k new (serves message which session number request at g) =
+    request_advances plans old k which session number request (sent_at old.sent message _ at) new g
+step_advances plans old k new (starts_session preference up none g some reports) =
+    start_advances plans old k new preference g
+step_advances plans old k new (ticks_once running is g reports status again) =
     tick_with plans old k new old.coordinator.running refl g
 step_advances plans old k new
-    (takes_answer from session number reply plan logged heard expected made g reports) =
-    take_with plans old k new from session number reply plan logged heard old.coordinator.running
-    refl expected made g
-step_advances plans old k new (archive_changes status running up stays e) =
-    archive_changes_so plans old k new status running up stays e
-step_advances plans old k new (archive_opens e) = archive_opens_so plans old k new e
-step_advances plans old k new (archive_recovers kept is can e) =
+    (takes_answer message from session number reply plan logged at expected made g reports heard) =
+    take_with plans old k new from session number reply plan logged
+    (sent_at old.sent message _ at) old.coordinator.running refl expected made g
+step_advances plans old k new (archive_changes step status told settles e) =
+    archive_changes_so plans old k new status (session_after status old.coordinator.running)
+    (settles_not_up Coordinator old.coordinator.status status settles)
+    (running_or_none status old.coordinator.running) e
+step_advances plans old k new (archive_opens step by e) = archive_opens_so plans old k new e
+step_advances plans old k new (archive_recovers step kept by is can e) =
     archive_recovers_so plans old k new kept is can e

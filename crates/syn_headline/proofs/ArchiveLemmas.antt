@@ -37,7 +37,8 @@ archive_held histories (Some kept) old new w h (inr more) =
     subst (λ a. IsHeld histories a.marks) (sym more.1) (kept_held histories old kept h w)
 
 pub runs_hold_archive : OfEachRun EachEntryWasHeld
-runs_hold_archive old new start runs left right archive grown_left grown_right grown_archive path
+runs_hold_archive old new steps refusals start runs left right archive grown_left grown_right
+    grown_archive path
     content e =
     let now = stores_after (stores_of old) new.acknowledged in
     let after = run_kept no_plans old new (start_kept old start) runs in
@@ -104,7 +105,8 @@ grown_begun plans histories archive side (Some event) old new s h (inr more) =
 
 -- what a run leaves is again a pair
 pub runs_leave_pair : OfEachRun LeavesPair
-runs_leave_pair old new start runs left right archive grown_left grown_right grown_archive =
+runs_leave_pair old new steps refusals start runs left right archive grown_left grown_right
+    grown_archive =
     let now = stores_after (stores_of old) new.acknowledged in
     let after = run_kept no_plans old new (start_kept old start) runs in
     let sound = after.1.sound in
@@ -139,8 +141,8 @@ runs_leave_pair old new start runs left right archive grown_left grown_right gro
           archive_is_tree new.coordinator.writing now.archive archive
           (subst (λ a. IsTree a.marks) of_archive sound.marks) grown_archive;
       held =
-          runs_hold_archive old new start runs left right archive grown_left grown_right
-          grown_archive;
+          runs_hold_archive old new steps refusals start runs left right archive grown_left
+          grown_right grown_archive;
       left_begun = omega (arith, left_begun, later);
       right_begun = omega (arith, right_begun, later);
     }

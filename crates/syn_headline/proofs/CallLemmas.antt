@@ -14,6 +14,10 @@ use Rattle.syn_model.specs.Refusal.{Refusal, Memory}
 use Rattle.syn_model.specs.Archive.{Kept, CanKeep, archive_of}
 use Rattle.syn_model.specs.Refusal as why
 use Rattle.syn_model.specs.Decision.{Item}
+use Rattle.syn_headline.specs.Machine.{Up, Down}
+use Rattle.syn_headline.specs.World.{Deliver}
+use Rattle.syn_headline.proofs.Heard.{sent_at}
+use Rattle.syn_headline.proofs.AskedLemmas.{asked_no_more}
 use Rattle.syn_headline.specs.Side.{Request, ListAt, Reply, IsLawfulRequest}
 use Rattle.syn_headline.specs.Network.{Which, Left, Right, Message, Asks, AsksNothingTwice, Answers}
 use Rattle.syn_headline.specs.Network.{NumbersTell}
@@ -30,7 +34,8 @@ use Rattle.syn_headline.specs.Picture.{GoesOnFrom, IsDueAfter, IsOfSession, AllO
 use Rattle.syn_headline.specs.Picture as picture
 use Rattle.syn_headline.specs.Runs.{session_picture, picture_of, coordinator_picture}
 use Rattle.syn_headline.proofs.Walks.{IsItems, IsSettledBy, IsLeft, AllSettled, advances_left}
-use Rattle.syn_headline.proofs.Walks.{advances_settled, advances_due, last_stays, take_whole}
+use Rattle.syn_headline.proofs.Walks.{advances_status, advances_settled, advances_due, last_stays}
+use Rattle.syn_headline.proofs.Walks.{take_whole}
 use Rattle.syn_headline.proofs.Remembers.{Remembers, hearing_remembers, advanced_remembers}
 use Rattle.syn_headline.proofs.Remembers.{asking_remembers, asking_tells, asking_once}
 use Rattle.syn_headline.proofs.InOrder.{ListsInOrder, hearing_in_order, advanced_in_order}
@@ -57,9 +62,12 @@ use Rattle.syn_headline.proofs.HeardLemmas.{all_asked, nowhere}
 
 module _ (plans : Plans) (old : fine_world.World) (k : IsKept plans (picture_of old)) (r : Running)
     (e : old.coordinator.running ≡ Some r) (h : IsHeard old r)
-    (from : Which) (number : ℕ) (reply : Reply)
-    (heard : Contains old.sent (Answers from r.session number reply)) (request : Request)
-    (asked : asked_of r from number ≡ Some request) where
+    (message : ℕ) (from : Which) (number : ℕ) (reply : Reply)
+    (at : slice_get old.sent message ≡ Some (Answers from r.session number reply))
+    (request : Request) (asked : asked_of r from number ≡ Some request) where
+  heard : Contains old.sent (Answers from r.session number reply)
+  heard = sent_at old.sent message (Answers from r.session number reply) at
+
   abbrev pub exchange : Exchange
   exchange = record { side = from; number = number; request = request; reply = reply }
 
@@ -126,13 +134,18 @@ module _ (plans : Plans) (old : fine_world.World) (k : IsKept plans (picture_of 
         (messages ≡ []) × (option_map session_picture new.running ≡ None)) → picture.Reports
         (picture_of old)
         (picture_of after) (list_of plan) (picture.Ends (picture_of after) (list_of plan)) →
-        Follows (picture_of old) (picture_of after)
-    follows due left on runs_over numbers repeats of_session silent reported =
+        IfSome (option_map session_picture new.running)
+        (λ running. picture.asked_of running from number ≡ None) →
+        (old.coordinator.journal.status ≢ Up →
+        new.journal.status ≡ old.coordinator.journal.status) →
+        Follows (picture_of old) (picture_of after) (Deliver message) []
+    follows due left on runs_over numbers repeats of_session silent reported no_more
+        rises_not =
         let D = IsDueAfter (picture_of old).coordinator.running (list_of plan) from number reply in
         let to_due : (what : Kept) → IsItems (list_of plan) exchange what → D what = λ what d.
         subst (λ o. IsDueAfter o (list_of plan) from number reply what) (sym runs)
         (due_of r (list_of plan) from number request reply asked_there what d) in
-        picture.takes_answer from r.session number reply (list_of plan) logged heard expected
+        picture.takes_answer message from r.session number reply (list_of plan) logged at expected
         (subst (λ o. HasPlan old.sent old.coordinator.journal.value old.log o (list_of plan) logged)
         (sym runs) (has_plan old.sent old.coordinator.journal.value old.log
         (hearing r exchange) plan logged remembers_then in_order_then k.sound.repeats
@@ -153,6 +166,7 @@ module _ (plans : Plans) (old : fine_world.World) (k : IsKept plans (picture_of 
                 (λ more _ w. (to_due more w.0, w.1));
           };
           unless_up = left.up;
+          rises_not = rises_not;
           runs_on =
               subst (λ o. GoesOnFrom o (list_of plan) (option_map session_picture new.running))
               (sym runs) on;
@@ -163,7 +177,7 @@ module _ (plans : Plans) (old : fine_world.World) (k : IsKept plans (picture_of 
           silent_when_writing = silent;
           result = refl;
         })
-        reported
+        reported no_more
 
   sent_stays : old.sent ≡ old.sent ++ []
   sent_stays = sym (append-nil old.sent)
@@ -183,7 +197,7 @@ module _ (plans : Plans) (old : fine_world.World) (k : IsKept plans (picture_of 
   ends_now : (why : Refusal) →
       Follows (picture_of old) (picture_of (coordinator_goes old
       (record old.coordinator { running = None })
-      (record fine.no_call { reports = report_of r (Some why) ∷ [] })))
+      (record fine.no_call { reports = report_of r (Some why) ∷ [] }))) (Deliver message) []
   ends_now why =
       let kept_is = session_keeps old.acknowledged r.kept (list_of r.plan) exchange
       [] h.kept (All-nil (IsItems (list_of r.plan) exchange)) ∙ append-nil r.kept in
@@ -210,7 +224,8 @@ module _ (plans : Plans) (old : fine_world.World) (k : IsKept plans (picture_of 
           done = ap (count is_carrying) (sym kept_is);
           marked = ap (count is_marking) (sym kept_is);
         },
-      ))
+        refl,
+      )) tt (λ _. refl)
 
   -- and reports that
   tells_now : (why : Refusal) →
@@ -245,6 +260,12 @@ module _ (plans : Plans) (old : fine_world.World) (k : IsKept plans (picture_of 
     left =
         advances_left old.pair (list_of plan) exchange
         (fine.start_of old.coordinator r) walk kept nothing_written advances
+
+    rises_not : old.coordinator.journal.status ≢ Up →
+        walk.journal.status ≡ old.coordinator.journal.status
+    rises_not other =
+        advances_status old.pair (list_of plan) exchange (fine.start_of old.coordinator r) walk kept
+        advances other
 
     kept_then : kept_in_session (old.acknowledged ++ map Kept_by kept) ≡ r.kept ++ kept
     kept_then = session_keeps old.acknowledged r.kept (list_of plan) exchange kept h.kept due
@@ -294,15 +315,15 @@ module _ (plans : Plans) (old : fine_world.World) (k : IsKept plans (picture_of 
         advances_settled old.pair (list_of plan) exchange (fine.start_of old.coordinator r) walk
         r.kept kept (settled_before old r h exchange plan logged has) advances
 
-    stops_so : Follows (picture_of old)
+    stops_so : walk.journal.status ≡ Down → Follows (picture_of old)
         (picture_of (coordinator_goes old (record { journal = walk.journal; running = None })
-        (record fine.no_call { kept = kept; logged = logged })))
-    stops_so =
+        (record fine.no_call { kept = kept; logged = logged }))) (Deliver message) []
+    stops_so down =
         follows plan logged has kept (record { journal = walk.journal; running = None }) []
         [] due left picture.ended tt
         (subst NumbersTell sent_stays k.sound.numbers)
         (subst AsksNothingTwice sent_stays k.sound.repeats) refl (λ _. (refl, refl))
-        (inl (append-nil old.reports))
+        (inl (append-nil old.reports, inr down)) tt rises_not
 
     -- one that nothing ended early came through its plan
     whole : (why : Option Refusal) →
@@ -370,6 +391,7 @@ module _ (plans : Plans) (old : fine_world.World) (k : IsKept plans (picture_of 
         (picture_of (coordinator_goes old (record { journal = walk.journal; running = None })
         (record
         { kept = kept; messages = []; reports = report_of later why ∷ []; logged = logged })))
+        (Deliver message) []
     ends_so why ends =
         let count : (Item → Bool) → List Kept → ℕ = λ of_kind kept. count_by
         (λ planned. of_kind planned.item && is_kept kept planned.item) (list_of plan) in
@@ -398,7 +420,8 @@ module _ (plans : Plans) (old : fine_world.World) (k : IsKept plans (picture_of 
             done = ap (count is_carrying) (sym kept_then);
             marked = ap (count is_marking) (sym kept_then);
           },
-        ))
+          refl,
+        )) tt rises_not
       where
         conflicts_of : slice_get (list_of plan) walk.cursor ≡ None →
             filter_map (λ planned. conflict_at planned.item) (take walk.cursor (list_of plan))
@@ -483,16 +506,23 @@ module _ (plans : Plans) (old : fine_world.World) (k : IsKept plans (picture_of 
             logged = logged;
           })
 
-      goes_on_so : Follows (picture_of old) (picture_of new_world)
+      no_more : (side : Which) → side ≡ from →
+          picture.asked_of (session_picture on) side number ≡ None
+      no_more Left is = asked_no_more old.sent r from number request reply remembers_then Left is
+          later asks_left asks_right refl refl refl
+      no_more Right is = asked_no_more old.sent r from number request reply remembers_then Right is
+          later asks_left asks_right refl refl refl
+
+      goes_on_so : Follows (picture_of old) (picture_of new_world) (Deliver message) []
       goes_on_so =
           follows plan logged has kept (record { journal = walk.journal; running = Some on })
           (sent_now later asks_left asks_right) [] due left
-          (picture.goes_on (session_picture on) refl refl) runs_over_on
+          (picture.goes_on (session_picture on) refl refl refl) runs_over_on
           (asking_tells old.sent later k.sound.numbers m asks_left asks_right)
           (asking_once old.sent later k.sound.numbers m asks_left asks_right k.sound.repeats
           asks.once) of_session_on
           (λ some. absurd (true≢false (sym some ∙ ap is_some (left.whole stays))))
-          (inl (append-nil old.reports))
+          (inl (append-nil old.reports, inl refl)) (no_more from refl) rises_not
 
       unlogged_on : (plan : Option (List Planned)) (logged : Log) →
           fine.HasPlan old.coordinator.journal.value (hearing r exchange) plan logged →
@@ -531,12 +561,12 @@ module _ (plans : Plans) (old : fine_world.World) (k : IsKept plans (picture_of 
   -- how an answer is taken
   pub takes_follow : (new : CoordinatorMachine) (call : Call) →
       fine.Takes old.pair old.coordinator r exchange new call →
-      Follows (picture_of old) (picture_of (coordinator_goes old new call))
+      Follows (picture_of old) (picture_of (coordinator_goes old new call)) (Deliver message) []
       × IfSome new.running (IsHeard (coordinator_goes old new call))
       × Tells old (coordinator_goes old new call)
   takes_follow _ _ (fine.ends_at_once why fault) = (ends_now why, tt, tells_now why fault)
   takes_follow _ _ (fine.stops plan logged walk kept fault has advances down) =
-      (stops_so plan logged walk kept has advances, tt, inl (append-nil old.reports))
+      (stops_so plan logged walk kept has advances down, tt, inl (append-nil old.reports))
   takes_follow _ _ (fine.ends plan logged walk kept why fault has advances ends) = (
     ends_so plan logged walk kept has advances why ends,
     tt,

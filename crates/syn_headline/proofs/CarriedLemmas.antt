@@ -139,7 +139,8 @@ source_is source fetched path untouched root directory =
 
 -- so the next complete session without edits marks it, and both sides keep it
 pub runs_mark_held : OfEachRun HeldIsMarked
-runs_mark_held old new s g side first rest token path since fetched u report found left is untouched
+runs_mark_held old new steps refusals s g side first rest token path since fetched u report found
+    left is untouched
     directory held source_untouched q =
     let lawful = found_lawful old new s g report found left q in
     let target = replaced_is first rest token path since u

@@ -55,7 +55,7 @@ runs_has : (plans : Plans) (histories : Histories) (r : SessionPicture) (plan : 
     plan_in plans r.session ≡ plan → (plan ≡ [] → IsFresh histories r.session) →
     (o : Option SessionPicture) → GoesOnAs r plan o → HasItsPlan plans histories o
 runs_has plans histories r plan has fresh _ ended = tt
-runs_has plans histories r plan has fresh _ (goes_on new session_is plan_is) = (
+runs_has plans histories r plan has fresh _ (goes_on new session_is prefers plan_is) = (
   ap (plan_in plans) session_is ∙ (has ∙ sym plan_is),
   λ e. subst (IsFresh histories) (sym session_is) (fresh (sym plan_is ∙ e)),
 )
@@ -146,23 +146,26 @@ module _ (plans : Plans) (old : Picture) (k : IsKept plans old) (new : Picture) 
         held = tt;
       }
 
-  starts_has : (o : Option SessionPicture) → StartsFrom old.coordinator.archive o →
-      HasItsPlan plans (histories_of old) o
-  starts_has None s = tt
-  starts_has (Some r) s =
+  starts_has : (preference : Option Which) (o : Option SessionPicture) →
+      StartsFrom preference old.coordinator.archive o → HasItsPlan plans (histories_of old) o
+  starts_has preference None s = tt
+  starts_has preference (Some r) s =
       let f = next_fresh plans
       (histories_of old) old.coordinator.archive old.sent k.sound r.session s.0 in
       (no_plan plans r.session f.0 ∙ sym s.1, λ _. f.1)
 
-  pub start_advances : CoordinatorGoes old [] (IsNext old.coordinator.archive)
-      (StartsFrom old.coordinator.archive) new → Advances plans old new
-  start_advances g =
+  pub start_advances : (preference : Option Which) →
+      CoordinatorGoes old [] (IsNext old.coordinator.archive)
+      (StartsFrom preference old.coordinator.archive) new → Advances plans old new
+  start_advances preference g =
       coordinator_advances plans plans old
-      [] (IsNext old.coordinator.archive) (StartsFrom old.coordinator.archive) new g
+      [] (IsNext old.coordinator.archive) (StartsFrom preference old.coordinator.archive) new g
       (coordinator_keeps plans old [] (IsNext old.coordinator.archive)
-      (StartsFrom old.coordinator.archive) new (append-nil old.log ∙ k.logged) k.sound k.sides
+      (StartsFrom preference old.coordinator.archive) new (append-nil old.log ∙ k.logged) k.sound
+      k.sides
       (λ kept due. subst (IsHarmless plans (histories_of old)) (sym due) (session_harmless
-      (old.coordinator.archive.last_session + 1))) g (starts_has g.machine.running g.runs_on))
+      (old.coordinator.archive.last_session + 1))) g
+      (starts_has preference g.machine.running g.runs_on))
 
   -- the coordinator's machine alone changes, and says nothing
   pub coordinator_settles : (machine : CoordinatorPicture) (ks : List Kept) →

@@ -4,6 +4,9 @@ use Rattle.std.proofs.Common.{subst, Option, Some, None, append-nil, inl, inr, �
 use Rattle.std.specs.Prelude.{Contains, IfSome}
 use Rattle.syn_model.specs.Event.{Event}
 use Rattle.syn_model.specs.Archive.{Archive, Kept, CanKeep}
+use Rattle.syn_headline.specs.Picture.{session_after}
+use Rattle.syn_headline.specs.World.{Step}
+use Rattle.syn_model.specs.Refusal.{Refusal}
 use Rattle.syn_headline.specs.Side.{Request, Reply}
 use Rattle.syn_headline.specs.Network.{Which, Left, Right, Sent, Answers}
 use Rattle.syn_headline.specs.Planning.{Planned, Log}
@@ -17,6 +20,8 @@ use Rattle.syn_headline.specs.Picture.{same, edits, opens, changes, serves, star
 use Rattle.syn_headline.specs.Picture.{ticks_once, takes_answer, archive_changes, archive_opens}
 use Rattle.syn_headline.specs.Picture.{archive_recovers}
 use Rattle.syn_headline.specs.Machine.{Up}
+use Rattle.syn_headline.proofs.Heard.{sent_at}
+use Rattle.syn_headline.proofs.SettledLemmas.{running_or_none}
 use Rattle.syn_headline.proofs.Invariant.{Plans, histories_of, IsHarmless, IsKept}
 use Rattle.syn_headline.proofs.WorldLemmas.{kept_events, kept_kept}
 use Rattle.syn_headline.proofs.CoordinatorRuns.{no_acks}
@@ -29,8 +34,9 @@ pub data Course (old new : Picture) : Type 0 where
       (new.coordinator.running ≡ None)
       ⊎ ((new.coordinator.running ≡ old.coordinator.running) × (filter_map kept_in acks ≡ [])) →
       new.reports ≡ old.reports → new.log ≡ old.log → Course old new
-  starts : CoordinatorGoes old [] (IsNext old.coordinator.archive)
-      (StartsFrom old.coordinator.archive) new → new.reports ≡ old.reports → Course old new
+  starts : (preference : Option Which) → CoordinatorGoes old [] (IsNext old.coordinator.archive)
+      (StartsFrom preference old.coordinator.archive) new → new.reports ≡ old.reports →
+      Course old new
   ticks : CoordinatorGoes old
       [] IsNothing (GoesOnFrom old.coordinator.running (plan_of old.coordinator.running)) new →
       Reports old new (plan_of old.coordinator.running) EndsUnanswered → Course old new
@@ -161,23 +167,28 @@ module _ (plans : Plans) (old : Picture) (k : IsKept plans old) (new : Picture) 
   still running kept nothing (inl is) = inr (is, nothing)
   still running kept nothing (inr none) = inl none
 
-  pub course : Follows old new → Course old new
-  course (same e) = stays old new e
+  pub course : {step : Step} {told : List Refusal} → Follows old new step told → Course old new
+  course (same step told idle e) = stays old new e
   course (edits which user edit machine events allowed up g e) =
       aside old new (side_goes old new which machine _ events e)
-  course (opens which machine events g e) =
+  course (opens which step machine events by g e) =
       aside old new (side_goes old new which machine _ events e)
-  course (changes which status staging up stays e) = aside old new (side_set old new which _ e)
-  course (serves which session number request asked g) =
+  course (changes which step status told settles e) =
+      aside old new (side_set old new which _ e)
+  course (serves message which session number request at g) =
       takes_request old new which session number request g
-  course (starts_session g reports) = starts g reports
-  course (ticks_once g reports) = ticks g reports
-  course (takes_answer from session number reply plan logged heard expected made g reports) =
-      takes from session number reply plan logged heard expected made g reports
-  course (archive_changes status running up stays e) =
+  course (starts_session preference up none g some reports) = starts preference g reports
+  course (ticks_once running is g reports status again) = ticks g reports
+  course
+      (takes_answer message from session number reply plan logged at expected made g reports
+      heard) =
+      takes from session number reply plan logged (sent_at old.sent message _ at) expected made g
+      reports
+  course (archive_changes step status told settles e) =
       aside old new
-      (alone old new _ [] tt (still running [] refl stays) (no_acks plans old k new _ e))
-  course (archive_opens e) =
+      (alone old new _ [] tt (still (session_after status old.coordinator.running) [] refl
+      (running_or_none status old.coordinator.running)) (no_acks plans old k new _ e))
+  course (archive_opens step by e) =
       aside old new (alone old new _ [] tt (inr (refl, refl)) (no_acks plans old k new _ e))
-  course (archive_recovers kept w can e) =
+  course (archive_recovers step kept by w can e) =
       aside old new (alone old new _ (kept ∷ []) (can, tt) (inl (none_runs kept w)) e)

@@ -96,13 +96,13 @@ module _ (before : Stores) (plans : Plans) (old new : Picture) (k : IsKept plans
       IfSome o (λ r. base < r.session) → GoesOnFrom o plan now → IfSome now (λ r. base < r.session)
   on_from None plan now h none = subst (λ o. IfSome o (λ r. base < r.session)) (sym none) tt
   on_from (Some r) plan _ h ended = tt
-  on_from (Some r) plan _ h (goes_on next session_is plan_is) =
+  on_from (Some r) plan _ h (goes_on next session_is prefers plan_is) =
       subst (λ n. base < n) (sym session_is) h
 
-  from_start : (o : Option SessionPicture) → StartsFrom old.coordinator.archive o →
-      IfSome o (λ r. base < r.session)
-  from_start None h = tt
-  from_start (Some r) h = let at = h.0 in omega (arith, last, at)
+  from_start : (preference : Option Which) (o : Option SessionPicture) →
+      StartsFrom preference old.coordinator.archive o → IfSome o (λ r. base < r.session)
+  from_start preference None h = tt
+  from_start preference (Some r) h = let at = h.0 in omega (arith, last, at)
 
   goes_same : {D : Kept → Type 0} {R : Option SessionPicture → Type 0}
       (g : CoordinatorGoes old [] D R new) → IfSome g.machine.running (λ r. base < r.session) →
@@ -168,7 +168,8 @@ module _ (before : Stores) (plans : Plans) (old new : Picture) (k : IsKept plans
       same_log logs (subst (λ o. IfSome o (λ r. base < r.session)) (sym none) tt)
   early_then (beside acks added more (inr stays) reports logs) =
       same_log logs (subst (λ o. IfSome o (λ r. base < r.session)) (sym stays.0) e.running)
-  early_then (starts g reports) = goes_same g (from_start g.machine.running g.runs_on)
+  early_then (starts preference g reports) =
+      goes_same g (from_start preference g.machine.running g.runs_on)
   early_then (ticks g reports) =
       goes_same g (on_from old.coordinator.running
       (plan_of old.coordinator.running) g.machine.running e.running g.runs_on)

@@ -10,6 +10,8 @@ use Rattle.syn_model.specs.Path.{Path, parent}
 use Rattle.syn_model.specs.Tree.{Tree, subtree, is_directory}
 use Rattle.syn_model.specs.Event.{Token, Event, Began, Replaced, touches}
 use Rattle.syn_model.specs.History.{History, IsHistory, tree_of, tree_at, last_session}
+use Rattle.syn_headline.specs.World.{Step}
+use Rattle.syn_model.specs.Refusal.{Refusal}
 use Rattle.syn_headline.specs.Side.{Fetch}
 use Rattle.syn_headline.specs.Network.{Which, Left, Right, other}
 use Rattle.syn_headline.specs.Planning.{Planned, seen_on, SessionPlan, IsPlanOf, WritesTo}
@@ -95,7 +97,8 @@ tree_before : (history front rest : History) (position : ℕ) → history ≡ fr
 tree_before history front rest position is reached =
     ap tree_of (ap (take position) is ∙ take-append-le position front rest reached)
 
-module _ (old new : Picture) (s : IsStart old) (g : FollowsAll old new) (side : Which)
+module _ (old new : Picture) {steps : List Step} {refusals : List Refusal} (s : IsStart old)
+    (g : FollowsAll old steps refusals new) (side : Which)
     (first rest : History) (token : Token) (path : Path) (since : ℕ) (u : Tree) (report : Report)
     (found left : Stores)
     (is : history_of found side ≡ first ++ Replaced token path since u ∷ rest)
@@ -207,7 +210,8 @@ module _ (old new : Picture) (s : IsStart old) (g : FollowsAll old new) (side : 
 
   legal : IsLegal new.sent new.log side written token path since u
   legal =
-      runs_replace_legally old new s g acknowledged.0 acknowledged.1 side token path since u
+      runs_replace_legally old new steps refusals s g acknowledged.0 acknowledged.1 side token path
+      since u
       acknowledged.2
 
   same_made : legal.made ≡ made
@@ -260,7 +264,8 @@ module _ (old new : Picture) (s : IsStart old) (g : FollowsAll old new) (side : 
   pub marked : All (λ event. touches event path ≡ false) rest →
       AreMarked left path u
   marked untouched =
-      runs_mark_held old new s g side first rest token path since position u report found left is
+      runs_mark_held old new steps refusals s g side first rest token path since position u report
+      found left is
       untouched
       (ap (λ t. is_directory t (parent path)) (sym same_tree) ∙ legal.source.directory)
       (legal.source.held ∙ ap (λ t. subtree t path) same_tree)
@@ -268,6 +273,7 @@ module _ (old new : Picture) (s : IsStart old) (g : FollowsAll old new) (side : 
       fetched.untouched) q
 
 pub runs_mark_carried : OfEachRun CarriedIsMarked
-runs_mark_carried old new s g side first rest token path since u report found left is untouched
+runs_mark_carried old new steps refusals s g side first rest token path since u report found left
+    is untouched
     fetched q =
     marked old new s g side first rest token path since u report found left is fetched q untouched

@@ -1,10 +1,11 @@
 -- What is proved of whole runs, of the world itself.
-use Rattle.std.proofs.Common.{List, refl, sym, ap, subst, Option, Some, option_map, ◌≡◌, ◌∙◌}
+use Rattle.std.proofs.Common.{List, refl, sym, ap, subst, Option, Some, option_map, ◌≡◌, ◌∙◌, ◌++◌}
 use Rattle.std.specs.Prelude.{IfSome, All}
 use Rattle.syn_headline.specs.Network.{Which}
 use Rattle.syn_headline.specs.World.{World, Step, Runs}
-use Rattle.syn_headline.specs.Runs.{IsStart, OfEachRun, picture_of, session_picture}
-use Rattle.syn_headline.specs.Headline.{IsRunFrom, EachReplacementIsLegal, EachTokenOnce}
+use Rattle.syn_headline.specs.Runs.{IsStart, OfEachRun, RunsArePictured, picture_of}
+use Rattle.syn_headline.specs.Runs.{session_picture}
+use Rattle.syn_headline.specs.Headline.{EachReplacementIsLegal, EachTokenOnce}
 use Rattle.syn_headline.specs.Headline.{RecoveredIsLegal, EachEntryWasHeld, LeavesPair, LogsPlans}
 use Rattle.syn_headline.specs.Headline.{Owes, PlansWith, CompleteSessionsSynchronize}
 use Rattle.syn_headline.specs.Headline.{CompleteSessionsReconcile, ReportsItsConflicts}
@@ -14,7 +15,7 @@ use Rattle.syn_headline.proofs.RecoveredLemmas.{runs_recover_legally}
 use Rattle.syn_headline.specs.Picture as picture
 use Rattle.syn_headline.specs.Headline as promised
 use Rattle.syn_headline.proofs.Sessions.{IsHeard}
-use Rattle.syn_headline.proofs.Simulation.{runs_follow}
+use Rattle.syn_headline.proofs.Simulation.{RunFollows, runs_follow}
 use Rattle.syn_headline.proofs.WholeRuns.{no_plans, start_kept, runs_replace_legally}
 use Rattle.syn_headline.proofs.WholeRuns.{runs_use_tokens_once, runs_owe}
 use Rattle.syn_headline.proofs.LoggedRuns.{runs_log}
@@ -24,7 +25,7 @@ use Rattle.syn_headline.proofs.SessionRuns.{runs_count_items}
 use Rattle.syn_headline.proofs.FetchedLemmas.{runs_mark_carried}
 use Rattle.syn_headline.proofs.CarriedLemmas.{runs_mark_held}
 use Rattle.syn_headline.specs.Reported.{EachReportTells}
-use Rattle.syn_headline.proofs.ReportedRuns.{AllTold, IsTold}
+use Rattle.syn_headline.proofs.ReportedRuns.{IsTold}
 use Rattle.std.proofs.lemmas.List.Elements.{All-nil, All-weaker}
 use Rattle.syn_headline.proofs.EarlyLemmas.{entry_is}
 use Rattle.syn_model.proofs.EqualLemmas.{preference_settles}
@@ -33,65 +34,72 @@ use Rattle.syn_model.specs.Plan.{IsSynchronized, IsReconciled}
 pub start_view : (old : World) → IsStart old → promised.IsStart (picture_of old)
 start_view old s = record {
   pair = s.pair;
-  left = (s.left.1, s.left.0.1);
-  right = (s.right.1, s.right.0.1);
-  coordinator = (ap (option_map session_picture) s.coordinator.1, s.coordinator.0.1);
+  left = (s.left.1, s.left.0.1, s.left.0.0);
+  right = (s.right.1, s.right.0.1, s.right.0.0);
+  coordinator = (
+    ap (option_map session_picture) s.coordinator.1,
+    s.coordinator.0.1,
+    s.coordinator.0.0,
+  );
   nothing_yet = (s.nothing_yet.0, s.nothing_yet.1, s.nothing_yet.2, s.nothing_yet.3);
 }
 
 module _ (old new : World) (steps : List Step) (s : IsStart old) (g : Runs old steps new) where
-  pub follows : picture.FollowsAll (picture_of old) (picture_of new)
-      × IfSome new.coordinator.running (IsHeard new) × (AllTold old → AllTold new)
+  pub follows : RunFollows old steps new
   follows =
       runs_follow steps no_plans old new (start_kept (picture_of old) (start_view old s))
       (subst (λ o. IfSome o (IsHeard old)) (sym s.coordinator.1) tt) g
 
 -- each step of the world is one of the picture
-pub is_pictured : OfEachRun IsRunFrom
+pub is_pictured : RunsArePictured
 is_pictured old new steps s g = record {
   start = picture_of old;
   is_start = start_view old s;
   stands = refl;
-  follows = (follows old new steps s g).0;
+  follows = let run = follows old new steps s g in
+      subst (λ told. picture.FollowsAll (picture_of old) steps told (picture_of new))
+      (ap (λ before. before ++ run.told) (sym s.nothing_yet.4) ∙ sym run.refusals) run.follows;
 }
 
 pub replace_legally : OfEachRun EachReplacementIsLegal
 replace_legally old new steps s g =
-    runs_replace_legally (picture_of old) (picture_of new) (start_view old s)
-    (follows old new steps s g).0
+    runs_replace_legally (picture_of old) (picture_of new) steps _ (start_view old s)
+    (follows old new steps s g).follows
 
 pub use_tokens_once : OfEachRun EachTokenOnce
 use_tokens_once old new steps s g =
-    runs_use_tokens_once (picture_of old) (picture_of new) (start_view old s)
-    (follows old new steps s g).0
+    runs_use_tokens_once (picture_of old) (picture_of new) steps _ (start_view old s)
+    (follows old new steps s g).follows
 
 pub hold_archive : OfEachRun EachEntryWasHeld
 hold_archive old new steps s g =
-    runs_hold_archive (picture_of old) (picture_of new) (start_view old s)
-    (follows old new steps s g).0
+    runs_hold_archive (picture_of old) (picture_of new) steps _ (start_view old s)
+    (follows old new steps s g).follows
 
 pub leave_pair : OfEachRun LeavesPair
 leave_pair old new steps s g =
-    runs_leave_pair (picture_of old) (picture_of new) (start_view old s)
-    (follows old new steps s g).0
+    runs_leave_pair (picture_of old) (picture_of new) steps _ (start_view old s)
+    (follows old new steps s g).follows
 
 pub log_plans : OfEachRun LogsPlans
 log_plans old new steps s g =
-    runs_log (picture_of old) (picture_of new) (start_view old s) (follows old new steps s g).0
+    runs_log (picture_of old) (picture_of new) steps _ (start_view old s)
+    (follows old new steps s g).follows
 
 pub owe : OfEachRun Owes
 owe old new steps s g =
-    runs_owe (picture_of old) (picture_of new) (start_view old s) (follows old new steps s g).0
+    runs_owe (picture_of old) (picture_of new) steps _ (start_view old s)
+    (follows old new steps s g).follows
 
 pub synchronize : OfEachRun CompleteSessionsSynchronize
 synchronize old new steps s g =
-    runs_synchronize (picture_of old) (picture_of new) (start_view old s)
-    (follows old new steps s g).0
+    runs_synchronize (picture_of old) (picture_of new) steps _ (start_view old s)
+    (follows old new steps s g).follows
 
 pub reconcile : OfEachRun CompleteSessionsReconcile
 reconcile old new steps s g =
-    runs_reconcile (picture_of old) (picture_of new) (start_view old s)
-    (follows old new steps s g).0
+    runs_reconcile (picture_of old) (picture_of new) steps _ (start_view old s)
+    (follows old new steps s g).follows
 
 -- a session has one plan, so the preference of that is the one by which the sides are synchronized
 pub leave_one : OfEachRun PreferenceLeavesOne
@@ -112,31 +120,31 @@ leave_one old new steps s g report found left side quiet with apart =
 
 pub report_conflicts : OfEachRun ReportsItsConflicts
 report_conflicts old new steps s g =
-    runs_report_conflicts (picture_of old) (picture_of new) (start_view old s)
-    (follows old new steps s g).0
+    runs_report_conflicts (picture_of old) (picture_of new) steps _ (start_view old s)
+    (follows old new steps s g).follows
 
 pub count_items : OfEachRun CountsItsItems
 count_items old new steps s g =
-    runs_count_items (picture_of old) (picture_of new) (start_view old s)
-    (follows old new steps s g).0
+    runs_count_items (picture_of old) (picture_of new) steps _ (start_view old s)
+    (follows old new steps s g).follows
 
 pub mark_carried : OfEachRun CarriedIsMarked
 mark_carried old new steps s g =
-    runs_mark_carried (picture_of old) (picture_of new) (start_view old s)
-    (follows old new steps s g).0
+    runs_mark_carried (picture_of old) (picture_of new) steps _ (start_view old s)
+    (follows old new steps s g).follows
 
 pub tell_reports : OfEachRun EachReportTells
 tell_reports old new steps s g =
     All-weaker (IsTold new) _ (λ told is. is.1) new.reports
-    ((follows old new steps s g).2 (subst (All (IsTold old)) (sym s.nothing_yet.2)
+    ((follows old new steps s g).tells (subst (All (IsTold old)) (sym s.nothing_yet.2)
     (All-nil (IsTold old))))
 
 pub mark_held : OfEachRun HeldIsMarked
 mark_held old new steps s g =
-    runs_mark_held (picture_of old) (picture_of new) (start_view old s)
-    (follows old new steps s g).0
+    runs_mark_held (picture_of old) (picture_of new) steps _ (start_view old s)
+    (follows old new steps s g).follows
 
 pub recover_legally : OfEachRun RecoveredIsLegal
 recover_legally old new steps s g =
-    runs_recover_legally (picture_of old) (picture_of new) (start_view old s)
-    (follows old new steps s g).0
+    runs_recover_legally (picture_of old) (picture_of new) steps _ (start_view old s)
+    (follows old new steps s g).follows

@@ -92,6 +92,7 @@ has_plan sent archive log running _ _ m in_order repeats fresh (fine.makes made 
   made,
   record {
     of_session = makes.of_session;
+    prefers = makes.prefers;
     once = fresh none;
     archive_is = makes.archive_is;
     is = plan_of_sent sent running archive made m in_order repeats makes;

@@ -46,6 +46,8 @@ pub mod WaitingLemmas
 pub mod Remembers
 pub mod InOrder
 pub mod Sessions
+pub mod SettledLemmas
+pub mod AskedLemmas
 pub mod HeardLemmas
 pub mod RefusedItems
 pub mod Tells

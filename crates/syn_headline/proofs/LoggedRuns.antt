@@ -7,6 +7,8 @@ use Rattle.std.proofs.lemmas.List.Elements.{All-nil, All-cons, All-append, All-w
 use Rattle.std.proofs.Math.Seq.{take-length}
 use Rattle.syn_model.specs.Tree.{Tree}
 use Rattle.syn_model.specs.Archive.{Kept}
+use Rattle.syn_headline.specs.World.{Step}
+use Rattle.syn_model.specs.Refusal.{Refusal}
 use Rattle.syn_headline.specs.Network.{Which}
 use Rattle.syn_headline.specs.Planning.{Planned, Log, IsPlanOf}
 use Rattle.syn_headline.specs.Acknowledged.{Ack, Kept_by, Stores, stores_after}
@@ -81,24 +83,24 @@ module _ (before : Stores) (old new : Picture) (stands : StandsFor before old) w
   course_found : Course old new → AllFound before old old.log → AllFound before new new.log
   course_found (beside acks added can runs reports logs) found =
       more_found acks added [] none_found (logs ∙ sym (append-nil old.log)) found
-  course_found (starts g reports) found = goes_found [] _ _ g none_found found
+  course_found (starts preference g reports) found = goes_found [] _ _ g none_found found
   course_found (ticks g reports) found = goes_found [] _ _ g none_found found
   course_found (takes from session number reply plan logged heard expected made g reports) found =
       goes_found logged _ _ g
       (plan_found old.coordinator.running from session number plan logged expected made) found
 
 run_found : (before : Stores) (plans : Plans) (old new : Picture) → IsKept plans old →
-    StandsFor before old → AllFound before old old.log → FollowsAll old new →
-    AllFound before new new.log
+    StandsFor before old → AllFound before old old.log → {steps : List Step}
+    {told : List Refusal} → FollowsAll old steps told new → AllFound before new new.log
 run_found before plans old _ k stands found (nothing_more _) = found
-run_found before plans old _ k stands found (one_more _ between new g more) =
+run_found before plans old _ k stands found (one_more _ between new _ _ _ _ g more) =
     let a = step_advances plans old k between g in
     run_found before a.later between new a.kept (step_stands before old between stands g)
     (course_found before old between stands (course plans old k between g) found) more
 
 -- each session is logged once, with a plan that is of its scans and an archive of the run
 pub runs_log : OfEachRun LogsPlans
-runs_log old new s g =
+runs_log old new steps refusals s g =
     let k = (run_kept no_plans old new (start_kept old s) g).1 in
     let found = run_found (stores_of old) no_plans old new (start_kept old s)
     (start_stands old s.nothing_yet.1) (subst (AllFound (stores_of old) old) (sym s.nothing_yet.3)

@@ -1,13 +1,12 @@
 -- What is proved of the picture's runs.
+use Rattle.std.proofs.Common.{List}
+use Rattle.syn_model.specs.Refusal.{Refusal}
+use Rattle.syn_headline.specs.World.{Step}
 use Rattle.syn_headline.specs.Acknowledged.{Stores}
 use Rattle.syn_headline.specs.Picture.{Picture, FollowsAll, stores_of}
-use Rattle.syn_headline.specs.Headline.{IsStart, StandsFor}
-
-abbrev pub RunsStand : Type 0
-RunsStand =
-    (before : Stores) (old new : Picture) → FollowsAll old new → StandsFor before old →
-    StandsFor before new
+use Rattle.syn_headline.specs.Headline.{IsStart}
 
 -- what holds after every run
 abbrev pub OfEachRun : (Stores → Picture → Type 0) → Type 0
-OfEachRun Holds = (old new : Picture) → IsStart old → FollowsAll old new → Holds (stores_of old) new
+OfEachRun Holds = (old new : Picture) (steps : List Step) (refusals : List Refusal) → IsStart old →
+    FollowsAll old steps refusals new → Holds (stores_of old) new

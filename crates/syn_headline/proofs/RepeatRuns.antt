@@ -93,7 +93,7 @@ answer_repeats start old new steps message to session number item path since siz
   where
     kept : (plans : Plans) × IsKept plans (picture_of old)
     kept = run_kept no_plans (picture_of start) (picture_of old) (start_kept (picture_of start)
-        (start_view start s)) (follows start old steps s g).0
+        (start_view start s)) (follows start old steps s g).follows
 
     history_is : (which : Which) →
         histories_of (picture_of old) which ≡ (side_of old which).journal.value

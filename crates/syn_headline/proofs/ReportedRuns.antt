@@ -4,6 +4,7 @@ use Rattle.std.proofs.Common.{◌∙◌, subst, Option, append-nil, arith, inl, 
 use Rattle.std.specs.Prelude.{All}
 use Rattle.std.proofs.lemmas.List.{length-append, take-append-le}
 use Rattle.std.proofs.lemmas.List.Elements.{All-push, All-weaker, Contains-append_left}
+use Rattle.syn_headline.specs.World.{Step}
 use Rattle.syn_headline.specs.Side.{Request}
 use Rattle.syn_headline.specs.Network.{Which, Left, Right, Message, Sent}
 use Rattle.syn_headline.specs.Acknowledged.{Ack, Kept_by, kept_in_session}
@@ -114,31 +115,36 @@ takes_grows old which session number request new (request_failed event would e) 
 takes_grows old which session number request new (request_cut event would e) =
     subst (Grows old) (sym e) (side_alone old which _)
 
-pub grows : (old new : Picture) → Follows old new → Grows old new
-grows old new (same e) = subst (Grows old) (sym e) (archive_alone old old.coordinator)
+pub grows : (old new : Picture) {step : Step} {told : List Refusal} → Follows old new step told →
+    Grows old new
+grows old new (same step told idle e) =
+    subst (Grows old) (sym e) (archive_alone old old.coordinator)
 grows old new (edits which user edit machine events allowed up w e) =
     subst (Grows old) (sym e) (side_grows old which machine [] _)
-grows old new (opens which machine events opening e) =
+grows old new (opens which step machine events by goes e) =
     subst (Grows old) (sym e) (side_grows old which machine [] _)
-grows old new (changes which status staging up stays e) =
+grows old new (changes which step status told settles e) =
     subst (Grows old) (sym e) (side_alone old which _)
-grows old new (serves which session number request c takes) =
+grows old new (serves message which session number request at takes) =
     takes_grows old which session number request new takes
-grows old new (starts_session g reports) = coordinator_grows old new [] _ _ g
-grows old new (ticks_once g reports) = coordinator_grows old new [] _ _ g
-grows old new (takes_answer from session number reply plan logged c expected has g reports) =
+grows old new (starts_session preference up none g some reports) =
+    coordinator_grows old new [] _ _ g
+grows old new (ticks_once running is g reports status again) = coordinator_grows old new [] _ _ g
+grows old new
+    (takes_answer message from session number reply plan logged at expected has g reports heard) =
     coordinator_grows old new logged _ _ g
-grows old new (archive_changes status running up stays e) =
+grows old new (archive_changes step status told settles e) =
     subst (Grows old) (sym e) (archive_alone old _)
-grows old new (archive_opens e) = subst (Grows old) (sym e) (archive_alone old _)
-grows old new (archive_recovers kept writing can e) = subst (Grows old) (sym e) (record {
-  messages = [];
-  acks = map Kept_by (kept ∷ []);
-  plans = [];
-  sent = sym (append-nil old.sent);
-  acknowledged = refl;
-  logged = sym (append-nil old.log);
-})
+grows old new (archive_opens step by e) = subst (Grows old) (sym e) (archive_alone old _)
+grows old new (archive_recovers step kept by writing can e) =
+    subst (Grows old) (sym e) (record {
+      messages = [];
+      acks = map Kept_by (kept ∷ []);
+      plans = [];
+      sent = sym (append-nil old.sent);
+      acknowledged = refl;
+      logged = sym (append-nil old.log);
+    })
 
 -- So a report stays what it was
 

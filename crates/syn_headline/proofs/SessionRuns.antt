@@ -14,6 +14,8 @@ use Rattle.syn_model.specs.Event.{Began}
 use Rattle.syn_model.specs.History.{History, IsHistory, tree_of, tree_at}
 use Rattle.syn_model.specs.Archive.{Session, archive_of}
 use Rattle.syn_model.specs.Plan.{IsSynchronized, IsReconciled, IsConflict, HasDepth, most_names}
+use Rattle.syn_headline.specs.World.{Step}
+use Rattle.syn_model.specs.Refusal.{Refusal}
 use Rattle.syn_headline.specs.Network.{Which, Left, Right}
 use Rattle.syn_headline.specs.Acknowledged.{Ack, Kept_by, event_at, kept_in, Stores, history_of}
 use Rattle.syn_headline.specs.Acknowledged.{stores_after}
@@ -47,9 +49,11 @@ pub record IsWatched (before : Stores) (world : Picture) : Type 0 where
 run_watched : (before : Stores) → IsTree before.archive.marks →
     HasDepth most_names before.archive.marks → (plans : Plans) (old new : Picture) →
     IsKept plans old → StandsFor before old → RunsWell before.archive old old.coordinator.running →
-    IsWatched before old → FollowsAll old new → IsWatched before new
+    IsWatched before old → {steps : List Step} {told : List Refusal} →
+    FollowsAll old steps told new → IsWatched before new
 run_watched before whole shallow plans old _ k stands runs w (nothing_more _) = w
-run_watched before whole shallow plans old _ k stands runs w (one_more _ between new g more) =
+run_watched before whole shallow plans old _ k stands runs w
+    (one_more _ between new _ _ _ _ g more) =
     let a = step_advances plans old k between g in
     let c = course plans old k between g in
     let stands_then = step_stands before old between stands g in
@@ -100,7 +104,8 @@ start_watched old s = record {
   };
 }
 
-module _ (old new : Picture) (s : IsStart old) (g : FollowsAll old new) where
+module _ (old new : Picture) {steps : List Step} {refusals : List Refusal} (s : IsStart old)
+    (g : FollowsAll old steps refusals new) where
   abbrev before : Stores
   before = stores_of old
 
@@ -209,24 +214,24 @@ module _ (old new : Picture) (s : IsStart old) (g : FollowsAll old new) where
 
 -- a complete session without edits leaves the synchronization of what it found
 pub runs_synchronize : OfEachRun CompleteSessionsSynchronize
-runs_synchronize old new s g report found left q apart =
+runs_synchronize old new steps refusals s g report found left q apart =
     let tells = told old new s g report found left q in
     (tells.preference, tells.logged, synchronizes old new s g report found left q apart)
 
 -- and the archive of it
 pub runs_reconcile : OfEachRun CompleteSessionsReconcile
-runs_reconcile old new s g report found left q =
+runs_reconcile old new steps refusals s g report found left q =
     let tells = told old new s g report found left q in
     (tells.preference, tells.logged, reconciles old new s g report found left q)
 
 -- and reports its conflicts
 pub runs_report_conflicts : OfEachRun ReportsItsConflicts
-runs_report_conflicts old new s g report found left q =
+runs_report_conflicts old new steps refusals s g report found left q =
     let tells = told old new s g report found left q in
     (tells.preference, tells.logged, has_conflicts old new s g report found left q)
 
 -- and counts its items
 pub runs_count_items : OfEachRun CountsItsItems
-runs_count_items old new s g report found left q =
+runs_count_items old new steps refusals s g report found left q =
     let tells = told old new s g report found left q in
     (tells.preference, tells.logged, has_counts old new s g report found left q)

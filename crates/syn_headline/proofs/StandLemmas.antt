@@ -197,7 +197,7 @@ module _ (before : Stores) (old : World) (s : StandsFor before old) where
       (compacts_value (side_layout old.pair) (side_of old side).journal journal c))
       (λ calls journal events o.
       opens_history old.pair (side_of old side).journal calls journal events o) call
-      (λ status arms failed left. side_same side (side_of old side).journal.value refl)
+      (λ status arms failed told left. side_same side (side_of old side).journal.value refl)
       next events refusals so
 
   -- and so does the coordinator
@@ -215,7 +215,7 @@ module _ (before : Stores) (old : World) (s : StandsFor before old) where
       compacts_value (archive_layout old.pair) old.coordinator.journal journal c)
       (λ calls journal kept o.
       opens_value old.pair old.coordinator.journal calls journal kept o)
-      call (λ status arms failed left. refl) next given refusals so
+      call (λ status arms failed told left. refl) next given refusals so
 
   machine_stands : (machine : Machine) (call : MachineCall) (new : World) →
       MachineDoes old machine call new → StandsFor before new

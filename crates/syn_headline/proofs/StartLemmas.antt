@@ -4,7 +4,7 @@ use Rattle.std.proofs.Common.{◌≡◌, ◌≢◌, ◌<◌, ◌+◌, ℕ, zero,
 use Rattle.std.proofs.Common.{nat_le, true≢false, List, ◌∷◌, ◌++◌, filter_map, fold, refl, sym, ap}
 use Rattle.std.proofs.Common.{ap₂, ◌∙◌, subst, Option, Some, None, option_map, is_some, append-nil}
 use Rattle.std.proofs.Common.{arith, inl, inr, []}
-use Rattle.std.specs.Prelude.{Contains, IfSome, IsSome, All}
+use Rattle.std.specs.Prelude.{Contains, IfSome, IsSome, IsSomeAnd, All}
 use Rattle.std.proofs.lemmas.Bool.Decides.{nat_tests}
 use Rattle.std.proofs.lemmas.List.Sums.{fold-append}
 use Rattle.std.proofs.lemmas.List.Elements.{All-nil, All-cons, All-contains_itself}
@@ -25,7 +25,8 @@ use Rattle.syn_headline.specs.Coordinator.{WasAsked, AsksOnce, Keeps, new_sessio
 use Rattle.syn_headline.specs.Coordinator.{sent_now, asked_count, CoordinatorStarts, AreRising}
 use Rattle.syn_headline.specs.Coordinator as fine
 use Rattle.syn_headline.specs.World as fine_world
-use Rattle.syn_headline.specs.World.{coordinator_goes}
+use Rattle.syn_headline.specs.World.{coordinator_goes, Start}
+use Rattle.syn_headline.specs.MachineSteps.{refused_by}
 use Rattle.syn_headline.specs.Picture.{Picture, Follows, RunsOver, IsNext, StartsFrom, IsOfSession}
 use Rattle.syn_headline.specs.Picture as picture
 use Rattle.syn_headline.proofs.Invariant.{Plans, histories_of, IsHarmless, IsKept}
@@ -112,6 +113,7 @@ next_can archive session smaller next =
 
 module _ (preference : Option Which) (plans : Plans) (old : fine_world.World)
     (k : IsKept plans (picture_of old)) (up : old.coordinator.journal.status ≡ Up)
+    (idle : old.coordinator.running ≡ None)
     (smaller : nat_le greatest old.coordinator.journal.value.last_session ≡ false) where
   new_remembers : (session : ℕ) → session ≡ old.coordinator.journal.value.last_session + 1 →
       Remembers old.sent (new_session preference session)
@@ -174,18 +176,22 @@ module _ (preference : Option Which) (plans : Plans) (old : fine_world.World)
     begins_goes : (journal : Journaled Archive Kept) (kept : List Kept) (running : Option Running)
         (messages : List Message) →
         Keeps old.pair old.coordinator.journal (Session session) journal kept →
-        StartsFrom old.coordinator.journal.value (option_map session_picture running) →
+        StartsFrom preference old.coordinator.journal.value (option_map session_picture running) →
         RunsOver (old.sent ++ messages) journal.value (option_map session_picture running) →
         NumbersTell (old.sent ++ messages) → AsksNothingTwice (old.sent ++ messages) →
         picture.AllOfSession old.pair old.sent (option_map session_picture running) messages →
         (IsSome journal.writing → (messages ≡ []) × (option_map session_picture running ≡ None)) →
+        (journal.status ≡ Up →
+        IsSomeAnd (option_map session_picture running) (picture.BeginsBoth old.pair)) →
         Follows (picture_of old) (picture_of (coordinator_goes old (record {
           journal = journal;
           running = running;
         }) (record fine.no_call { kept = kept; messages = messages })))
-    begins_goes journal kept running messages keeps on over numbers repeats of_session silent =
+        (Start preference) (refused_by journal.status)
+    begins_goes journal kept running messages keeps on over numbers repeats of_session silent
+        some =
         let left = left_so journal kept keeps in
-        picture.starts_session (record {
+        picture.starts_session preference up (ap (option_map session_picture) idle) (record {
           machine = coordinator_picture (record { journal = journal; running = running });
           kept = kept;
           messages = messages;
@@ -199,6 +205,7 @@ module _ (preference : Option Which) (plans : Plans) (old : fine_world.World)
                 writing = left.writing;
               };
           unless_up = left.up;
+          rises_not = λ other. absurd (other up);
           runs_on = on;
           runs_over = over;
           numbers = numbers;
@@ -206,17 +213,18 @@ module _ (preference : Option Which) (plans : Plans) (old : fine_world.World)
           of_session = of_session;
           silent_when_writing = silent;
           result = refl;
-        }) (append-nil old.reports)
+        }) some (append-nil old.reports)
 
     breaks_so : (journal : Journaled Archive Kept) (kept : List Kept) →
         Keeps old.pair old.coordinator.journal (Session session) journal kept →
-        Follows (picture_of old) (picture_of (coordinator_goes old
+        journal.status ≢ Up → Follows (picture_of old) (picture_of (coordinator_goes old
         (record { journal = journal; running = None }) (record fine.no_call { kept = kept })))
-    breaks_so journal kept keeps =
+        (Start preference) (refused_by journal.status)
+    breaks_so journal kept keeps broken =
         begins_goes journal kept None
         [] keeps tt tt (subst NumbersTell (sym (append-nil old.sent)) k.sound.numbers)
         (subst AsksNothingTwice (sym (append-nil old.sent)) k.sound.repeats) refl
-        (λ _. (refl, refl))
+        (λ _. (refl, refl)) (λ now_up. absurd (broken now_up))
 
     module _ (lawful : IsLawfulRequest session (Begin old.pair)) (journal : Journaled Archive Kept)
         (keeps : Keeps old.pair old.coordinator.journal (Session session) journal
@@ -237,12 +245,12 @@ module _ (preference : Option Which) (plans : Plans) (old : fine_world.World)
                 ∷ [];
             messages = sent_now (new_session preference session) (begins old.pair)
                 (begins old.pair);
-          })))
+          }))) (Start preference) (refused_by journal.status)
       begins_so =
           let left = left_so journal (Session session ∷ []) keeps in
           begins_goes journal (Session session ∷ []) (Some on)
           (sent_now (new_session preference session) (begins old.pair) (begins old.pair)) keeps
-          (next, refl) (
+          (next, refl, refl) (
             sym (ap (λ a. a.last_session) left.value),
             all_sent,
             (omega arith, inl (omega arith), inl (omega arith)),
@@ -259,6 +267,7 @@ module _ (preference : Option Which) (plans : Plans) (old : fine_world.World)
           (Asks Right session 0 (Begin old.pair))
           [] (refl, lawful, tt) (All-nil (IsOfSession old.pair old.sent (session_picture on)))))
           (λ some. absurd (true≢false (sym some ∙ ap is_some (left.up then_up))))
+          (λ _. (refl, refl))
         where
           all_sent : picture.WasSent (old.sent ++ sent_now (new_session preference session)
               (begins old.pair)
@@ -310,6 +319,7 @@ module _ (preference : Option Which) (plans : Plans) (old : fine_world.World)
   pub starts_follow : (new : CoordinatorMachine) (call : Call) →
       CoordinatorStarts old.pair preference old.coordinator new call →
       Follows (picture_of old) (picture_of (coordinator_goes old new call))
+      (Start preference) (refused_by new.journal.status)
       × IfSome new.running (IsHeard (coordinator_goes old new call))
       × Tells old (coordinator_goes old new call)
   starts_follow _ _ (fine.starts session journal next lawful keeps then_up) = (
@@ -318,4 +328,4 @@ module _ (preference : Option Which) (plans : Plans) (old : fine_world.World)
     inl (append-nil old.reports),
   )
   starts_follow _ _ (fine.start_breaks session journal kept next keeps down) =
-      (breaks_so session next journal kept keeps, tt, inl (append-nil old.reports))
+      (breaks_so session next journal kept keeps down, tt, inl (append-nil old.reports))

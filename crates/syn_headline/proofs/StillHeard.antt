@@ -5,6 +5,8 @@ use Rattle.std.proofs.Common.{[]}
 use Rattle.std.specs.Prelude.{Contains, IfSome, length, ◌≤◌}
 use Rattle.std.proofs.lemmas.Option.{none-some, same_Some}
 use Rattle.syn_model.specs.Event.{Event}
+use Rattle.syn_model.specs.Refusal.{Refusal}
+use Rattle.syn_headline.specs.World.{Step}
 use Rattle.syn_headline.specs.Machine.{Status, Up, Halted, Down, has_room}
 use Rattle.syn_model.specs.Path.{Path}
 use Rattle.syn_model.specs.Tree.{is_directory}
@@ -28,9 +30,9 @@ use Rattle.syn_headline.proofs.Sessions.{IsHeard, GoesBeside, heard_beside, no_a
 use Rattle.syn_headline.proofs.Tells.{Tells}
 
 -- what a step leaves
-abbrev pub IsFollowed : World → World → Type 0
-IsFollowed old new = Follows (picture_of old) (picture_of new) × IfSome new.coordinator.running
-    (IsHeard new)
+abbrev pub IsFollowed : World → Step → List Refusal → World → Type 0
+IsFollowed old step told new = Follows (picture_of old) (picture_of new) step told
+    × IfSome new.coordinator.running (IsHeard new)
     × Tells old new
 
 -- The session is heard still where the coordinator does nothing

@@ -1,9 +1,8 @@
 -- What a step reports.
-use Rattle.std.proofs.Common.{◌≡◌, ◌⊎◌, ℕ, List, [], ◌∷◌, ◌++◌, length, take, sym, ap, ◌∙◌, Option}
-use Rattle.std.proofs.Common.{Some, None, append-nil, inr, refl}
-use Rattle.std.specs.Prelude.{IfSome, Any}
+use Rattle.std.proofs.Common.{◌≡◌, ◌⊎◌, List, [], ◌∷◌, ◌++◌, length, take, ap, ◌∙◌, Option}
+use Rattle.std.proofs.Common.{Some, append-nil, inr, refl}
+use Rattle.std.specs.Prelude.{IfSome}
 use Rattle.std.proofs.lemmas.List.Elements.{Contains-append_left}
-use Rattle.std.proofs.lemmas.Option.{none-some}
 use Rattle.std.proofs.Math.Seq.{take-length}
 use Rattle.syn_model.specs.Refusal.{Refusal}
 use Rattle.syn_headline.specs.Planning.{Planned, Log}
@@ -11,7 +10,6 @@ use Rattle.syn_headline.specs.Coordinator.{Running, CoordinatorMachine, no_call,
 use Rattle.syn_headline.specs.World.{World, coordinator_goes}
 use Rattle.syn_headline.specs.Acknowledged.{kept_in_session}
 use Rattle.syn_headline.specs.Reported.{EndsSo, IsPlanned, IsReportOf}
-use Rattle.syn_headline.proofs.HeardLemmas.{any_left}
 use Rattle.syn_headline.proofs.Sessions.{IsHeard, StandsOn}
 use Rattle.syn_headline.proofs.SideSteps.{if_some}
 

@@ -19,7 +19,7 @@ use Rattle.syn_headline.specs.Coordinator.{asked_count, messages_to, once_more, 
 use Rattle.syn_headline.specs.Coordinator.{CoordinatorTicks, AreRising}
 use Rattle.syn_headline.specs.Coordinator as fine
 use Rattle.syn_headline.specs.World as fine_world
-use Rattle.syn_headline.specs.World.{coordinator_goes}
+use Rattle.syn_headline.specs.World.{coordinator_goes, Tick}
 use Rattle.syn_headline.specs.Acknowledged.{kept_in_session}
 use Rattle.syn_headline.specs.Picture.{Follows, RunsOver, IsOfSession, GoesOnFrom}
 use Rattle.syn_headline.specs.Picture.{IsNothing, IsOfPlan}
@@ -285,11 +285,13 @@ module _ (plans : Plans) (old : fine_world.World) (k : IsKept plans (picture_of 
       picture.Reports (picture_of old) (picture_of (coordinator_goes old (record old.coordinator
       { running = running }) (record fine.no_call { messages = messages; reports = reports })))
       (plan_of r) picture.EndsUnanswered →
+      IfSome (option_map session_picture running)
+      (λ later. old.sent ++ messages ≡ old.sent ++ more) →
       Follows (picture_of old) (picture_of (coordinator_goes old
       (record old.coordinator { running = running })
-      (record fine.no_call { messages = messages; reports = reports })))
-  tick_goes running messages reports on runs_over numbers repeats of_session reported =
-      picture.ticks_once (record {
+      (record fine.no_call { messages = messages; reports = reports }))) Tick []
+  tick_goes running messages reports on runs_over numbers repeats of_session reported resent =
+      picture.ticks_once (session_picture r) runs (record {
         machine = coordinator_picture (record old.coordinator { running = running });
         kept = [];
         messages = messages;
@@ -305,6 +307,7 @@ module _ (plans : Plans) (old : fine_world.World) (k : IsKept plans (picture_of 
                   (sym unwritten) tt;
             };
         unless_up = λ _. unwritten;
+        rises_not = λ _. refl;
         runs_on =
             subst (λ o. GoesOnFrom o (picture.plan_of o) (option_map session_picture running))
             (sym runs) on;
@@ -317,18 +320,18 @@ module _ (plans : Plans) (old : fine_world.World) (k : IsKept plans (picture_of 
       }) (subst (λ o. picture.Reports (picture_of old) (picture_of
       (coordinator_goes old (record old.coordinator
       { running = running }) (record fine.no_call { messages = messages; reports = reports })))
-      (picture.plan_of o) picture.EndsUnanswered) (sym runs) reported)
+      (picture.plan_of o) picture.EndsUnanswered) (sym runs) reported) refl resent
 
-  resends_so : Follows (picture_of old) (picture_of after)
+  resends_so : Follows (picture_of old) (picture_of after) Tick []
   resends_so =
       tick_goes (Some again) more
-      [] (picture.goes_on (session_picture again) refl refl) (over.0, all_sent, waits_still)
+      [] (picture.goes_on (session_picture again) refl refl refl) (over.0, all_sent, waits_still)
       (tells_again old.sent more k.sound.numbers was_sent)
       (once_again old.sent more k.sound.repeats was_sent)
       (All-append (IsOfSession old.pair old.sent (session_picture again))
       (messages_to r.session Left r.left) (messages_to r.session Right r.right) (all_of Left
       r.left (h.remembers.waiting Left)) (all_of Right r.right (h.remembers.waiting Right)))
-      (inl (append-nil old.reports))
+      (inl (append-nil old.reports, inl refl)) refl
     where
       all_sent : picture.WasSent (old.sent ++ more) (session_picture again)
       all_sent Left i d within =
@@ -349,11 +352,11 @@ module _ (plans : Plans) (old : fine_world.World) (k : IsKept plans (picture_of 
             may_wait_again r.right waits.2,
           )
 
-  gives_up_so : (why : Refusal) →
+  gives_up_so : (why : Refusal) → (Some why ≡ Some NoAnswer) ⊎ (Some why ≡ Some Memory) →
       Follows (picture_of old) (picture_of (coordinator_goes old
       (record old.coordinator { running = None })
-      (record fine.no_call { reports = report_of r (Some why) ∷ [] })))
-  gives_up_so why =
+      (record fine.no_call { reports = report_of r (Some why) ∷ [] }))) Tick []
+  gives_up_so why early =
       let kept_is = ap kept_in_session (append-nil old.acknowledged) ∙ h.kept in
       let count : (Item → Bool) → List Kept → ℕ = λ of_kind kept. count_by
       (λ planned. of_kind planned.item && is_kept kept planned.item) (plan_of r) in
@@ -365,23 +368,28 @@ module _ (plans : Plans) (old : fine_world.World) (k : IsKept plans (picture_of 
         report_of r (Some why),
         runs,
         refl,
-        refl,
+        (refl, refl, early),
         record {
           done =
               ap (count is_carrying) (sym kept_is);
           marked = ap (count is_marking) (sym kept_is);
         },
-      ))
+        refl,
+      )) tt
 
 -- a tick
 pub ticks_follow : (plans : Plans) (old : fine_world.World) (k : IsKept plans (picture_of old)) →
     IfSome old.coordinator.running (IsHeard old) → (new : CoordinatorMachine) (call : Call) →
     CoordinatorTicks old.coordinator new call →
-    Follows (picture_of old) (picture_of (coordinator_goes old new call))
+    Follows (picture_of old) (picture_of (coordinator_goes old new call)) Tick []
     × IfSome new.running (IsHeard (coordinator_goes old new call))
     × Tells old (coordinator_goes old new call)
-ticks_follow plans old k h _ _ (fine.no_session none) =
-    (picture.same (nothing_given old), heard_still old h, inl (append-nil old.reports))
+ticks_follow plans old k h _ _ (fine.no_session none) = (
+  picture.same Tick [] (picture.no_session (ap (option_map session_picture) none))
+      (nothing_given old),
+  heard_still old h,
+  inl (append-nil old.reports),
+)
 ticks_follow plans old k h _ _ (fine.resends r e few) =
     let heard = subst (λ o. IfSome o (IsHeard old)) e h in (
       resends_so plans old k r e heard,
@@ -390,11 +398,17 @@ ticks_follow plans old k h _ _ (fine.resends r e few) =
     )
 ticks_follow plans old k h _ _ (fine.gives_up r why e because) =
     let heard = subst (λ o. IfSome o (IsHeard old)) e h in (
-      gives_up_so plans old k r e heard why,
+      gives_up_so plans old k r e heard why (early because),
       tt,
       ends_still old r why (record old.coordinator { running = None }) heard (by because),
     )
   where
+    early : ((fine.is_resent r ≡ true) × (why ≡ NoAnswer))
+        ⊎ ((fine.is_resent r ≡ false) × (why ≡ Memory)) →
+        (Some why ≡ Some NoAnswer) ⊎ (Some why ≡ Some Memory)
+    early (inl resent) = inl (ap (λ w. Some w) resent.1)
+    early (inr memory) = inr (ap (λ w. Some w) memory.1)
+
     by : ((fine.is_resent r ≡ true) × (why ≡ NoAnswer))
         ⊎ ((fine.is_resent r ≡ false) × (why ≡ Memory)) → EndsSo (old.sent ++ []) r (Some why)
     by (inl resent) = subst (λ w. EndsSo (old.sent ++ []) r (Some w)) (sym resent.1)

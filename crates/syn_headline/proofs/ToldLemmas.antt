@@ -366,9 +366,9 @@ module _ (before : Stores) (whole : IsTree before.archive.marks)
       told_before report acks (subst (λ w. Contains w (report, acks)) e c) complete
 
   told_ticks : Reports old new (plan_of old.coordinator.running) EndsUnanswered → AllTold before new
-  told_ticks (inl e) = told_still e
-  told_ticks (inr (running, report, runs, e, ends, counts)) =
-      told_now report e (λ complete. absurd (not_complete (sym complete ∙ ends)))
+  told_ticks (inl (e, on)) = told_still e
+  told_ticks (inr (running, report, runs, e, ends, counts, over)) =
+      told_now report e (λ complete. absurd (not_complete (sym complete ∙ ends.1)))
 
   told_takes : (from : Which) (session number : ℕ) (reply : Reply) (plan : List Planned)
       (logged : Log) → Contains old.sent (Answers from session number reply) →
@@ -377,9 +377,10 @@ module _ (before : Stores) (whole : IsTree before.archive.marks)
       CoordinatorGoes old logged (IsDueAfter old.coordinator.running plan from number reply)
       (GoesOnFrom old.coordinator.running plan) new → Reports old new plan (Ends new plan) →
       AllTold before new
-  told_takes from session number reply plan logged heard expected made g (inl e) = told_still e
+  told_takes from session number reply plan logged heard expected made g (inl (e, on)) =
+      told_still e
   told_takes from session number reply plan logged heard expected made g
-      (inr (running, report, is, e, ends, counts)) =
+      (inr (running, report, is, e, ends, counts, over)) =
       told_now report e (λ complete.
       tells before whole shallow plans old new k stands stands_then runs can running is from session
       number reply plan logged heard
@@ -390,7 +391,7 @@ module _ (before : Stores) (whole : IsTree before.archive.marks)
 
   pub all_told : Course old new → AllTold before new
   all_told (beside acks added more runs_on reports logs) = told_still reports
-  all_told (starts g reports) = told_still reports
+  all_told (starts preference g reports) = told_still reports
   all_told (ticks g reports) = told_ticks reports
   all_told (takes from session number reply plan logged heard expected made g reports) =
       told_takes from session number reply plan logged heard expected made g reports

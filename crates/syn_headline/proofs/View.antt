@@ -1,10 +1,9 @@
 -- The picture of a world, and what each step of the sides and of the devices is in it.
 use Rattle.std.proofs.Common.{◌≡◌, ◌≢◌, ◌⊎◌, ℕ, true, false, true≢false, List, [], ◌∷◌, ◌++◌, map}
 use Rattle.std.proofs.Common.{refl, sym, ap, ap₂, ◌∙◌, subst, Option, Some, None, append-nil, inl}
-use Rattle.std.proofs.Common.{inr}
-use Rattle.std.specs.Prelude.{Contains}
+use Rattle.std.proofs.Common.{inr, slice_get}
 use Rattle.std.proofs.lemmas.List.{append_cancel_left}
-use Rattle.syn_model.specs.Refusal.{Device, first_cause}
+use Rattle.syn_model.specs.Refusal.{Refusal, Device, first_cause}
 use Rattle.syn_model.specs.Refusal as why
 use Rattle.syn_model.specs.Event.{Edit, Event, Edited}
 use Rattle.syn_model.specs.History.{History, IsAllowed, event_causes}
@@ -20,10 +19,10 @@ use Rattle.syn_headline.specs.SideMachine.{said, SideTakes, answers, adds, Edits
 use Rattle.syn_headline.specs.Network.{Which, Left, Right, Sent, Message, Asks, Answers}
 use Rattle.syn_headline.specs.Acknowledged.{Ack, Happened}
 use Rattle.syn_headline.specs.World as fine_world
-use Rattle.syn_headline.specs.MachineSteps.{causes_at, is_halted}
-use Rattle.syn_headline.specs.World.{says}
+use Rattle.syn_headline.specs.MachineSteps.{causes_at, is_halted, refused_by}
+use Rattle.syn_headline.specs.World.{says, At, Step, Edits, Deliver, Checkpoint}
 use Rattle.syn_headline.specs.Runs.{picture_of, side_picture}
-use Rattle.syn_headline.specs.Picture.{Picture, side_of, set_side, Follows}
+use Rattle.syn_headline.specs.Picture.{Picture, side_of, set_side, Follows, Settles, IsOpening}
 use Rattle.syn_headline.specs.Picture as picture
 use Rattle.syn_headline.proofs.OutcomeLemmas.{Outcome, refuses, begins_again, begins, lists}
 use Rattle.syn_headline.proofs.OutcomeLemmas.{lists_none, fetches, stages_first, stages_more}
@@ -50,7 +49,7 @@ staged_up Up staging e = refl
 staged_up Halted staging e = refl
 staged_up Down staging e = absurd (let x : Down ≡ Up = e in cc)
 
-staged_or_none : (status : Status) (staging : Option Staging) →
+pub staged_or_none : (status : Status) (staging : Option Staging) →
     (staging_after status staging ≡ staging) ⊎ (staging_after status staging ≡ None)
 staged_or_none Up staging = inl refl
 staged_or_none Halted staging = inl refl
@@ -67,6 +66,9 @@ up_not_halted e = cc
 
 pub up_not_down : Up ≢ Down
 up_not_down e = cc
+
+pub halted_not_down : Halted ≢ Down
+halted_not_down e = cc
 
 pub not_up : (status : Status) → (status ≡ Halted) ⊎ (status ≡ Down) → status ≢ Up
 not_up status (inl e) up = halted_not_up (sym e ∙ up)
@@ -111,14 +113,15 @@ on_side : (old : fine_world.World) (side : Which) (P : picture.SidePicture → T
 on_side old side P h = subst P (sym (view_of old side)) h
 
 -- a side's journal has another status, and what it stands for and was writing stay
-pub side_changes : (old new : fine_world.World) (side : Which) (journal : Journaled History Event) →
+pub side_changes : (old new : fine_world.World) (side : Which) (journal : Journaled History Event)
+    (step : Step) (told : List Refusal) →
     journal.value ≡ (fine_world.side_of old side).journal.value →
     journal.writing ≡ (fine_world.side_of old side).journal.writing →
-    ((fine_world.side_of old side).journal.status ≢ Up → journal.status ≢ Up) → picture_of new
-    ≡ set_side (picture_of old) side (side_picture (with_journal (fine_world.side_of old side)
-    journal)) →
-    Follows (picture_of old) (picture_of new)
-side_changes old new side journal value writing up e =
+    Settles (At side) (fine_world.side_of old side).journal.status step journal.status told →
+    picture_of new ≡ set_side (picture_of old) side (side_picture (with_journal
+    (fine_world.side_of old side) journal)) →
+    Follows (picture_of old) (picture_of new) step told
+side_changes old new side journal step told value writing settles e =
     let machine = fine_world.side_of old side in
     let staging = staging_after journal.status machine.staging in
     let build : History → Option Event → picture.SidePicture = λ history writing. record {
@@ -127,12 +130,15 @@ side_changes old new side journal value writing up e =
       side = record { history = history; staging = staging };
       writing = writing;
     } in
-    let with_status : picture.SidePicture → picture.SidePicture = λ m. record m
-    { status = journal.status; side = record { history = m.side.history; staging = staging } } in
-    picture.changes side journal.status staging
-    (on_side old side (λ m. m.status ≢ Up → journal.status ≢ Up) up)
-    (on_side old side (λ m. (staging ≡ m.side.staging) ⊎ (staging ≡ None))
-    (staged_or_none journal.status machine.staging))
+    let with_status : picture.SidePicture → picture.SidePicture = λ m. record m {
+      status = journal.status;
+      side = record {
+        history = m.side.history;
+        staging = staging_after journal.status m.side.staging;
+      };
+    } in
+    picture.changes side step journal.status told
+    (on_side old side (λ m. Settles (At side) m.status step journal.status told) settles)
     (e ∙ ap (set_side (picture_of old) side)
     (ap₂ build value writing ∙ sym (ap with_status (view_of old side))))
 
@@ -188,6 +194,7 @@ pub edits_follow : (old : fine_world.World) (side : Which) (user : ℕ) (edit : 
     (fine_world.side_of old side).journal.status ≢ Down →
     EditsSide old.pair (fine_world.side_of old side) (Edited user edit) next events →
     Follows (picture_of old) (picture_of (fine_world.side_goes old side next [] events))
+    (Edits side user edit) (refused_by next.journal.status)
 edits_follow old side user edit _ _ none down (edits journal events lawful writes) =
     let machine = fine_world.side_of old side in
     let event = Edited user edit in
@@ -207,29 +214,34 @@ edits_follow old side user edit _ _ none down (edits journal events lawful write
     (view_writes old.pair machine event journal events up writes))
     (side_acknowledges old side journal events)
 
-pub opens_follow : (old : fine_world.World) (side : Which) (calls : ℕ)
-    (journal : Journaled History Event) (events : List Event) → Opens
+pub opens_follow : (old : fine_world.World) (side : Which) (step : Step) (calls : ℕ)
+    (journal : Journaled History Event) (events : List Event) →
+    IsOpening (At side) (fine_world.side_of old side).journal.status step → Opens
     (side_layout old.pair) IsAllowed (fine_world.side_of old side).journal calls journal events →
-    Follows (picture_of old) (picture_of (side_writes old side journal events))
-opens_follow old side calls journal events opens =
+    Follows (picture_of old) (picture_of (side_writes old side journal events)) step []
+opens_follow old side step calls journal events by opens =
     let machine = fine_world.side_of old side in
-    picture.opens side (side_picture (with_journal machine journal)) events
+    picture.opens side step (side_picture (with_journal machine journal)) events
+    (on_side old side (λ m. IsOpening (At side) m.status step) by)
     (on_side old side (λ m. picture.Opens m (side_picture (with_journal machine journal)) events)
     (view_opens old.pair machine calls journal events opens))
     (side_acknowledges old side journal events)
 
 pub compacts_follow : (old : fine_world.World) (side : Which) (journal : Journaled History Event) →
+    (fine_world.side_of old side).journal.status ≡ Up →
     Compacts (side_layout old.pair) (fine_world.side_of old side).journal journal →
     Follows (picture_of old) (picture_of (side_writes old side journal []))
-compacts_follow old side _ (compacted arms meets) =
+    (Checkpoint (At side)) (refused_by journal.status)
+compacts_follow old side _ up (compacted arms meets) =
     let journal = with_image (side_layout old.pair) (fine_world.side_of old side).journal arms in
-    side_changes old (side_writes old side journal []) side journal refl refl (λ h. h)
+    side_changes old (side_writes old side journal []) side journal (Checkpoint (At side))
+    (refused_by journal.status) refl refl (picture.compacts journal.status up)
     (side_settled old side journal)
-compacts_follow old side _ (not_compacted status arms failed down meets) =
+compacts_follow old side _ up (not_compacted status arms failed down meets) =
     let journal = after_device
     (record (fine_world.side_of old side).journal { compacting = true }) status arms failed in
-    side_changes old (side_writes old side journal []) side journal refl refl
-    (λ _. not_up status down) (side_settled old side journal)
+    side_changes old (side_writes old side journal []) side journal (Checkpoint (At side))
+    (refused_by status) refl refl (picture.compacts status up) (side_settled old side journal)
 
 -- A side takes a request
 
@@ -264,9 +276,9 @@ adding_keeps side session request _ event
     refl
 
 -- a side that answers so, and adds these events
-answered_so : (old : fine_world.World) (side : Which) (session number : ℕ) (request : Request)
-    (machine : SideMachine) (served : Served) (events : List Event) →
-    Contains old.sent (Asks side session number request) →
+answered_so : (old : fine_world.World) (message : ℕ) (side : Which) (session number : ℕ)
+    (request : Request) (machine : SideMachine) (served : Served) (events : List Event) →
+    slice_get old.sent message ≡ Some (Asks side session number request) →
     ServesAs (fine_world.side_of old side).journal.status old.pair (has_room_for old.pair
     (fine_world.side_of old side)) (side_now (fine_world.side_of old side)) session request served →
     served.side.history ≡ (fine_world.side_of old side).journal.value ++ events →
@@ -274,7 +286,8 @@ answered_so : (old : fine_world.World) (side : Which) (session number : ℕ) (re
     { side = served.side } →
     Follows (picture_of old) (picture_of
     (fine_world.side_goes old side machine (Answers side session number served.reply ∷ []) events))
-answered_so old side session number request machine served events asked serves added is =
+    (Deliver message) []
+answered_so old message side session number request machine served events asked serves added is =
     let was = fine_world.side_of old side in
     let with_side : picture.SidePicture →
     picture.SidePicture = λ m. record m { side = served.side } in
@@ -282,7 +295,7 @@ answered_so old side session number request machine served events asked serves a
       sent = old.sent ++ Answers side session number served.reply ∷ [];
       acknowledged = old.acknowledged ++ map (λ event. Happened side event) events;
     } in
-    picture.serves side session number request asked (picture.answered (record {
+    picture.serves message side session number request asked (picture.answered (record {
       served = served;
       has_room = has_room_for old.pair was;
       events = events;
@@ -341,13 +354,16 @@ nothing_said old Right m =
     ap with_sent (append-nil old.sent)
 
 -- a side takes a request
-pub request_follows : (old : fine_world.World) (side : Which) (session number : ℕ)
+pub request_follows : (old : fine_world.World) (message : ℕ) (side : Which) (session number : ℕ)
     (request : Request) (machine : SideMachine) (reply : Option Reply) (events : List Event) →
-    Contains old.sent (Asks side session number request) → IsLawfulRequest session request →
+    slice_get old.sent message ≡ Some (Asks side session number request) →
+    IsLawfulRequest session request →
     SideTakes old.pair (fine_world.side_of old side) session request machine reply events →
     Follows (picture_of old)
     (picture_of (fine_world.side_goes old side machine (says side session number reply) events))
-request_follows old side session number request _ _ _ asked lawful (answers served serves same) =
+    (Deliver message) []
+request_follows old message side session number request _ _ _ asked lawful
+    (answers served serves same) =
     let was = fine_world.side_of old side in
     let with_history : History → picture.SidePicture = λ history. record {
       status =
@@ -355,13 +371,13 @@ request_follows old side session number request _ _ _ asked lawful (answers serv
       side = record { history = history; staging = served.side.staging };
       writing = was.journal.writing;
     } in
-    answered_so old side session number request
+    answered_so old message side session number request
     (record was { staging = served.side.staging }) served
     [] asked serves (same ∙ sym (append-nil was.journal.value)) (ap with_history (sym same))
-request_follows old side session number request _ _ _ asked lawful
+request_follows old message side session number request _ _ _ asked lawful
     (adds served event _ _ up serves more (idle is)) =
     absurd (true≢false (sym is))
-request_follows old side session number request _ _ _ asked lawful
+request_follows old message side session number request _ _ _ asked lawful
     (adds served event _ _ up serves more (written arms is meets)) =
     let was = fine_world.side_of old side in
     let keeps = adding_keeps (side_now was) session request served event (outcome old.pair
@@ -376,19 +392,20 @@ request_follows old side session number request _ _ _ asked lawful
     said status served.reply ≡ Some served.reply = said_up served.reply in
     subst (λ reply. Follows (picture_of old) (picture_of (fine_world.side_goes old side
     (with_journal was (with_record (side_layout old.pair) was.journal event arms))
-    (says side session number reply) (event ∷ [])))) (sym (as_up was.journal.status up))
-    (answered_so old side session number request (with_journal was
+    (says side session number reply) (event ∷ []))) (Deliver message) [])
+    (sym (as_up was.journal.status up))
+    (answered_so old message side session number request (with_journal was
     (with_record (side_layout old.pair) was.journal event arms)) served (event ∷ []) asked
     (subst (λ status. ServesAs status old.pair (has_room_for old.pair was)
     (side_now was) session request served) (sym up) serves) more
     (ap₂ build (sym more) (staged_up was.journal.status was.staging up ∙ sym keeps)))
-request_follows old side session number request _ _ _ asked lawful
+request_follows old message side session number request _ _ _ asked lawful
     (adds served event _ _ up serves more (unwritten Up arms failed is (inl e) meets)) =
     absurd (up_not_halted e)
-request_follows old side session number request _ _ _ asked lawful
+request_follows old message side session number request _ _ _ asked lawful
     (adds served event _ _ up serves more (unwritten Up arms failed is (inr e) meets)) =
     absurd (up_not_down e)
-request_follows old side session number request _ _ _ asked lawful
+request_follows old message side session number request _ _ _ asked lawful
     (adds served event _ _ up serves more (unwritten Halted arms failed is down meets)) =
     let was = fine_world.side_of old side in
     let journal = after_device (record was.journal { writing = Some event }) Halted arms failed in
@@ -396,19 +413,19 @@ request_follows old side session number request _ _ _ asked lawful
     λ m. record (set_side (picture_of old) side (record m
     { status = Halted; writing = Some event }))
     { sent = old.sent ++ Answers side session number (Refused Device) ∷ [] } in
-    picture.serves side session number request asked
+    picture.serves message side session number request asked
     (picture.request_failed event (would old side session request served event up serves more)
     (view_goes old side (with_journal was journal)
     (Answers side session number (Refused Device) ∷ []) [] ∙ (nothing_added old side
     (side_picture (with_journal was journal)) (Answers side session number (Refused Device) ∷ [])
     ∙ sym (ap halting (view_of old side)))))
-request_follows old side session number request _ _ _ asked lawful
+request_follows old message side session number request _ _ _ asked lawful
     (adds served event _ _ up serves more (unwritten Down arms failed is down meets)) =
     let was = fine_world.side_of old side in
     let journal = after_device (record was.journal { writing = Some event }) Down arms failed in
     let stopping : picture.SidePicture →
     Picture = λ m. set_side (picture_of old) side (picture.stopped m (Some event)) in
-    picture.serves side session number request asked
+    picture.serves message side session number request asked
     (picture.request_cut event (would old side session request served event up serves more)
     (view_goes old side (with_journal was journal) [] [] ∙ (nothing_added old side (side_picture
     (with_journal was journal)) [] ∙ (nothing_said old side
@@ -419,10 +436,11 @@ request_follows old side session number request _ _ _ asked lawful
 
 -- a device is left so, and what the side stands for stays
 pub device_follows : (old : fine_world.World) (side : Which) (status : Status) (arms : Arms)
-    (failed : ℕ) → ((fine_world.side_of old side).journal.status ≢ Up → status ≢ Up) →
+    (failed : ℕ) (step : Step) (told : List Refusal) →
+    Settles (At side) (fine_world.side_of old side).journal.status step status told →
     Follows (picture_of old) (picture_of (side_writes old side
-    (after_device (fine_world.side_of old side).journal status arms failed) []))
-device_follows old side status arms failed up =
+    (after_device (fine_world.side_of old side).journal status arms failed) [])) step told
+device_follows old side status arms failed step told settles =
     let journal = after_device (fine_world.side_of old side).journal status arms failed in
-    side_changes old (side_writes old side journal []) side journal refl refl up
+    side_changes old (side_writes old side journal []) side journal step told refl refl settles
     (side_settled old side journal)

@@ -1,7 +1,7 @@
 -- What a call of the coordinator keeps as it goes through the plan, and which items it settles.
 use Rattle.std.proofs.Common.{◌≡◌, ℕ, zero, suc, Bool, true, false, if◌then◌else◌, ◌||◌, List, []}
 use Rattle.std.proofs.Common.{◌∷◌, ◌++◌, take, refl, sym, ap, ◌∙◌, subst, Some, None, append_assoc}
-use Rattle.std.proofs.Common.{slice_get}
+use Rattle.std.proofs.Common.{slice_get, ◌≢◌}
 use Rattle.std.specs.Prelude.{IfSome, All}
 use Rattle.std.specs.List.{list_any}
 use Rattle.std.specs.Ordering.{eq_by_cmp}
@@ -357,3 +357,33 @@ advances_due pair plan taken walk _ kept
     (record_breaks _ what _ journal to_keep room kept_so down) =
     keeps_due pair walk.journal journal what kept (IsItems plan taken)
     (of_item walk.cursor to_keep.planned to_keep.at to_keep.due) kept_so
+
+-- an archive that is not up is not written, and stays so
+pub advances_status : (pair : ℕ) (plan : List Planned) (taken : Exchange) (walk later : Walk)
+    (kept : List Kept) → Advances pair plan taken walk kept later → walk.journal.status ≢ Up →
+    later.journal.status ≡ walk.journal.status
+advances_status pair plan taken walk _ _ (stands _) other = refl
+advances_status pair plan taken walk later kept (conflicts _ _ _ planned path first at is more)
+    other =
+    advances_status pair plan taken (past walk walk.journal) later kept more other
+advances_status pair plan taken walk later kept
+    (side_refuses _ _ _ planned why first at is for more) other =
+    advances_status pair plan taken (refusing walk why planned) later kept more other
+advances_status pair plan taken walk later kept
+    (archive_refuses _ _ _ planned what why first at is may refused more) other =
+    advances_status pair plan taken (refusing walk why planned) later kept more other
+advances_status pair plan taken walk later kept
+    (no_checkpoint _ _ _ what first full greatest more) other =
+    absurd (other full.to_keep.up)
+advances_status pair plan taken walk later kept
+    (checkpoints _ _ _ what journal first full smaller compacts up more) other =
+    absurd (other full.to_keep.up)
+advances_status pair plan taken walk _ _
+    (checkpoint_breaks _ what journal first full smaller compacts down) other =
+    absurd (other full.to_keep.up)
+advances_status pair plan taken walk later _
+    (keeps _ _ what kept journal to_keep room kept_so up more) other =
+    absurd (other to_keep.up)
+advances_status pair plan taken walk _ kept
+    (record_breaks _ what _ journal to_keep room kept_so down) other =
+    absurd (other to_keep.up)

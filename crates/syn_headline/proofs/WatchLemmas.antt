@@ -138,7 +138,8 @@ goes_on_well : (log : Log) (before : Archive) (histories : Histories) (sent more
     (o : Option SessionPicture) → GoesOnAs r plan o →
     IfSome o (λ next. IsUnderway log before histories (sent ++ more) kept next.session next.plan)
 goes_on_well log before histories sent more kept r plan h _ ended = tt
-goes_on_well log before histories sent more kept r plan h _ (goes_on next session_is plan_is) =
+goes_on_well log before histories sent more kept r plan h _
+    (goes_on next session_is prefers plan_is) =
     subst (λ s. IsUnderway log before histories (sent ++ more) kept s next.plan) (sym session_is)
     (subst (IsUnderway log before histories (sent ++ more) kept r.session) (sym plan_is)
     (underway_says log before histories sent more kept r.session plan h))
@@ -218,14 +219,15 @@ module _ (before : Stores) (plans : Plans) (old new : Picture) (k : IsKept plans
         (subst (λ kept. IfSome g.machine.running (λ r. IsUnderway (old.log ++ logged) before.archive
         (histories_of old) (old.sent ++ g.messages) kept r.session r.plan)) (sym kept_then) h)
 
-  starts_well : (g : CoordinatorGoes old
-      [] (IsNext old.coordinator.archive) (StartsFrom old.coordinator.archive) new) →
+  starts_well : (preference : Option Which) (g : CoordinatorGoes old
+      [] (IsNext old.coordinator.archive) (StartsFrom preference old.coordinator.archive) new) →
       RunsWell before.archive new new.coordinator.running
-  starts_well g =
-      goes_well [] (IsNext old.coordinator.archive) (StartsFrom old.coordinator.archive) g
+  starts_well preference g =
+      goes_well [] (IsNext old.coordinator.archive)
+      (StartsFrom preference old.coordinator.archive) g
       (well g.machine.running g.runs_on g.runs_over)
     where
-      well : (o : Option SessionPicture) → StartsFrom old.coordinator.archive o →
+      well : (o : Option SessionPicture) → StartsFrom preference old.coordinator.archive o →
           RunsOver (old.sent ++ g.messages) g.machine.archive o →
           IfSome o (λ r. IsUnderway (old.log ++ []) before.archive (histories_of old)
           (old.sent ++ g.messages) (all_kept old ++ g.kept) r.session r.plan)
@@ -327,7 +329,7 @@ module _ (before : Stores) (plans : Plans) (old new : Picture) (k : IsKept plans
       subst (RunsWell before.archive new) (sym stays.0)
       (beside_well a logs (kept_more acks added ∙ (ap (λ ks. all_kept old ++ ks) stays.1
       ∙ append-nil (all_kept old))) old.coordinator.running refl)
-  runs_well a (starts g reports) = starts_well g
+  runs_well a (starts preference g reports) = starts_well preference g
   runs_well a (ticks g reports) = ticks_well old.coordinator.running refl g
   runs_well a (takes from session number reply plan logged heard expected made g reports) =
       takes_well old.coordinator.running refl from session number reply plan logged heard expected
@@ -337,7 +339,7 @@ module _ (before : Stores) (plans : Plans) (old new : Picture) (k : IsKept plans
   pub all_can : AllCanKeep before.archive (all_kept old) → Course old new →
       AllCanKeep before.archive (all_kept new)
   all_can can (beside acks added more runs reports logs) = can_more can acks added more
-  all_can can (starts g reports) = goes_can _ _ _ g can
+  all_can can (starts preference g reports) = goes_can _ _ _ g can
   all_can can (ticks g reports) = goes_can _ _ _ g can
   all_can can (takes from session number reply plan logged heard expected made g reports) =
       goes_can _ _ _ g can

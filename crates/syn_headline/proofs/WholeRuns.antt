@@ -9,6 +9,9 @@ use Rattle.syn_model.specs.Tree.{Tree}
 use Rattle.syn_model.specs.Event.{Token, Replaced}
 use Rattle.syn_model.specs.History.{IsHistory, last_session}
 use Rattle.syn_model.specs.Archive.{CanKeep, Held}
+use Rattle.syn_headline.specs.World.{Step}
+use Rattle.syn_model.specs.Refusal.{Refusal}
+use Rattle.std.proofs.Common.{List}
 use Rattle.syn_headline.specs.Network.{Which, Left, Right, Sent, Message}
 use Rattle.syn_headline.specs.Acknowledged.{Happened, Stores, stores_after, IsLegal}
 use Rattle.syn_headline.specs.Planning.{Log, IsPlanOf}
@@ -77,10 +80,10 @@ legal_extends before plans old new stands a all earlier later side token path si
     ])))
 
 runs_legally : (before : Stores) (plans : Plans) (old new : Picture) → IsKept plans old →
-    StandsFor before old → EachReplacementIsLegal before old → FollowsAll old new →
-    EachReplacementIsLegal before new
+    StandsFor before old → EachReplacementIsLegal before old → {steps : List Step}
+    {told : List Refusal} → FollowsAll old steps told new → EachReplacementIsLegal before new
 runs_legally before plans old _ k stands all (nothing_more _) = all
-runs_legally before plans old _ k stands all (one_more _ between new g more) =
+runs_legally before plans old _ k stands all (one_more _ between new _ _ _ _ g more) =
     let a = step_advances plans old k between g in
     runs_legally before a.later between new a.kept (step_stands before old between stands g)
     (legal_extends before plans old between stands a all) more
@@ -163,7 +166,7 @@ start_stands old e =
 
 -- in every run each replacement is legal
 pub runs_replace_legally : OfEachRun EachReplacementIsLegal
-runs_replace_legally old new s g =
+runs_replace_legally old new steps refusals s g =
     runs_legally (stores_of old) no_plans old new (start_kept old s)
     (start_stands old s.nothing_yet.1)
     (λ earlier later side token path since u e. absurd
@@ -171,20 +174,21 @@ runs_replace_legally old new s g =
 
 -- the invariant after a whole run
 pub run_kept : (plans : Plans) (old new : Picture) → IsKept plans old →
-    FollowsAll old new → (later : Plans) × IsKept later new
+    {steps : List Step} {told : List Refusal} → FollowsAll old steps told new →
+    (later : Plans) × IsKept later new
 run_kept plans old _ k (nothing_more _) = (plans, k)
-run_kept plans old _ k (one_more _ between new g more) =
+run_kept plans old _ k (one_more _ between new _ _ _ _ g more) =
     let a = step_advances plans old k between g in
     run_kept a.later between new a.kept more
 
 pub runs_use_tokens_once : OfEachRun EachTokenOnce
-runs_use_tokens_once old new s g side earlier later token path since u e =
+runs_use_tokens_once old new steps refusals s g side earlier later token path since u e =
     token_once (histories_of new side) earlier later token path since u
     ((run_kept no_plans old new (start_kept old s) g).1.sound.lawful side) e
 
 -- and what a session owes
 pub runs_owe : OfEachRun Owes
-runs_owe old new s g =
+runs_owe old new steps refusals s g =
     let k = (run_kept no_plans old new (start_kept old s) g).1 in
     (waits new.coordinator.running k.coordinator.runs_over, k.sound.numbers, k.sound.repeats)
   where

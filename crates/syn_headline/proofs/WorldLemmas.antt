@@ -5,6 +5,9 @@ use Rattle.std.proofs.lemmas.List.Elements.{filter_map-append}
 use Rattle.syn_model.specs.Event.{Event, Edited}
 use Rattle.syn_model.specs.History.{History}
 use Rattle.syn_model.specs.Archive.{Archive, Kept, after_kept, archive_of}
+use Rattle.syn_model.specs.Refusal.{Refusal}
+use Rattle.syn_headline.specs.Picture.{FollowsAll}
+use Rattle.syn_headline.specs.World.{Step}
 use Rattle.syn_headline.specs.Network.{Which, Left, Right, Message, Answers}
 use Rattle.syn_headline.specs.Acknowledged.{Ack, Happened, Kept_by, event_at, kept_in, Stores}
 use Rattle.syn_headline.specs.Report.{Report}
@@ -20,7 +23,6 @@ use Rattle.syn_headline.specs.Picture.{archive_changes, archive_opens, archive_r
 use Rattle.syn_headline.specs.Picture.{nothing_more, one_more}
 use Rattle.syn_headline.specs.Machine.{Up}
 use Rattle.syn_headline.specs.Headline.{StandsFor}
-use Rattle.syn_headline.proofs.PictureRuns.{RunsStand}
 
 left_left : (es : List Event) → filter_map (event_at Left) (map (λ e. Happened Left e) es) ≡ es
 left_left [] = refl
@@ -194,38 +196,40 @@ takes_request before old which session number request new s (request_failed even
 takes_request before old which session number request new s (request_cut event would e) =
     side_stays before old which _ old.sent new s refl (e ∙ sent_stays old which _)
 
-pub step_stands : (before : Stores) (old new : Picture) → StandsFor before old → Follows old new →
-    StandsFor before new
-step_stands before old new s (same e) = same_world before old new s e
+pub step_stands : (before : Stores) (old new : Picture) {step : Step} {told : List Refusal} →
+    StandsFor before old → Follows old new step told → StandsFor before new
+step_stands before old new s (same step told idle e) = same_world before old new s e
 step_stands before old new s (edits which user edit machine events allowed up g e) =
     side_goes before old which machine events
     [] new s (writes_history (side_of old which) (Edited user edit) machine events g) e
-step_stands before old new s (opens which machine events g e) =
+step_stands before old new s (opens which step machine events by g e) =
     side_goes before old which machine events
     [] new s (opens_history (side_of old which) machine events g) e
-step_stands before old new s (changes which status staging up stays e) =
+step_stands before old new s (changes which step status told settles e) =
     side_stays before old which _ old.sent new s refl (e ∙ sent_stays old which _)
-step_stands before old new s (serves which session number request asked g) =
+step_stands before old new s (serves message which session number request at g) =
     takes_request before old which session number request new s g
-step_stands before old new s (starts_session g reports) =
+step_stands before old new s (starts_session preference up none g some reports) =
     coordinator_steps before old [] _ _ new s g
-step_stands before old new s (ticks_once g reports) = coordinator_steps before old [] _ _ new s g
+step_stands before old new s (ticks_once running is g reports status again) =
+    coordinator_steps before old [] _ _ new s g
 step_stands before old new s
-    (takes_answer from session number reply plan logged heard expected made g reports) =
+    (takes_answer message from session number reply plan logged at expected made g reports heard) =
     coordinator_steps before old logged _ _ new s g
-step_stands before old new s (archive_changes status running up stays e) =
+step_stands before old new s (archive_changes step status told settles e) =
     subst (StandsFor before) (sym e)
     (record { left = s.left; right = s.right; archive = s.archive })
-step_stands before old new s (archive_opens e) =
+step_stands before old new s (archive_opens step by e) =
     subst (StandsFor before) (sym e)
     (record { left = s.left; right = s.right; archive = s.archive })
-step_stands before old new s (archive_recovers kept is can e) =
+step_stands before old new s (archive_recovers step kept by is can e) =
     coordinator_goes before old (record old.coordinator
     { status = Up; archive = after_kept old.coordinator.archive kept; writing = None })
     (kept ∷ []) old.sent old.reports old.log new s refl e
 
 -- a whole run
-pub run_stands : RunsStand
+pub run_stands : (before : Stores) (old new : Picture) {steps : List Step} {told : List Refusal} →
+    FollowsAll old steps told new → StandsFor before old → StandsFor before new
 run_stands before old _ (nothing_more _) s = s
-run_stands before old _ (one_more _ between new g more) s =
+run_stands before old _ (one_more _ between new _ _ _ _ g more) s =
     run_stands before between new more (step_stands before old between s g)

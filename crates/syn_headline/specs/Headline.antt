@@ -2,6 +2,7 @@
 use Rattle.std.specs.Prelude.{ℕ, ◌≡◌, ◌≢◌, ◌≤◌, ◌↔◌, ◌+◌, drop, true, false, List, [], ◌∷◌, ◌++◌}
 use Rattle.std.specs.Prelude.{length, take, Option, Some, None, All, AllPairs, Contains, IfSome}
 use Rattle.syn_model.specs.Path.{Bytes, Path, parent}
+use Rattle.syn_model.specs.Refusal.{Refusal}
 use Rattle.syn_model.specs.Tree.{Tree, IsTree, is_directory, subtree}
 use Rattle.syn_model.specs.Event.{Token, is_same_token, Event, Edited, Began, Replaced, touches}
 use Rattle.syn_model.specs.History.{History, IsHistory, tree_at, tree_of, last_session}
@@ -10,6 +11,7 @@ use Rattle.syn_model.specs.Archive.{Archive, new_archive, Session, BothHeld}
 use Rattle.std.specs.List.{count_by}
 use Rattle.syn_model.specs.Plan.{plan, scan_of, Trees, IsSynchronized, IsReconciled, AreEqual}
 use Rattle.syn_model.specs.Plan.{IsConflict}
+use Rattle.syn_headline.specs.Machine.{Up}
 use Rattle.syn_headline.specs.Side.{Fetch, Piece}
 use Rattle.syn_headline.specs.Network.{Which, Left, Right, other, Sent, WasAnswered, NumbersTell}
 use Rattle.syn_headline.specs.Network.{AsksNothingTwice}
@@ -18,6 +20,7 @@ use Rattle.syn_headline.specs.Acknowledged.{stores_after, Grown, ArchiveGrown, I
 use Rattle.syn_headline.specs.Planning.{SessionPlan, Log, IsPlanOf}
 use Rattle.syn_headline.specs.Report.{Report, Complete, is_carrying, is_marking}
 use Rattle.syn_headline.specs.Picture.{Picture, FollowsAll, Waits, side_of, stores_of}
+use Rattle.syn_headline.specs.World.{Step}
 
 -- a pair of sides and their archive, as three formatted disks are, and as every run leaves them
 pub record IsPair (stores : Stores) : Type 0 where
@@ -32,17 +35,22 @@ pub record IsPair (stores : Stores) : Type 0 where
 pub record IsStart (world : Picture) : Type 0 where
   pub pair : IsPair (stores_of world)
   pub left : (world.left.side.staging ≡ None) × (world.left.writing ≡ None)
+      × (world.left.status ≡ Up)
   pub right : (world.right.side.staging ≡ None) × (world.right.writing ≡ None)
+      × (world.right.status ≡ Up)
   pub coordinator : (world.coordinator.running ≡ None) × (world.coordinator.writing ≡ None)
+      × (world.coordinator.status ≡ Up)
   pub nothing_yet : (world.sent ≡ []) × (world.acknowledged ≡ []) × (world.reports ≡ [])
       × (world.log ≡ [])
 
--- it is the end of a run of the picture, from such a world with what three disks stand for
-pub record IsRunFrom (before : Stores) (world : Picture) : Type 0 where
+-- it is the end of a run of the picture by these steps, in which users were refused so, from such a
+-- world with what three disks stand for
+pub record IsRunFrom (before : Stores) (steps : List Step) (told : List Refusal) (world : Picture) :
+    Type 0 where
   pub start : Picture
   pub is_start : IsStart start
   pub stands : stores_of start ≡ before
-  pub follows : FollowsAll start world
+  pub follows : FollowsAll start steps told world
 
 -- Each replacement of the run is of its session's plan, and puts what the other side held. It goes
 -- over what the archive recorded or, with a preference, over what the scan showed. Nothing touched

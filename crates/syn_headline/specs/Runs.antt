@@ -6,7 +6,7 @@ use Rattle.syn_headline.specs.SideMachine.{SideMachine, side_now}
 use Rattle.syn_headline.specs.Coordinator.{CoordinatorMachine, Running, plan_of}
 use Rattle.syn_headline.specs.World.{World, Step, Runs}
 use Rattle.syn_headline.specs.Picture.{Picture, SidePicture, CoordinatorPicture, SessionPicture}
-use Rattle.syn_headline.specs.Headline.{IsPair, StandsFor}
+use Rattle.syn_headline.specs.Headline.{IsPair, IsRunFrom, StandsFor}
 
 -- The picture of a world: without its rooms, generations, arms and transcripts
 
@@ -20,6 +20,7 @@ side_picture machine = record {
 abbrev pub session_picture : Running → SessionPicture
 session_picture running = record {
   session = running.session;
+  preference = running.preference;
   left = running.left;
   right = running.right;
   plan = plan_of running;
@@ -74,6 +75,11 @@ pub record IsStart (world : World) : Type 0 where
 abbrev pub OfEachRun : (Stores → Picture → Type 0) → Type 0
 OfEachRun Holds = (old new : World) (steps : List Step) → IsStart old → Runs old steps new →
     Holds (stores_of old) (picture_of new)
+
+-- every such run is one of the picture by the same steps, in which users are refused the same
+abbrev pub RunsArePictured : Type 0
+RunsArePictured = (old new : World) (steps : List Step) → IsStart old → Runs old steps new →
+    IsRunFrom (stores_of old) steps new.refusals (picture_of new)
 
 -- the machines stand for what was acknowledged, as every run leaves them, from any world
 abbrev pub RunsStand : Type 0

@@ -4,9 +4,12 @@
 //!
 //! Each sentence over runs speaks of a picture of the world (`Picture`): what each machine stands
 //! for and was writing, and what was sent, acknowledged and reported. It has no rooms, generations,
-//! arms and transcripts. `Follows` says what one step may do to it. That each run of the exact
-//! world is one of the picture is a law (`pictured` of `run_laws`). So the exact machines, of which
-//! the rest speaks, are read for what a session owes alone.
+//! arms and transcripts. `Follows` says what a step may do to it, and what its user is refused. It
+//! is of that very step: an edit is made as the user asked at that side, a session prefers what its
+//! start asked for, and the message that a delivery names is taken. A step changes nothing only for
+//! a cause (`IsIdle`), which its user is told where there is one. That each run of the exact world
+//! is one of the picture by the same steps, with the same refusals, is a law (`pictured` of
+//! `run_laws`). So the exact machines, of which the rest speaks, are read for what a session owes.
 //!
 //! # What a layer owes the world
 //!
@@ -63,8 +66,8 @@
 
 ghost use Rattle.syn_headline.specs.Laws.{ServesAllowed, PiecesAreUntouched, RepeatsAreDone};
 ghost use Rattle.syn_headline.specs.Laws.{LaterAreOld, DeadAreOld, ServesByReading};
-ghost use Rattle.syn_headline.specs.Headline.{formatted, IsPair, IsRunFrom};
-ghost use Rattle.syn_headline.specs.Runs.{OfEachRun, RunsStand};
+ghost use Rattle.syn_headline.specs.Headline.{formatted, IsPair};
+ghost use Rattle.syn_headline.specs.Runs.{OfEachRun, RunsArePictured, RunsStand};
 ghost use Rattle.syn_headline.specs.Headline.{EachReplacementIsLegal, EachTokenOnce};
 ghost use Rattle.syn_headline.specs.Headline.{RecoveredIsLegal, EachEntryWasHeld, LeavesPair};
 ghost use Rattle.syn_headline.specs.Headline.{LogsPlans, Owes, CompleteSessionsSynchronize};
@@ -86,12 +89,12 @@ pub fn side_laws()
     ensures dead { DeadAreOld }
 {}
 
-/// Every run, with stops and failing devices, is one of the picture. In it the machines stand for
-/// what was acknowledged, each replacement is legal, each plan is logged, and each report tells of
-/// its session.
+/// Every run, with stops and failing devices, is one of the picture by the same steps. In it the
+/// machines stand for what was acknowledged, each replacement is legal, each plan is logged, and
+/// each report tells of its session.
 pub fn run_laws()
     ensures formatted { IsPair formatted }
-    ensures pictured { OfEachRun IsRunFrom }
+    ensures pictured { RunsArePictured }
     ensures stands { RunsStand }
     ensures legal { OfEachRun EachReplacementIsLegal }
     ensures recovered { OfEachRun RecoveredIsLegal }

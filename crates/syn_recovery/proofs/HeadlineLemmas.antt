@@ -11,11 +11,12 @@ use Rattle.syn_headline.specs.Network.{Which, Left, Right}
 use Rattle.syn_headline.specs.Acknowledged.{Stores, history_of, stores_after, Grown, ArchiveGrown}
 use Rattle.syn_headline.specs.World.{World, side_of}
 use Rattle.syn_headline.specs.Runs.{stores_of, picture_of, OfEachRun, RunsStand}
+use Rattle.syn_headline.specs.Runs.{RunsArePictured}
 use Rattle.syn_headline.specs.Headline.{EachReplacementIsLegal, EachEntryWasHeld, LeavesPair}
 use Rattle.syn_headline.specs.Headline.{LogsPlans, Owes, CompleteSessionsSynchronize}
 use Rattle.syn_headline.specs.Headline.{CompleteSessionsReconcile, PreferenceLeavesOne}
 use Rattle.syn_headline.specs.Headline.{RecoveredIsLegal, EachTokenOnce, ReportsItsConflicts}
-use Rattle.syn_headline.specs.Headline.{CountsItsItems, CarriedIsMarked, HeldIsMarked, IsRunFrom}
+use Rattle.syn_headline.specs.Headline.{CountsItsItems, CarriedIsMarked, HeldIsMarked}
 use Rattle.syn_headline.specs.Reported.{EachReportTells}
 use Rattle.syn_headline.specs.Picture as picture
 use Rattle.syn_recovery.specs.Meaning.{Keeping, IsDiskOf, IsOf, MayBeOf, as_kept, with_record}
@@ -174,7 +175,7 @@ archive_grown pair machine old new is (inr (added, writing, can, more)) =
 
 -- what holds of every run, law by law
 pub record Laws : Type 0 where
-  pub pictured : OfEachRun IsRunFrom
+  pub pictured : RunsArePictured
   pub stand : RunsStand
   pub legal : OfEachRun EachReplacementIsLegal
   pub recovered : OfEachRun RecoveredIsLegal

@@ -1,6 +1,7 @@
 -- The headline: from the bytes of three disks before a run to whatever they may hold after it.
 use Rattle.std.specs.Prelude.{ℕ, ◌≡◌, List}
 use Rattle.syn_model.specs.Path.{Bytes}
+use Rattle.syn_model.specs.Refusal.{Refusal}
 use Rattle.syn_headline.specs.Network.{Which, Left, Right}
 use Rattle.syn_headline.specs.Acknowledged.{Stores, history_of, stores_after, Grown, ArchiveGrown}
 use Rattle.syn_headline.specs.World.{World, Step, Runs}
@@ -67,11 +68,12 @@ pub record IsRecovered (before : Stores) (world : Picture) (disks : Disks)
   pub archive : ArchiveGrown world.coordinator.writing
       (stores_after before world.acknowledged).archive now.archive
 
--- What is promised of a run, by the picture of its world, with one content that its disks may have
--- after it
-pub record IsCrashSafe (before : Stores) (world : Picture) (disks : Disks) : Type 0 where
+-- What is promised of a run by these steps, in which users were refused so, by the picture of its
+-- world, with one content that its disks may have after it
+pub record IsCrashSafe (before : Stores) (steps : List Step) (told : List Refusal)
+    (world : Picture) (disks : Disks) : Type 0 where
   pub now : Stores
-  pub pictured : IsRunFrom before world
+  pub pictured : IsRunFrom before steps told world
   pub recovered : IsRecovered before world disks now
   pub replaced : EachReplacementIsLegal before world
   pub given_back : RecoveredIsLegal before world
@@ -93,4 +95,4 @@ pub record IsCrashSafe (before : Stores) (world : Picture) (disks : Disks) : Typ
 abbrev pub Headline : Type 0
 Headline = (pair : ℕ) (disks later : Disks) (old new : World) (steps : List Step) →
     IsOpenedFrom pair disks old → Runs old steps new → MayBeLeft later new →
-    IsCrashSafe (stores_of old) (picture_of new) later
+    IsCrashSafe (stores_of old) steps new.refusals (picture_of new) later

@@ -227,22 +227,22 @@ module _ {M A V W : Type 0} (kind : Kind M A V W) (back : GivesBack kind) (base 
   left_counted new c = subst (IsCountedJournal base) (sym (back machine new)) c
 
   -- it is halted only as a call failed, or as it was
-  device_counted : (call : MachineCall) (status : Status) (arms : Arms) (failed : ℕ) →
-      LeavesDevice was call status arms failed →
+  device_counted : (call : MachineCall) (status : Status) (arms : Arms) (failed : ℕ)
+      (told : List Refusal) → LeavesDevice was call status arms failed told →
       IsCountedJournal base (after_device was status arms failed)
-  device_counted _ _ _ _ (armed_to_fail call) = still_counted base was.status was.failures 0 h
-  device_counted _ _ _ _ (armed_to_stop calls) = still_counted base was.status was.failures 0 h
-  device_counted _ _ _ _ stopped =
+  device_counted _ _ _ _ _ (armed_to_fail call) = still_counted base was.status was.failures 0 h
+  device_counted _ _ _ _ _ (armed_to_stop calls) = still_counted base was.status was.failures 0 h
+  device_counted _ _ _ _ _ (stopped up) =
       (let least = h.0 in omega (arith, least), λ e. absurd (down_not_halted e))
-  device_counted _ _ _ _ (unopened calls arms failed down meets) = (
+  device_counted _ _ _ _ _ (unopened calls arms failed down meets) = (
     (meets_counted base was.arms calls was.failures Halted arms failed h.0 meets).0,
     λ e. absurd (down_not_halted e),
   )
-  device_counted _ _ _ _ (halted calls arms failed meets) =
+  device_counted _ _ _ _ _ (halted calls arms failed up meets) =
       meets_counted base was.arms calls was.failures Halted arms failed h.0 meets
-  device_counted _ _ _ _ (cut calls arms failed meets) =
+  device_counted _ _ _ _ _ (cut calls arms failed up meets) =
       meets_counted base was.arms calls was.failures Down arms failed h.0 meets
-  device_counted _ _ _ _ (stays calls arms failed meets) =
+  device_counted _ _ _ _ _ (stays calls arms failed up meets) =
       still_counted base was.status was.failures failed h
 
   pub calls_counted : (causes : List Cause) (Made : M → A → Type 0) →
@@ -260,8 +260,8 @@ module _ {M A V W : Type 0} (kind : Kind M A V W) (back : GivesBack kind) (base 
       (λ new c. left_counted new (compacts_counted base kind.layout was new h c))
       (λ calls new kept o. left_counted new
       (opens_counted base kind.layout kind.CanKeep was calls new kept h o)) call
-      (λ status arms failed left. left_counted (after_device was status arms failed)
-      (device_counted call status arms failed left)) next given refusals so
+      (λ status arms failed told left. left_counted (after_device was status arms failed)
+      (device_counted call status arms failed told left)) next given refusals so
 
 edits_counted : (base pair : ℕ) (machine : SideMachine) → IsCountedJournal base machine.journal →
     (event : Event) (next : SideMachine) (events : List Event) →

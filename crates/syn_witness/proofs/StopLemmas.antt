@@ -212,17 +212,18 @@ module _ {M A V W : Type 0} (kind : Kind M A V W) (back : GivesBack kind) (machi
   left_safe new c = subst IsSafeJournal (sym (back machine new)) c
 
   device_safe : (call : MachineCall) → ((calls : ℕ) → call ≡ one.Stop calls → ⊥) →
-      (status : Status) (arms : Arms) (failed : ℕ) → LeavesDevice was call status arms failed →
+      (status : Status) (arms : Arms) (failed : ℕ) (told : List Refusal) →
+      LeavesDevice was call status arms failed told →
       IsSafe status arms
-  device_safe _ none _ _ _ (armed_to_fail call) = h
-  device_safe _ none _ _ _ (armed_to_stop calls) = absurd (none (suc calls) refl)
-  device_safe _ none _ _ _ stopped = absurd (none 0 refl)
-  device_safe _ none _ _ _ (unopened calls arms failed down meets) = absurd (h.0 down)
-  device_safe _ none _ _ _ (halted calls arms failed meets) =
+  device_safe _ none _ _ _ _ (armed_to_fail call) = h
+  device_safe _ none _ _ _ _ (armed_to_stop calls) = absurd (none (suc calls) refl)
+  device_safe _ none _ _ _ _ (stopped up) = absurd (none 0 refl)
+  device_safe _ none _ _ _ _ (unopened calls arms failed down meets) = absurd (h.0 down)
+  device_safe _ none _ _ _ _ (halted calls arms failed up meets) =
       meets_safe was.arms calls Halted arms failed h.1 meets
-  device_safe _ none _ _ _ (cut calls arms failed meets) =
+  device_safe _ none _ _ _ _ (cut calls arms failed up meets) =
       meets_safe was.arms calls Down arms failed h.1 meets
-  device_safe _ none _ _ _ (stays calls arms failed meets) =
+  device_safe _ none _ _ _ _ (stays calls arms failed up meets) =
       (h.0, (meets_safe was.arms calls Up arms failed h.1 meets).1)
 
   calls_safe : (causes : List Cause) (Made : M → A → Type 0) →
@@ -241,8 +242,8 @@ module _ {M A V W : Type 0} (kind : Kind M A V W) (back : GivesBack kind) (machi
       (λ new c. left_safe new (compacts_safe kind.layout was new h c))
       (λ calls new kept o. left_safe new
       (opens_safe kind.layout kind.CanKeep was calls new kept h o)) call
-      (λ status arms failed left. left_safe (after_device was status arms failed)
-      (device_safe call none status arms failed left)) next given refusals so
+      (λ status arms failed told left. left_safe (after_device was status arms failed)
+      (device_safe call none status arms failed told left)) next given refusals so
 
 edits_safe : (pair : ℕ) (machine : SideMachine) → IsSafeJournal machine.journal →
     (event : Event) (next : SideMachine) (events : List Event) →

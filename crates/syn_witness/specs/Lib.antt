@@ -7,4 +7,5 @@ pub mod Unstable
 pub mod Removal
 pub mod Still
 pub mod Forbidden
+pub mod Asked
 pub mod Turned

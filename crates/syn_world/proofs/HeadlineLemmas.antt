@@ -99,7 +99,7 @@ safe_run disk pair disks later stores steps old new headline opened same runs co
   runs = runs;
   counts = counts;
   pair_is = run_keeps_pair old steps new runs ∙ opened.pair_is;
-  safe = λ shown holds. subst (λ s. IsCrashSafe s (picture_of new) shown) same
+  safe = λ shown holds. subst (λ s. IsCrashSafe s steps new.refusals (picture_of new) shown) same
       (headline pair (shown_on disk.seen disks) shown old new steps opened runs
       (may_be_left disk.may_leave later new left shown holds));
 }
@@ -126,8 +126,9 @@ module _ {D : Type 0} (disk : Ghosts D) (disks stopped : Disks D)
   }
 
 module _ {D : Type 0} (disk : Ghosts D) (disks stopped : Disks D)
-    (is : AreStopped disk disks stopped) (before : Stores) (run : ModelWorld)
-    (fits : run.pair < 2 ^ 64) (safe : AreSafe disk.may_leave before disks run)
+    (is : AreStopped disk disks stopped) (before : Stores) (steps : List Step)
+    (run : ModelWorld) (fits : run.pair < 2 ^ 64)
+    (safe : AreSafe disk.may_leave before steps disks run)
     (stays : (one : D) → disk.may_leave one (disk.seen one)) where
   abbrev pub shown : Shown
   shown = shown_on disk.seen stopped
@@ -135,7 +136,7 @@ module _ {D : Type 0} (disk : Ghosts D) (disks stopped : Disks D)
   abbrev holds : MayHold disk.may_leave disks shown
   holds = might_hold disk disks stopped is stays
 
-  abbrev pub found : IsCrashSafe before (picture_of run) shown
+  abbrev pub found : IsCrashSafe before steps run.refusals (picture_of run) shown
   found = safe shown holds
 
   -- it stands for the stores of the run
@@ -150,7 +151,7 @@ module _ {D : Type 0} (disk : Ghosts D) (disks stopped : Disks D)
 
   -- so what is opened from them recovers the run
   pub recovers : (world : World D disk) → OpensFrom run.pair shown found.now world
-      → Recovers disks before run world
+      → Recovers disks before steps run world
   recovers world opens = record {
     shown = shown;
     might_hold = holds;

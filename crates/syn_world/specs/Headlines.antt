@@ -25,11 +25,12 @@ pub record MayHold {D : Type 0} (may_leave : D → Bytes → Type 0) (disks : Di
   pub right : may_leave disks.right shown.right
   pub archive : may_leave disks.archive shown.archive
 
--- whatever a stop may now leave on the disks, the world is crash safe with it
-abbrev pub AreSafe : {D : Type 0} → (D → Bytes → Type 0) → Stores → Disks D → ModelWorld → Type 0
-AreSafe may_leave before disks world =
+-- whatever a stop may now leave on the disks, the run by these steps is crash safe with it
+abbrev pub AreSafe : {D : Type 0} → (D → Bytes → Type 0) → Stores → List Step → Disks D →
+    ModelWorld → Type 0
+AreSafe may_leave before steps disks world =
     (shown : Shown) → MayHold may_leave disks shown →
-    IsCrashSafe before (picture_of world) shown
+    IsCrashSafe before steps world.refusals (picture_of world) shown
 
 -- A world that was opened from the disks went by these steps to this one, and no machine counts
 -- more failures in them than its disk. Whatever a stop may then leave on the later disks is safe
@@ -42,7 +43,7 @@ pub record IsSafeRun {D : Type 0} (disk : Ghosts D) (pair : ℕ) (disks later : 
   pub counts : FailWithDisks old new (failures_on disk.failures disks)
       (failures_on disk.failures later)
   pub pair_is : new.pair ≡ pair
-  pub safe : AreSafe disk.may_leave stores later new
+  pub safe : AreSafe disk.may_leave stores steps later new
 
 -- the world went by all of the steps, and these are its disks then
 pub record HasRunSafely {D : Type 0} {disk : Ghosts D} (pair : ℕ) (disks : Disks D)
@@ -105,13 +106,13 @@ pub record FindsCause {D : Type 0} (may_leave : D → Bytes → Type 0) (disks :
   pub might_hold : MayHold may_leave disks shown
   pub refuses : RefusesDisks shown refusal
 
--- A world was opened from disks as a stop might have left them after a run. It stands for what the
--- run acknowledged, with at most the change that each machine was making
+-- A world was opened from disks as a stop might have left them after a run by these steps. It
+-- stands for what the run acknowledged, with at most the change that each machine was making
 pub record Recovers {D : Type 0} {disk : Ghosts D} (disks : Disks D) (before : Stores)
-    (run : ModelWorld) (world : World D disk) : Type 0 where
+    (steps : List Step) (run : ModelWorld) (world : World D disk) : Type 0 where
   pub shown : Shown
   pub might_hold : MayHold disk.may_leave disks shown
-  pub safe : IsCrashSafe before (picture_of run) shown
+  pub safe : IsCrashSafe before steps run.refusals (picture_of run) shown
   pub opens : OpensFrom run.pair shown safe.now world
 
 -- memory was refused, or a call of a disk failed, after a first part of the steps, and the disks
@@ -144,4 +145,4 @@ pub record RunsAndRecovers {D : Type 0} {disk : Ghosts D} (pair : ℕ) (disks : 
   pub later : Disks D
   pub new : ModelWorld
   pub run : IsSafeRun disk pair disks later stores steps new
-  pub recovers : Recovers later stores new world
+  pub recovers : Recovers later stores steps new world

@@ -1,7 +1,8 @@
 //! A run of a world from three disks to what a stop may leave on them, and the opening after it.
-ghost use Rattle.std.specs.Prelude.{◌≡◌, ◌≢◌, ◌⊎◌, ◌<◌, ◌^◌, ℕ, IfErr, IfOk, MatchResult, map};
+ghost use Rattle.std.specs.Prelude.{◌≡◌, ◌≢◌, ◌⊎◌, ◌<◌, ◌^◌, ℕ, IfErr, IfOk, List, MatchResult};
+ghost use Rattle.std.specs.Prelude.{map};
 ghost use Rattle.syn_headline.specs.Acknowledged.{Stores};
-ghost use Rattle.syn_headline.specs.World.{World as ModelWorld};
+ghost use Rattle.syn_headline.specs.World.{World as ModelWorld, Step as ModelStep};
 ghost use Rattle.syn_host.specs.Starts.{CountsFailure, IsFromOutside};
 ghost use Rattle.syn_model.specs.Refusal as why;
 ghost use Rattle.syn_refusal.specs.Refusals.{cause_of};
@@ -67,10 +68,11 @@ pub fn recover<D: SimulatedDisk>(
     alloc: Global,
     disks: Disks<D>,
 ) -> Result<World<D>, (Refusal, Disks<D>)>
-    ensures opened { (before : Stores) (run : ModelWorld) → run.pair < 2 ^ 64
-        → AreSafe D.Limit.may_leave before disks run → IfOk result (Recovers disks before run) }
-    ensures refused { (before : Stores) (run : ModelWorld) → run.pair < 2 ^ 64
-        → AreSafe D.Limit.may_leave before disks run
+    ensures opened { (before : Stores) (steps : List ModelStep) (run : ModelWorld)
+        → run.pair < 2 ^ 64 → AreSafe D.Limit.may_leave before steps disks run
+        → IfOk result (Recovers disks before steps run) }
+    ensures refused { (before : Stores) (steps : List ModelStep) (run : ModelWorld)
+        → run.pair < 2 ^ 64 → AreSafe D.Limit.may_leave before steps disks run
         → IfErr result (λ refused. IsFromOutside refused.0) }
     ensures back { IfErr result (λ refused. ComeBack D.Limit.may_leave disks refused.1) }
 

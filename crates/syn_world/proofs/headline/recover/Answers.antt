@@ -31,26 +31,26 @@ are_stopped g c = record {
 }
 
 pub returns-clause-opened : goal.returns-clause-opened
-returns-clause-opened g c before run fits safe =
+returns-clause-opened g c before steps run fits safe =
     let disks = c.args.disks in
     let stopped = stopped_disks g c in
     let is = are_stopped g c in
     let stays = g.met.D.Disk.seen_may_stay in
     if_ok c.open.result
     (c.open.ensures.opened run.pair
-    (found g.D.Disk disks stopped is before run fits safe stays).now
-    (stand g.D.Disk disks stopped is before run fits safe stays))
-    (recovers g.D.Disk disks stopped is before run fits safe stays)
+    (found g.D.Disk disks stopped is before steps run fits safe stays).now
+    (stand g.D.Disk disks stopped is before steps run fits safe stays))
+    (recovers g.D.Disk disks stopped is before steps run fits safe stays)
 
 pub returns-clause-refused : goal.returns-clause-refused
-returns-clause-refused g c before run fits safe =
+returns-clause-refused g c before steps run fits safe =
     let disks = c.args.disks in
     let stopped = stopped_disks g c in
     let is = are_stopped g c in
     let stays = g.met.D.Disk.seen_may_stay in
     c.open.ensures.refused run.pair
-    (found g.D.Disk disks stopped is before run fits safe stays).now
-    (stand g.D.Disk disks stopped is before run fits safe stays)
+    (found g.D.Disk disks stopped is before steps run fits safe stays).now
+    (stand g.D.Disk disks stopped is before steps run fits safe stays)
 
 -- what the stopped disks show might have been left by a stop
 shown_is : (g : _) (c : goal.After-open g) → MayHold g.D.Disk.may_leave c.args.disks

@@ -32,7 +32,8 @@ module _ (g : _) (c : goal.After-recover g) (pair : ℕ) (stores : Stores)
 pub returns-in-Ok-clause-recovered : goal.returns-in-Ok-clause-recovered
 returns-in-Ok-clause-recovered g c pair stores all =
     if_ok c.recover.result
-    (c.recover.ensures.opened stores (had g c pair stores all).new (fits g c pair stores all)
+    (c.recover.ensures.opened stores (map step_of c.args.steps.now) (had g c pair stores all).new
+    (fits g c pair stores all)
     (run g c pair stores all).safe) (λ world recovers. record {
       later = c.into_disks.result;
       new = (had g c pair stores all).new;
@@ -42,7 +43,8 @@ returns-in-Ok-clause-recovered g c pair stores all =
 
 pub returns-in-Ok-clause-refused : goal.returns-in-Ok-clause-refused
 returns-in-Ok-clause-refused g c pair stores all =
-    c.recover.ensures.refused stores (had g c pair stores all).new (fits g c pair stores all)
+    c.recover.ensures.refused stores (map step_of c.args.steps.now) (had g c pair stores all).new
+    (fits g c pair stores all)
     (run g c pair stores all).safe
 
 from_outside : {D : Type 0} (disk : Ghosts D) (pair : ℕ) (disks : Disks D) (stores : Stores)

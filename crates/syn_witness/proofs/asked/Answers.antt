@@ -1,0 +1,15 @@
+use Rattle.syn_witness.proofs.AskedLemmas.{edits_are_asked, preferences_are_asked, edits_are_made}
+use Rattle.syn_witness.proofs.AskedLemmas.{starts_are_made}
+use Rattle.syn_witness.proofs.asked.Goals as goal
+
+pub returns-clause-edits : goal.returns-clause-edits
+returns-clause-edits c = edits_are_asked
+
+pub returns-clause-preferences : goal.returns-clause-preferences
+returns-clause-preferences c = preferences_are_asked
+
+pub returns-clause-made : goal.returns-clause-made
+returns-clause-made c = edits_are_made
+
+pub returns-clause-started : goal.returns-clause-started
+returns-clause-started c = starts_are_made
