@@ -1,4 +1,5 @@
 mod FolderLemmas
 mod LookLemmas
 mod PictureLemmas
+mod StreamLemmas
 mod WalkLemmas

@@ -19,11 +19,18 @@ contains_none x within = omega (arith, within.1)
 
 pub contains_one : {A : Type 0} (y x : A) → Contains (y ∷ []) x → y ≡ x
 contains_one y x within =
-    elim (Contains-push_cases [] y x within) [ inl none ↦ absurd (contains_none x none) | inr is ↦ is ]
+    elim (Contains-push_cases [] y x within) [
+      | inl none ↦ absurd (contains_none x none)
+      | inr is ↦
+          is
+    ]
 
 pub shown_none : {A B : Type 0} (Shows : A → B → Type 0) → AreShown Shows [] []
-shown_none Shows one =
-    ((λ within. absurd (contains_none one within)), (λ shows. absurd (contains_none shows.0 shows.1)))
+shown_none Shows one = (
+  (λ within. absurd (contains_none one within)),
+  (λ shows. absurd
+      (contains_none shows.0 shows.1)),
+)
 
 -- one more, which shows these
 pub shown_more : {A B : Type 0} (Shows : A → B → Type 0) (from : List A) (x : A)

@@ -1,5 +1,6 @@
 -- A tree that has what the looks show.
-use Rattle.std.proofs.Common.{◌≡◌, ◌≢◌, ◌↔◌, ℕ, List, [], ◌∷◌, ◌++◌, length, map, inl, inr, sym, subst}
+use Rattle.std.proofs.Common.{◌≡◌, ◌≢◌, ◌↔◌, ℕ, List, [], ◌∷◌, ◌++◌, length, map, inl, inr, sym}
+use Rattle.std.proofs.Common.{subst}
 use Rattle.std.proofs.Common.{ap, ◌∙◌, refl, Option, Some, None, Bool, true, false, cond, ◌&&◌}
 use Rattle.std.proofs.Common.{◌⊎◌, Vec, Global, append-nil, if◌then◌else◌, option_map, ◌==◌}
 use Rattle.std.proofs.Common.{Result, Ok, Err, IfOk}
@@ -99,7 +100,8 @@ cons_to : {B : Type 0} (o : Option B) (ys : List B) (y : B) → (o ≡ Some y) �
     → Contains (cons_option o ys) y
 cons_to None ys y (inl is) = absurd cc
 cons_to None ys y (inr rest) = rest
-cons_to (Some z) ys y (inl is) = let same : z ≡ y = cc in subst (Contains (z ∷ ys)) same (first z ys)
+cons_to (Some z) ys y (inl is) = let same : z ≡ y = cc in subst (Contains (z ∷ ys)) same (first z
+    ys)
 cons_to (Some z) ys y (inr rest) = later z ys y rest
 
 -- what a filter gives of a list

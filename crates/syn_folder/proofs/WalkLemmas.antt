@@ -32,7 +32,8 @@ followed_more at looks pending more seen before kept listed one name child withi
     let paths = map (λ (s : Seen). s.path) looks in
     let all : map (λ (s : Seen). s.path) (looks ++ seen ∷ []) ≡ paths ++ seen.path ∷ [] =
     map-append (λ (s : Seen). s.path) looks (seen ∷ []) in
-    subst (λ xs. Contains (xs ++ more) child) (sym all) (elim (Contains-push_cases looks seen one within) [
+    subst (λ xs. Contains (xs ++ more) child) (sym all) (elim
+    (Contains-push_cases looks seen one within) [
       | inl earlier ↦ elim (Contains-append_cases paths (pending ++ seen.path ∷ []) child
           (before one name child earlier lists is)) [
             | inl looked ↦ Contains-append_left (paths ++ seen.path ∷ []) more child

@@ -1,12 +1,13 @@
 -- What the looks at a folder of the system make of it.
 use Rattle.std.specs.Prelude.{◌≡◌, ◌≢◌, ◌≤◌, ◌<◌, ◌↔◌, ◌⊎◌, ℕ, ◌%◌, ◌==◌, nat_lt, ◌&&◌, not}
 use Rattle.std.specs.Prelude.{Bool, true, false, if◌then◌else◌, List, [], ◌∷◌, ◌++◌, length, map}
-use Rattle.std.specs.Prelude.{All, Contains, filter_map, Option, Some, None, option_map, string_bytes}
+use Rattle.std.specs.Prelude.{All, Contains, filter_map, Option, Some, None, option_map}
+use Rattle.std.specs.Prelude.{string_bytes}
 use Rattle.std.specs.Prelude.{bytes_eq, codes}
-use Rattle.std.specs.List.{slice_split}
+use Rattle.std.specs.List.{flat_map, slice_split}
 use Rattle.std.specs.Str.Lossy.{utf8_lossy}
 use Rattle.std.specs.FinMap.{entries, get}
-use Rattle.std.specs.Fs.{file_type, metadata_len, IsDir, IsFile}
+use Rattle.std.specs.Fs.{file_type, metadata_len, metadata_mode, IsDir, IsFile}
 use Rattle.std.specs.declared.fs.attrs.Metadata.{Metadata}
 use Rattle.std.specs.declared.io.ErrorKind.{ErrorKind}
 use Rattle.std.specs.declared.io.ErrorKind.TheVariants as error
@@ -33,6 +34,10 @@ abbrev pub AreShown : {A B : Type 0} → (A → B → Type 0) → List A → Lis
 AreShown {A} {B} Shows from found =
     (one : B) → Contains found one ↔ ((seen : A) × Contains from seen × Shows seen one)
 
+-- the path of the system to what has these names in the folder: each after a slash
+abbrev pub place_of : Bytes → Path → Bytes
+place_of folder names = folder ++ flat_map (λ name. 47 ∷ name) names
+
 -- why what looks so can stand in no replica
 abbrev pub IsWhyStrange : Metadata → Option Strangeness → Type 0
 IsWhyStrange there None =
@@ -47,6 +52,30 @@ shown_of error.NotFound = Some shown.Changed
 shown_of error.NotADirectory = Some shown.Changed
 shown_of error.PermissionDenied = Some (shown.Strange why.Locked)
 shown_of _ = None
+
+-- what is shown of a file that looks so
+abbrev pub IsReadAs : Metadata → Shown → Type 0
+IsReadAs there (shown.File look bytes) = look.mode ≡ metadata_mode there
+IsReadAs there (shown.Strange because) = because ≡ why.Locked
+IsReadAs there shown.Changed = Unit {0}
+IsReadAs there _ = ⊥
+
+-- what is shown of a directory that looks so, where this is listed
+abbrev pub IsListedAs : Metadata → Bytes → Shown → Type 0
+IsListedAs there bytes (shown.Directory look listing) = listing.items ≡ bytes
+IsListedAs there bytes (shown.Crowded listing) = listing.items ≡ bytes
+IsListedAs there bytes _ = ⊥
+
+-- what is shown where something looks so
+abbrev pub IsShownAs : Metadata → Shown → Type 0
+IsShownAs there (shown.Directory look listing) = IsDir (file_type there)
+IsShownAs there (shown.Crowded listing) = IsDir (file_type there)
+IsShownAs there (shown.File look bytes) = IsWhyStrange there None
+    × ¬ IsDir (file_type there) × (look.mode ≡ metadata_mode there)
+IsShownAs there (shown.Strange because) =
+    IsWhyStrange there (Some because) ⊎ ((because ≡ why.Locked) × IsWhyStrange there None)
+IsShownAs there shown.Unread = IsWhyStrange there None × ¬ IsDir (file_type there)
+IsShownAs there shown.Changed = IsWhyStrange there None
 
 -- what the system lists and is neither the directory itself, the one above it, nor a part of an
 -- export

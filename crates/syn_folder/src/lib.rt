@@ -10,6 +10,11 @@
 //! folder of the system with its tree in memory. What the standard library's calls do to a folder
 //! no clause says: that the system's folder follows the memory is taken as given.
 //!
+//! It is read as it is (`SystemFolder::open`). There are looks, each of which holds what the calls
+//! gave at a path. The tree has at each path what the look there shows, each name that a directory
+//! lists was looked at, and what can stand in no replica is told, but nothing else. That the looks
+//! hold what stands in the folder is taken as given.
+//!
 //! An `EditedFolder` is one that people go on editing. It shows the tree that was read of it, and
 //! has one call that changes it: `replace`, which puts a part in the place of another only where
 //! that is still what was read. That `SystemFolder` looks is taken as given, too.

@@ -1,5 +1,6 @@
 //! A folder of the system.
-ghost use Rattle.std.specs.Prelude.{◌≡◌, IfOk};
+ghost use Rattle.std.specs.Prelude.{◌≡◌, option_map, IfOk};
+ghost use Rattle.syn_tree.specs.Nodes.{part_of};
 ghost use Rattle.syn_folder.specs.Looks.{IsFolderRead, IsReadOrMissing};
 
 use crate::edited::EditedFolder;
@@ -18,6 +19,7 @@ mod looks;
 mod picture;
 mod reading;
 mod replacing;
+mod streams;
 mod walking;
 mod writing;
 
@@ -121,7 +123,10 @@ impl<F: Files> SystemFolder<'_, F> {
 }
 
 /// An equal node of its own, where there is one. Refused where memory is refused.
-fn copy_of(alloc: Global, node: Option<&Node>) -> Result<Option<Node>, AllocError> {
+fn copy_of(alloc: Global, node: Option<&Node>) -> Result<Option<Node>, AllocError>
+    ensures { IfOk result (λ copy.
+        part_of copy ≡ part_of (option_map (λ there. there.now) node.entry)) }
+{
     match node {
         Some(node) => Ok(Some(node.copy(alloc)?)),
         None => Ok(None),

@@ -1,5 +1,5 @@
 //! What the names in a directory of the system are for a replica.
-ghost use Rattle.std.specs.Prelude.{◌≡◌, ◌↔◌, map, option_map, Some, None, IfOk};
+ghost use Rattle.std.specs.Prelude.{◌≡◌, ◌↔◌, count_by, map, option_map, Some, None, IfOk};
 ghost use Rattle.std.specs.Prelude.{string_bytes};
 ghost use Rattle.std.specs.List.Sorted.{IsPermutation};
 ghost use Rattle.syn_folder.specs.Looks.{AreShown, IsChildOf, IsFit, IsStrangeName, is_listed};
@@ -35,6 +35,14 @@ pub(super) fn is_listed(name: &[u8]) -> bool
         && name != b".".as_slice()
         && name != b"..".as_slice()
         && name != PART.as_bytes()
+}
+
+/// How many names are listed.
+pub(super) fn count_listed(listing: &[u8]) -> usize
+    ensures { result ≡ count_by is_listed (pieces listing.now) }
+{
+    let names = listing.split(|byte| *byte == 0);
+    names.filter(|name| is_listed(name)).count()
 }
 
 /// What stands between the zero bytes.

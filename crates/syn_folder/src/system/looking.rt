@@ -1,15 +1,19 @@
 //! Looks at what stands in a folder of the system.
 ghost use Rattle.std.specs.IoError.{error_kind};
-ghost use Rattle.std.specs.Prelude.{◌≡◌, IfErr, IfOk, Some, None};
-ghost use Rattle.syn_folder.specs.Looks.{IsOfDirectory, IsWhyStrange, shown_of};
+ghost use Rattle.std.specs.Prelude.{◌≡◌, ◌≤◌, ◌↔◌, count_by, false, string_bytes, IfErr, IfOk};
+ghost use Rattle.std.specs.Prelude.{IsTrue, Some, None};
+ghost use Rattle.syn_folder.specs.Looks.{IsListedAs, IsOfDirectory, IsReadAs, IsShownAs};
+ghost use Rattle.syn_folder.specs.Looks.{IsWhyStrange};
+ghost use Rattle.syn_folder.specs.Looks.{is_listed, pieces, place_of, shown_of};
 
 use crate::error::FolderError;
 use crate::stranger::Strangeness;
-use crate::system::listing::is_listed;
+use crate::system::listing::{count_listed, is_listed};
 use crate::system::looks::{Look, Shown};
+use crate::system::streams::{all_names, first_bytes};
 use std::alloc::{AllocError, Global};
 use std::fs::{Files, Metadata, OpenFile, OpenOptions};
-use std::io::{self, Read};
+use std::io;
 use syn_path::{Name, Path, PathError};
 use syn_tree::{LONGEST_FILE, MOST_CHILDREN};
 
@@ -23,9 +27,11 @@ pub(super) fn look_at_folder<F: Files>(
     ensures { IfOk result IsOfDirectory }
 {
     let there = files.metadata(root)?;
-    let path = Path::root(alloc);
-    let listing = read_names(alloc, files, root, &path)?;
-    list(alloc, files, root, &path, &there, listing)
+    // After the slash the system follows a symbolic link, which only the folder itself may be.
+    let mut place = String::from_str(alloc, root)?;
+    place.push('/')?;
+    let listing = read_names(alloc, files, place.as_str())?;
+    list(alloc, files, root, &there, listing)
 }
 
 /// Looks at what stands at the path. Where there are too many files already, the bytes of one are
@@ -41,22 +47,34 @@ pub(super) fn look_at<F: Files>(
     are_enough: bool,
 ) -> Result<Shown, FolderError> {
     let place = place_of(alloc, root, path.names())?;
-    let there = match files.symlink_metadata(place.as_str()) {
-        Ok(there) => there,
-        Err(error) => return unseen(error),
-    };
-    if let Some(why) = strangeness_of(&there) {
+    match files.symlink_metadata(place.as_str()) {
+        Ok(there) => show(alloc, files, place.as_str(), &there, are_enough),
+        Err(error) => unseen(error),
+    }
+}
+
+/// Looks closer at what stands at the place, and looked so.
+fn show<F: Files>(
+    alloc: Global,
+    files: &F,
+    place: &str,
+    there: &Metadata,
+    are_enough: bool,
+) -> Result<Shown, FolderError>
+    ensures { IfOk result (IsShownAs there.now) }
+{
+    if let Some(why) = strangeness_of(there) {
         return Ok(Shown::Strange(why));
     }
     if there.is_dir() {
-        match read_names(alloc, files, root, path) {
-            Ok(listing) => list(alloc, files, root, path, &there, listing),
+        match read_names(alloc, files, place) {
+            Ok(listing) => list(alloc, files, place, there, listing),
             Err(error) => unseen(error),
         }
     } else if are_enough {
         Ok(Shown::Unread)
     } else {
-        read(alloc, files, place.as_str(), &there)
+        read(alloc, files, place, there)
     }
 }
 
@@ -66,7 +84,9 @@ fn read<F: Files>(
     files: &F,
     place: &str,
     there: &Metadata,
-) -> Result<Shown, FolderError> {
+) -> Result<Shown, FolderError>
+    ensures { IfOk result (IsReadAs there.now) }
+{
     let mut options = OpenOptions::new();
     let file = match options.read(true).open(files, place) {
         Ok(file) => file,
@@ -76,57 +96,55 @@ fn read<F: Files>(
     if Look::of(&file.metadata()?) != look {
         return Ok(Shown::Changed);
     }
-    let mut bytes = Vec::new(alloc);
-    file.take(LONGEST_FILE as u64).read_to_end(&mut bytes)?;
-    Ok(Shown::File(look, bytes))
+    Ok(Shown::File(look, first_bytes(alloc, file)?))
 }
 
-/// The directory at the path, which looked so, with these names.
+/// The directory at the place, which looked so, with these names.
 fn list<F: Files>(
     alloc: Global,
     files: &F,
-    root: &str,
-    path: &Path,
+    place: &str,
     there: &Metadata,
     listing: Vec<u8>,
 ) -> Result<Shown, FolderError>
-    ensures { IfOk result IsOfDirectory }
+    ensures { IfOk result (IsListedAs there.now listing.items) }
 {
-    if is_crowded(alloc, files, root, path, &listing)? {
+    if is_crowded(alloc, files, place, &listing)? {
         Ok(Shown::Crowded(listing))
     } else {
         Ok(Shown::Directory(Look::of(there), listing))
     }
 }
 
-/// The directory at the path has more files and directories that a replica can have than one of a
+/// The directory at the place has more files and directories that a replica can have than one of a
 /// replica may have. Where there are few names they are not looked at.
 fn is_crowded<F: Files>(
     alloc: Global,
     files: &F,
-    root: &str,
-    path: &Path,
+    place: &str,
     listing: &[u8],
-) -> Result<bool, FolderError> {
-    let names = listing.split(|byte| *byte == 0);
-    if names.filter(|name| is_listed(name)).count() <= MOST_CHILDREN {
+) -> Result<bool, FolderError>
+    ensures { IfOk result (λ crowded. count_by is_listed (pieces listing.now) ≤ MOST_CHILDREN
+        → crowded ≡ false) }
+{
+    if count_listed(listing) <= MOST_CHILDREN {
         return Ok(false);
     }
     let mut count: usize = 0;
     for name in listing.split(|byte| *byte == 0) {
-        if is_listed(name) && is_known(alloc, files, root, path, name)? {
+        if is_listed(name) && is_known(alloc, files, place, name)? {
             count = count.saturating_add(1);
         }
     }
     Ok(count > MOST_CHILDREN)
 }
 
-/// What has the name in the directory at the path is a file or a directory that a replica can have.
+/// What has the name in the directory at the place is a file or a directory that a replica can
+/// have.
 fn is_known<F: Files>(
     alloc: Global,
     files: &F,
-    root: &str,
-    path: &Path,
+    place: &str,
     name: &[u8],
 ) -> Result<bool, FolderError> {
     let name = match Name::from_bytes(alloc, name) {
@@ -134,7 +152,7 @@ fn is_known<F: Files>(
         Err(PathError::BadPath) => return Ok(false),
         Err(error) => return Err(FolderError::from(error)),
     };
-    let mut place = place_of(alloc, root, path.names())?;
+    let mut place = String::from_str(alloc, place)?;
     place.push('/')?;
     place.push_str(name.as_str())?;
     match files.symlink_metadata(place.as_str()) {
@@ -173,41 +191,24 @@ fn unseen(error: io::Error) -> Result<Shown, FolderError>
 }
 
 /// Nothing is there any more, or what was a directory above it is none.
-pub(super) fn is_gone(error: &io::Error) -> bool {
+pub(super) fn is_gone(error: &io::Error) -> bool
+    ensures { IsTrue result ↔ (shown_of (error_kind error.now) ≡ Some Shown.Changed) }
+{
     matches!(
         error.kind(),
         io::ErrorKind::NotFound | io::ErrorKind::NotADirectory
     )
 }
 
-/// The names in the directory at the path, each with a zero byte after it.
-pub(super) fn read_names<F: Files>(
-    alloc: Global,
-    files: &F,
-    root: &str,
-    path: &Path,
-) -> io::Result<Vec<u8>> {
-    let mut place = place_of(alloc, root, path.names())?;
-    // After the slash the system follows a symbolic link, which only the folder itself may be.
-    if path.names().is_empty() {
-        place.push('/')?;
-    }
-    let mut dir = files.open_dir(place.as_str())?;
-    let mut names = Vec::new(alloc);
-    // The system wants room for the longest name at each read.
-    let mut chunk = [0; 4096];
-    for _ in 0..u64::MAX {
-        let count = dir.read(&mut chunk)?;
-        if count == 0 {
-            break;
-        }
-        names.extend_from_slice(&chunk[..count])?;
-    }
-    Ok(names)
+/// The names in the directory at the place, each with a zero byte after it.
+pub(super) fn read_names<F: Files>(alloc: Global, files: &F, place: &str) -> io::Result<Vec<u8>> {
+    all_names(alloc, files.open_dir(place)?)
 }
 
 /// The path of the system to what has these names in the folder.
-pub(super) fn place_of(alloc: Global, root: &str, names: &[Name]) -> Result<String, AllocError> {
+pub(super) fn place_of(alloc: Global, root: &str, names: &[Name]) -> Result<String, AllocError>
+    ensures { IfOk result (λ place. string_bytes place ≡ place_of root.now names.now) }
+{
     let mut place = String::from_str(alloc, root)?;
     for name in names {
         place.push('/')?;

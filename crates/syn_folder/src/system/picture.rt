@@ -1,6 +1,7 @@
 //! What the looks at a folder make of it: a tree, and what can stand in no replica.
 ghost use Rattle.std.specs.FinMap.{entries};
-ghost use Rattle.std.specs.Prelude.{◌≡◌, ◌↔◌, ◌⊎◌, ◌++◌, ◌∷◌, [], map, filter_map, option_map, Contains};
+ghost use Rattle.std.specs.Prelude.{◌≡◌, ◌↔◌, ◌⊎◌, ◌++◌, ◌∷◌, [], map, filter_map, option_map};
+ghost use Rattle.std.specs.Prelude.{Contains};
 ghost use Rattle.std.specs.Prelude.{IfNone, IfOk, IfSome};
 ghost use Rattle.syn_folder.specs.Looks.{AreShown, FitsNoReplica, IsPicture, ShowsStranger, Told};
 ghost use Rattle.syn_folder.specs.Looks.{content_in, look_in, look_of, node_of, placed, told};

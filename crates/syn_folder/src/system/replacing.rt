@@ -1,7 +1,8 @@
 //! Replaces a part of a folder that others edit, where it still is what was read.
+ghost use Rattle.std.specs.Prelude.{◌≡◌, ◌++◌, ◌∷◌, [], IfOk};
 
 use crate::error::FolderError;
-use crate::system::listing::{PART, is_listed};
+use crate::system::listing::{PART, count_listed};
 use crate::system::looking::{is_gone, place_of, read_names};
 use crate::system::looks::{Look, Looked};
 use crate::system::writing::{above, check_above, write_new};
@@ -105,10 +106,8 @@ impl<F: Files> Replacing<'_, F> {
             Err(error) if is_gone(&error) => return Ok(false),
             Err(error) => return Err(error),
         }
-        let listed = read_names(alloc, self.files, self.root, path)?;
-        let names = listed.split(|byte| *byte == 0);
-        let count = names.filter(|name| is_listed(name)).count();
-        Ok(count == self.tree.child_count(path))
+        let listing = read_names(alloc, self.files, place)?;
+        Ok(count_listed(&listing) == self.tree.child_count(path))
     }
 
     /// The file is there with this mode and these bytes, and then looks as it did when it was read.
@@ -293,7 +292,9 @@ impl<F: Files> Replacing<'_, F> {
 }
 
 /// The path of what has these names below the path.
-fn joined(alloc: Global, path: &Path, names: &[Name]) -> Result<Path, FolderError> {
+fn joined(alloc: Global, path: &Path, names: &[Name]) -> Result<Path, FolderError>
+    ensures { IfOk result (λ whole. whole ≡ path.now ++ names.now) }
+{
     let mut whole = path.copy(alloc)?;
     for name in names {
         whole = whole.child(alloc, name)?;
@@ -321,7 +322,9 @@ fn changed(alloc: Global, path: &Path) -> FolderError {
 }
 
 /// The path alone.
-fn one_path(alloc: Global, path: &Path) -> Result<Vec<Path>, FolderError> {
+fn one_path(alloc: Global, path: &Path) -> Result<Vec<Path>, FolderError>
+    ensures { IfOk result (λ paths. paths.items ≡ path.now ∷ []) }
+{
     let mut paths = Vec::new(alloc);
     paths.push(path.copy(alloc)?)?;
     Ok(paths)

@@ -1,4 +1,6 @@
 //! Edits of a folder of the system.
+ghost use Rattle.std.specs.Prelude.{◌≡◌};
+ghost use Rattle.syn_model.specs.Path.{parent};
 
 use crate::system::listing::PART;
 use crate::system::looking::place_of;
@@ -93,7 +95,9 @@ fn put<F: Files>(
 }
 
 /// The names of the directory that the path is in.
-pub(super) fn above(path: &Path) -> &[Name] {
+pub(super) fn above(path: &Path) -> &[Name]
+    ensures { result.now ≡ parent path.now }
+{
     match path.names() {
         [] => path.names(),
         [above @ .., _] => above,

@@ -1,4 +1,5 @@
-use Rattle.std.proofs.Common.{◌≡◌, length, map, option_map, arith, subst, sym, Bor, List, ap, ◌∙◌, ℕ, Vec, Global, [], ◌∷◌}
+use Rattle.std.proofs.Common.{◌≡◌, length, map, option_map, arith, subst, sym, Bor, List, ap, ◌∙◌}
+use Rattle.std.proofs.Common.{ℕ, Vec, Global, [], ◌∷◌}
 use Rattle.std.proofs.lemmas.List.{map-append}
 use Rattle.syn_path.specs.declared.path.Path.{Path}
 use Rattle.syn_folder.specs.declared.stranger.Stranger.{Stranger}
@@ -18,11 +19,17 @@ loop-name-preserved c =
     let after = c.match-branch-3.children in
     elim c.match-branch-3.branch [
       | in-Some+in_ok-push w ↦
-          named_option Shows names i _ before.items after.items c.in_ok-child.field-0 c.loop-name-test.true
-          c.loop-name.invariant (c.in_ok-child.ensures) (pushed_some after.items before.items w.in-Some.child c.in_ok-child.field-0 w.in-Some.is (ap (λ (v : Vec Path Global). v.items) w.children-is ∙ w.in_ok-push.ensures.items))
+          named_option Shows names i _ before.items after.items c.in_ok-child.field-0
+          c.loop-name-test.true
+          c.loop-name.invariant (c.in_ok-child.ensures) (pushed_some after.items before.items
+          w.in-Some.child c.in_ok-child.field-0 w.in-Some.is (ap
+          (λ (v : Vec Path Global). v.items) w.children-is ∙ w.in_ok-push.ensures.items))
       | in_default w ↦
-          named_option Shows names i _ before.items after.items c.in_ok-child.field-0 c.loop-name-test.true
-          c.loop-name.invariant (c.in_ok-child.ensures) (pushed_none after.items before.items c.in_ok-child.field-0 w.in_default.is (ap (λ (v : Vec Path Global). v.items) w.children-is))
+          named_option Shows names i _ before.items after.items c.in_ok-child.field-0
+          c.loop-name-test.true
+          c.loop-name.invariant (c.in_ok-child.ensures) (pushed_none after.items before.items
+          c.in_ok-child.field-0 w.in_default.is (ap (λ (v : Vec Path Global). v.items)
+          w.children-is))
     ]
 
 pub returns : goal.returns
@@ -30,6 +37,8 @@ returns c =
     let names = c.deref-name-items.result.now in
     let ended : c.loop-name.name-index ≡ length names =
     omega (arith, c.loop-name-test.false, c.loop-name.auto.name-index-end) in
-    named_all (IsChildOf c.args.at.now c.args.path.now) (pieces c.args.listing.now) names c.loop-name.name-index _ ended
-    (subst (λ (xs : List (Bor Bytes)). IsPermutation (pieces c.args.listing.now) (map (λ n. n.now) xs)) (sym c.deref-name-items.ensures.value) c.in_ok-names.ensures)
+    named_all (IsChildOf c.args.at.now c.args.path.now) (pieces c.args.listing.now) names
+    c.loop-name.name-index _ ended
+    (subst (λ (xs : List (Bor Bytes)). IsPermutation (pieces c.args.listing.now) (map (λ n. n.now)
+    xs)) (sym c.deref-name-items.ensures.value) c.in_ok-names.ensures)
     c.loop-name.invariant

@@ -1,4 +1,5 @@
-use Rattle.std.proofs.Common.{◌≡◌, length, map, option_map, arith, subst, sym, Bor, List, ap, ◌∙◌, ℕ, Vec, Global, [], ◌∷◌}
+use Rattle.std.proofs.Common.{◌≡◌, length, map, option_map, arith, subst, sym, Bor, List, ap, ◌∙◌}
+use Rattle.std.proofs.Common.{ℕ, Vec, Global, [], ◌∷◌}
 use Rattle.std.proofs.lemmas.List.{map-append}
 use Rattle.syn_path.specs.declared.path.Path.{Path}
 use Rattle.syn_folder.specs.declared.stranger.Stranger.{Stranger}
@@ -18,11 +19,20 @@ loop-name-preserved c =
     let after = c.match-branch-3.strangers in
     elim c.match-branch-3.branch [
       | in-Some+in_ok-push w ↦
-          named_option Shows names i _ (map told before.items) (map told after.items) (option_map told c.in_ok-stranger.field-0) c.loop-name-test.true
-          c.loop-name.invariant (c.in_ok-stranger.ensures) (pushed_some (map told after.items) (map told before.items) (told w.in-Some.stranger) (option_map told c.in_ok-stranger.field-0) (ap (option_map told) w.in-Some.is) (ap (λ (v : Vec Stranger Global). map told v.items) w.strangers-is ∙ (ap (map told) w.in_ok-push.ensures.items ∙ map-append told before.items (w.in-Some.stranger ∷ []))))
+          named_option Shows names i _ (map told before.items) (map told after.items) (option_map
+          told c.in_ok-stranger.field-0) c.loop-name-test.true
+          c.loop-name.invariant (c.in_ok-stranger.ensures) (pushed_some (map told after.items)
+          (map told before.items) (told w.in-Some.stranger) (option_map told
+          c.in_ok-stranger.field-0) (ap (option_map told) w.in-Some.is) (ap
+          (λ (v : Vec Stranger Global). map told v.items) w.strangers-is ∙ (ap (map told)
+          w.in_ok-push.ensures.items ∙ map-append told before.items (w.in-Some.stranger ∷ []))))
       | in_default w ↦
-          named_option Shows names i _ (map told before.items) (map told after.items) (option_map told c.in_ok-stranger.field-0) c.loop-name-test.true
-          c.loop-name.invariant (c.in_ok-stranger.ensures) (pushed_none (map told after.items) (map told before.items) (option_map told c.in_ok-stranger.field-0) (ap (option_map told) w.in_default.is) (ap (λ (v : Vec Stranger Global). map told v.items) w.strangers-is))
+          named_option Shows names i _ (map told before.items) (map told after.items) (option_map
+          told c.in_ok-stranger.field-0) c.loop-name-test.true
+          c.loop-name.invariant (c.in_ok-stranger.ensures) (pushed_none (map told after.items)
+          (map told before.items) (option_map told c.in_ok-stranger.field-0) (ap
+          (option_map told) w.in_default.is) (ap (λ (v : Vec Stranger Global). map told
+          v.items) w.strangers-is))
     ]
 
 pub returns : goal.returns
@@ -30,6 +40,8 @@ returns c =
     let names = c.deref-name-items.result.now in
     let ended : c.loop-name.name-index ≡ length names =
     omega (arith, c.loop-name-test.false, c.loop-name.auto.name-index-end) in
-    named_all (IsStrangeName c.args.at.now c.args.path.now c.args.is_crowded) (pieces c.args.listing.now) names c.loop-name.name-index _ ended
-    (subst (λ (xs : List (Bor Bytes)). IsPermutation (pieces c.args.listing.now) (map (λ n. n.now) xs)) (sym c.deref-name-items.ensures.value) c.in_ok-names.ensures)
+    named_all (IsStrangeName c.args.at.now c.args.path.now c.args.is_crowded) (pieces
+    c.args.listing.now) names c.loop-name.name-index _ ended
+    (subst (λ (xs : List (Bor Bytes)). IsPermutation (pieces c.args.listing.now) (map (λ n. n.now)
+    xs)) (sym c.deref-name-items.ensures.value) c.in_ok-names.ensures)
     c.loop-name.invariant

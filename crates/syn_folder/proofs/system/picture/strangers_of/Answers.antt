@@ -1,4 +1,5 @@
-use Rattle.std.proofs.Common.{◌≡◌, List, [], ◌∷◌, ◌++◌, map, take, length, sym, ap, ◌∙◌, subst, arith}
+use Rattle.std.proofs.Common.{◌≡◌, List, [], ◌∷◌, ◌++◌, map, take, length, sym, ap, ◌∙◌, subst}
+use Rattle.std.proofs.Common.{arith}
 use Rattle.std.proofs.Math.Seq.{take-length}
 use Rattle.std.proofs.lemmas.List.{map-append, take_more}
 use Rattle.syn_folder.specs.Looks.{AreShown, ShowsStranger, Told, told}
@@ -28,5 +29,6 @@ returns c =
     let looks = c.args.looks.now in
     let ended : c.loop-seen.seen-index ≡ length looks =
     omega (arith, c.loop-seen-test.false, c.loop-seen.auto.seen-index-end) in
-    subst (λ (xs : List Seen). AreShown (ShowsStranger c.args.at.now) xs (map told c.loop-seen.strangers.items))
+    subst (λ (xs : List Seen). AreShown (ShowsStranger c.args.at.now) xs (map told
+    c.loop-seen.strangers.items))
     (ap (λ n. take n looks) ended ∙ take-length looks) c.loop-seen.invariant

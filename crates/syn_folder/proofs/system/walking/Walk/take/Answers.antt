@@ -10,5 +10,6 @@ returns-clause-followed c before =
     let seen : Seen = record { path = c.args.path; shown = c.args.shown } in
     subst (λ (looks : List Seen). IsFollowed walk.at looks c.follow.new.pending.items)
     (sym c.in_ok-push.ensures.items)
-    (followed_more walk.at walk.looks.items walk.pending.items c.follow.new.pending.items seen before
+    (followed_more walk.at walk.looks.items walk.pending.items c.follow.new.pending.items seen
+    before
     c.in_ok-follow.ensures.kept c.in_ok-follow.ensures.listed)
