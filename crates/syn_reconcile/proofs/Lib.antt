@@ -1,0 +1,6 @@
+mod MarkLemmas
+mod EditLemmas
+mod SettleLemmas
+mod StrangerLemmas
+mod CarryLemmas
+mod RunLemmas

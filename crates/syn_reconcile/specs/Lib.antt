@@ -1,0 +1,7 @@
+pub mod Checks
+pub mod Outcomes
+pub mod Refusals
+pub mod Settlings
+pub mod Stops
+pub mod Strangers
+pub mod UnderWay

@@ -1,0 +1,50 @@
+//! A folder that people go on editing, kept the same as a replica.
+//!
+//! The folder is the left side and the replica the right, and an archive has what both last agreed
+//! on. The plan is that of a session between the two.
+//!
+//! # What it promises
+//!
+//! Over any `EditedFolder` and any disks:
+//!
+//! - `plan` gives the model's plan of the folder, the replica and the marks, and changes nothing.
+//!   `reconcile` carries out that plan, item by item (`plan`). What the folder changed becomes
+//!   edits of the user in the replica, all of an item's at once, and what the replica changed is
+//!   put into the folder. The folder's tree, the replica's and the marks are then what the items
+//!   leave that were not refused, and the replica's history is the old one and edits of the user
+//!   (`carried`).
+//! - Where no item was refused, folder, replica and marks are what the plan leaves (`whole`). The
+//!   laws of the plan (`plan_laws` of syn_model) say that this is what the definition of a
+//!   synchronization asks.
+//! - A stop at any device call of either image leaves on the replica's disk what some of the
+//!   items leave of it, each of them whole, by edits of the user (`any_moment`), and on the
+//!   archive's disk the marks of that (`any_mark`).
+//! - A call that ends early leaves the folder, the replica and the marks as the items before it do.
+//!   Of the next item nothing is recorded, or it is carried out in the folder and in the replica,
+//!   whatever a stop leaves then (`stopped`).
+//! - What can stand in no replica is not touched: no item that is carried out puts anything at,
+//!   above or below it in the folder, or changes what the replica has at its path (`apart`).
+//! - Where the folder or the replica is empty and the marks are not, nothing is carried unless that
+//!   is asked for (`emptied`), and marks of another pair are refused (`pair`).
+//! - The folder changes by `replace` alone, which looks first whether what is there is what was
+//!   read. The laws of the plan say what that is: what the marks have, or what another side is
+//!   preferred to.
+//!
+//! An archive has no position of the replica. That the replica is older than the marks, as a backup
+//! is, is seen only where it is empty or of another pair.
+#![tactic(auto)]
+
+mod carry;
+mod checks;
+mod edits;
+mod error;
+mod items;
+mod marks;
+mod report;
+mod run;
+mod strangers;
+
+pub use checks::WhenEmpty;
+pub use error::ReconcileError;
+pub use report::{Outcome, Report, Settled};
+pub use run::{plan, reconcile};
