@@ -5,7 +5,7 @@ _syn() {
     for ((i = 1; i < COMP_CWORD; i++)); do
         case ${COMP_WORDS[i]} in
             --served) served=-served ;;
-            --connections | --prefer)
+            --connections | --prefer | --archive | --every)
                 i=$((i + 1))
                 [ "${COMP_WORDS[i]}" != = ] || i=$((i + 1))
                 ;;
@@ -17,18 +17,26 @@ _syn() {
     done
     COMPREPLY=()
     case $word/$last in
-        */--prefer) mapfile -t COMPREPLY < <(compgen -W 'left right' -- "$word"); return ;;
-        :/* | =/* | */: | */= | */--connections) return ;;
+        */--prefer)
+            local sides='left right'
+            [ "$command" != reconcile ] || sides='folder replica'
+            mapfile -t COMPREPLY < <(compgen -W "$sides" -- "$word")
+            return
+            ;;
+        */--archive) mapfile -t COMPREPLY < <(compgen -f -- "$word"); return ;;
+        :/* | =/* | */: | */= | */--connections | */--every) return ;;
     esac
-    local commands='format put mkdir rm chmod show check migrate log export import serve sync run'
-    commands+=' plan simulate help'
+    local commands='format put mkdir rm chmod show check migrate log export import reconcile serve'
+    commands+=' sync run plan simulate help'
     case $command in
         '') options+=' -V --version' ;;
         put | mkdir | rm | chmod | show) options+=' --served' ;;
-        sync | run) options+=' --prefer' ;;
+        sync) options+=' --prefer --every' ;;
+        run) options+=' --prefer' ;;
         plan) options+=' --prefer --served' ;;
         export) options+=' --update --delete --served' ;;
         import) options+=' --skip --served' ;;
+        reconcile) options+=' --prefer --archive --dry-run --emptied' ;;
         serve) options+=' --connections' ;;
         simulate) options+=' --trace' ;;
     esac
@@ -45,7 +53,8 @@ _syn() {
         serve/1 | sync/1 | sync/2) action=(-A hostname) ;;
         format/2 | put/0 | mkdir/0 | rm/0 | chmod/0 | show/0) action=(-f) ;;
         check/0 | migrate/0 | log/0) action=(-f) ;;
-        export/1* | import/2*) action=(-d) ;;
+        export/1* | import/2* | reconcile/0) action=(-d) ;;
+        reconcile/1) action=(-f) ;;
         export/0 | import/0 | serve/0 | sync/0 | run/[012] | simulate/0) action=(-f) ;;
         plan/[012] | plan/2-served) action=(-f) ;;
         *) return ;;

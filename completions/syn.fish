@@ -1,6 +1,6 @@
 # Completion of syn for fish: put this file into ~/.config/fish/completions.
-set -l commands format put mkdir rm chmod show check migrate log export import serve sync run \
-    plan simulate help
+set -l commands format put mkdir rm chmod show check migrate log export import reconcile serve \
+    sync run plan simulate help
 set -l first "not __fish_seen_subcommand_from $commands"
 complete -c syn -f
 complete -c syn -s v -l verbose -d 'Explain a refusal, and tell each item of a session'
@@ -17,6 +17,7 @@ complete -c syn -n $first -a migrate -d 'Make an image of version 1 one of versi
 complete -c syn -n $first -a log -d 'Print the last events of a replica'
 complete -c syn -n $first -a export -d 'Write a replica into a folder'
 complete -c syn -n $first -a import -d 'Make a replica what a folder is'
+complete -c syn -n $first -a reconcile -d 'Make a folder and a replica the same'
 complete -c syn -n $first -a serve -d 'Serve a replica, to users and to sessions'
 complete -c syn -n $first -a sync -d 'Run a session of two replicas that are served'
 complete -c syn -n $first -a run -d 'Run a session of two replicas in files'
@@ -29,6 +30,16 @@ complete -c syn -n '__fish_seen_subcommand_from put mkdir rm chmod show export i
     -l served -d 'Ask the server at HOST:PORT in the place of FILE'
 complete -c syn -n '__fish_seen_subcommand_from sync run plan' -l prefer -x -a 'left right' \
     -d 'Put this side over the other where both changed'
+complete -c syn -n '__fish_seen_subcommand_from sync' -l every -x \
+    -d 'Go on, and look so many seconds apart'
+complete -c syn -n '__fish_seen_subcommand_from reconcile' -l prefer -x -a 'folder replica' \
+    -d 'Put this one over the other where both changed'
+complete -c syn -n '__fish_seen_subcommand_from reconcile' -l archive -r \
+    -d 'Keep there what both last agreed on'
+complete -c syn -n '__fish_seen_subcommand_from reconcile' -l dry-run \
+    -d 'Print what would be done, and do nothing'
+complete -c syn -n '__fish_seen_subcommand_from reconcile' -l emptied \
+    -d 'Carry it, too, where one side has become empty'
 complete -c syn -n '__fish_seen_subcommand_from serve' -l connections -x \
     -d 'End when so many connections were served'
 complete -c syn -n '__fish_seen_subcommand_from export' -l update \

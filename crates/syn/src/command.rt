@@ -17,14 +17,14 @@ use std::time::Clock;
 use syn_command::{CommandError, EditsTold, Failure, Outcome, Status, print_meanings, report};
 use syn_file::HostFile;
 use syn_files::{
-    NamedDisks, Telling, edit, export, import, migrate, print_image, print_log, print_numbers,
-    print_plan, run_session, serve_named, show,
+    NamedDisks, Telling, edit, export, import, keep_servers, migrate, plan_named, print_image,
+    print_log, print_numbers, print_plan, reconcile_named, run_session, serve_named, show,
 };
 use syn_words::{ImageLine, Line, LineError, read_words};
 
 /// Carries out what the words ask for, of which the first is the program's own name. What is asked
 /// for goes to `output`, and why it is refused to `errors`, with what is told of a session. Whether
-/// `errors` is a terminal is told by the caller.
+/// `errors` is a terminal is told by the caller: there a refusal is explained unasked.
 ///
 /// Paths are read before a file is opened, and the input after it.
 pub fn command<H, F, I, O, E>(
@@ -72,7 +72,7 @@ where
         },
     };
     let answer = carry_out(&context, &asked.line, input, output, errors);
-    if asked.is_verbose {
+    if asked.is_verbose || is_terminal {
         report(Some(&asked.line), &answer, errors)
     } else {
         report(None, &answer, errors)
@@ -159,11 +159,21 @@ where
         Line::Session(pairing) => {
             run_session(rt, alloc, disks, *pairing, context.telling, output, errors)?
         }
+        Line::Keep(line) => {
+            keep_servers(rt, alloc, disks, line, context.telling, output, errors)?
+        }
         Line::Plan(pairing) => print_plan(rt, alloc, disks, *pairing, output)?,
         Line::Edit(line) => done_at(edit(rt, alloc, line, disks, input)?, output)?,
         Line::Import(line) => {
             let (files, told) = (context.files, context.told);
             done_at(import(rt, alloc, disks, files, line, told, errors)?, output)?
+        }
+        Line::Reconcile(line) if line.is_dry => {
+            plan_named(alloc, disks, context.files, line, output, errors)?
+        }
+        Line::Reconcile(line) => {
+            let (files, telling) = (context.files, context.telling);
+            reconcile_named(alloc, disks, files, line, telling, output, errors)?
         }
         Line::Export(line) => done_at(export(rt, alloc, disks, context.files, line)?, output)?,
         Line::Image(line) => carry_out_on_image(context, line, output)?,

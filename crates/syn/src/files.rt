@@ -1,8 +1,12 @@
 //! The disks in files of the system, by their names.
 
+use crate::format::format;
+use std::alloc::Global;
 use std::fs::Files;
+use syn_command::CommandError;
 use syn_file::{Access, FileDisk, HostFile, LockedFile, MirroredFile, OpenError};
 use syn_files::NamedDisks;
+use syn_words::ImageKind;
 
 /// The disks in files. The name of one is the path of its file.
 #[derive(Drop)]
@@ -18,5 +22,11 @@ where
 
     fn lock(&self, name: &str, access: Access) -> Result<LockedFile<F::File>, OpenError> {
         LockedFile::open(self.0, name, access)
+    }
+
+    fn make_archive(&self, alloc: Global, name: &str, pair: u64) -> Result<(), CommandError> {
+        let part = format!(in alloc; "{name}.new")?;
+        format(alloc, self.0, &part, ImageKind::Archive, pair)?;
+        Ok(self.0.rename(&part, name)?)
     }
 }

@@ -102,13 +102,13 @@ pub fn part_of<F: Folder, E: Write>(
     Ok(part)
 }
 
-/// Puts the tree in the place of what is at and below the path, by edits of the user, all of them or
-/// none. Where it is there already, no edit is made. Each edit is told to `errors`, where `told`
+/// Puts the tree in the place of what is at and below the path, by edits of the user, all of them
+/// or none. Where it is there already, no edit is made. Each edit is told to `errors`, where `told`
 /// says so, once they are made.
 ///
 /// Refused 2 where the path's parent is no directory, and 7 where the replica would pass a limit:
-/// that limit is told to `errors`. Else it is refused as the replica refuses edits, or a checkpoint,
-/// which makes room for them where there may be too little. The disk comes back.
+/// that limit is told to `errors`. Else it is refused as the replica refuses edits, or the
+/// checkpoint that makes room for them where there may be too little. The disk comes back.
 pub fn import_part<D: Disk, E: Write>(
     alloc: Global,
     replica: Replica<D>,

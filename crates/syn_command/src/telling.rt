@@ -74,11 +74,16 @@ fn name_line<E: Write>(line: &Line<'_>, errors: &mut E) -> io::Result<()> {
         Line::Edit(edit) => write!(errors, "syn: {} in {}", edit.path, edit.place.as_str()),
         Line::Export(line) => write!(errors, "syn: {} into {}", line.place.as_str(), line.folder),
         Line::Import(line) => write!(errors, "syn: {} into {}", line.folder, line.place.as_str()),
+        Line::Reconcile(line) => write!(errors, "syn: {} and {}", line.folder, line.file),
         Line::Serve { file, address, .. } => write!(errors, "syn: {file} at {address}"),
         Line::Session(pairing) | Line::Plan(pairing) => {
             let (Between::Files { left, right } | Between::Servers { left, right }) =
                 pairing.between;
             let archive = pairing.archive;
+            write!(errors, "syn: {left} and {right} with {archive}")
+        }
+        Line::Keep(kept) => {
+            let (left, right, archive) = (kept.left, kept.right, kept.archive);
             write!(errors, "syn: {left} and {right} with {archive}")
         }
         Line::Simulate { script, .. } => write!(errors, "syn: {script}"),

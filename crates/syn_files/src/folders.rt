@@ -56,8 +56,8 @@ pub fn export<H: Net<Stream = TcpStream>, N: NamedDisks, F: Files>(
 ///
 /// A text that names no path is refused. Else it is refused as the folder is read, as an opening
 /// is, 7 where something stands in the folder that can stand in no replica and nothing is to be
-/// skipped, and as the replica or the server refuses the edits. Into a file all edits go, or none. A
-/// server makes them one after another, and those before a refusal stand; it is refused 13 where
+/// skipped, and as the replica or the server refuses the edits. Into a file all edits go, or none.
+/// A server makes them one after another, and those before a refusal stand; it is refused 13 where
 /// somebody else edits the replica meanwhile.
 pub fn import<H: Net<Stream = TcpStream>, N: NamedDisks, F: Files, E: Write>(
     rt: &H,

@@ -17,16 +17,20 @@
 
 mod folders;
 mod images;
+mod keeping;
 mod named;
 mod network;
 mod plans;
+mod reconciling;
 mod sessions;
 mod side_by_side;
 mod upkeep;
 
 pub use folders::{export, import};
 pub use images::{edit, migrate, print_image, print_log, print_numbers, show};
+pub use keeping::keep_servers;
 pub use named::NamedDisks;
 pub use network::serve_named;
 pub use plans::print_plan;
+pub use reconciling::{plan_named, reconcile_named};
 pub use sessions::{Telling, run_session};

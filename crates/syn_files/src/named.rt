@@ -24,6 +24,12 @@ pub trait NamedDisks {
     /// is none or the device fails; and 11 for lack of memory.
     fn lock(&self, name: &str, access: Access) -> Result<Self::Locked, OpenError>
         ensures locked { IfOk result (λ locked. Self.Locked.is_locked locked access) };
+
+    /// Makes a new archive of the pair, of a name that no disk has. A stop leaves it whole, or no
+    /// disk of that name.
+    ///
+    /// Refused 9 where the device fails, and 11 for lack of memory.
+    fn make_archive(&self, alloc: Global, name: &str, pair: u64) -> Result<(), CommandError>;
 }
 
 /// The replica of that name, which no other process may open meanwhile.

@@ -66,7 +66,7 @@ where
 }
 
 /// What watches a session and hears how it ended.
-trait Told: Watch {
+pub(crate) trait Told: Watch {
     /// The session ended with this report, which is not printed yet.
     fn ended(&mut self, report: &Report);
 }

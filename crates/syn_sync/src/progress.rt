@@ -198,7 +198,10 @@ impl<W: Write> Watch for Progress<W> {
             Side::Left => "left",
             Side::Right => "right",
         };
-        let _ = writeln!(self.writer, "syn: the {name} server cannot be reached: {why}");
+        let _ = writeln!(
+            self.writer,
+            "syn: the {name} server cannot be reached: {why}"
+        );
     }
 
     fn sent(&mut self, sending: &Sending) {

@@ -100,7 +100,7 @@ impl<R: Read, W: Write> SideConnection<R, W> {
     }
 
     /// The position of the replica. It is refused as `list` is.
-    fn position(&mut self, alloc: Global) -> Result<u64, UserError>
+    pub fn position(&mut self, alloc: Global) -> Result<u64, UserError>
         ensures told { IfOk result (λ position. TellsPosition position
             (side_line R.remaining W.contents self.old)
             (side_line R.remaining W.contents self.new)) }

@@ -29,5 +29,7 @@ edit_missing _ rows told is one none = absurd is
 pub user_missing : (v : Verb) (rows : List Row) → HasUser v → first_of (name_of User) rows ≡ None
     → IsLacking v rows User
 user_missing v rows (inl is) none = edit_missing v rows User is (inr (inl refl)) none
-user_missing v rows (inr is) none =
+user_missing v rows (inr (inl is)) none =
     subst (λ (w : Verb). IsLacking w rows User) (sym is) (inl (inr (inl refl), none))
+user_missing v rows (inr (inr is)) none =
+    subst (λ (w : Verb). IsLacking w rows User) (sym is) (inl (inr (inr (inl refl)), none))

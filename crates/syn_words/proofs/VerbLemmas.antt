@@ -10,7 +10,9 @@ use Rattle.syn_words.specs.Reads.{AreGiven, HasMode, HasPlace, HasUser, HasValue
 use Rattle.syn_words.specs.Reads.{HasNumber, IsGiven, IsNoMode, TakesPreference, IsOtherSide}
 use Rattle.syn_words.specs.Reads.{IsNoNumber, IsNumber, IsOtherKind, IsWrong, IsWrongIn}
 use Rattle.syn_words.specs.Reads.{MayHaveNumber, MayHaveSide, NothingReads, kind_word, side_word}
-use Rattle.syn_words.specs.Reads.{HasImageValues, HasSides, image_verb, session_verb, verb_of}
+use Rattle.syn_words.specs.Reads.{IsOtherFolderSide, MayHaveFolderSide, folder_side_word}
+use Rattle.syn_words.specs.Reads.{HasImageValues, HasSides, IsOnce, image_verb, session_verb}
+use Rattle.syn_words.specs.Reads.{verb_of}
 use Rattle.syn_words.specs.Verbs.{edit_verb, name_of, values_of, word_of}
 use Rattle.syn_words.specs.declared.line.Between.{Between}
 use Rattle.syn_words.specs.declared.line.Between.TheVariants.{Files, Servers}
@@ -43,10 +45,11 @@ verb_at t =
     (cond (bytes_eq t (codes "log")) verb.Log
     (cond (bytes_eq t (codes "export")) verb.Export
     (cond (bytes_eq t (codes "import")) verb.Import
+    (cond (bytes_eq t (codes "reconcile")) verb.Reconcile
     (cond (bytes_eq t (codes "serve")) verb.Serve
     (cond (bytes_eq t (codes "sync")) verb.Sync
     (cond (bytes_eq t (codes "run")) verb.Run
-    (cond (bytes_eq t (codes "plan")) verb.Plan verb.Simulate))))))))))))))
+    (cond (bytes_eq t (codes "plan")) verb.Plan verb.Simulate)))))))))))))))
 
 verb_at-word : (v : Verb) → verb_at (word_of v) ≡ v
 unfolding verb_at
@@ -61,6 +64,7 @@ verb_at-word verb.Migrate = refl
 verb_at-word verb.Log = refl
 verb_at-word verb.Export = refl
 verb_at-word verb.Import = refl
+verb_at-word verb.Reconcile = refl
 verb_at-word verb.Serve = refl
 verb_at-word verb.Sync = refl
 verb_at-word verb.Run = refl
@@ -123,11 +127,28 @@ values_given rows (line.Export exported) has =
     (file_given rows exported.place has.0, ((exported.folder.now, has.1), tt))
 values_given rows (line.Import imported) has =
     (file_given rows imported.place has.0, ((has.1.0, has.1.1), ((imported.folder.now, has.2), tt)))
+values_given rows (line.Reconcile reconciled) has = (
+  (reconciled.folder.now, has.folder),
+  (
+    (reconciled.file.now, has.file),
+    ((has.user.0, has.user.1), tt),
+  ),
+)
 values_given rows (line.Serve file address connections) has =
     ((file.now, has.0), ((address.now, has.1), tt))
 values_given rows (line.Session pairing) has =
-    session_given rows pairing.between (left_given rows pairing.between has.sides)
-    (right_given rows pairing.between has.sides) (pairing.archive.now, has.archive)
+    session_given rows pairing.between (left_given rows pairing.between has.0.sides)
+    (right_given rows pairing.between has.0.sides) (pairing.archive.now, has.0.archive)
+values_given rows (line.Keep kept) has = (
+  (kept.archive.now, has.archive),
+  (
+    (kept.left.now, has.left),
+    (
+      (kept.right.now, has.right),
+      tt,
+    ),
+  ),
+)
 values_given rows (line.Plan pairing) has = (
   left_given rows pairing.between has.0.sides,
   (right_given rows pairing.between has.0.sides, ((pairing.archive.now, has.0.archive), tt)),
@@ -264,6 +285,17 @@ module _ (rows : List Row) where
       no_session pairing.between verb.Import is refl
   importer_right _ is wrong has = cc
 
+  reconciler_right : (l : Line) → verb_of l ≡ verb.Reconcile
+      → IsNoNumber 32 rows (name_of value.User) → HasValues rows l → ⊥
+  unfolding is_edit is_session is_image
+  reconciler_right (line.Reconcile reconciled) is wrong has =
+      no_number 32 rows (name_of value.User) reconciled.user wrong has.user
+  reconciler_right (line.Image about) is wrong has = no_image about verb.Reconcile is refl
+  reconciler_right (line.Edit edit) is wrong has = no_edit edit.kind verb.Reconcile is refl
+  reconciler_right (line.Session pairing) is wrong has =
+      no_session pairing.between verb.Reconcile is refl
+  reconciler_right _ is wrong has = cc
+
   -- a mode that is given is one
   no_mode : (kind : EditKind) → edit_verb kind ≡ verb.Chmod → IsNoMode rows → HasMode rows kind → ⊥
   no_mode (kind.Chmod mode) is wrong has =
@@ -280,7 +312,8 @@ module _ (rows : List Row) where
   user_right : (l : Line) → HasUser (verb_of l) → IsNoNumber 32 rows (name_of value.User) →
       HasValues rows l → ⊥
   user_right l (inl is) wrong has = editor_right l is wrong has
-  user_right l (inr is) wrong has = importer_right l is wrong has
+  user_right l (inr (inl is)) wrong has = importer_right l is wrong has
+  user_right l (inr (inr is)) wrong has = reconciler_right l is wrong has
 
   connections_right : (l : Line) → verb_of l ≡ verb.Serve →
       IsNoNumber 64 rows (name_of value.Connections) → HasValues rows l → ⊥
@@ -292,6 +325,21 @@ module _ (rows : List Row) where
   connections_right (line.Session pairing) is wrong has =
       no_session pairing.between verb.Serve is refl
   connections_right _ is wrong has = cc
+
+  no_seconds : (between : Between) → IsNoNumber 64 rows (name_of value.Seconds)
+      → session_verb between ≡ verb.Sync → IsOnce rows between → ⊥
+  no_seconds (Files left right) wrong is once = cc
+  no_seconds (Servers left right) wrong is once = no_text _ wrong.0 once wrong.1
+
+  seconds_right : (l : Line) → verb_of l ≡ verb.Sync →
+      IsNoNumber 64 rows (name_of value.Seconds) → HasValues rows l → ⊥
+  unfolding is_edit is_image
+  seconds_right (line.Keep kept) is wrong has =
+      no_number 64 rows (name_of value.Seconds) kept.seconds wrong has.seconds
+  seconds_right (line.Session pairing) is wrong has = no_seconds pairing.between wrong is has.1
+  seconds_right (line.Image about) is wrong has = no_image about verb.Sync is refl
+  seconds_right (line.Edit edit) is wrong has = no_edit edit.kind verb.Sync is refl
+  seconds_right _ is wrong has = cc
 
   lines_right : (l : Line) → verb_of l ≡ verb.Log → IsNoNumber 64 rows (name_of value.Lines) →
       HasValues rows l → ⊥
@@ -325,21 +373,43 @@ module _ (rows : List Row) where
   preference_right : (l : Line) → TakesPreference (verb_of l) → IsOtherSide rows →
       HasValues rows l → ⊥
   preference_right (line.Session pairing) takes wrong has =
-      no_side pairing.preference wrong has.preference
+      no_side pairing.preference wrong has.0.preference
+  preference_right (line.Keep kept) takes wrong has =
+      no_side kept.preference wrong has.preference
   preference_right (line.Plan pairing) takes wrong has =
       no_side pairing.preference wrong has.0.preference
   preference_right (line.Image about) takes wrong has = no_image_prefers about takes
   preference_right (line.Edit edit) takes wrong has = no_edit_prefers edit.kind takes
   preference_right _ takes wrong has = takes
 
+  no_folder_side : (preference : Option Side) → IsOtherFolderSide rows
+      → MayHaveFolderSide rows preference → ⊥
+  no_folder_side None wrong has = no_text _ wrong.0 has wrong.1
+  no_folder_side (Some preferred) wrong has =
+      wrong.2 preferred (same_Some wrong.0 (folder_side_word preferred) (sym wrong.1 ∙ has))
+
+  folder_preference_right : (l : Line) → verb_of l ≡ verb.Reconcile → IsOtherFolderSide rows →
+      HasValues rows l → ⊥
+  unfolding is_edit is_session is_image
+  folder_preference_right (line.Reconcile reconciled) is wrong has =
+      no_folder_side reconciled.preference wrong has.preference
+  folder_preference_right (line.Image about) is wrong has = no_image about verb.Reconcile is refl
+  folder_preference_right (line.Edit edit) is wrong has =
+      no_edit edit.kind verb.Reconcile is refl
+  folder_preference_right (line.Session pairing) is wrong has =
+      no_session pairing.between verb.Reconcile is refl
+  folder_preference_right _ is wrong has = cc
+
   none_wrong : (l : Line) (told : ValueName) → IsWrong (verb_of l) rows told → HasValues rows l → ⊥
   none_wrong l value.Kind wrong has = kind_right l wrong.0 wrong.1 has
   none_wrong l value.Pair wrong has = pair_right l wrong.0 wrong.1 has
   none_wrong l value.User wrong has = user_right l wrong.0 wrong.1 has
   none_wrong l value.Connections wrong has = connections_right l wrong.0 wrong.1 has
+  none_wrong l value.Seconds wrong has = seconds_right l wrong.0 wrong.1 has
   none_wrong l value.Lines wrong has = lines_right l wrong.0 wrong.1 has
   none_wrong l value.Mode wrong has = mode_right l wrong.0 wrong.1 has
   none_wrong l value.Preference wrong has = preference_right l wrong.0 wrong.1 has
+  none_wrong l value.FolderPreference wrong has = folder_preference_right l wrong.0 wrong.1 has
   none_wrong l _ wrong has = wrong
 
   none_lacking : (l : Line) (told : ValueName) → IsLacking (verb_of l) rows told →

@@ -32,7 +32,7 @@ use Rattle.syn_words.specs.Verbs.{name_of, values_of, verbs, word_of}
 use Rattle.syn_words.specs.declared.value.ValueName.{ValueName}
 use Rattle.syn_words.specs.declared.verb.Verb.{Verb}
 use Rattle.syn_words.specs.declared.verb.Verb.TheVariants.{Format, Put, MakeDir, Remove, Chmod}
-use Rattle.syn_words.specs.declared.verb.Verb.TheVariants.{Show}
+use Rattle.syn_words.specs.declared.verb.Verb.TheVariants.{Show, Reconcile}
 use Rattle.syn_words.specs.declared.verb.Verb.TheVariants.{Check, Migrate, Log, Export, Import}
 use Rattle.syn_words.specs.declared.verb.Verb.TheVariants.{Serve, Sync, Run, Plan, Simulate}
 use Rattle.syn_words.specs.declared.error.LineError.{LineError}
@@ -259,6 +259,8 @@ stands Migrate = record { named = refl; gives = refl; requires = (refl, refl, tt
 stands Log = record { named = refl; gives = refl; requires = (refl, refl, tt) }
 stands Export = record { named = refl; gives = refl; requires = (refl, refl, (refl, refl, tt)) }
 stands Import =
+    record { named = refl; gives = refl; requires = (refl, refl, (refl, refl, (refl, refl, tt))) }
+stands Reconcile =
     record { named = refl; gives = refl; requires = (refl, refl, (refl, refl, (refl, refl, tt))) }
 stands Serve = record { named = refl; gives = refl; requires = (refl, refl, (refl, refl, tt)) }
 stands Sync =

@@ -5,10 +5,11 @@ use Rattle.clap.specs.Words.{App, Rule, Text, new_app, new_rule, with_rule, with
 use Rattle.syn_words.specs.Verbs.{name_of, values_of, verbs, word_of}
 use Rattle.syn_words.specs.declared.value.ValueName.{ValueName}
 use Rattle.syn_words.specs.declared.value.ValueName.TheVariants.{Path, Connections, Lines}
+use Rattle.syn_words.specs.declared.value.ValueName.TheVariants.{Archive, FolderPreference, Seconds}
 use Rattle.syn_words.specs.declared.value.ValueName.TheVariants.{Preference}
 use Rattle.syn_words.specs.declared.verb.Verb.{Verb}
 use Rattle.syn_words.specs.declared.verb.Verb.TheVariants.{Format, Put, MakeDir, Remove, Chmod}
-use Rattle.syn_words.specs.declared.verb.Verb.TheVariants.{Show}
+use Rattle.syn_words.specs.declared.verb.Verb.TheVariants.{Show, Reconcile}
 use Rattle.syn_words.specs.declared.verb.Verb.TheVariants.{Check, Migrate, Log, Export, Import}
 use Rattle.syn_words.specs.declared.verb.Verb.TheVariants.{Serve, Sync, Run, Plan, Simulate}
 
@@ -42,6 +43,12 @@ with_served app = with_rule app (flag_rule (codes "served"))
 abbrev pub with_preference : App → App
 with_preference app = with_rule app (option_rule (name_of Preference) (codes "prefer"))
 
+-- the options of a reconciliation that have a value
+abbrev pub with_reconcile_values : App → App
+with_reconcile_values app = with_rule
+    (with_rule app (option_rule (name_of FolderPreference) (codes "prefer")))
+    (option_rule (name_of Archive) (codes "archive"))
+
 -- the command with what may be left out of it
 abbrev pub with_options : Verb → App → App
 with_options Format app = app
@@ -58,8 +65,12 @@ with_options Export app = with_served (with_rule
     (flag_rule (codes "delete")))
 with_options Import app = with_served
     (with_rule (with_rule app (new_rule (name_of Path))) (flag_rule (codes "skip")))
+with_options Reconcile app = with_rule
+    (with_rule (with_reconcile_values app) (flag_rule (codes "dry-run")))
+    (flag_rule (codes "emptied"))
 with_options Serve app = with_rule app (option_rule (name_of Connections) (codes "connections"))
-with_options Sync app = with_preference app
+with_options Sync app = with_rule (with_preference app)
+    (option_rule (name_of Seconds) (codes "every"))
 with_options Run app = with_preference app
 with_options Plan app = with_served (with_preference app)
 with_options Simulate app = with_rule app (flag_rule (codes "trace"))

@@ -25,9 +25,11 @@ use Rattle.syn_words.specs.declared.line.ImageKind.{ImageKind}
 use Rattle.syn_words.specs.declared.line.ImageKind.TheVariants.{Replica, Archive}
 use Rattle.syn_words.specs.declared.line.ImageLine.{ImageLine}
 use Rattle.syn_words.specs.declared.line.ImageLine.TheVariants as image
+use Rattle.syn_words.specs.declared.line.KeepLine.{KeepLine}
 use Rattle.syn_words.specs.declared.line.Line.{Line}
 use Rattle.syn_words.specs.declared.line.Line.TheVariants as line
 use Rattle.syn_words.specs.declared.line.Pairing.{Pairing}
+use Rattle.syn_words.specs.declared.line.ReconcileLine.{ReconcileLine}
 use Rattle.syn_words.specs.declared.line.ReplicaPlace.{ReplicaPlace}
 use Rattle.syn_words.specs.declared.line.ReplicaPlace.TheVariants as place
 use Rattle.syn_words.specs.declared.value.ValueName.{ValueName}
@@ -92,6 +94,17 @@ MayHaveSide rows None = first_of (name_of value.Preference) rows ≡ None
 MayHaveSide rows (Some preferred) =
     HasText rows (name_of value.Preference) (side_word preferred)
 
+-- the word of a folder, as the left side, and of its replica, as the right one
+abbrev pub folder_side_word : Side → Text
+folder_side_word side.Left = codes "folder"
+folder_side_word side.Right = codes "replica"
+
+-- the one of both that is preferred, or none where nothing is given
+abbrev pub MayHaveFolderSide : List Row → Option Side → Type 0
+MayHaveFolderSide rows None = first_of (name_of value.FolderPreference) rows ≡ None
+MayHaveFolderSide rows (Some preferred) =
+    HasText rows (name_of value.FolderPreference) (folder_side_word preferred)
+
 -- the mode that an edit gives a file is the one that is given
 abbrev pub HasMode : List Row → EditKind → Type 0
 HasMode rows (kind.Chmod mode) = HasText rows (name_of value.Mode) (mode_digits (mode_of mode))
@@ -124,8 +137,10 @@ verb_of (line.Image about) = image_verb about
 verb_of (line.Edit edit) = edit_verb edit.kind
 verb_of (line.Export exported) = verb.Export
 verb_of (line.Import imported) = verb.Import
+verb_of (line.Reconcile reconciled) = verb.Reconcile
 verb_of (line.Serve file address connections) = verb.Serve
 verb_of (line.Session pairing) = session_verb pairing.between
+verb_of (line.Keep kept) = verb.Sync
 verb_of (line.Plan pairing) = verb.Plan
 verb_of (line.Simulate script is_traced) = verb.Simulate
 
@@ -150,6 +165,11 @@ HasSides rows (Files left right) = HasText rows (name_of value.Left) left.now
 HasSides rows (Servers left right) = HasText rows (name_of value.Left) left.now
     × HasText rows (name_of value.Right) right.now
 
+-- a session of servers is one alone: no seconds are given for others after it
+abbrev pub IsOnce : List Row → Between → Type 0
+IsOnce rows (Files left right) = Unit {0}
+IsOnce rows (Servers left right) = first_of (name_of value.Seconds) rows ≡ None
+
 -- servers are asked exactly where the flag is used
 abbrev pub AreServed : List Row → Between → Type 0
 AreServed rows (Files left right) = ¬ IsSet rows (codes "served")
@@ -160,6 +180,25 @@ pub record HasPairing (rows : List Row) (pairing : Pairing) : Type 0 where
   pub sides : HasSides rows pairing.between
   pub archive : HasText rows (name_of value.Archive) pairing.archive.now
   pub preference : MayHaveSide rows pairing.preference
+
+-- the two servers that are kept the same, their archive, the side that is preferred and the seconds
+-- between two looks are those that are given
+pub record HasKept (rows : List Row) (kept : KeepLine) : Type 0 where
+  pub left : HasText rows (name_of value.Left) kept.left.now
+  pub right : HasText rows (name_of value.Right) kept.right.now
+  pub archive : HasText rows (name_of value.Archive) kept.archive.now
+  pub preference : MayHaveSide rows kept.preference
+  pub seconds : HasNumber 64 rows (name_of value.Seconds) kept.seconds
+
+-- the values of a reconciliation are those that are given
+pub record HasReconciled (rows : List Row) (reconciled : ReconcileLine) : Type 0 where
+  pub folder : HasText rows (name_of value.Folder) reconciled.folder.now
+  pub file : HasText rows (name_of value.File) reconciled.file.now
+  pub user : HasNumber 32 rows (name_of value.User) reconciled.user
+  pub archive : MayHaveText rows (name_of value.Archive) reconciled.archive
+  pub preference : MayHaveFolderSide rows reconciled.preference
+  pub dry : IsTrue reconciled.is_dry ↔ IsSet rows (codes "dry-run")
+  pub emptied : IsTrue reconciled.is_emptied ↔ IsSet rows (codes "emptied")
 
 -- the values of a line are those that are given
 abbrev pub HasValues : List Row → Line → Type 0
@@ -175,10 +214,12 @@ HasValues rows (line.Import imported) = HasPlace rows imported.place
     × HasText rows (name_of value.Folder) imported.folder.now
     × MayHaveText rows (name_of value.Path) imported.path
     × (IsTrue imported.is_skipping ↔ IsSet rows (codes "skip"))
+HasValues rows (line.Reconcile reconciled) = HasReconciled rows reconciled
 HasValues rows (line.Serve file address connections) = HasText rows (name_of value.File) file.now
     × HasText rows (name_of value.Address) address.now
     × MayHaveNumber 64 rows (name_of value.Connections) connections
-HasValues rows (line.Session pairing) = HasPairing rows pairing
+HasValues rows (line.Session pairing) = HasPairing rows pairing × IsOnce rows pairing.between
+HasValues rows (line.Keep kept) = HasKept rows kept
 HasValues rows (line.Plan pairing) = HasPairing rows pairing × AreServed rows pairing.between
 HasValues rows (line.Simulate script is_traced) = HasText rows (name_of value.Script) script.now
     × (IsTrue is_traced ↔ IsSet rows (codes "trace"))
@@ -214,6 +255,11 @@ abbrev pub IsOtherSide : List Row → Type 0
 IsOtherSide rows = (text : Text) × HasText rows (name_of value.Preference) text
     × ((preferred : Side) → text ≢ side_word preferred)
 
+-- the text given as the preferred one of a folder and its replica is the word of neither
+abbrev pub IsOtherFolderSide : List Row → Type 0
+IsOtherFolderSide rows = (text : Text) × HasText rows (name_of value.FolderPreference) text
+    × ((preferred : Side) → text ≢ folder_side_word preferred)
+
 -- the text given for MODE is no three octal digits
 abbrev pub IsNoMode : List Row → Type 0
 IsNoMode rows = (text : Text) × HasText rows (name_of value.Mode) text
@@ -233,20 +279,23 @@ IsEdit _ = ⊥
 
 -- the command has a user
 abbrev pub HasUser : Verb → Type 0
-HasUser v = IsEdit v ⊎ (v ≡ verb.Import)
+HasUser v = IsEdit v ⊎ (v ≡ verb.Import) ⊎ (v ≡ verb.Reconcile)
 
--- this value of the command is wrong: the KIND or the PAIR of a format, the USER of an edit or an
--- import, the MODE of a file, the number of connections of a server, that of the lines of a log, or
--- the side that a session is to prefer
+-- this value of the command is wrong: the KIND or the PAIR of a format, the USER of an edit, an
+-- import or a reconciliation, the MODE of a file, the number of connections of a server, of the
+-- lines of a log or of the seconds between sessions, or the side that a session or a reconciliation
+-- is to prefer
 abbrev pub IsWrong : Verb → List Row → ValueName → Type 0
 IsWrong v rows value.Kind = (v ≡ verb.Format) × IsOtherKind rows
 IsWrong v rows value.Pair = (v ≡ verb.Format) × IsNoNumber 64 rows (name_of value.Pair)
 IsWrong v rows value.User = HasUser v × IsNoNumber 32 rows (name_of value.User)
 IsWrong v rows value.Connections =
     (v ≡ verb.Serve) × IsNoNumber 64 rows (name_of value.Connections)
+IsWrong v rows value.Seconds = (v ≡ verb.Sync) × IsNoNumber 64 rows (name_of value.Seconds)
 IsWrong v rows value.Lines = (v ≡ verb.Log) × IsNoNumber 64 rows (name_of value.Lines)
 IsWrong v rows value.Mode = (v ≡ verb.Chmod) × IsNoMode rows
 IsWrong v rows value.Preference = TakesPreference v × IsOtherSide rows
+IsWrong v rows value.FolderPreference = (v ≡ verb.Reconcile) × IsOtherFolderSide rows
 IsWrong v rows _ = ⊥
 
 -- the name is that of a command, each value that the command requires is given, and this one is

@@ -8,9 +8,10 @@ use Rattle.syn_words.specs.declared.value.ValueName.TheVariants.{Command, Kind, 
 use Rattle.syn_words.specs.declared.value.ValueName.TheVariants.{Path, Folder, Address, Connections}
 use Rattle.syn_words.specs.declared.value.ValueName.TheVariants.{Lines, Archive, Left, Right}
 use Rattle.syn_words.specs.declared.value.ValueName.TheVariants.{Mode, Script, Preference}
+use Rattle.syn_words.specs.declared.value.ValueName.TheVariants.{FolderPreference, Seconds}
 use Rattle.syn_words.specs.declared.verb.Verb.{Verb}
 use Rattle.syn_words.specs.declared.verb.Verb.TheVariants.{Format, Put, MakeDir, Remove, Chmod}
-use Rattle.syn_words.specs.declared.verb.Verb.TheVariants.{Show}
+use Rattle.syn_words.specs.declared.verb.Verb.TheVariants.{Show, Reconcile}
 use Rattle.syn_words.specs.declared.verb.Verb.TheVariants.{Check, Migrate, Log, Export, Import}
 use Rattle.syn_words.specs.declared.verb.Verb.TheVariants.{Serve, Sync, Run, Plan, Simulate}
 
@@ -27,6 +28,7 @@ word_of Migrate = codes "migrate"
 word_of Log = codes "log"
 word_of Export = codes "export"
 word_of Import = codes "import"
+word_of Reconcile = codes "reconcile"
 word_of Serve = codes "serve"
 word_of Sync = codes "sync"
 word_of Run = codes "run"
@@ -36,7 +38,7 @@ word_of Simulate = codes "simulate"
 -- all commands
 abbrev pub verbs : List Verb
 verbs = Format ∷ Put ∷ MakeDir ∷ Remove ∷ Chmod ∷ Show ∷ Check ∷ Migrate ∷ Log ∷ Export ∷ Import
-    ∷ Serve ∷ Sync ∷ Run ∷ Plan ∷ Simulate ∷ []
+    ∷ Reconcile ∷ Serve ∷ Sync ∷ Run ∷ Plan ∷ Simulate ∷ []
 
 -- the id of a value for `clap`
 abbrev pub name_of : ValueName → Text
@@ -50,12 +52,14 @@ name_of Mode = codes "MODE"
 name_of Folder = codes "DIR"
 name_of Address = codes "ADDR"
 name_of Connections = codes "N"
+name_of Seconds = codes "SECONDS"
 name_of Lines = codes "N"
 name_of Archive = codes "ARCHIVE"
 name_of Left = codes "LEFT"
 name_of Right = codes "RIGHT"
 name_of Script = codes "SCRIPT"
 name_of Preference = codes "SIDE"
+name_of FolderPreference = codes "SIDE"
 
 -- the values that a command requires, in their order
 abbrev pub values_of : Verb → List ValueName
@@ -70,6 +74,7 @@ values_of Migrate = File ∷ []
 values_of Log = File ∷ []
 values_of Export = File ∷ Folder ∷ []
 values_of Import = File ∷ User ∷ Folder ∷ []
+values_of Reconcile = Folder ∷ File ∷ User ∷ []
 values_of Serve = File ∷ Address ∷ []
 values_of Sync = Archive ∷ Left ∷ Right ∷ []
 values_of Run = Left ∷ Right ∷ Archive ∷ []

@@ -4,7 +4,8 @@ ghost use Rattle.clap.specs.Words.{app_of, rule_of, with_rule};
 ghost use Rattle.clap.specs.declared.Command.TheViews.{out-Command};
 ghost use Rattle.syn_words.specs.App.{flag_rule, option_rule, syn_app, top_app, verb_app};
 ghost use Rattle.syn_words.specs.App.{verbose_rule, with_options, with_preference, word_app};
-ghost use Rattle.syn_words.specs.declared.verb.Verb.TheVariants.{Export};
+ghost use Rattle.syn_words.specs.App.{with_reconcile_values};
+ghost use Rattle.syn_words.specs.declared.verb.Verb.TheVariants.{Export, Reconcile};
 
 use crate::value::ValueName;
 use crate::verb::Verb;
@@ -37,6 +38,12 @@ const UPDATE: &str = "Writes what differs into a DIR that is there, and removes 
 
 /// What the help says of the flag by which an export removes.
 const DELETE: &str = "As '--update', and removes from DIR what is not exported";
+
+/// What the help says of the flag by which a reconciliation is only shown.
+const DRY_RUN: &str = "Prints what would be done, and does nothing";
+
+/// What the help says of the flag by which an empty side empties the other.
+const EMPTIED: &str = "Carries it, too, where one side has become empty";
 
 /// What the help says of the flag by which an import leaves something out.
 const SKIP: &str = "Leaves out what can stand in no replica, and tells it";
@@ -134,6 +141,7 @@ fn with_optional<'a>(
             let skipping = with_flag(alloc, command.arg(path)?, "skip", SKIP)?;
             with_flag(alloc, skipping, "served", SERVED)
         }
+        Verb::Reconcile => with_reconcile_options(alloc, command),
         Verb::Serve => {
             let help: &'a str = ValueName::Connections.help(verb);
             with_option(alloc, command, "N", "connections", help)
@@ -142,7 +150,12 @@ fn with_optional<'a>(
             let help: &'a str = ValueName::Lines.help(verb);
             command.arg(Arg::new(alloc, "N").help(help))
         }
-        Verb::Sync | Verb::Run => with_preference(alloc, verb, command),
+        Verb::Sync => {
+            let preferring = with_preference(alloc, verb, command)?;
+            let help: &'a str = ValueName::Seconds.help(verb);
+            with_option(alloc, preferring, "SECONDS", "every", help)
+        }
+        Verb::Run => with_preference(alloc, verb, command),
         Verb::Plan => {
             let preferring = with_preference(alloc, verb, command)?;
             with_flag(alloc, preferring, "served", BOTH_SERVED)
@@ -177,6 +190,32 @@ fn with_export_options<'a>(alloc: Global, command: Command<'a>) -> Result<Comman
     let updating = with_flag(alloc, command.arg(path)?, "update", UPDATE)?;
     let deleting = with_flag(alloc, updating, "delete", DELETE)?;
     with_flag(alloc, deleting, "served", SERVED)
+}
+
+/// The command with what may be left out of a reconciliation.
+fn with_reconcile_options<'a>(
+    alloc: Global,
+    command: Command<'a>,
+) -> Result<Command<'a>, AllocError>
+    requires { (out-Command command).has_globals ≡ false }
+    ensures app { IfOk result (λ c. app_of c ≡ with_options Reconcile (app_of command.entry)) }
+    ensures globals { IfOk result (λ c. (out-Command c).has_globals ≡ false) }
+{
+    let placed = with_reconcile_values(alloc, command)?;
+    let showing = with_flag(alloc, placed, "dry-run", DRY_RUN)?;
+    with_flag(alloc, showing, "emptied", EMPTIED)
+}
+
+/// The command with the options of a reconciliation that have a value.
+fn with_reconcile_values<'a>(alloc: Global, command: Command<'a>) -> Result<Command<'a>, AllocError>
+    requires { (out-Command command).has_globals ≡ false }
+    ensures app { IfOk result (λ c. app_of c ≡ with_reconcile_values (app_of command.entry)) }
+    ensures globals { IfOk result (λ c. (out-Command c).has_globals ≡ false) }
+{
+    let side: &'a str = ValueName::FolderPreference.help(Verb::Reconcile);
+    let archive: &'a str = ValueName::Archive.help(Verb::Reconcile);
+    let preferring = with_option(alloc, command, "SIDE", "prefer", side)?;
+    with_option(alloc, preferring, "ARCHIVE", "archive", archive)
 }
 
 /// The whole command.

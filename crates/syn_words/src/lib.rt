@@ -22,7 +22,7 @@ mod words;
 pub use error::LineError;
 pub use line::{
     Asked, Between, EditKind, EditLine, Existing, ExportLine, ImageKind, ImageLine, ImportLine,
-    Line, Pairing, ReplicaPlace,
+    KeepLine, Line, Pairing, ReconcileLine, ReplicaPlace,
 };
 pub use value::ValueName;
 pub use verb::Verb;

@@ -87,6 +87,24 @@ pub struct ImportLine<'a> {
     pub is_skipping: bool,
 }
 
+/// A folder and a replica that are to be the same.
+#[derive(Clone, Copy, Debug, PartialEq, Eq)]
+pub struct ReconcileLine<'a> {
+    pub folder: &'a str,
+    /// The file that has the replica.
+    pub file: &'a str,
+    /// Whose edits the folder's changes are.
+    pub user: u32,
+    /// The file of what both last agreed on; with none it stands beside the replica.
+    pub archive: Option<&'a str>,
+    /// The folder is the left side, and the replica the right one.
+    pub preference: Option<Side>,
+    /// What would be done is printed, and nothing is done.
+    pub is_dry: bool,
+    /// A side that has become empty empties the other.
+    pub is_emptied: bool,
+}
+
 /// What a session is between.
 #[derive(Clone, Copy, Debug, PartialEq, Eq)]
 pub enum Between<'a> {
@@ -104,6 +122,19 @@ pub struct Pairing<'a> {
     /// The file of the archive.
     pub archive: &'a str,
     pub preference: Option<Side>,
+}
+
+/// Two servers that are to be kept the same.
+#[derive(Clone, Copy, Debug, PartialEq, Eq)]
+pub struct KeepLine<'a> {
+    /// The address of each, HOST:PORT. A text is looked at when it is used.
+    pub left: &'a str,
+    pub right: &'a str,
+    /// The file of the archive.
+    pub archive: &'a str,
+    pub preference: Option<Side>,
+    /// So many seconds pass between two looks.
+    pub seconds: u64,
 }
 
 /// What is done about an image.
@@ -150,6 +181,8 @@ pub enum Line<'a> {
     Export(ExportLine<'a>),
     /// Makes a directory of a replica what a folder is.
     Import(ImportLine<'a>),
+    /// Makes a folder and a replica the same.
+    Reconcile(ReconcileLine<'a>),
     /// Serves the replica in a file at the address, until so many connections were served.
     Serve {
         file: &'a str,
@@ -158,6 +191,8 @@ pub enum Line<'a> {
     },
     /// Runs a session.
     Session(Pairing<'a>),
+    /// Runs a session of two servers, and others whenever one of them has changed.
+    Keep(KeepLine<'a>),
     /// Prints what a session would do.
     Plan(Pairing<'a>),
     /// Runs the steps of a script on a world of three machines in memory, and tells each of them

@@ -2,18 +2,21 @@
 ghost use Rattle.std.specs.Prelude.{◌≡◌, IfOk, IfErr};
 ghost use Rattle.clap.specs.Words.{found_of, rows_of};
 ghost use Rattle.syn_words.specs.Reads.{HasExisting, HasMode, HasNumber, HasText, HasUser, IsEdit};
-ghost use Rattle.syn_words.specs.Reads.{MayHaveNumber, MayHaveSide, TakesPreference, kind_word};
+ghost use Rattle.syn_words.specs.Reads.{MayHaveFolderSide, MayHaveNumber, MayHaveSide};
+ghost use Rattle.syn_words.specs.Reads.{TakesPreference, kind_word};
 ghost use Rattle.syn_words.specs.Verbs.{edit_verb, name_of};
 ghost use Rattle.syn_tree.specs.Modes.{mode_digits, mode_of};
 ghost use Rattle.syn_words.specs.inner.Lacking.{IsLack, IsLineOf};
 
 use crate::error::LineError;
 use crate::line::{
-    Between, EditKind, EditLine, Existing, ExportLine, ImageKind, ImageLine, ImportLine, Line,
-    Pairing,
+    Between, EditKind, EditLine, Existing, ExportLine, ImageKind, ImageLine, ImportLine, KeepLine,
+    Line, Pairing, ReconcileLine,
 };
 use crate::value::ValueName;
-use crate::values::{image_kind, is_set, mode, number, optional_text, place, side, text, user};
+use crate::values::{
+    folder_side, image_kind, is_set, mode, number, optional_text, place, side, text, user,
+};
 use crate::verb::Verb;
 use clap::ArgMatches;
 use syn_path::Side;
@@ -33,6 +36,7 @@ pub(crate) fn line_of<'a>(verb: Verb, found: &ArgMatches<'a>) -> Result<Line<'a>
         Verb::Log => log_line(found),
         Verb::Export => export_line(found),
         Verb::Import => import_line(found),
+        Verb::Reconcile => reconcile_line(found),
         Verb::Serve => serve_line(found),
         Verb::Sync => sync_line(found),
         Verb::Run => run_line(found),
@@ -216,6 +220,39 @@ fn import_line<'a>(found: &ArgMatches<'a>) -> Result<Line<'a>, LineError>
     }))
 }
 
+fn reconcile_line<'a>(found: &ArgMatches<'a>) -> Result<Line<'a>, LineError>
+    ensures ok { IfOk result (IsLineOf Verb.Reconcile (rows_of (found_of found.now))) }
+    ensures lacks { IfErr result (IsLack Verb.Reconcile (rows_of (found_of found.now))) }
+{
+    let folder = text(found, ValueName::Folder)?;
+    let file = text(found, ValueName::File)?;
+    let user = user_given(found, Verb::Reconcile)?;
+    let archive = optional_text(found, ValueName::Archive);
+    let preference = folder_preference_given(found)?;
+    let is_dry = is_set(found, "dry-run");
+    let is_emptied = is_set(found, "emptied");
+    Ok(Line::Reconcile(ReconcileLine {
+        folder,
+        file,
+        user,
+        archive,
+        preference,
+        is_dry,
+        is_emptied,
+    }))
+}
+
+/// Which of the folder and its replica is preferred, where one is.
+fn folder_preference_given(found: &ArgMatches<'_>) -> Result<Option<Side>, LineError>
+    ensures ok { IfOk result (MayHaveFolderSide (rows_of (found_of found.now))) }
+    ensures lacks { IfErr result (IsLack Verb.Reconcile (rows_of (found_of found.now))) }
+{
+    match optional_text(found, ValueName::FolderPreference) {
+        Some(text) => Ok(Some(folder_side(text)?)),
+        None => Ok(None),
+    }
+}
+
 fn serve_line<'a>(found: &ArgMatches<'a>) -> Result<Line<'a>, LineError>
     ensures ok { IfOk result (IsLineOf Verb.Serve (rows_of (found_of found.now))) }
     ensures lacks { IfErr result (IsLack Verb.Serve (rows_of (found_of found.now))) }
@@ -249,11 +286,31 @@ fn sync_line<'a>(found: &ArgMatches<'a>) -> Result<Line<'a>, LineError>
     let left = text(found, ValueName::Left)?;
     let right = text(found, ValueName::Right)?;
     let preference = preference_given(found, Verb::Sync)?;
-    Ok(Line::Session(Pairing {
-        between: Between::Servers { left, right },
-        archive,
-        preference,
-    }))
+    match seconds_given(found)? {
+        Some(seconds) => Ok(Line::Keep(KeepLine {
+            left,
+            right,
+            archive,
+            preference,
+            seconds,
+        })),
+        None => Ok(Line::Session(Pairing {
+            between: Between::Servers { left, right },
+            archive,
+            preference,
+        })),
+    }
+}
+
+fn seconds_given(found: &ArgMatches<'_>) -> Result<Option<u64>, LineError>
+    ensures ok { IfOk result (MayHaveNumber 64 (rows_of (found_of found.now))
+        (name_of ValueName.Seconds)) }
+    ensures lacks { IfErr result (IsLack Verb.Sync (rows_of (found_of found.now))) }
+{
+    match optional_text(found, ValueName::Seconds) {
+        Some(text) => Ok(Some(number(text, ValueName::Seconds)?)),
+        None => Ok(None),
+    }
 }
 
 fn run_line<'a>(found: &ArgMatches<'a>) -> Result<Line<'a>, LineError>

@@ -17,12 +17,14 @@ pub enum ValueName {
     Folder,
     Address,
     Connections,
+    Seconds,
     Lines,
     Archive,
     Left,
     Right,
     Script,
     Preference,
+    FolderPreference,
 }
 
 impl ValueName {
@@ -41,11 +43,12 @@ impl ValueName {
             ValueName::Folder => "DIR",
             ValueName::Address => "ADDR",
             ValueName::Connections | ValueName::Lines => "N",
+            ValueName::Seconds => "SECONDS",
             ValueName::Archive => "ARCHIVE",
             ValueName::Left => "LEFT",
             ValueName::Right => "RIGHT",
             ValueName::Script => "SCRIPT",
-            ValueName::Preference => "SIDE",
+            ValueName::Preference | ValueName::FolderPreference => "SIDE",
         }
     }
 
@@ -53,12 +56,12 @@ impl ValueName {
     pub fn wanted(self) -> &'static str {
         match self {
             ValueName::Kind => "'replica' or 'archive'",
-            ValueName::Pair | ValueName::Connections | ValueName::Lines => {
-                "a decimal number below 2^64"
-            }
+            ValueName::Pair | ValueName::Connections | ValueName::Seconds | ValueName::Lines =>
+                "a decimal number below 2^64",
             ValueName::User => "a decimal number below 2^32",
             ValueName::Mode => "three octal digits",
             ValueName::Preference => "'left' or 'right'",
+            ValueName::FolderPreference => "'folder' or 'replica'",
             _ => "there",
         }
     }
@@ -74,6 +77,10 @@ impl ValueName {
                 "Where the folder goes: to the root where no path is given"
             }
             (ValueName::Folder, Verb::Import) => "The folder that is read",
+            (ValueName::Folder, Verb::Reconcile) => "The folder, which may be missing",
+            (ValueName::Archive, Verb::Reconcile) => {
+                "The file of what both last agreed on, made where it is missing: else FILE.folder"
+            }
             (ValueName::Left, Verb::Sync) => "HOST:PORT of the server of the left replica",
             (ValueName::Right, Verb::Sync) => "HOST:PORT of the server of the right replica",
             (ValueName::Left, Verb::Plan) => {
@@ -100,6 +107,9 @@ impl ValueName {
             ValueName::Folder => "The folder, which is missing or empty without '--update'",
             ValueName::Address => "HOST:PORT to listen at",
             ValueName::Connections => "Ends when N connections were served, below 2^64",
+            ValueName::Seconds => {
+                "Goes on: looks every SECONDS seconds, and runs a session where a side has changed"
+            }
             ValueName::Lines => "Prints N lines at most: all where no number is given",
             ValueName::Archive => "The file that has the archive",
             ValueName::Left => "The file that has the left replica",
@@ -107,6 +117,9 @@ impl ValueName {
             ValueName::Script => "The file that has the steps, one a line",
             ValueName::Preference => {
                 "Where both sides changed, SIDE overwrites the other: 'left' or 'right'"
+            }
+            ValueName::FolderPreference => {
+                "Where both changed, SIDE overwrites the other: 'folder' or 'replica'"
             }
         }
     }
@@ -121,7 +134,7 @@ fn file_help(verb: Verb) -> &'static str {
         Verb::Export | Verb::Import => {
             "The file that has the replica, or with '--served' HOST:PORT of its server"
         }
-        Verb::Serve | Verb::Log => "The file that has the replica",
+        Verb::Reconcile | Verb::Serve | Verb::Log => "The file that has the replica",
         _ => "The file that has the image",
     }
 }

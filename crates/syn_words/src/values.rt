@@ -2,7 +2,8 @@
 ghost use Rattle.std.specs.Prelude.{◌≡◌, ◌≢◌, ◌↔◌, ℕ, IfOk, IfErr, OnErr, Some, None, IsTrue};
 ghost use Rattle.std.specs.Prelude.{IfSome, IfNone};
 ghost use Rattle.clap.specs.Words.{first_of, found_of, rows_of};
-ghost use Rattle.syn_words.specs.Reads.{HasPlace, IsNumber, IsSet, kind_word, side_word};
+ghost use Rattle.syn_words.specs.Reads.{HasPlace, IsNumber, IsSet, folder_side_word, kind_word};
+ghost use Rattle.syn_words.specs.Reads.{side_word};
 ghost use Rattle.syn_words.specs.Verbs.{name_of};
 ghost use Rattle.syn_words.specs.declared.error.LineError.TheVariants.{Value};
 ghost use Rattle.syn_words.specs.declared.line.ImageKind.{ImageKind};
@@ -111,6 +112,19 @@ pub(crate) fn side(text: &str) -> Result<Side, LineError>
         "left" => Ok(Side::Left),
         "right" => Ok(Side::Right),
         _ => Err(LineError::Value(ValueName::Preference)),
+    }
+}
+
+/// The folder, as the left side, or the replica, as the right one, which the text names.
+pub(crate) fn folder_side(text: &str) -> Result<Side, LineError>
+    ensures ok { IfOk result (λ side. text.now ≡ folder_side_word side) }
+    ensures value { IfErr result (λ error. error ≡ Value ValueName.FolderPreference) }
+    ensures nothing { OnErr result ((side : Named) → text.now ≢ folder_side_word side) }
+{
+    match text {
+        "folder" => Ok(Side::Left),
+        "replica" => Ok(Side::Right),
+        _ => Err(LineError::Value(ValueName::FolderPreference)),
     }
 }
 

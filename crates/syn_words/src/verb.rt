@@ -30,6 +30,8 @@ pub enum Verb {
     Export,
     /// Makes a part of a replica what a folder is.
     Import,
+    /// Makes a folder and a replica the same.
+    Reconcile,
     /// Serves a replica.
     Serve,
     /// Runs a session of two replicas that are served.
@@ -44,7 +46,7 @@ pub enum Verb {
 
 impl Verb {
     /// All commands, in the order of the help.
-    pub const ALL: [Verb; 16] = [
+    pub const ALL: [Verb; 17] = [
         Verb::Format,
         Verb::Put,
         Verb::MakeDir,
@@ -56,6 +58,7 @@ impl Verb {
         Verb::Log,
         Verb::Export,
         Verb::Import,
+        Verb::Reconcile,
         Verb::Serve,
         Verb::Sync,
         Verb::Run,
@@ -79,6 +82,7 @@ impl Verb {
             Verb::Log => "log",
             Verb::Export => "export",
             Verb::Import => "import",
+            Verb::Reconcile => "reconcile",
             Verb::Serve => "serve",
             Verb::Sync => "sync",
             Verb::Run => "run",
@@ -107,6 +111,7 @@ impl Verb {
             Verb::Show | Verb::Check | Verb::Migrate | Verb::Log => &[ValueName::File],
             Verb::Export => &[ValueName::File, ValueName::Folder],
             Verb::Import => &[ValueName::File, ValueName::User, ValueName::Folder],
+            Verb::Reconcile => &[ValueName::Folder, ValueName::File, ValueName::User],
             Verb::Serve => &[ValueName::File, ValueName::Address],
             Verb::Sync => &[ValueName::Archive, ValueName::Left, ValueName::Right],
             Verb::Run | Verb::Plan => &[ValueName::Left, ValueName::Right, ValueName::Archive],
@@ -137,6 +142,9 @@ impl Verb {
             Verb::Import => {
                 "Makes a replica, or a directory of it, what the folder DIR is, by edits of USER"
             }
+            Verb::Reconcile => {
+                "Makes the folder DIR and the replica in FILE the same, by what both last agreed on"
+            }
             Verb::Serve => "Serves the replica in FILE at ADDR, to users and to `syn sync`",
             Verb::Sync => "Runs one session of two replicas that are served, and prints its report",
             Verb::Run => "Runs one session of two replicas in files, and prints its report",
@@ -165,6 +173,7 @@ pub(crate) fn read_verb(word: &str) -> Option<Verb>
         "log" => Some(Verb::Log),
         "export" => Some(Verb::Export),
         "import" => Some(Verb::Import),
+        "reconcile" => Some(Verb::Reconcile),
         "serve" => Some(Verb::Serve),
         "sync" => Some(Verb::Sync),
         "run" => Some(Verb::Run),

@@ -1,0 +1,261 @@
+//! Two servers that are kept the same: a session runs whenever one of them has changed.
+
+use crate::named::{NamedDisks, archive_in};
+use crate::sessions::{Telling, Told};
+use crate::upkeep::shorten_archive;
+use std::alloc::Global;
+use std::io::{self, ErrorKind, Write};
+use std::net::{Net, TcpListener, TcpStream};
+use std::thread;
+use std::time::{Clock, Duration};
+use syn_command::{CommandError, Outcome};
+use syn_coordinator::Coordinator;
+use syn_daemon::{reach, sync};
+use syn_disk::Disk;
+use syn_image::Kept;
+use syn_message::{Answered, Reply};
+use syn_path::Side;
+use syn_print::show_report;
+use syn_refusal::Refusal;
+use syn_session::{End, Report, Sending};
+use syn_sync::{Progress, Watch};
+use syn_user::SideConnection;
+use syn_words::KeepLine;
+
+/// Runs a session of the line's servers, and another one each time that a side has changed since.
+/// It looks every so many seconds, at least one, and an idle pair is written nothing. A report is
+/// printed where something was done, refused or came into conflict. A side that cannot be reached
+/// is told once, and tried again.
+///
+/// It goes on as long as the process. Refused as an opening of the archive is, 9 where its device
+/// fails or the output cannot be written, and as `sync` is.
+pub fn keep_servers<H, N, O, E>(
+    rt: &H,
+    alloc: Global,
+    disks: &N,
+    line: &KeepLine<'_>,
+    telling: Telling,
+    output: &mut O,
+    errors: &mut E,
+) -> Result<Outcome, CommandError>
+where
+    H: Net<Listener = TcpListener, Stream = TcpStream> + Clock,
+    N: NamedDisks,
+    O: Write,
+    E: Write,
+{
+    let archive = archive_in(alloc, disks, line.archive)?;
+    let coordinator = Coordinator::new(alloc, archive);
+    match telling {
+        Telling::Nothing => keep(rt, alloc, coordinator, line, &mut Lost(errors), output),
+        Telling::Items | Telling::ItemsAndCounts => {
+            let counts = telling == Telling::ItemsAndCounts;
+            let mut progress = Progress::new(alloc, errors, counts);
+            keep(rt, alloc, coordinator, line, &mut progress, output)
+        }
+    }
+}
+
+/// Tells which side cannot be reached, and nothing else.
+#[derive(Drop)]
+struct Lost<'e, E>(&'e mut E);
+
+impl<E: Write> Watch for Lost<'_, E> {
+    fn unreached(&mut self, side: Side, why: &io::Error) {
+        let name = match side {
+            Side::Left => "left",
+            Side::Right => "right",
+        };
+        let _ = writeln!(self.0, "syn: the {name} server cannot be reached: {why}");
+    }
+
+    fn sent(&mut self, _sending: &Sending) {}
+
+    fn heard(&mut self, _from: Side, _answered: &Answered) {}
+
+    fn planned(&mut self, _items: usize) {}
+
+    fn kept(&mut self, _kept: &[Kept]) {}
+}
+
+impl<E: Write> Told for Lost<'_, E> {
+    fn ended(&mut self, _report: &Report) {}
+}
+
+/// Counts the events that a session adds to each side: its begin and its replacements.
+#[derive(Drop)]
+struct Counted<'w, V> {
+    watch: &'w mut V,
+    /// The position of each side after what the session has added to it so far.
+    left: u64,
+    right: u64,
+}
+
+impl<V: Watch> Watch for Counted<'_, V> {
+    fn unreached(&mut self, side: Side, why: &io::Error) {
+        self.watch.unreached(side, why);
+    }
+
+    fn sent(&mut self, sending: &Sending) {
+        self.watch.sent(sending);
+    }
+
+    fn heard(&mut self, from: Side, answered: &Answered) {
+        let after = match from {
+            Side::Left => &mut self.left,
+            Side::Right => &mut self.right,
+        };
+        match answered.reply {
+            Reply::Begun { position } => *after = position,
+            Reply::Done => *after = after.saturating_add(1),
+            _ => {}
+        }
+        self.watch.heard(from, answered);
+    }
+
+    fn planned(&mut self, items: usize) {
+        self.watch.planned(items);
+    }
+
+    fn kept(&mut self, kept: &[Kept]) {
+        self.watch.kept(kept);
+    }
+}
+
+/// What is known since the last session.
+#[derive(Clone, Copy)]
+struct Settled {
+    /// The positions of both sides after it, where it was complete.
+    positions: Option<(u64, u64)>,
+    /// How many conflicts it left.
+    conflicts: usize,
+    /// Whether it was told that a side cannot be reached.
+    is_told: bool,
+}
+
+/// Runs a session whenever a side has changed.
+fn keep<H, D, V, O>(
+    rt: &H,
+    alloc: Global,
+    mut coordinator: Coordinator<D>,
+    line: &KeepLine<'_>,
+    watch: &mut V,
+    output: &mut O,
+) -> Result<Outcome, CommandError>
+where
+    H: Net<Listener = TcpListener, Stream = TcpStream> + Clock,
+    D: Disk + Drop,
+    V: Told,
+    O: Write,
+{
+    let mut settled = Settled {
+        positions: None,
+        conflicts: 0,
+        is_told: false,
+    };
+    for _round in 0..u64::MAX {
+        if let Some(found) = positions(rt, alloc, line, watch, &mut settled) {
+            if settled.positions != Some(found) {
+                settled = session(rt, alloc, &mut coordinator, line, watch, output, settled)?;
+            }
+        }
+        thread::sleep(rt, Duration::from_secs(line.seconds.max(1)));
+    }
+    Ok(Outcome::Done)
+}
+
+/// The positions of both sides. A side that cannot be reached is told, unless that was told since
+/// both were reached last.
+fn positions<H: Net<Stream = TcpStream>, V: Watch>(
+    rt: &H,
+    alloc: Global,
+    line: &KeepLine<'_>,
+    watch: &mut V,
+    settled: &mut Settled,
+) -> Option<(u64, u64)> {
+    let (side, error) = match position(rt, alloc, line.left) {
+        Ok(left) => match position(rt, alloc, line.right) {
+            Ok(right) => {
+                settled.is_told = false;
+                return Some((left, right));
+            }
+            Err(error) => (Side::Right, error),
+        },
+        Err(error) => (Side::Left, error),
+    };
+    if !settled.is_told {
+        watch.unreached(side, &error);
+        settled.is_told = true;
+    }
+    None
+}
+
+/// The position of the replica that is served at the address.
+fn position<H: Net<Stream = TcpStream>>(rt: &H, alloc: Global, address: &str) -> io::Result<u64> {
+    let stream = reach(rt, address)?;
+    let mut side = SideConnection::new(alloc, &stream, &stream);
+    let found = side.position(alloc);
+    found.map_err(|_| io::Error::from(ErrorKind::ConnectionAborted))
+}
+
+/// Runs one session, prints its report where that says something new, and answers what is known
+/// since. Where a side was lost, the next look tries again.
+fn session<H, D, V, O>(
+    rt: &H,
+    alloc: Global,
+    coordinator: &mut Coordinator<D>,
+    line: &KeepLine<'_>,
+    watch: &mut V,
+    output: &mut O,
+    before: Settled,
+) -> Result<Settled, CommandError>
+where
+    H: Net<Listener = TcpListener, Stream = TcpStream> + Clock,
+    D: Disk,
+    V: Told,
+    O: Write,
+{
+    let mut counted = Counted {
+        watch: &mut *watch,
+        left: 0,
+        right: 0,
+    };
+    let (left, right) = (line.left, line.right);
+    let went = sync(
+        rt,
+        alloc,
+        coordinator,
+        left,
+        right,
+        line.preference,
+        &mut counted,
+    );
+    let after = (counted.left, counted.right);
+    match went {
+        Err(Refusal::Device) if !coordinator.archive().is_halted() => {
+            return Ok(Settled {
+                positions: None,
+                is_told: true,
+                ..before
+            });
+        }
+        went => went?,
+    }
+    let Some(report) = coordinator.report() else {
+        return Err(CommandError::Refused(Refusal::NoAnswer));
+    };
+    watch.ended(report);
+    let is_complete = report.end == End::Complete;
+    let conflicts = report.conflicts.len();
+    let is_new = report.done > 0 || report.marked > 0 || conflicts != before.conflicts;
+    if is_new || !is_complete {
+        show_report(alloc, report, output)?;
+        output.flush()?;
+    }
+    shorten_archive(alloc, coordinator);
+    Ok(Settled {
+        positions: is_complete.then_some(after),
+        conflicts,
+        is_told: false,
+    })
+}

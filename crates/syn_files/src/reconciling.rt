@@ -1,0 +1,243 @@
+//! A folder and the replica of a name, which are made the same.
+
+use crate::named::{NamedDisks, archive_on, replica_in, replica_to_read};
+use crate::sessions::Telling;
+use std::alloc::{AllocError, Global};
+use std::fs::Files;
+use std::io::{self, ErrorKind, Write};
+use syn_archive::Archive;
+use syn_command::{CommandError, Outcome, outcome_planned};
+use syn_disk::{Disk, MemDisk};
+use syn_file::{Access, OpenError};
+use syn_folder::{EditedFolder, SystemFolder};
+use syn_path::Side;
+use syn_print::{counts_of, show_plan};
+use syn_reconcile::{Outcome as Settlement, ReconcileError, Report, WhenEmpty, plan, reconcile};
+use syn_replica::Replica;
+use syn_words::ReconcileLine;
+
+/// Makes the line's folder and its replica the same, by what both last agreed on, prints a report,
+/// and answers what it came to. What no replica can have is told to `errors`, and left alone on
+/// both sides; each item that is carried or marked is told, too, unless nothing is to be.
+///
+/// Refused as the replica and the archive are opened, 9 and 13 as the folder is read, and as
+/// `reconcile` is: what was carried before stands then, and the same line goes on.
+pub fn reconcile_named<N: NamedDisks, F: Files, O: Write, E: Write>(
+    alloc: Global,
+    disks: &N,
+    files: &F,
+    line: &ReconcileLine<'_>,
+    telling: Telling,
+    output: &mut O,
+    errors: &mut E,
+) -> Result<Outcome, CommandError> {
+    let name = archive_name(alloc, line)?;
+    let replica = replica_in(alloc, disks, line.file)?;
+    let mut archive = archive_or_new(alloc, disks, &name, replica.pair())?;
+    let mut folder = SystemFolder::open_or_missing(alloc, files, line.folder)?;
+    tell_strangers(&folder, errors);
+    let settled = reconcile(
+        alloc,
+        &mut folder,
+        replica,
+        &mut archive,
+        line.user,
+        line.preference,
+        when_empty(line),
+    );
+    match settled {
+        Ok((_, report)) => {
+            if telling != Telling::Nothing {
+                tell_items(&report, errors);
+            }
+            print_report(&report, output)?;
+            Ok(outcome_of(&report))
+        }
+        Err((error, _)) => Err(told(error, line, errors)),
+    }
+}
+
+/// Prints what `reconcile_named` would do, and answers what there is to do. Nothing is written, and
+/// an archive that is missing is not made.
+///
+/// Refused as the replica and the archive are opened to read, 9 and 13 as the folder is read, and
+/// as `plan` of `syn_reconcile` is.
+pub fn plan_named<N: NamedDisks, F: Files, O: Write, E: Write>(
+    alloc: Global,
+    disks: &N,
+    files: &F,
+    line: &ReconcileLine<'_>,
+    output: &mut O,
+    errors: &mut E,
+) -> Result<Outcome, CommandError> {
+    let name = archive_name(alloc, line)?;
+    let replica = replica_to_read(alloc, disks, line.file)?;
+    let folder = SystemFolder::open_or_missing(alloc, files, line.folder)?;
+    tell_strangers(&folder, errors);
+    match disks.lock(&name, Access::Read) {
+        Err(error) if is_missing(&error) => {
+            let archive = empty_archive(alloc, replica.pair())?;
+            plan_opened(alloc, &folder, &replica, &archive, line, output, errors)
+        }
+        locked => {
+            let archive = archive_on(alloc, locked)?;
+            plan_opened(alloc, &folder, &replica, &archive, line, output, errors)
+        }
+    }
+}
+
+/// Prints what is to be done of the folder, the replica and the archive.
+fn plan_opened<F: EditedFolder, R: Disk, A: Disk, O: Write, E: Write>(
+    alloc: Global,
+    folder: &F,
+    replica: &Replica<R>,
+    archive: &Archive<A>,
+    line: &ReconcileLine<'_>,
+    output: &mut O,
+    errors: &mut E,
+) -> Result<Outcome, CommandError> {
+    let when_empty = when_empty(line);
+    let compared = match plan(alloc, folder, replica, archive, line.preference, when_empty) {
+        Ok(compared) => compared,
+        Err(error) => return Err(told(error, line, errors)),
+    };
+    let (on_left, on_right) = (compared.left.tree(), compared.right.tree());
+    show_plan(
+        alloc,
+        &compared.items,
+        on_left,
+        on_right,
+        archive.tree(),
+        output,
+    )?;
+    let conflicts = counts_of(&compared.items).conflicts;
+    Ok(outcome_planned(compared.items.len(), conflicts))
+}
+
+/// The file of what both last agreed on: the one that is named, or else one beside the replica.
+fn archive_name(alloc: Global, line: &ReconcileLine<'_>) -> Result<String, AllocError> {
+    match line.archive {
+        Some(name) => String::from_str(alloc, name),
+        None => format!(in alloc; "{}.folder", line.file),
+    }
+}
+
+/// The archive of that name, which no other process may open meanwhile. Where it is missing it is
+/// made, for the pair.
+fn archive_or_new<N: NamedDisks>(
+    alloc: Global,
+    disks: &N,
+    name: &str,
+    pair: u64,
+) -> Result<Archive<N::Disk>, CommandError> {
+    match disks.lock(name, Access::Write) {
+        Err(error) if is_missing(&error) => {
+            disks.make_archive(alloc, name, pair)?;
+            archive_on(alloc, disks.lock(name, Access::Write))
+        }
+        locked => archive_on(alloc, locked),
+    }
+}
+
+/// Whether there is no file of the name.
+fn is_missing(error: &OpenError) -> bool {
+    match error {
+        OpenError::System(error) => error.kind() == ErrorKind::NotFound,
+        _ => false,
+    }
+}
+
+/// An archive in memory, on which nothing is agreed.
+fn empty_archive(alloc: Global, pair: u64) -> Result<Archive<MemDisk>, CommandError> {
+    let disk = MemDisk::new(alloc, Vec::new(alloc))?;
+    Archive::format(alloc, disk, pair).map_err(|(error, _)| CommandError::from(error))
+}
+
+/// What is done where one side has become empty.
+fn when_empty(line: &ReconcileLine<'_>) -> WhenEmpty {
+    if line.is_emptied {
+        WhenEmpty::Carry
+    } else {
+        WhenEmpty::Refuse
+    }
+}
+
+/// Tells what stands in the folder and no replica can have.
+fn tell_strangers<F: EditedFolder, E: Write>(folder: &F, errors: &mut E) {
+    for stranger in folder.strangers() {
+        let _ = writeln!(errors, "syn: skipped {stranger}");
+    }
+}
+
+/// Tells each item that was carried or marked.
+fn tell_items<E: Write>(report: &Report, errors: &mut E) {
+    for settled in &report.settled {
+        let path = settled.path();
+        let _ = match settled.outcome() {
+            Settlement::Done => writeln!(errors, "carried {path}"),
+            Settlement::Marked => writeln!(errors, "marked {path}"),
+            Settlement::Conflict | Settlement::Refused(_) => Ok(()),
+        };
+    }
+}
+
+/// Prints how the reconciliation ended, a line of its numbers, and one for each conflict and each
+/// refused item, in path order.
+fn print_report<O: Write>(report: &Report, output: &mut O) -> io::Result<()> {
+    let (conflicts, refused) = (report.conflicts(), report.refused());
+    let end = if refused > 0 {
+        "incomplete"
+    } else {
+        "complete"
+    };
+    writeln!(output, "reconcile {end}")?;
+    let (done, marked) = (report.done(), report.marked());
+    writeln!(
+        output,
+        "done {done} marked {marked} conflicts {conflicts} refused {refused}"
+    )?;
+    for settled in &report.settled {
+        let path = settled.path();
+        match settled.outcome() {
+            Settlement::Conflict => writeln!(output, "conflict {path}")?,
+            Settlement::Refused(why) => writeln!(output, "refused {} {path}", why.number())?,
+            Settlement::Done | Settlement::Marked => {}
+        }
+    }
+    Ok(())
+}
+
+/// What the report came to.
+fn outcome_of(report: &Report) -> Outcome {
+    if report.refused() > 0 {
+        Outcome::Incomplete
+    } else if report.conflicts() > 0 {
+        Outcome::Conflicts
+    } else {
+        Outcome::Done
+    }
+}
+
+/// Why the folder and the replica are not reconciled. That a side is empty is told in a line, since
+/// its number alone says too little.
+fn told<E: Write>(error: ReconcileError, line: &ReconcileLine<'_>, errors: &mut E) -> CommandError {
+    match error {
+        ReconcileError::Empty(side) => {
+            let empty = match side {
+                Side::Left => line.folder,
+                Side::Right => line.file,
+            };
+            let _ = writeln!(
+                errors,
+                "syn: {empty} is empty or missing, and was not: --emptied empties the other, too"
+            );
+            CommandError::Refused(error.refusal())
+        }
+        ReconcileError::Replica(error) => CommandError::Replica(error),
+        ReconcileError::Archive(error) => CommandError::Archive(error),
+        ReconcileError::TooMany | ReconcileError::OtherPair | ReconcileError::Unplanned(_) => {
+            CommandError::Refused(error.refusal())
+        }
+        ReconcileError::Memory => CommandError::Memory,
+    }
+}
