@@ -1,6 +1,6 @@
 -- What the looks at a folder show.
 use Rattle.std.proofs.Common.{◌≡◌, ℕ, List, [], ◌∷◌, ◌++◌, length, map, take, inl, inr, sym, subst}
-use Rattle.std.proofs.Common.{ap, ◌∙◌, arith, refl, append-nil, Option, Some, None, ◌<◌, ◌+◌}
+use Rattle.std.proofs.Common.{ap, ◌∙◌, arith, append-nil, Option, Some, None, ◌<◌, ◌+◌}
 use Rattle.std.proofs.Common.{get_or, Bor, ◌↔◌}
 use Rattle.std.proofs.lemmas.List.{map-append, take_more}
 use Rattle.std.specs.Option.{option_to_list}

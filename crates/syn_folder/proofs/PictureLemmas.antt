@@ -1,5 +1,5 @@
 -- A tree that has what the looks show.
-use Rattle.std.proofs.Common.{◌≡◌, ◌≢◌, ◌↔◌, ℕ, List, [], ◌∷◌, ◌++◌, length, map, inl, inr, sym}
+use Rattle.std.proofs.Common.{◌≡◌, ◌↔◌, ℕ, List, [], ◌∷◌, ◌++◌, length, map, inl, inr, sym}
 use Rattle.std.proofs.Common.{subst}
 use Rattle.std.proofs.Common.{ap, ◌∙◌, refl, Option, Some, None, Bool, true, false, cond, ◌&&◌}
 use Rattle.std.proofs.Common.{◌⊎◌, Vec, Global, append-nil, if◌then◌else◌, option_map, ◌==◌}
@@ -17,7 +17,7 @@ use Rattle.syn_model.specs.Tree.{Content, Directory, IsTree, Pair, Tree, empty_d
 use Rattle.syn_model.proofs.PathLemmas.{path_itself, same_path}
 use Rattle.syn_placed.specs.Pairs.{Pairs, rooted, tree_with}
 use Rattle.syn_placed.proofs.FindLemmas.{find_after}
-use Rattle.syn_placed.proofs.RisingLemmas.{After, Rising, are_rising}
+use Rattle.syn_placed.proofs.RisingLemmas.{Rising, are_rising}
 use Rattle.syn_placed.proofs.TreeLemmas.{from_entries-same, rising-entries}
 use Rattle.syn_tree.specs.Entries.{AreEntries}
 use Rattle.syn_folder.specs.Looks.{AreShown, FitsNoReplica, IsSeenAt, IsStrangeName, IsToldOf}
@@ -195,7 +195,7 @@ refused_whole pairs other is over tree has lawful fits =
     let no : fits_replica tree ≡ false = ap fits_replica same ∙ over in
     absurd cc
 
-both : (a b : Bool) → (a && b) ≡ true → (a ≡ true) × (b ≡ true)
+pub both : (a b : Bool) → (a && b) ≡ true → (a ≡ true) × (b ≡ true)
 both true b h = (refl, h)
 both false b h = absurd cc
 

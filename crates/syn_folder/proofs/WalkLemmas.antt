@@ -1,6 +1,10 @@
 -- A walk through a folder.
-use Rattle.std.proofs.Common.{◌≡◌, List, [], ◌∷◌, ◌++◌, map, inl, inr, sym, subst, ap, ◌∙◌, Vec}
-use Rattle.std.proofs.Common.{ℕ, Global, refl}
+use Rattle.std.proofs.Common.{◌≡◌, List, [], ◌∷◌, ◌++◌, map, inl, inr, sym, subst, Vec}
+use Rattle.std.proofs.Common.{ℕ, Global, refl, ap₂, true}
+use Rattle.std.specs.Prelude.{bytes_eq}
+use Rattle.std.specs.Cmp.Lexicographic.{pointwise}
+use Rattle.std.proofs.lemmas.Slice.Eq.{bytes_eq-Decides}
+use Rattle.syn_folder.proofs.PictureLemmas.{both}
 use Rattle.std.specs.List.{Contains}
 use Rattle.std.specs.List.Sorted.{IsPermutation}
 use Rattle.std.proofs.lemmas.List.{map-append}
@@ -83,3 +87,13 @@ lists_nothing (shown.File look bytes) other name within = contains_none name wit
 lists_nothing (shown.Strange because) other name within = contains_none name within
 lists_nothing shown.Unread other name within = contains_none name within
 lists_nothing shown.Changed other name within = contains_none name within
+
+-- names that compare as equal are the same
+pub same_names : (p q : Path) → pointwise bytes_eq p q ≡ true → p ≡ q
+same_names [] [] same = refl
+same_names [] (y ∷ q) same = absurd cc
+same_names (x ∷ p) [] same = absurd cc
+same_names (x ∷ p) (y ∷ q) same =
+    let parts = both (bytes_eq x y) (pointwise bytes_eq p q) same in
+    ap₂ (λ a b. a ∷ b) ((bytes_eq-Decides x y).0 parts.0)
+    (same_names p q parts.1)

@@ -1,5 +1,5 @@
 -- What the looks at a folder of the system make of it.
-use Rattle.std.specs.Prelude.{◌≡◌, ◌≢◌, ◌≤◌, ◌<◌, ◌↔◌, ◌⊎◌, ℕ, ◌%◌, ◌==◌, nat_lt, ◌&&◌, not}
+use Rattle.std.specs.Prelude.{◌≡◌, ◌≢◌, ◌≤◌, ◌<◌, ◌↔◌, ◌⊎◌, ◌%◌, ◌==◌, ◌&&◌, not}
 use Rattle.std.specs.Prelude.{Bool, true, false, if◌then◌else◌, List, [], ◌∷◌, ◌++◌, length, map}
 use Rattle.std.specs.Prelude.{All, Contains, filter_map, Option, Some, None, option_map}
 use Rattle.std.specs.Prelude.{string_bytes}
@@ -158,6 +158,16 @@ content_in _ = None
 abbrev pub node_of : Seen → Option Pair
 node_of seen = if is_root seen.path then None
     else option_map (λ content. (seen.path, content)) (content_in seen.shown)
+
+-- both show the same file or directory at one path
+abbrev pub IsSameNode : Seen → Seen → Type 0
+IsSameNode seen other = (seen.path ≡ other.path)
+    × (content_in seen.shown ≡ content_in other.shown)
+
+-- what was seen is no file or directory, or was seen again
+abbrev pub IsSeenAgain : List Seen → Seen → Type 0
+IsSeenAgain again seen = (content_in seen.shown ≡ None)
+    ⊎ ((other : Seen) × Contains again other × IsSameNode other seen)
 
 abbrev pub look_in : Shown → Option Look
 look_in (shown.Directory look listing) = Some look

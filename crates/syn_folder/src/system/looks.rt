@@ -1,6 +1,7 @@
 //! What the system shows of a folder: one look at each path.
 ghost use Rattle.std.specs.Fs.{metadata_len, metadata_mode};
-ghost use Rattle.std.specs.Prelude.{◌≡◌, ◌%◌};
+ghost use Rattle.std.specs.Prelude.{◌≡◌, ◌%◌, None, false, true};
+ghost use Rattle.syn_folder.specs.Looks.{IsSameNode, content_in};
 ghost use Rattle.syn_tree.specs.Modes.{mode_of};
 
 use crate::stranger::Strangeness;
@@ -68,12 +69,16 @@ pub(super) enum Shown {
 
 impl Shown {
     /// It is a file or a directory that a replica can have.
-    pub(super) fn is_node(&self) -> bool {
+    pub(super) fn is_node(&self) -> bool
+        ensures { result ≡ false → content_in self.now ≡ None }
+    {
         matches!(self, Shown::Directory(..) | Shown::File(..))
     }
 
     /// The same file or directory is shown.
-    fn is_same_node(&self, other: &Shown) -> bool {
+    fn is_same_node(&self, other: &Shown) -> bool
+        ensures { result ≡ true → content_in self.now ≡ content_in other.now }
+    {
         match (self, other) {
             (Shown::Directory(look, _), Shown::Directory(other, _)) => look == other,
             (Shown::File(look, bytes), Shown::File(other, other_bytes)) => {
@@ -93,7 +98,9 @@ pub(super) struct Seen {
 
 impl Seen {
     /// The same file or directory was seen.
-    pub(super) fn is_same_node(&self, other: &Seen) -> bool {
+    pub(super) fn is_same_node(&self, other: &Seen) -> bool
+        ensures { result ≡ true → IsSameNode self.now other.now }
+    {
         self.path == other.path && self.shown.is_same_node(&other.shown)
     }
 

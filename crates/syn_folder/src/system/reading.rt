@@ -1,7 +1,8 @@
 //! Reads a folder of the system twice, and compares what was seen.
 
-ghost use Rattle.std.specs.Prelude.{◌≡◌, ◌≢◌, [], All, IfOk, OnOk};
-ghost use Rattle.syn_folder.specs.Looks.{IsFolderRead, IsPicture};
+ghost use Rattle.std.specs.Prelude.{◌≡◌, ◌≢◌, [], true, All, Contains, IfOk, OnOk};
+ghost use Rattle.syn_folder.specs.Looks.{IsFolderRead, IsPicture, IsSameNode, IsSeenAgain};
+ghost use Rattle.syn_folder.specs.declared.system.looks.Seen.{Seen as Look};
 
 use crate::error::FolderError;
 use crate::system::looks::{Seen, Shown};
@@ -83,17 +84,11 @@ fn note_changes(
     second: &[Seen],
     changed: &mut Vec<Path>,
 ) -> Result<(), AllocError>
-    ensures { OnOk result (changed.new.items ≡ [] → changed.old.items ≡ []) }
+    ensures kept { OnOk result (changed.new.items ≡ [] → changed.old.items ≡ []) }
+    ensures again { OnOk result (changed.new.items ≡ []
+        → All (λ seen. IsSeenAgain second.now seen) first.now) }
 {
-    for (index, one) in first.iter().enumerate() {
-        let is_there = match second.get(index) {
-            Some(other) => other.is_same_node(one),
-            None => false,
-        };
-        if one.shown.is_node() && !is_there && !second.iter().any(|other| other.is_same_node(one)) {
-            note(alloc, &one.path, changed)?;
-        }
-    }
+    note_gone(alloc, first, second, changed)?;
     for (index, other) in second.iter().enumerate() {
         let is_there = match first.get(index) {
             Some(one) => one.is_node_at(&other.path),
@@ -109,6 +104,44 @@ fn note_changes(
     Ok(())
 }
 
+/// Puts to the changed paths those at which the first walk saw a file or a directory that the
+/// second did not see again.
+fn note_gone(
+    alloc: Global,
+    first: &[Seen],
+    second: &[Seen],
+    changed: &mut Vec<Path>,
+) -> Result<(), AllocError>
+    ensures kept { OnOk result (changed.new.items ≡ [] → changed.old.items ≡ []) }
+    ensures again { OnOk result (changed.new.items ≡ []
+        → All (λ seen. IsSeenAgain second.now seen) first.now) }
+{
+    for (index, one) in first.iter().enumerate() {
+        if one.shown.is_node() && !is_again(one, index, second) {
+            note(alloc, &one.path, changed)?;
+        }
+    }
+    Ok(())
+}
+
+/// The same file or directory was seen again, most likely at this place.
+fn is_again(one: &Seen, index: usize, second: &[Seen]) -> bool
+    ensures { result ≡ true → (other : Look) × Contains second.now other
+        × IsSameNode other one.now }
+{
+    if let Some(other) = second.get(index) {
+        if other.is_same_node(one) {
+            return true;
+        }
+    }
+    for other in second {
+        if other.is_same_node(one) {
+            return true;
+        }
+    }
+    false
+}
+
 /// Puts the paths to the changed ones, unless they are among them.
 fn note_all(alloc: Global, paths: &[Path], changed: &mut Vec<Path>) -> Result<(), AllocError>
     ensures { OnOk result (changed.new.items ≡ [] → changed.old.items ≡ []) }
@@ -121,7 +154,8 @@ fn note_all(alloc: Global, paths: &[Path], changed: &mut Vec<Path>) -> Result<()
 
 /// Puts the path to the changed ones, unless it is among them.
 fn note(alloc: Global, path: &Path, changed: &mut Vec<Path>) -> Result<(), AllocError>
-    ensures { OnOk result (changed.new.items ≡ [] → changed.old.items ≡ []) }
+    ensures kept { OnOk result (changed.new.items ≡ [] → changed.old.items ≡ []) }
+    ensures some { OnOk result (changed.new.items ≢ []) }
 {
     if !changed.iter().any(|other| other == path) {
         changed.push(path.copy(alloc)?)?;

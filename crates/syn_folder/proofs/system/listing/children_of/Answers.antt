@@ -1,10 +1,8 @@
-use Rattle.std.proofs.Common.{◌≡◌, length, map, option_map, arith, subst, sym, Bor, List, ap, ◌∙◌}
-use Rattle.std.proofs.Common.{ℕ, Vec, Global, [], ◌∷◌}
-use Rattle.std.proofs.lemmas.List.{map-append}
+use Rattle.std.proofs.Common.{◌≡◌, length, map, arith, subst, sym, Bor, List, ap, ◌∙◌}
+use Rattle.std.proofs.Common.{Vec, Global}
 use Rattle.syn_path.specs.declared.path.Path.{Path}
-use Rattle.syn_folder.specs.declared.stranger.Stranger.{Stranger}
 use Rattle.std.specs.List.Sorted.{IsPermutation}
-use Rattle.syn_folder.specs.Looks.{IsChildOf, IsStrangeName, pieces, told}
+use Rattle.syn_folder.specs.Looks.{IsChildOf, pieces}
 use Rattle.syn_model.specs.Path.{Bytes}
 use Rattle.syn_folder.proofs.LookLemmas.{named_option, named_all, pushed_some, pushed_none}
 use Rattle.syn_folder.proofs.system.listing.children_of.Goals as goal

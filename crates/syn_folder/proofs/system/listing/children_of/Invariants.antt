@@ -1,4 +1,4 @@
-use Rattle.std.proofs.Common.{◌≡◌, map, take}
+use Rattle.std.proofs.Common.{map, take}
 use Rattle.syn_folder.specs.Looks.{AreShown, IsChildOf}
 use Rattle.syn_folder.proofs.system.listing.children_of.Given as goal
 

@@ -1,4 +1,4 @@
-use Rattle.std.proofs.Common.{◌==◌, rules, tests, ◌∙◌, sym}
+use Rattle.std.proofs.Common.{◌==◌, rules, tests, ◌∙◌}
 use Rattle.std.proofs.lemmas.Iterator.Consumers.{YieldsList-at, YieldsList-from_filter}
 use Rattle.std.proofs.lemmas.Iterator.Consumers.{count_from_yields_List}
 use Rattle.std.proofs.lemmas.Iterator.Splits.{YieldsList-from_slice_split}

@@ -1,4 +1,4 @@
-use Rattle.std.proofs.Common.{◌≡◌, map, take}
+use Rattle.std.proofs.Common.{map, take}
 use Rattle.syn_folder.specs.Looks.{AreShown, IsStrangeName, told}
 use Rattle.syn_folder.proofs.system.listing.strange_names.Given as goal
 

@@ -1,4 +1,4 @@
-use Rattle.std.proofs.Common.{◌≡◌, Some, sym, ap, ◌∙◌, subst, false, length, ◌==◌, List}
+use Rattle.std.proofs.Common.{◌≡◌, Some, sym, ap, ◌∙◌, false, length, ◌==◌}
 use Rattle.syn_folder.specs.Looks.{content_in, look_in}
 use Rattle.syn_model.specs.Path.{Path, is_root}
 use Rattle.syn_model.specs.Tree.{Pair}

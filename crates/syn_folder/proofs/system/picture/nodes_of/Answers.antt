@@ -1,4 +1,4 @@
-use Rattle.std.proofs.Common.{◌≡◌, List, [], ◌∷◌, ◌++◌, map, sym, ap, ◌∙◌, append_assoc, option_map}
+use Rattle.std.proofs.Common.{[], ◌∷◌, ◌++◌, map, sym, ap, ◌∙◌, append_assoc, option_map}
 use Rattle.std.proofs.lemmas.List.{map-append}
 use Rattle.syn_folder.specs.Looks.{look_of, node_of, placed}
 use Rattle.syn_folder.proofs.PictureLemmas.{filtered_none, filtered_some}

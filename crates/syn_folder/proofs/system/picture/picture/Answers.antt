@@ -1,5 +1,5 @@
-use Rattle.std.proofs.Common.{◌≡◌, List, inl, inr, map, refl, sym, ap, ◌∙◌, subst, Option, IfSome}
-use Rattle.std.proofs.Common.{IfNone, IfOk}
+use Rattle.std.proofs.Common.{◌≡◌, List, inl, inr, map, refl, ap, ◌∙◌, subst, Option, IfSome}
+use Rattle.std.proofs.Common.{IfNone}
 use Rattle.std.specs.FinMap.{entries}
 use Rattle.std.proofs.lemmas.Result.{IfOk-weaker}
 use Rattle.syn_folder.specs.declared.system.picture.FolderRead.{FolderRead}
@@ -7,7 +7,7 @@ use Rattle.syn_model.specs.Tree.{Tree}
 use Rattle.syn_folder.specs.Looks.{AreShown, FitsNoReplica, ShowsStranger, told}
 use Rattle.syn_folder.specs.declared.stranger.Strangeness.TheVariants.{Count, Room}
 use Rattle.syn_folder.specs.declared.system.looks.Seen.{Seen}
-use Rattle.syn_placed.specs.Pairs.{Pairs, rooted}
+use Rattle.syn_placed.specs.Pairs.{rooted}
 use Rattle.syn_folder.proofs.PictureLemmas.{by_path, over_picture}
 use Rattle.syn_folder.proofs.system.picture.picture.Goals as goal
 

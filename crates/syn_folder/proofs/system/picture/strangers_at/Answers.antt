@@ -1,8 +1,7 @@
-use Rattle.std.proofs.Common.{◌≡◌, List, [], ◌∷◌, ◌++◌, map, ◌↔◌, ◌∙◌, ap, Vec, Global}
-use Rattle.std.specs.List.{Contains}
+use Rattle.std.proofs.Common.{[], ◌∷◌, ◌++◌, map, ◌∙◌, ap, Vec, Global}
 use Rattle.std.proofs.lemmas.List.{map-append}
 use Rattle.std.proofs.lemmas.Result.{IfOk-weaker}
-use Rattle.syn_folder.specs.Looks.{AreShown, IsStrangeName, ShowsStranger, Told, pieces, told}
+use Rattle.syn_folder.specs.Looks.{told}
 use Rattle.syn_folder.specs.declared.stranger.Stranger.{Stranger}
 use Rattle.syn_folder.proofs.PictureLemmas.{of_crowded, of_directory}
 use Rattle.syn_folder.proofs.system.picture.strangers_at.Goals as goal

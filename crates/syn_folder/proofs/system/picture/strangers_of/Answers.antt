@@ -2,7 +2,7 @@ use Rattle.std.proofs.Common.{◌≡◌, List, [], ◌∷◌, ◌++◌, map, tak
 use Rattle.std.proofs.Common.{arith}
 use Rattle.std.proofs.Math.Seq.{take-length}
 use Rattle.std.proofs.lemmas.List.{map-append, take_more}
-use Rattle.syn_folder.specs.Looks.{AreShown, ShowsStranger, Told, told}
+use Rattle.syn_folder.specs.Looks.{AreShown, ShowsStranger, told}
 use Rattle.syn_folder.specs.declared.system.looks.Seen.{Seen}
 use Rattle.syn_folder.proofs.LookLemmas.{shown_more}
 use Rattle.syn_folder.proofs.system.picture.strangers_of.Goals as goal

@@ -1,4 +1,4 @@
-use Rattle.std.proofs.Common.{◌≡◌, ◌≢◌, List, [], ◌∷◌, ◌++◌, get_or, sym, ap, ◌∙◌, subst, Vec}
+use Rattle.std.proofs.Common.{◌≢◌, sym, ap, ◌∙◌, subst, Vec}
 use Rattle.std.proofs.Common.{Global}
 use Rattle.std.proofs.lemmas.List.Elements.{All-more}
 use Rattle.syn_path.specs.declared.path.Path.{Path}

@@ -1,4 +1,4 @@
-use Rattle.std.proofs.Common.{◌≡◌, ◌<◌, ℕ, List, [], ◌++◌, length, take, sym, ap, ◌∙◌, subst}
+use Rattle.std.proofs.Common.{ℕ, List, [], take, sym, ◌∙◌, subst}
 use Rattle.std.proofs.Common.{append-nil, arith, refl}
 use Rattle.std.specs.Io.KnownBytes.{Consumes}
 use Rattle.syn_folder.proofs.StreamLemmas.{consumed_all, consumed_more, consumed_none}

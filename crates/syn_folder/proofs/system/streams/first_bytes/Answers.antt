@@ -1,4 +1,4 @@
-use Rattle.std.proofs.Common.{◌≡◌, ℕ, List, ◌++◌, take, subst, sym, IfSome, option_map}
+use Rattle.std.proofs.Common.{◌≡◌, ℕ, List, ◌++◌, take, subst, IfSome, option_map}
 use Rattle.syn_folder.proofs.StreamLemmas.{taken}
 use Rattle.syn_folder.proofs.system.streams.first_bytes.Goals as goal
 

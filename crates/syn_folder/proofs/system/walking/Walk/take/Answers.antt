@@ -1,4 +1,4 @@
-use Rattle.std.proofs.Common.{◌≡◌, List, sym, subst}
+use Rattle.std.proofs.Common.{List, sym, subst}
 use Rattle.syn_folder.specs.Looks.{IsFollowed}
 use Rattle.syn_folder.specs.declared.system.looks.Seen.{Seen}
 use Rattle.syn_folder.proofs.WalkLemmas.{followed_more}
