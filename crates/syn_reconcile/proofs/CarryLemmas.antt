@@ -1,17 +1,16 @@
 -- What comes of an item for which the replica is not written.
-use Rattle.std.proofs.Common.{◌≡◌, ◌∙◌, ℕ, List, Option, Some, None, Result, Ok, Err, ap, refl}
+use Rattle.std.proofs.Common.{◌≡◌, ◌∙◌, ℕ, List, Option, Some, None, Result, Ok, Err, ap}
 use Rattle.std.proofs.Common.{subst}
 use Rattle.std.proofs.Common.{sym}
 use Rattle.std.specs.Prelude.{IfErr, IfNone, IfOk, MatchResult}
 use Rattle.std.proofs.lemmas.Result.{IfOk-at_ok, IfOk-weaker, MatchResult-at_err}
 use Rattle.std.proofs.lemmas.Result.{MatchResult-from_both, MatchResult-weaker}
-use Rattle.syn_archive.specs.Archive.{Stands as Keeps, marks_shown}
+use Rattle.syn_archive.specs.Archive.{marks_shown}
 use Rattle.syn_archive.specs.declared.archive.Archive.{Archive}
 use Rattle.syn_disk.specs.declared.disk.Disk.{Ghosts}
-use Rattle.syn_model.specs.Archive as model
 use Rattle.syn_model.specs.Decision.{Item}
 use Rattle.syn_model.specs.History.{History}
-use Rattle.syn_model.specs.Plan.{Trees, after_item}
+use Rattle.syn_model.specs.Plan.{Trees}
 use Rattle.syn_model.specs.Tree.{Tree}
 use Rattle.syn_refusal.specs.declared.refusal.Refusal.{Refusal}
 use Rattle.syn_replica.specs.Replica.{Stands, disk_of, pair_of, tree_shown}

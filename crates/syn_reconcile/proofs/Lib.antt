@@ -4,3 +4,4 @@ mod SettleLemmas
 mod StrangerLemmas
 mod CarryLemmas
 mod RunLemmas
+mod PlannableLemmas

@@ -1,7 +1,7 @@
 -- What a record leaves of an archive's marks.
-use Rattle.std.proofs.Common.{◌≡◌, ◌∙◌, ◌⊎◌, Bool, ℕ, List, true, false, ap, cond, inl, inr}
+use Rattle.std.proofs.Common.{◌≡◌, ◌∙◌, Bool, ℕ, List, true, false, ap, cond, inl, inr}
 use Rattle.std.proofs.Common.{option_map}
-use Rattle.std.proofs.Common.{arith, refl, subst, sym}
+use Rattle.std.proofs.Common.{refl, subst, sym}
 use Rattle.syn_archive.proofs.MeaningLemmas.{keeps_stands}
 use Rattle.syn_archive.proofs.StandLemmas.{keeps_now, not_written}
 use Rattle.syn_archive.specs.Archive.{KeepsBeforeOrAfter, KeepsOrCompacts, Stands, disk_of}
@@ -21,7 +21,7 @@ use Rattle.syn_model.specs.Tree.{Tree, absent, empty_directory, is_directory, re
 use Rattle.syn_model.proofs.MarkLemmas.{get-mark}
 use Rattle.syn_model.proofs.TreeLemmas.{same_tree}
 use Rattle.syn_reconcile.specs.Settlings.{KeepsMarks}
-use Rattle.syn_reconcile.specs.Stops.{HasEitherMarks, HasMarks}
+use Rattle.syn_reconcile.specs.Stops.{HasEitherMarks}
 
 marks_by : (b : Bool) (kept : model.Archive) (marks : Tree)
     → (cond b kept (record kept { marks = marks })).marks ≡ cond b kept.marks marks

@@ -1,9 +1,8 @@
 -- What a run has reached at some moment.
-use Rattle.std.proofs.Common.{◌≡◌, ◌∙◌, ◌⊎◌, ◌++◌, ◌∷◌, [], ℕ, List, Option, Some, None, fold, map}
-use Rattle.std.proofs.Common.{ap, append_assoc, arith, inl, inr, refl, subst, sym}
+use Rattle.std.proofs.Common.{◌≡◌, ◌∙◌, ◌++◌, ◌∷◌, [], ℕ, List, Option, None, map}
+use Rattle.std.proofs.Common.{ap, append_assoc, inl, inr, refl, subst, sym}
 use Rattle.std.specs.Prelude.{IfNone}
 use Rattle.std.proofs.lemmas.List.{map-append}
-use Rattle.std.specs.List.{AllByRecursion}
 use Rattle.syn_archive.proofs.MeaningLemmas.{keeps_stands as marks_stand}
 use Rattle.syn_archive.proofs.StandLemmas.{keeps_now as marks_now}
 use Rattle.syn_archive.specs.Archive.{Stands as Keeps, disk_of as marks_disk, marks_shown}
@@ -21,7 +20,7 @@ use Rattle.syn_model.specs.Event.{Edit, Edited}
 use Rattle.syn_model.specs.History.{History, tree_of}
 use Rattle.syn_model.specs.Plan.{Trees, after_item, carried_out}
 use Rattle.syn_model.specs.Tree.{Tree}
-use Rattle.syn_recon.specs.Items.{item_of, items_of}
+use Rattle.syn_recon.specs.Items.{item_of}
 use Rattle.syn_recon.specs.declared.item.Item.{Item as Planned}
 use Rattle.syn_refusal.specs.declared.refusal.Refusal.{Refusal}
 use Rattle.syn_replica.specs.Disks.{DiskStands}

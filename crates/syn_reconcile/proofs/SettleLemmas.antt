@@ -1,5 +1,5 @@
 -- What items that are carried out or refused leave.
-use Rattle.std.proofs.Common.{◌≡◌, ◌∙◌, ◌⊎◌, ◌++◌, ◌∷◌, [], ℕ, List, Option, Some, None, fold, map}
+use Rattle.std.proofs.Common.{◌≡◌, ◌∙◌, ◌++◌, ◌∷◌, [], ℕ, List, fold, map}
 use Rattle.std.proofs.Common.{ap, append-nil, append_assoc, inl, inr, refl, subst, sym}
 use Rattle.std.proofs.lemmas.List.{map-append}
 use Rattle.syn_archive.specs.Archive.{Stands as Keeps, marks_shown}
@@ -9,11 +9,11 @@ use Rattle.syn_disk.proofs.LeftLemmas.{leaves_weaker}
 use Rattle.syn_disk.specs.declared.disk.Disk.{Ghosts}
 use Rattle.syn_model.proofs.HistoryLemmas.{tree_of-append}
 use Rattle.syn_model.specs.Archive as model
-use Rattle.syn_model.specs.Event.{Edit, Edited, after_event}
+use Rattle.syn_model.specs.Event.{Edited, after_event}
 use Rattle.syn_model.specs.History.{History, tree_of}
 use Rattle.syn_model.specs.Plan.{Trees}
 use Rattle.syn_model.specs.Standing.{Standing}
-use Rattle.syn_model.specs.Tree.{Tree, replace}
+use Rattle.syn_model.specs.Tree.{Tree}
 use Rattle.syn_replica.proofs.StandLemmas.{keeps_now, keeps_stands}
 use Rattle.syn_replica.specs.Disks.{DiskStands}
 use Rattle.syn_replica.specs.Edits.{event_by}

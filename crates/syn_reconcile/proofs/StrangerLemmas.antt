@@ -1,5 +1,5 @@
 -- Which items leave strangers alone.
-use Rattle.std.proofs.Common.{◌≡◌, ◌++◌, ◌∷◌, [], List, arith, inl, inr, subst, suc, sym, zero}
+use Rattle.std.proofs.Common.{◌++◌, ◌∷◌, [], List, arith, inl, inr, subst, suc, zero}
 use Rattle.std.proofs.lemmas.List.Elements.{Contains-append_cases}
 use Rattle.syn_folder.specs.declared.stranger.Stranger.{Stranger}
 use Rattle.syn_model.specs.Decision.{Item}

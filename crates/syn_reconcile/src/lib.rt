@@ -13,9 +13,8 @@
 //!   put into the folder. The folder's tree, the replica's and the marks are then what the items
 //!   leave that were not refused, and the replica's history is the old one and edits of the user
 //!   (`carried`).
-//! - Where no item was refused, folder, replica and marks are what the plan leaves (`whole`). The
-//!   laws of the plan (`plan_laws` of syn_model) say that this is what the definition of a
-//!   synchronization asks.
+//! - Where no item was refused, folder, replica and marks are what the plan leaves (`whole`), and
+//!   so what the definition of a synchronization asks (`synchronized`, `reconciled`).
 //! - A stop at any device call of either image leaves on the replica's disk what some of the
 //!   items leave of it, each of them whole, by edits of the user (`any_moment`), and on the
 //!   archive's disk the marks of that (`any_mark`).

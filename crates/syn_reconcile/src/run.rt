@@ -7,7 +7,8 @@ ghost use Rattle.syn_disk.specs.Stops.{LeavesOnly};
 ghost use Rattle.syn_model.specs.Archive.{Archive as Kept};
 ghost use Rattle.syn_model.specs.History.{History};
 ghost use Rattle.syn_model.specs.Mark.{AreApart as ApartByDigest};
-ghost use Rattle.syn_model.specs.Plan.{IsReconciled, IsSynchronized, after_plan, scan_of};
+ghost use Rattle.syn_model.specs.Plan.{CanBePlanned, IsReconciled, IsSynchronized};
+ghost use Rattle.syn_model.specs.Plan.{after_plan, scan_of};
 ghost use Rattle.syn_model.specs.Plan.{plan as plan_of};
 ghost use Rattle.syn_path.specs.Sides.{which_of};
 ghost use Rattle.syn_recon.specs.Items.{items_of};
@@ -104,6 +105,20 @@ pub fn reconcile<F: EditedFolder, R: Disk, A: Disk>(
         ≡ after_plan (option_map which_of preference)
         (trees_of (F.tree folder.old) replica archive.old)) }
 
+    // So they are what the definition of a synchronization asks, if no two files that folder and
+    // replica had at one path differ with one digest; and so are the marks, without this premise.
+    ensures synchronized { (history : History) (kept : Kept) → Stands replica history
+        → Keeps archive.old kept → IfOk result (λ done. NoneRefused done.1.settled.items
+        → ApartByDigest (F.tree folder.old) (tree_shown replica)
+        → IsSynchronized (option_map which_of preference)
+        (trees_of (F.tree folder.old) replica archive.old)
+        (trees_of (F.tree folder.new) done.0 archive.new)) }
+    ensures reconciled { (history : History) (kept : Kept) → Stands replica history
+        → Keeps archive.old kept → IfOk result (λ done. NoneRefused done.1.settled.items
+        → IsReconciled (option_map which_of preference)
+        (trees_of (F.tree folder.old) replica archive.old)
+        (trees_of (F.tree folder.new) done.0 archive.new)) }
+
     // Whenever the machine stops, the replica's disk has what some of the items leave, by edits of
     // the user, and the archive's disk has the marks of that.
     ensures any_moment { (history : History) (kept : Kept) → Stands replica history
@@ -142,10 +157,26 @@ pub fn reconcile<F: EditedFolder, R: Disk, A: Disk>(
         (trees_of (F.tree folder.old) replica archive.old) done.1.settled.items) }
 {
     plan_laws();
+    tell_types(folder, &replica, archive);
     let compared = match plan(alloc, folder, &replica, archive, preference, when_empty) {
         Ok(compared) => compared,
         Err(error) => return Err((error, replica.into_disk())),
     };
     let (replica, settled) = carry_all(alloc, folder, replica, archive, user, compared.items)?;
     Ok((replica, Report { settled }))
+}
+
+/// Does nothing. It says what the types of the three trees keep: a plan of them can be made.
+fn tell_types<F: EditedFolder, R: Disk, A: Disk>(
+    folder: &F,
+    replica: &Replica<R>,
+    archive: &Archive<A>,
+)
+    ensures folder { CanBePlanned (F.tree folder.now) }
+    ensures replica { CanBePlanned (tree_shown replica.now) }
+    ensures archive { CanBePlanned (marks_shown archive.now) }
+{
+    let _ = folder.tree().entries();
+    let _ = replica.tree().entries();
+    let _ = archive.tree().as_slice();
 }

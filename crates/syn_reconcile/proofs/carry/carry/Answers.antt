@@ -1,11 +1,11 @@
-use Rattle.std.proofs.Common.{◌≡◌, ◌∙◌, ap, ap₂, refl, subst, sym, Some, None, Ok}
+use Rattle.std.proofs.Common.{◌≡◌, ap, refl, subst, sym, Some, None, Ok}
 use Rattle.std.specs.Prelude.{IfErr, IfNone, IfOk, MatchResult}
-use Rattle.std.proofs.lemmas.Result.{IfOk-weaker, MatchResult-from_both, MatchResult-weaker}
+use Rattle.std.proofs.lemmas.Result.{IfOk-weaker}
 use Rattle.syn_archive.specs.Archive.{disk_of as marks_disk, marks_shown, pair_of as marks_pair}
 use Rattle.syn_disk.specs.Stops.{LeavesOnly}
-use Rattle.syn_model.specs.Decision.{Item, Conflict, MarkDir, MarkSame, ToLeft, ToRight}
+use Rattle.syn_model.specs.Decision.{Item, MarkDir, MarkSame, ToLeft, ToRight}
 use Rattle.syn_model.specs.Mark.{mark}
-use Rattle.syn_model.specs.Plan.{after_item, with_directory}
+use Rattle.syn_model.specs.Plan.{after_item}
 use Rattle.syn_model.specs.Tree.{Tree, replace, subtree}
 use Rattle.syn_recon.specs.Items.{item_of}
 use Rattle.syn_replica.specs.Replica.{disk_of, pair_of, tree_shown}

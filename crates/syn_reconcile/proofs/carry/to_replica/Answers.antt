@@ -1,4 +1,4 @@
-use Rattle.std.proofs.Common.{◌≡◌, ◌++◌, map, refl, subst, sym}
+use Rattle.std.proofs.Common.{◌++◌, map, refl, subst, sym}
 use Rattle.syn_archive.specs.Archive.{marks_shown}
 use Rattle.syn_change.specs.Changes.{AreChanges}
 use Rattle.syn_disk.specs.Stops.{LeavesOnly}

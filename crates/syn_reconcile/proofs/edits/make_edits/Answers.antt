@@ -1,7 +1,7 @@
-use Rattle.std.proofs.Common.{List, ℕ, map, subst, sym}
+use Rattle.std.proofs.Common.{map, subst, sym}
 use Rattle.std.proofs.lemmas.Result.{MatchResult-weaker}
 use Rattle.syn_disk.specs.Stops.{LeavesOnly}
-use Rattle.syn_reconcile.proofs.EditLemmas.{Leaves, made_in_turn, none_yet}
+use Rattle.syn_reconcile.proofs.EditLemmas.{made_in_turn, none_yet}
 use Rattle.syn_reconcile.specs.Stops.{NoneOrAll}
 use Rattle.syn_replica.specs.Edits.{event_by}
 use Rattle.syn_replica.specs.Replica.{disk_of, pair_of}

@@ -1,25 +1,21 @@
 use Rattle.std.proofs.Common.{◌≡◌, ◌∙◌, ◌++◌, ◌∷◌, [], ap, append-nil, append_assoc, arith, List}
-use Rattle.std.proofs.Common.{inl, map, refl, subst, sym}
+use Rattle.std.proofs.Common.{map, refl, subst, sym}
 use Rattle.std.proofs.lemmas.List.{map-append, nil_from_length}
-use Rattle.syn_archive.specs.Archive.{Stands as Keeps, disk_of as marks_disk, marks_shown}
+use Rattle.syn_archive.specs.Archive.{disk_of as marks_disk}
 use Rattle.syn_archive.specs.Archive.{pair_of as marks_pair}
 use Rattle.syn_disk.specs.Stops.{LeavesOnly}
 use Rattle.syn_folder.specs.declared.stranger.Stranger.{Stranger}
 use Rattle.syn_model.proofs.ExitLemmas.{if_err_of_exit, match_of_exit}
 use Rattle.syn_model.specs.Event.{Edited}
-use Rattle.syn_model.specs.Plan.{Trees, after_item}
-use Rattle.syn_model.specs.Tree.{Tree}
+use Rattle.syn_model.specs.Plan.{Trees}
 use Rattle.syn_recon.specs.Items.{item_of, items_of}
 use Rattle.syn_replica.specs.Replica.{disk_of, pair_of, tree_shown}
 use Rattle.std.specs.Prelude.{IfNone}
-use Rattle.syn_reconcile.proofs.EditLemmas.{still as replica_still}
-use Rattle.syn_reconcile.proofs.MarkLemmas.{still as marks_still}
-use Rattle.syn_reconcile.proofs.RunLemmas.{after_more, apart_more, marks_left, more_edits}
+use Rattle.syn_reconcile.proofs.RunLemmas.{after_more, apart_more}
 use Rattle.syn_reconcile.proofs.RunLemmas.{reached_then, started_marks, started_tree, step_marks}
 use Rattle.syn_reconcile.proofs.RunLemmas.{step_tree, stopped, stopped_between}
 use Rattle.syn_reconcile.proofs.SettleLemmas.{goes_further, stays}
 use Rattle.syn_reconcile.specs.Settlings.{GoesOn, after_all, after_settled, items_in, trees_of}
-use Rattle.syn_reconcile.specs.Stops.{HasEitherMarks, HasEitherTree}
 use Rattle.syn_reconcile.specs.Strangers.{LeavesAlone}
 use Rattle.syn_reconcile.specs.UnderWay.{AreApart, IsStopped, ReachesTree}
 use Rattle.syn_reconcile.specs.declared.report.Settled.{Settled}

@@ -1,4 +1,4 @@
-use Rattle.std.proofs.Common.{◌≡◌, ◌∙◌, ap, option_map}
+use Rattle.std.proofs.Common.{◌∙◌, ap, option_map}
 use Rattle.syn_model.specs.Plan.{plan, scan_of}
 use Rattle.syn_model.specs.Tree.{Tree}
 use Rattle.syn_path.specs.Sides.{which_of}

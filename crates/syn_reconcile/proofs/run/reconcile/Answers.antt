@@ -1,11 +1,9 @@
-use Rattle.std.proofs.Common.{◌≡◌, ◌∙◌, ap, List, Some, None, option_map, refl, subst, sym}
-use Rattle.std.specs.Prelude.{IfErr, IfOk}
-use Rattle.std.proofs.lemmas.Result.{IfOk-at_ok}
+use Rattle.std.proofs.Common.{◌∙◌, ap, List, option_map, refl, subst, sym}
 use Rattle.syn_archive.specs.Archive.{disk_of as marks_disk, pair_of as marks_pair}
 use Rattle.syn_disk.specs.Stops.{LeavesOnly}
 use Rattle.syn_model.proofs.ExitLemmas.{if_err_of_exit, match_of_exit}
 use Rattle.syn_model.specs.Decision.{Item}
-use Rattle.syn_model.specs.Plan.{carried_out}
+use Rattle.syn_model.specs.Plan.{IsReconciled, IsSynchronized, carried_out}
 use Rattle.syn_path.specs.Sides.{which_of}
 use Rattle.syn_replica.specs.Replica.{disk_of, pair_of}
 use Rattle.syn_reconcile.proofs.RunLemmas.{all_carried, none_yet, started_marks, started_tree}
@@ -149,3 +147,35 @@ returns-clause-any_mark g c history kept stands keeps =
     subst (λ (xs : List Item). LeavesOnly g.A.Disk.moment g.A.Disk.left_since (marks_disk marks)
     (marks_disk c.carry_all.new.archive) (ReachesMarks xs (marks_pair marks) found)) is
     (c.in_ok-replica.ensures.any_mark history kept stands keeps)
+
+pub returns-clause-synchronized : goal.returns-clause-synchronized
+returns-clause-synchronized g c history kept stands keeps none apart =
+    let tree = g.F.EditedFolder.tree in
+    let folder = tree c.args.folder.now in
+    let old = c.args.replica in
+    let marks = c.args.archive.now in
+    let found = trees_of folder old marks in
+    let preference = option_map which_of c.args.preference in
+    let on = c.in_ok-replica.ensures.carried history kept stands keeps in
+    let settled = c.in_ok-replica.settled.items in
+    let whole = on.are ∙ (all_carried found settled none
+    ∙ ap (carried_out found) (c.in_ok-replica.ensures.items ∙ c.in-Ok.ensures.plan)) in
+    subst (IsSynchronized preference found) (sym whole)
+    (c.plan_laws.ensures.synchronizes preference found c.tell_types.ensures.folder
+    c.tell_types.ensures.replica c.tell_types.ensures.archive apart)
+
+pub returns-clause-reconciled : goal.returns-clause-reconciled
+returns-clause-reconciled g c history kept stands keeps none =
+    let tree = g.F.EditedFolder.tree in
+    let folder = tree c.args.folder.now in
+    let old = c.args.replica in
+    let marks = c.args.archive.now in
+    let found = trees_of folder old marks in
+    let preference = option_map which_of c.args.preference in
+    let on = c.in_ok-replica.ensures.carried history kept stands keeps in
+    let settled = c.in_ok-replica.settled.items in
+    let whole = on.are ∙ (all_carried found settled none
+    ∙ ap (carried_out found) (c.in_ok-replica.ensures.items ∙ c.in-Ok.ensures.plan)) in
+    subst (IsReconciled preference found) (sym whole)
+    (c.plan_laws.ensures.reconciles preference found c.tell_types.ensures.folder
+    c.tell_types.ensures.replica c.tell_types.ensures.archive)
