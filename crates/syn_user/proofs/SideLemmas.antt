@@ -4,19 +4,21 @@ use Rattle.std.proofs.Common.{subst, append-nil, zero-add, add-zero, add_assoc, 
 use Rattle.std.proofs.lemmas.Grind.{flat_map-append}
 use Rattle.std.proofs.lemmas.Result.{IfOk-weaker}
 use Rattle.std.specs.Io.KnownBytes.{Appends}
-use Rattle.std.specs.Prelude.{Result, IfOk}
+use Rattle.std.specs.Prelude.{Result, Ok, Err, IfErr, IfOk}
 use Rattle.syn_headline.specs.Side.{Piece, Refused, Request}
 use Rattle.syn_link.specs.Frames.{Bytes, frame_of}
 use Rattle.syn_message.specs.Replies.{reply_of}
 use Rattle.syn_message.specs.Requests.{IsLawfulAsking, asking_spelling}
 use Rattle.syn_message.specs.declared.reply.Reply.{Reply}
+use Rattle.syn_message.specs.declared.reply.Reply.TheVariants as told
 use Rattle.syn_model.specs.Refusal.{Touched}
 use Rattle.syn_model.specs.Spelling.{spelling}
 use Rattle.syn_model.specs.Tree.{Tree}
 use Rattle.syn_refusal.specs.Refusals.{cause_of}
+use Rattle.syn_refusal.specs.declared.refusal.Refusal.{Refusal}
 use Rattle.syn_user.specs.Sides.{ArePiecesOf, AreFetched, IsHeard, IsRefusedFor, IsReplied}
-use Rattle.syn_user.specs.Sides.{IsTouchedSince, NoPieces, Pieces, SideLine, asking_at, bytes_of}
-use Rattle.syn_user.specs.Sides.{root_from}
+use Rattle.syn_user.specs.Sides.{IsForeign, IsTouchedSince, IsUnanswered, IsUnheard, NoPieces}
+use Rattle.syn_user.specs.Sides.{Pieces, SideLine, asking_at, bytes_of, root_from, unheard}
 use Rattle.syn_user.specs.declared.error.UserError.{UserError}
 use Rattle.syn_user.specs.declared.error.UserError.TheVariants as has
 
@@ -46,6 +48,45 @@ replied_so old new request written lawful adds same r =
       };
       heard = record { lawful = heard.lawful; came = heard.came; next = heard.next };
     })
+
+unheard_before : (old new : SideLine) (written : Option Bytes) (error : UserError)
+    → IsUnheard (sent_line old written) new error → IsUnheard old new error
+unheard_before old new written (has.Refused why) is = is
+unheard_before old new written has.Device is = is
+unheard_before old new written has.Memory is = is
+unheard_before old new written has.BadFrame is = is
+unheard_before old new written has.TooLarge is = is
+unheard_before old new written has.BadMessage is = is
+
+-- and where nothing is heard then, it is not answered
+pub unanswered_so : (old new : SideLine) (request : Request) (written : Option Bytes)
+    → IsLawfulAsking (asking_at old request)
+    → Appends old.written written (frame_of (asking_spelling (asking_at old request)))
+    → new.written ≡ written → (r : Result Reply UserError)
+    → IfErr r (IsUnheard (sent_line old written) new)
+    → IfErr r (IsUnanswered old new request)
+unanswered_so old new request written lawful adds same (Ok reply) is = is
+unanswered_so old new request written lawful adds same (Err error) is = unheard
+    (record {
+      lawful = lawful;
+      written = subst (λ w. Appends old.written w
+          (frame_of (asking_spelling (asking_at old request)))) (sym same) adds;
+    }) (unheard_before old new written error is)
+
+-- a reply that no listing is answered with
+pub foreign_reply : (reply : Reply)
+    → ((position : _) (entries : _) → reply ≡ told.Listed position entries → ⊥)
+    → ((position : _) → reply ≡ told.NotDir position → ⊥)
+    → ((why : Refusal) → reply ≡ told.Refused why → ⊥) → IsForeign (reply_of reply)
+foreign_reply (told.Begun position) no_list no_directory no_refusal = tt
+foreign_reply (told.Listed position entries) no_list no_directory no_refusal =
+    absurd (no_list position entries refl)
+foreign_reply (told.NotDir position) no_list no_directory no_refusal =
+    absurd (no_directory position refl)
+foreign_reply (told.Piece total bytes) no_list no_directory no_refusal = tt
+foreign_reply told.Staged no_list no_directory no_refusal = tt
+foreign_reply told.Done no_list no_directory no_refusal = tt
+foreign_reply (told.Refused why) no_list no_directory no_refusal = absurd (no_refusal why refl)
 
 -- one piece more, from where those before it ended
 fetched_more : (position offset end : ℕ) (a b c : SideLine) (pieces : Pieces) (piece : ℕ × Bytes)

@@ -1,11 +1,14 @@
 -- What a side of a session is asked over a connection, what it tells, and the tree that it tells.
-use Rattle.std.specs.Prelude.{◌≡◌, ◌≤◌, ◌+◌, ℕ, List, [], ◌∷◌, length, Option, Some, flat_map}
+use Rattle.std.specs.Prelude.{◌≡◌, ◌≢◌, ◌⊎◌, ◌≤◌, ◌+◌, ℕ, List, [], ◌∷◌, length, Option, Some}
+use Rattle.std.specs.Prelude.{flat_map}
 use Rattle.std.specs.Io.KnownBytes.{Appends}
 use Rattle.syn_headline.specs.Side.{Fetch, ListAt, Listed, NotDir, Piece, Refused, Reply, Request}
-use Rattle.syn_link.specs.Frames.{Bytes, frame_of}
-use Rattle.syn_link.specs.Streams.{Comes}
+use Rattle.syn_link.specs.Frames.{AppendsSome, Bytes, frame_of}
+use Rattle.syn_link.specs.Streams.{Comes, ComesAtFault, EndsBefore}
+use Rattle.syn_link.specs.declared.error.LinkError.TheVariants as link
 use Rattle.syn_message.specs.Replies.{IsLawfulReply, answering_spelling}
 use Rattle.syn_message.specs.Requests.{Asking, IsLawfulAsking, asking_spelling}
+use Rattle.syn_model.specs.Path.{Path}
 use Rattle.syn_model.specs.Refusal.{Touched}
 use Rattle.syn_model.specs.Spelling.{spelling}
 use Rattle.syn_model.specs.Tree.{Tree}
@@ -35,6 +38,10 @@ side_line remaining contents connection = record {
   next = connection.next;
 }
 
+-- nothing was asked yet
+abbrev pub first_line : Option Bytes → Option Bytes → SideLine
+first_line given written = record { given = given; held = []; written = written; next = 0 }
+
 -- the request with this number, and with the one that is next
 abbrev pub asking_with : ℕ → Request → Asking
 asking_with number request = record { session = SESSION; number = number; request = request }
@@ -61,6 +68,41 @@ module _ (old new : SideLine) where
     pub asked : IsAsked request
     pub heard : IsHeard reply
 
+-- no reply to the request with the number that was next has this body
+abbrev pub IsNoReply : SideLine → Bytes → Type 0
+IsNoReply line body = (reply : Reply) → IsLawfulReply reply → body ≢ answering_spelling
+    (record { session = SESSION; number = line.next; reply = reply })
+
+module _ (old new : SideLine) where
+  -- nothing was read
+  abbrev pub IsUnread : Type 0
+  IsUnread = (new.given ≡ old.given) × (new.held ≡ old.held)
+
+  -- Why no reply was read: for a read that failed, or the end of the reader; for memory, also where
+  -- a body came; for the frame; or for a body that is no reply
+  abbrev pub IsUnheard : UserError → Type 0
+  IsUnheard (has.Refused why) = ⊥
+  IsUnheard has.Device = ComesAtFault old.given new.given old.held new.held link.Device
+      ⊎ EndsBefore old.given new.given old.held new.held
+  IsUnheard has.Memory = ComesAtFault old.given new.given old.held new.held link.Memory
+      ⊎ ((body : Bytes) × Comes old.given new.given old.held new.held (Some body))
+  IsUnheard has.BadFrame = ComesAtFault old.given new.given old.held new.held link.BadFrame
+  IsUnheard has.TooLarge = ComesAtFault old.given new.given old.held new.held link.TooLarge
+  IsUnheard has.BadMessage = (body : Bytes)
+      × Comes old.given new.given old.held new.held (Some body) × IsNoReply old body
+
+  -- why it was not written whole: a write failed after a beginning, or memory was wanting before
+  abbrev pub BreaksOff : Request → UserError → Type 0
+  BreaksOff request has.Device = AppendsSome old.written new.written
+      (frame_of (asking_spelling (asking_at old request)))
+  BreaksOff request has.Memory = new.written ≡ old.written
+  BreaksOff request _ = ⊥
+
+  -- why no reply to the request came: it was not written whole, or was, and none was read
+  pub data IsUnanswered (request : Request) (error : UserError) : Type 0 where
+    unsent : BreaksOff request error → IsUnread → IsUnanswered request error
+    unheard : IsAsked old new request → IsUnheard error → IsUnanswered request error
+
 -- a refusal of the replica's came as the reply to the request
 abbrev pub IsRefusedFor : SideLine → SideLine → Request → UserError → Type 0
 IsRefusedFor old new request (has.Refused why) = IsReplied old new request (Refused (cause_of why))
@@ -71,6 +113,22 @@ abbrev pub IsListing : Reply → Type 0
 IsListing (Listed position entries) = Unit {0}
 IsListing (NotDir position) = Unit {0}
 IsListing _ = ⊥
+
+-- no listing is answered so
+abbrev pub IsForeign : Reply → Type 0
+IsForeign (Listed position entries) = ⊥
+IsForeign (NotDir position) = ⊥
+IsForeign (Refused why) = ⊥
+IsForeign _ = Unit {0}
+
+-- Why a path is not listed: the replica refused that, its reply is none to a listing, or none came
+pub data IsUnlisted (old new : SideLine) (path : Path) : UserError → Type 0 where
+  refused : (why : Refusal) → IsReplied old new (ListAt path) (Refused (cause_of why)) →
+      IsUnlisted old new path (has.Refused why)
+  foreign : (reply : Reply) → IsReplied old new (ListAt path) reply → IsForeign reply →
+      IsUnlisted old new path has.BadMessage
+  unanswered : (error : UserError) → IsUnanswered old new (ListAt path) error →
+      IsUnlisted old new path error
 
 -- the whole tree that the replica had at the position, from that byte of its spelling on
 abbrev pub root_from : ℕ → ℕ → Request
