@@ -114,21 +114,31 @@ IsListing (Listed position entries) = Unit {0}
 IsListing (NotDir position) = Unit {0}
 IsListing _ = ⊥
 
--- no listing is answered so
-abbrev pub IsForeign : Reply → Type 0
-IsForeign (Listed position entries) = ⊥
-IsForeign (NotDir position) = ⊥
-IsForeign (Refused why) = ⊥
-IsForeign _ = Unit {0}
+-- no listing is answered so, and no fetching of a piece
+abbrev pub IsNoListing : Reply → Type 0
+IsNoListing (Listed position entries) = ⊥
+IsNoListing (NotDir position) = ⊥
+IsNoListing (Refused why) = ⊥
+IsNoListing _ = Unit {0}
 
--- Why a path is not listed: the replica refused that, its reply is none to a listing, or none came
-pub data IsUnlisted (old new : SideLine) (path : Path) : UserError → Type 0 where
-  refused : (why : Refusal) → IsReplied old new (ListAt path) (Refused (cause_of why)) →
-      IsUnlisted old new path (has.Refused why)
-  foreign : (reply : Reply) → IsReplied old new (ListAt path) reply → IsForeign reply →
-      IsUnlisted old new path has.BadMessage
-  unanswered : (error : UserError) → IsUnanswered old new (ListAt path) error →
-      IsUnlisted old new path error
+abbrev pub IsNoPiece : Reply → Type 0
+IsNoPiece (Piece total bytes) = ⊥
+IsNoPiece (Refused why) = ⊥
+IsNoPiece _ = Unit {0}
+
+-- Why a request is not granted: the replica refused it, its reply is foreign to it, or none came
+pub data IsDenied (old new : SideLine) (request : Request) (IsForeign : Reply → Type 0)
+    : UserError → Type 0 where
+  refused : (why : Refusal) → IsReplied old new request (Refused (cause_of why)) →
+      IsDenied old new request IsForeign (has.Refused why)
+  foreign : (reply : Reply) → IsReplied old new request reply → IsForeign reply →
+      IsDenied old new request IsForeign has.BadMessage
+  unanswered : (error : UserError) → IsUnanswered old new request error →
+      IsDenied old new request IsForeign error
+
+-- why a path is not listed
+abbrev pub IsUnlisted : SideLine → SideLine → Path → UserError → Type 0
+IsUnlisted old new path error = IsDenied old new (ListAt path) IsNoListing error
 
 -- the whole tree that the replica had at the position, from that byte of its spelling on
 abbrev pub root_from : ℕ → ℕ → Request
@@ -162,18 +172,26 @@ pub record IsTouchedSince (position : ℕ) (old new : SideLine) : Type 0 where
   pub touched : IsReplied between new (root_from position (length (bytes_of pieces)))
       (Refused Touched)
 
--- some pieces came, and after them a refusal of the replica's
-pub record IsRefusedAfter (position : ℕ) (old new : SideLine) (why : Refusal) : Type 0 where
-  pub pieces : Pieces
-  pub between : SideLine
-  pub came : AreFetched position old 0 pieces between
-  pub refused : IsReplied between new (root_from position (length (bytes_of pieces)))
-      (Refused (cause_of why))
+-- why the piece from that byte on does not come
+abbrev pub NoPiece : ℕ → ℕ → SideLine → SideLine → UserError → Type 0
+NoPiece position offset old new error =
+    IsDenied old new (root_from position offset) IsNoPiece error
 
--- a refusal of the replica's is the reason why no tree came at the position
-abbrev pub NoPieces : ℕ → SideLine → SideLine → UserError → Type 0
-NoPieces position old new (has.Refused why) = IsRefusedAfter position old new why
-NoPieces position old new _ = Unit {0}
+-- Why no tree came at the position: some pieces came, and after them not the next one; or those
+-- that came are not all pieces of one tree, or memory is wanting for it
+pub data NoPieces (position : ℕ) (old new : SideLine) : UserError → Type 0 where
+  no_piece : (pieces : Pieces) (between : SideLine) (error : UserError) →
+      AreFetched position old 0 pieces between →
+      NoPiece position (length (bytes_of pieces)) between new error →
+      NoPieces position old new error
+  given_up : (pieces : Pieces) (error : UserError) → AreFetched position old 0 pieces new →
+      (error ≡ has.BadMessage) ⊎ (error ≡ has.Memory) → NoPieces position old new error
+
+-- why no position is told: the root is not listed, or is no directory
+pub data NoPosition (old new : SideLine) : UserError → Type 0 where
+  untold : (error : UserError) → IsUnlisted old new [] error → NoPosition old new error
+  rootless : (position : ℕ) → IsReplied old new (ListAt []) (NotDir position) →
+      NoPosition old new has.BadMessage
 
 -- the root was listed, from the position
 abbrev pub TellsPosition : ℕ → SideLine → SideLine → Type 0
@@ -189,10 +207,10 @@ pub data ShowsTree (position : ℕ) (tree : Tree) (new : SideLine) : SideLine �
       IsTouchedSince earlier listed touched → ShowsTree position tree new touched →
       ShowsTree position tree new old
 
--- Why no tree came, after so many that were edited while their pieces came: the replica refused to
--- list its root, or to give a piece; or so many were edited as are asked for at most.
+-- Why no tree came, after so many that were edited while their pieces came: no position was told,
+-- or not all pieces came; or so many were edited as are asked for at most.
 pub data NoTree (new : SideLine) (error : UserError) : ℕ → SideLine → Type 0 where
-  unlisted : (edited : ℕ) (old : SideLine) → IsRefusedFor old new (ListAt []) error →
+  unlisted : (edited : ℕ) (old : SideLine) → NoPosition old new error →
       NoTree new error edited old
   unfetched : (edited position : ℕ) (old listed : SideLine) → TellsPosition position old listed →
       NoPieces position listed new error → NoTree new error edited old

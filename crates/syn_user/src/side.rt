@@ -7,7 +7,7 @@ ghost use Rattle.syn_model.specs.Path.{IsPath};
 ghost use Rattle.syn_model.specs.Refusal as why;
 ghost use Rattle.syn_user.specs.Sides.{ArePiecesOf, IsHeard, IsListing, IsRefusedFor, IsReplied};
 ghost use Rattle.syn_user.specs.Sides.{IsTouchedSince, IsUnanswered, IsUnheard, IsUnlisted};
-ghost use Rattle.syn_user.specs.Sides.{NoPieces, NoTree, ShowsTree};
+ghost use Rattle.syn_user.specs.Sides.{NoPiece, NoPieces, NoPosition, NoTree, ShowsTree};
 ghost use Rattle.syn_user.specs.Sides.{TellsPosition, asking_with, first_line};
 ghost use Rattle.syn_user.specs.Sides.{root_from, side_line};
 ghost use Rattle.syn_user.specs.inner.Parts.{is_refusal};
@@ -112,8 +112,8 @@ impl<R: Read, W: Write> SideConnection<R, W> {
             (side_line R.remaining W.contents self.old)
             (side_line R.remaining W.contents self.new)) }
         ensures refused { IfErr result
-            (IsRefusedFor (side_line R.remaining W.contents self.old)
-            (side_line R.remaining W.contents self.new) (ListAt [])) }
+            (NoPosition (side_line R.remaining W.contents self.old)
+            (side_line R.remaining W.contents self.new)) }
     {
         match self.list(alloc, &Path::root(alloc))? {
             Reply::Listed { position, .. } => Ok(position),
@@ -165,8 +165,8 @@ impl<R: Read, W: Write> SideConnection<R, W> {
             (side_line R.remaining W.contents self.new) (root_from position offset)
             (Refused why.Touched))) }
         ensures refused { IfErr result
-            (IsRefusedFor (side_line R.remaining W.contents self.old)
-            (side_line R.remaining W.contents self.new) (root_from position offset)) }
+            (NoPiece position offset (side_line R.remaining W.contents self.old)
+            (side_line R.remaining W.contents self.new)) }
     {
         is_lawful_fetch(position, offset);
         let request = Request::Fetch {
