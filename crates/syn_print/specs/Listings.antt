@@ -14,7 +14,8 @@ use Rattle.syn_scan.specs.Found.{position_of, scan_of}
 use Rattle.syn_session.specs.Scanning.{Exchanges, found_of}
 use Rattle.syn_session.specs.declared.side_scan.SideScan.{SideScan}
 use Rattle.syn_user.specs.Refusals.{refusal_of}
-use Rattle.syn_user.specs.Sides.{IsRefusedFor, SideLine}
+use Rattle.syn_user.specs.Sides as side
+use Rattle.syn_user.specs.Sides.{SideLine}
 use Rattle.syn_user.specs.declared.error.UserError.{UserError}
 
 -- the paths that were asked for, each with the reply to it
@@ -87,4 +88,4 @@ pub data NotShown (history : History) (why : Refusal) : Type 0 where
 -- a listing over a connection was refused, as the replica refused it, or as the connection broke
 abbrev pub IsUnlisted : SideLine → SideLine → Path → Refusal → Type 0
 IsUnlisted old new path why = (error : UserError) × (why ≡ refusal_of error)
-    × IsRefusedFor old new (ListAt path) error
+    × side.IsUnlisted old new path error

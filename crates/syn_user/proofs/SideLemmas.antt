@@ -4,19 +4,21 @@ use Rattle.std.proofs.Common.{subst, append-nil, zero-add, add-zero, add_assoc, 
 use Rattle.std.proofs.lemmas.Grind.{flat_map-append}
 use Rattle.std.proofs.lemmas.Result.{IfOk-weaker}
 use Rattle.std.specs.Io.KnownBytes.{Appends}
-use Rattle.std.specs.Prelude.{Result, IfOk}
-use Rattle.syn_headline.specs.Side.{Piece, Refused, Request}
+use Rattle.std.specs.Prelude.{Result, Ok, Err, IfErr, IfOk}
+use Rattle.syn_headline.specs.Side.{ListAt, Piece, Refused, Request}
 use Rattle.syn_link.specs.Frames.{Bytes, frame_of}
 use Rattle.syn_message.specs.Replies.{reply_of}
 use Rattle.syn_message.specs.Requests.{IsLawfulAsking, asking_spelling}
 use Rattle.syn_message.specs.declared.reply.Reply.{Reply}
+use Rattle.syn_message.specs.declared.reply.Reply.TheVariants as told
 use Rattle.syn_model.specs.Refusal.{Touched}
 use Rattle.syn_model.specs.Spelling.{spelling}
 use Rattle.syn_model.specs.Tree.{Tree}
-use Rattle.syn_refusal.specs.Refusals.{cause_of}
-use Rattle.syn_user.specs.Sides.{ArePiecesOf, AreFetched, IsHeard, IsRefusedFor, IsReplied}
-use Rattle.syn_user.specs.Sides.{IsTouchedSince, NoPieces, Pieces, SideLine, asking_at, bytes_of}
-use Rattle.syn_user.specs.Sides.{root_from}
+use Rattle.syn_refusal.specs.declared.refusal.Refusal.{Refusal}
+use Rattle.syn_user.specs.Sides.{ArePiecesOf, AreFetched, IsHeard, IsNoListing, IsReplied}
+use Rattle.syn_user.specs.Sides.{IsNoPiece, IsTouchedSince, IsUnanswered, IsUnheard, NoPiece}
+use Rattle.syn_user.specs.Sides.{IsListing, NoPieces, NoPosition, Pieces, SideLine, asking_at}
+use Rattle.syn_user.specs.Sides.{bytes_of, no_piece, root_from, rootless, unheard}
 use Rattle.syn_user.specs.declared.error.UserError.{UserError}
 use Rattle.syn_user.specs.declared.error.UserError.TheVariants as has
 
@@ -46,6 +48,71 @@ replied_so old new request written lawful adds same r =
       };
       heard = record { lawful = heard.lawful; came = heard.came; next = heard.next };
     })
+
+unheard_before : (old new : SideLine) (written : Option Bytes) (error : UserError)
+    → IsUnheard (sent_line old written) new error → IsUnheard old new error
+unheard_before old new written (has.Refused why) is = is
+unheard_before old new written has.Device is = is
+unheard_before old new written has.Memory is = is
+unheard_before old new written has.BadFrame is = is
+unheard_before old new written has.TooLarge is = is
+unheard_before old new written has.BadMessage is = is
+
+-- and where nothing is heard then, it is not answered
+pub unanswered_so : (old new : SideLine) (request : Request) (written : Option Bytes)
+    → IsLawfulAsking (asking_at old request)
+    → Appends old.written written (frame_of (asking_spelling (asking_at old request)))
+    → new.written ≡ written → (r : Result Reply UserError)
+    → IfErr r (IsUnheard (sent_line old written) new)
+    → IfErr r (IsUnanswered old new request)
+unanswered_so old new request written lawful adds same (Ok reply) is = is
+unanswered_so old new request written lawful adds same (Err error) is = unheard
+    (record {
+      lawful = lawful;
+      written = subst (λ w. Appends old.written w
+          (frame_of (asking_spelling (asking_at old request)))) (sym same) adds;
+    }) (unheard_before old new written error is)
+
+-- a reply that no listing is answered with
+pub foreign_reply : (reply : Reply)
+    → ((position : _) (entries : _) → reply ≡ told.Listed position entries → ⊥)
+    → ((position : _) → reply ≡ told.NotDir position → ⊥)
+    → ((why : Refusal) → reply ≡ told.Refused why → ⊥) → IsNoListing (reply_of reply)
+foreign_reply (told.Begun position) no_list no_directory no_refusal = tt
+foreign_reply (told.Listed position entries) no_list no_directory no_refusal =
+    absurd (no_list position entries refl)
+foreign_reply (told.NotDir position) no_list no_directory no_refusal =
+    absurd (no_directory position refl)
+foreign_reply (told.Piece total bytes) no_list no_directory no_refusal = tt
+foreign_reply told.Staged no_list no_directory no_refusal = tt
+foreign_reply told.Done no_list no_directory no_refusal = tt
+foreign_reply (told.Refused why) no_list no_directory no_refusal = absurd (no_refusal why refl)
+
+-- the root is listed as no directory, where the reply to its listing has no names
+pub rootless_so : (old new : SideLine) (reply : Reply) → IsListing (reply_of reply)
+    → ((position : _) (entries : _) → reply ≡ told.Listed position entries → ⊥)
+    → IsReplied old new (ListAt []) (reply_of reply) → NoPosition old new has.BadMessage
+rootless_so old new (told.Begun position) lists no_list is = absurd lists
+rootless_so old new (told.Listed position entries) lists no_list is =
+    absurd (no_list position entries refl)
+rootless_so old new (told.NotDir position) lists no_list is = rootless position is
+rootless_so old new (told.Piece total bytes) lists no_list is = absurd lists
+rootless_so old new told.Staged lists no_list is = absurd lists
+rootless_so old new told.Done lists no_list is = absurd lists
+rootless_so old new (told.Refused why) lists no_list is = absurd lists
+
+-- and one that no fetching of a piece is answered with
+pub foreign_to_piece : (reply : Reply)
+    → ((total : _) (bytes : _) → reply ≡ told.Piece total bytes → ⊥)
+    → ((why : Refusal) → reply ≡ told.Refused why → ⊥) → IsNoPiece (reply_of reply)
+foreign_to_piece (told.Begun position) no_piece_is no_refusal = tt
+foreign_to_piece (told.Listed position entries) no_piece_is no_refusal = tt
+foreign_to_piece (told.NotDir position) no_piece_is no_refusal = tt
+foreign_to_piece (told.Piece total bytes) no_piece_is no_refusal =
+    absurd (no_piece_is total bytes refl)
+foreign_to_piece told.Staged no_piece_is no_refusal = tt
+foreign_to_piece told.Done no_piece_is no_refusal = tt
+foreign_to_piece (told.Refused why) no_piece_is no_refusal = absurd (no_refusal why refl)
 
 -- one piece more, from where those before it ended
 fetched_more : (position offset end : ℕ) (a b c : SideLine) (pieces : Pieces) (piece : ℕ × Bytes)
@@ -100,20 +167,10 @@ module _ (position : ℕ) (a b c : SideLine) (bytes : Bytes) (offset : ℕ)
         (ends ∙ ap length (sym same)) is;
   }
 
-  pub refused_so : (error : UserError) → Gathers position a b bytes
-      → IsRefusedFor b c (root_from position offset) error → NoPieces position a c error
-  refused_so (has.Refused why) (pieces, came, same) is = record {
-    pieces = pieces;
-    between = b;
-    came = came;
-    refused = subst (λ n. IsReplied b c (root_from position n) (Refused (cause_of why)))
-        (ends ∙ ap length (sym same)) is;
-  }
-  refused_so has.Device gathered is = tt
-  refused_so has.Memory gathered is = tt
-  refused_so has.BadFrame gathered is = tt
-  refused_so has.TooLarge gathered is = tt
-  refused_so has.BadMessage gathered is = tt
+  pub no_piece_so : (error : UserError) → Gathers position a b bytes
+      → NoPiece position offset b c error → NoPieces position a c error
+  no_piece_so error (pieces, came, same) is = no_piece pieces b error came
+      (subst (λ n. NoPiece position n b c error) (ends ∙ ap length (sym same)) is)
 
 pub pieces_of : (position : ℕ) (a b : SideLine) (bytes : Bytes) (tree : Tree)
     → Gathers position a b bytes → spelling tree ≡ bytes → ArePiecesOf position a b tree

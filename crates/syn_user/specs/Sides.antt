@@ -1,11 +1,14 @@
 -- What a side of a session is asked over a connection, what it tells, and the tree that it tells.
-use Rattle.std.specs.Prelude.{◌≡◌, ◌≤◌, ◌+◌, ℕ, List, [], ◌∷◌, length, Option, Some, flat_map}
+use Rattle.std.specs.Prelude.{◌≡◌, ◌≢◌, ◌⊎◌, ◌≤◌, ◌+◌, ℕ, List, [], ◌∷◌, length, Option, Some}
+use Rattle.std.specs.Prelude.{flat_map}
 use Rattle.std.specs.Io.KnownBytes.{Appends}
 use Rattle.syn_headline.specs.Side.{Fetch, ListAt, Listed, NotDir, Piece, Refused, Reply, Request}
-use Rattle.syn_link.specs.Frames.{Bytes, frame_of}
-use Rattle.syn_link.specs.Streams.{Comes}
+use Rattle.syn_link.specs.Frames.{AppendsSome, Bytes, frame_of}
+use Rattle.syn_link.specs.Streams.{Comes, ComesAtFault, EndsBefore}
+use Rattle.syn_link.specs.declared.error.LinkError.TheVariants as link
 use Rattle.syn_message.specs.Replies.{IsLawfulReply, answering_spelling}
 use Rattle.syn_message.specs.Requests.{Asking, IsLawfulAsking, asking_spelling}
+use Rattle.syn_model.specs.Path.{Path}
 use Rattle.syn_model.specs.Refusal.{Touched}
 use Rattle.syn_model.specs.Spelling.{spelling}
 use Rattle.syn_model.specs.Tree.{Tree}
@@ -35,6 +38,10 @@ side_line remaining contents connection = record {
   next = connection.next;
 }
 
+-- nothing was asked yet
+abbrev pub first_line : Option Bytes → Option Bytes → SideLine
+first_line given written = record { given = given; held = []; written = written; next = 0 }
+
 -- the request with this number, and with the one that is next
 abbrev pub asking_with : ℕ → Request → Asking
 asking_with number request = record { session = SESSION; number = number; request = request }
@@ -61,6 +68,41 @@ module _ (old new : SideLine) where
     pub asked : IsAsked request
     pub heard : IsHeard reply
 
+-- no reply to the request with the number that was next has this body
+abbrev pub IsNoReply : SideLine → Bytes → Type 0
+IsNoReply line body = (reply : Reply) → IsLawfulReply reply → body ≢ answering_spelling
+    (record { session = SESSION; number = line.next; reply = reply })
+
+module _ (old new : SideLine) where
+  -- nothing was read
+  abbrev pub IsUnread : Type 0
+  IsUnread = (new.given ≡ old.given) × (new.held ≡ old.held)
+
+  -- Why no reply was read: for a read that failed, or the end of the reader; for memory, also where
+  -- a body came; for the frame; or for a body that is no reply
+  abbrev pub IsUnheard : UserError → Type 0
+  IsUnheard (has.Refused why) = ⊥
+  IsUnheard has.Device = ComesAtFault old.given new.given old.held new.held link.Device
+      ⊎ EndsBefore old.given new.given old.held new.held
+  IsUnheard has.Memory = ComesAtFault old.given new.given old.held new.held link.Memory
+      ⊎ ((body : Bytes) × Comes old.given new.given old.held new.held (Some body))
+  IsUnheard has.BadFrame = ComesAtFault old.given new.given old.held new.held link.BadFrame
+  IsUnheard has.TooLarge = ComesAtFault old.given new.given old.held new.held link.TooLarge
+  IsUnheard has.BadMessage = (body : Bytes)
+      × Comes old.given new.given old.held new.held (Some body) × IsNoReply old body
+
+  -- why it was not written whole: a write failed after a beginning, or memory was wanting before
+  abbrev pub BreaksOff : Request → UserError → Type 0
+  BreaksOff request has.Device = AppendsSome old.written new.written
+      (frame_of (asking_spelling (asking_at old request)))
+  BreaksOff request has.Memory = new.written ≡ old.written
+  BreaksOff request _ = ⊥
+
+  -- why no reply to the request came: it was not written whole, or was, and none was read
+  pub data IsUnanswered (request : Request) (error : UserError) : Type 0 where
+    unsent : BreaksOff request error → IsUnread → IsUnanswered request error
+    unheard : IsAsked old new request → IsUnheard error → IsUnanswered request error
+
 -- a refusal of the replica's came as the reply to the request
 abbrev pub IsRefusedFor : SideLine → SideLine → Request → UserError → Type 0
 IsRefusedFor old new request (has.Refused why) = IsReplied old new request (Refused (cause_of why))
@@ -71,6 +113,32 @@ abbrev pub IsListing : Reply → Type 0
 IsListing (Listed position entries) = Unit {0}
 IsListing (NotDir position) = Unit {0}
 IsListing _ = ⊥
+
+-- no listing is answered so, and no fetching of a piece
+abbrev pub IsNoListing : Reply → Type 0
+IsNoListing (Listed position entries) = ⊥
+IsNoListing (NotDir position) = ⊥
+IsNoListing (Refused why) = ⊥
+IsNoListing _ = Unit {0}
+
+abbrev pub IsNoPiece : Reply → Type 0
+IsNoPiece (Piece total bytes) = ⊥
+IsNoPiece (Refused why) = ⊥
+IsNoPiece _ = Unit {0}
+
+-- Why a request is not granted: the replica refused it, its reply is foreign to it, or none came
+pub data IsDenied (old new : SideLine) (request : Request) (IsForeign : Reply → Type 0)
+    : UserError → Type 0 where
+  refused : (why : Refusal) → IsReplied old new request (Refused (cause_of why)) →
+      IsDenied old new request IsForeign (has.Refused why)
+  foreign : (reply : Reply) → IsReplied old new request reply → IsForeign reply →
+      IsDenied old new request IsForeign has.BadMessage
+  unanswered : (error : UserError) → IsUnanswered old new request error →
+      IsDenied old new request IsForeign error
+
+-- why a path is not listed
+abbrev pub IsUnlisted : SideLine → SideLine → Path → UserError → Type 0
+IsUnlisted old new path error = IsDenied old new (ListAt path) IsNoListing error
 
 -- the whole tree that the replica had at the position, from that byte of its spelling on
 abbrev pub root_from : ℕ → ℕ → Request
@@ -104,18 +172,26 @@ pub record IsTouchedSince (position : ℕ) (old new : SideLine) : Type 0 where
   pub touched : IsReplied between new (root_from position (length (bytes_of pieces)))
       (Refused Touched)
 
--- some pieces came, and after them a refusal of the replica's
-pub record IsRefusedAfter (position : ℕ) (old new : SideLine) (why : Refusal) : Type 0 where
-  pub pieces : Pieces
-  pub between : SideLine
-  pub came : AreFetched position old 0 pieces between
-  pub refused : IsReplied between new (root_from position (length (bytes_of pieces)))
-      (Refused (cause_of why))
+-- why the piece from that byte on does not come
+abbrev pub NoPiece : ℕ → ℕ → SideLine → SideLine → UserError → Type 0
+NoPiece position offset old new error =
+    IsDenied old new (root_from position offset) IsNoPiece error
 
--- a refusal of the replica's is the reason why no tree came at the position
-abbrev pub NoPieces : ℕ → SideLine → SideLine → UserError → Type 0
-NoPieces position old new (has.Refused why) = IsRefusedAfter position old new why
-NoPieces position old new _ = Unit {0}
+-- Why no tree came at the position: some pieces came, and after them not the next one; or those
+-- that came are not all pieces of one tree, or memory is wanting for it
+pub data NoPieces (position : ℕ) (old new : SideLine) : UserError → Type 0 where
+  no_piece : (pieces : Pieces) (between : SideLine) (error : UserError) →
+      AreFetched position old 0 pieces between →
+      NoPiece position (length (bytes_of pieces)) between new error →
+      NoPieces position old new error
+  given_up : (pieces : Pieces) (error : UserError) → AreFetched position old 0 pieces new →
+      (error ≡ has.BadMessage) ⊎ (error ≡ has.Memory) → NoPieces position old new error
+
+-- why no position is told: the root is not listed, or is no directory
+pub data NoPosition (old new : SideLine) : UserError → Type 0 where
+  untold : (error : UserError) → IsUnlisted old new [] error → NoPosition old new error
+  rootless : (position : ℕ) → IsReplied old new (ListAt []) (NotDir position) →
+      NoPosition old new has.BadMessage
 
 -- the root was listed, from the position
 abbrev pub TellsPosition : ℕ → SideLine → SideLine → Type 0
@@ -131,10 +207,10 @@ pub data ShowsTree (position : ℕ) (tree : Tree) (new : SideLine) : SideLine �
       IsTouchedSince earlier listed touched → ShowsTree position tree new touched →
       ShowsTree position tree new old
 
--- Why no tree came, after so many that were edited while their pieces came: the replica refused to
--- list its root, or to give a piece; or so many were edited as are asked for at most.
+-- Why no tree came, after so many that were edited while their pieces came: no position was told,
+-- or not all pieces came; or so many were edited as are asked for at most.
 pub data NoTree (new : SideLine) (error : UserError) : ℕ → SideLine → Type 0 where
-  unlisted : (edited : ℕ) (old : SideLine) → IsRefusedFor old new (ListAt []) error →
+  unlisted : (edited : ℕ) (old : SideLine) → NoPosition old new error →
       NoTree new error edited old
   unfetched : (edited position : ℕ) (old listed : SideLine) → TellsPosition position old listed →
       NoPieces position listed new error → NoTree new error edited old

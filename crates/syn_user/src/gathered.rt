@@ -1,9 +1,8 @@
 //! The spelling of a tree, out of the pieces in which it comes.
-ghost use Rattle.std.specs.Prelude.{◌≡◌, ◌≤◌, ◌+◌, ◌++◌, [], IfErr, IfOk, OnOk, length};
-ghost use Rattle.std.specs.Prelude.{false, true};
+ghost use Rattle.std.specs.Prelude.{◌≡◌, ◌⊎◌, ◌≤◌, ◌+◌, ◌++◌, [], IfErr, IfOk, OnOk, length};
+ghost use Rattle.std.specs.Prelude.{true};
 ghost use Rattle.syn_tree.specs.declared.measures.TheConstants.{LONGEST_SPELLING};
 ghost use Rattle.syn_model.specs.Spelling.{spelling};
-ghost use Rattle.syn_user.specs.inner.Parts.{is_refusal};
 
 use crate::error::UserError;
 use std::alloc::Global;
@@ -52,7 +51,8 @@ impl Gathered {
     /// or not all the bytes that it can have; and 11 where memory is refused.
     pub(crate) fn take(&mut self, total: u32, bytes: &[u8]) -> Result<(), UserError>
         ensures taken { OnOk result (self.new.bytes.items ≡ self.old.bytes.items ++ bytes.now) }
-        ensures refused { IfErr result (λ error. is_refusal error ≡ false) }
+        ensures refused { IfErr result (λ error. (error ≡ UserError.BadMessage)
+            ⊎ (error ≡ UserError.Memory)) }
     {
         let as_told = match self.total {
             Some(told) => total == told,
@@ -72,7 +72,8 @@ impl Gathered {
     /// Refused 23 where it spells none, and 11 where memory is refused.
     pub(crate) fn tree(&self, alloc: Global) -> Result<Tree, UserError>
         ensures tree { IfOk result (λ tree. spelling tree ≡ self.now.bytes.items) }
-        ensures refused { IfErr result (λ error. is_refusal error ≡ false) }
+        ensures refused { IfErr result (λ error. (error ≡ UserError.BadMessage)
+            ⊎ (error ≡ UserError.Memory)) }
     {
         match decode_tree(alloc, Version::Two, &self.bytes)? {
             Some((tree, [])) => Ok(tree),

@@ -19,9 +19,11 @@
 //!
 //! A `SideConnection` asks what a session asks, and begins none. `list` writes the frame of a
 //! listing, and answers the reply to just that, which came in the next frame (`replied`:
-//! `IsReplied`). A refusal of the replica came so, too (`refused`). `tree` answers the position
+//! `IsReplied`). A refusal of the replica came so, too (`refused`), and each other refusal has its
+//! cause (`unlisted`: `IsUnlisted`). Nothing else was written then. `tree` answers the position
 //! that a listing of the root told, and the tree that the pieces spell which were asked for at that
-//! position, one after the other (`shown`: `ShowsTree`).
+//! position, one after the other (`shown`: `ShowsTree`). It is refused for the same causes, and
+//! where the pieces are at odds (`refused`: `NoTree`).
 #![tactic(auto)]
 
 mod connection;

@@ -6,8 +6,9 @@ ghost use Rattle.syn_message.specs.Requests.{IsLawfulAsking, asking_spelling, re
 ghost use Rattle.syn_model.specs.Path.{IsPath};
 ghost use Rattle.syn_model.specs.Refusal as why;
 ghost use Rattle.syn_user.specs.Sides.{ArePiecesOf, IsHeard, IsListing, IsRefusedFor, IsReplied};
-ghost use Rattle.syn_user.specs.Sides.{IsTouchedSince, NoPieces, NoTree, ShowsTree};
-ghost use Rattle.syn_user.specs.Sides.{TellsPosition, asking_with};
+ghost use Rattle.syn_user.specs.Sides.{IsTouchedSince, IsUnanswered, IsUnheard, IsUnlisted};
+ghost use Rattle.syn_user.specs.Sides.{NoPiece, NoPieces, NoPosition, NoTree, ShowsTree};
+ghost use Rattle.syn_user.specs.Sides.{TellsPosition, asking_with, first_line};
 ghost use Rattle.syn_user.specs.Sides.{root_from, side_line};
 ghost use Rattle.syn_user.specs.inner.Parts.{is_refusal};
 
@@ -17,7 +18,7 @@ use crate::gathered::Gathered;
 use std::alloc::Global;
 use std::io::{Read, Write};
 use syn_link::{Framer, read_body, write_frame};
-use syn_message::{Asked, Reply, Request, decode_reply, encode_request};
+use syn_message::{Asked, Reply, Request, decode_reply, encode_request, message_laws};
 use syn_path::Path;
 use syn_refusal::Refusal;
 use syn_tree::Tree;
@@ -44,7 +45,10 @@ pub struct SideConnection<R, W> {
 
 impl<R: Read, W: Write> SideConnection<R, W> {
     /// A connection on which nothing was asked yet. It takes no memory.
-    pub fn new(alloc: Global, reader: R, writer: W) -> SideConnection<R, W> {
+    pub fn new(alloc: Global, reader: R, writer: W) -> SideConnection<R, W>
+        ensures { side_line R.remaining W.contents result
+            ≡ first_line (R.remaining reader) (W.contents writer) }
+    {
         SideConnection {
             reader,
             writer,
@@ -67,6 +71,9 @@ impl<R: Read, W: Write> SideConnection<R, W> {
         ensures refused { IfErr result
             (IsRefusedFor (side_line R.remaining W.contents self.old)
             (side_line R.remaining W.contents self.new) (ListAt path.now)) }
+        ensures unlisted { IfErr result
+            (IsUnlisted (side_line R.remaining W.contents self.old)
+            (side_line R.remaining W.contents self.new) path.now) }
     {
         let path = path.copy(alloc)?;
         let reply = self.ask(alloc, Request::List { path })?;
@@ -105,8 +112,8 @@ impl<R: Read, W: Write> SideConnection<R, W> {
             (side_line R.remaining W.contents self.old)
             (side_line R.remaining W.contents self.new)) }
         ensures refused { IfErr result
-            (IsRefusedFor (side_line R.remaining W.contents self.old)
-            (side_line R.remaining W.contents self.new) (ListAt [])) }
+            (NoPosition (side_line R.remaining W.contents self.old)
+            (side_line R.remaining W.contents self.new)) }
     {
         match self.list(alloc, &Path::root(alloc))? {
             Reply::Listed { position, .. } => Ok(position),
@@ -158,8 +165,8 @@ impl<R: Read, W: Write> SideConnection<R, W> {
             (side_line R.remaining W.contents self.new) (root_from position offset)
             (Refused why.Touched))) }
         ensures refused { IfErr result
-            (IsRefusedFor (side_line R.remaining W.contents self.old)
-            (side_line R.remaining W.contents self.new) (root_from position offset)) }
+            (NoPiece position offset (side_line R.remaining W.contents self.old)
+            (side_line R.remaining W.contents self.new)) }
     {
         is_lawful_fetch(position, offset);
         let request = Request::Fetch {
@@ -181,6 +188,9 @@ impl<R: Read, W: Write> SideConnection<R, W> {
         ensures replied { IfOk result (λ reply.
             IsReplied (side_line R.remaining W.contents self.old)
             (side_line R.remaining W.contents self.new) (request_of request) (reply_of reply)) }
+        ensures unanswered { IfErr result
+            (IsUnanswered (side_line R.remaining W.contents self.old)
+            (side_line R.remaining W.contents self.new) (request_of request)) }
         ensures refused { IfErr result (λ error. is_refusal error ≡ false) }
     {
         let body = body_of(alloc, self.next, request)?;
@@ -197,9 +207,13 @@ impl<R: Read, W: Write> SideConnection<R, W> {
             IsHeard (side_line R.remaining W.contents self.old)
             (side_line R.remaining W.contents self.new) (reply_of reply)) }
         ensures silent { self.new.writer ≡ self.old.writer }
+        ensures unheard { IfErr result (IsUnheard (side_line R.remaining W.contents self.old)
+            (side_line R.remaining W.contents self.new)) }
         ensures refused { IfErr result (λ error. is_refusal error ≡ false) }
     {
+        message_laws();
         let number = self.next;
+        is_lawful_number(number);
         self.next = number_after(number);
         let Some(body) = read_body(alloc, &mut self.reader, &mut self.framer)? else {
             return Err(UserError::Device);
@@ -220,6 +234,7 @@ fn body_of(alloc: Global, number: u32, request: Request) -> Result<Vec<u8>, User
         (λ body. IsLawfulAsking (asking_with number (request_of request))) }
     ensures body { IfOk result (λ body.
         body.items ≡ asking_spelling (asking_with number (request_of request))) }
+    ensures memory { IfErr result (λ error. error ≡ UserError.Memory) }
     ensures refused { IfErr result (λ error. is_refusal error ≡ false) }
 {
     let asked = Asked {
@@ -247,4 +262,11 @@ fn is_lawful_fetch(position: u64, offset: u32)
 {
     let _ = position;
     let _ = offset;
+}
+
+/// Four bytes spell the number of a request.
+fn is_lawful_number(number: u32)
+    ensures { number < 2 ^ 32 }
+{
+    let _ = number;
 }
