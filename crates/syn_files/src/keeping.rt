@@ -18,14 +18,14 @@ use syn_path::Side;
 use syn_print::show_report;
 use syn_refusal::Refusal;
 use syn_session::{End, Report, Sending};
-use syn_sync::{Progress, Watch};
+use syn_sync::{Progress, Watch, tell_unreached};
 use syn_user::SideConnection;
 use syn_words::KeepLine;
 
 /// Runs a session of the line's servers, and another one each time that a side has changed since.
 /// It looks every so many seconds, at least one, and an idle pair is written nothing. A report is
-/// printed where something was done, refused or came into conflict. A side that cannot be reached
-/// is told once, and tried again.
+/// printed where something was done, or where other items are refused or in conflict than after the
+/// session before. A side that cannot be reached is told once, and tried again.
 ///
 /// It goes on as long as the process. Refused as an opening of the archive is, 9 where its device
 /// fails or the output cannot be written, and as `sync` is.
@@ -62,11 +62,7 @@ struct Lost<'e, E>(&'e mut E);
 
 impl<E: Write> Watch for Lost<'_, E> {
     fn unreached(&mut self, side: Side, why: &io::Error) {
-        let name = match side {
-            Side::Left => "left",
-            Side::Right => "right",
-        };
-        let _ = writeln!(self.0, "syn: the {name} server cannot be reached: {why}");
+        tell_unreached(self.0, side, why);
     }
 
     fn sent(&mut self, _sending: &Sending) {}
@@ -122,13 +118,20 @@ impl<V: Watch> Watch for Counted<'_, V> {
     }
 }
 
+/// What a session has left undone: how many conflicts and refused items, and what ended it early.
+#[derive(Clone, Copy, PartialEq, Eq)]
+struct Open {
+    conflicts: usize,
+    refused: usize,
+    ended: Option<Refusal>,
+}
+
 /// What is known since the last session.
 #[derive(Clone, Copy)]
 struct Settled {
     /// The positions of both sides after it, where it was complete.
     positions: Option<(u64, u64)>,
-    /// How many conflicts it left.
-    conflicts: usize,
+    open: Open,
     /// Whether it was told that a side cannot be reached.
     is_told: bool,
 }
@@ -150,7 +153,11 @@ where
 {
     let mut settled = Settled {
         positions: None,
-        conflicts: 0,
+        open: Open {
+            conflicts: 0,
+            refused: 0,
+            ended: None,
+        },
         is_told: false,
     };
     for _round in 0..u64::MAX {
@@ -245,17 +252,20 @@ where
         return Err(CommandError::Refused(Refusal::NoAnswer));
     };
     watch.ended(report);
+    let open = Open {
+        conflicts: report.conflicts.len(),
+        refused: report.refused.len(),
+        ended: report.ended,
+    };
     let is_complete = report.end == End::Complete;
-    let conflicts = report.conflicts.len();
-    let is_new = report.done > 0 || report.marked > 0 || conflicts != before.conflicts;
-    if is_new || !is_complete {
+    if report.done > 0 || report.marked > 0 || open != before.open {
         show_report(alloc, report, output)?;
         output.flush()?;
     }
     shorten_archive(alloc, coordinator);
     Ok(Settled {
         positions: is_complete.then_some(after),
-        conflicts,
+        open,
         is_told: false,
     })
 }

@@ -56,4 +56,4 @@ pub use driver::Driver;
 pub use link::Link;
 pub use progress::Progress;
 pub use readiness::Readiness;
-pub use watch::{Unwatched, Watch};
+pub use watch::{Unwatched, Watch, tell_unreached};

@@ -3,7 +3,7 @@ ghost use Rattle.std.specs.Prelude.{◌≡◌};
 ghost use Rattle.syn_sync.specs.Progresses.{writer_in};
 
 use crate::told::{carried_line, conflict_line, count_line, marked_line, refused_line};
-use crate::watch::Watch;
+use crate::watch::{Watch, tell_unreached};
 use std::alloc::{AllocError, Global};
 use std::io::{self, Write};
 use syn_image::Kept;
@@ -194,14 +194,7 @@ impl<W: Write> Progress<W> {
 
 impl<W: Write> Watch for Progress<W> {
     fn unreached(&mut self, side: Side, why: &io::Error) {
-        let name = match side {
-            Side::Left => "left",
-            Side::Right => "right",
-        };
-        let _ = writeln!(
-            self.writer,
-            "syn: the {name} server cannot be reached: {why}"
-        );
+        tell_unreached(&mut self.writer, side, why);
     }
 
     fn sent(&mut self, sending: &Sending) {

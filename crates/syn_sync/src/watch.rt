@@ -1,6 +1,6 @@
 //! Who is told how a session goes.
 
-use std::io;
+use std::io::{self, Write};
 use syn_image::Kept;
 use syn_message::Answered;
 use syn_path::Side;
@@ -24,6 +24,15 @@ pub trait Watch {
 
     /// The coordinator took the reply, and this is what it wrote into its archive then, in order.
     fn kept(&mut self, kept: &[Kept]);
+}
+
+/// Tells in a line that the server of a side cannot be reached. What cannot be written is left out.
+pub fn tell_unreached<W: Write>(writer: &mut W, side: Side, why: &io::Error) {
+    let name = match side {
+        Side::Left => "left",
+        Side::Right => "right",
+    };
+    let _ = writeln!(writer, "syn: the {name} server cannot be reached: {why}");
 }
 
 /// Looks at nothing.
