@@ -160,8 +160,12 @@ where
         },
         is_told: false,
     };
+    let mut sides = Sides {
+        left: Watched::new(line.left),
+        right: Watched::new(line.right),
+    };
     for _round in 0..u64::MAX {
-        if let Some(found) = positions(rt, alloc, line, watch, &mut settled) {
+        if let Some(found) = positions(rt, alloc, &mut sides, watch, &mut settled) {
             if settled.positions != Some(found) {
                 settled = session(rt, alloc, &mut coordinator, line, watch, output, settled)?;
             }
@@ -171,17 +175,63 @@ where
     Ok(Outcome::Done)
 }
 
+/// Both sides, as they are looked at.
+#[derive(Drop)]
+struct Sides<'a> {
+    left: Watched<'a>,
+    right: Watched<'a>,
+}
+
+/// A server that is asked for its position again and again, over one connection as long as that
+/// lasts: so neither its log nor its count of connections grows by a look.
+#[derive(Drop)]
+struct Watched<'a> {
+    address: &'a str,
+    connection: Option<SideConnection<TcpStream, TcpStream>>,
+}
+
+impl<'a> Watched<'a> {
+    /// The server at the address, which was not asked yet.
+    fn new(address: &'a str) -> Watched<'a> {
+        Watched {
+            address,
+            connection: None,
+        }
+    }
+
+    /// The position of the replica that is served there. A connection that has ended since the last
+    /// look is opened again.
+    fn position<H: Net<Stream = TcpStream>>(&mut self, rt: &H, alloc: Global) -> io::Result<u64> {
+        if let Some(connection) = &mut self.connection {
+            if let Ok(position) = connection.position(alloc) {
+                return Ok(position);
+            }
+            self.connection = None;
+        }
+        let reader = reach(rt, self.address)?;
+        let writer = reader.try_clone()?;
+        let mut connection = SideConnection::new(alloc, reader, writer);
+        match connection.position(alloc) {
+            Ok(position) => {
+                self.connection = Some(connection);
+                Ok(position)
+            }
+            Err(_) => Err(io::Error::from(ErrorKind::ConnectionAborted)),
+        }
+    }
+}
+
 /// The positions of both sides. A side that cannot be reached is told, unless that was told since
 /// both were reached last.
 fn positions<H: Net<Stream = TcpStream>, V: Watch>(
     rt: &H,
     alloc: Global,
-    line: &KeepLine<'_>,
+    sides: &mut Sides<'_>,
     watch: &mut V,
     settled: &mut Settled,
 ) -> Option<(u64, u64)> {
-    let (side, error) = match position(rt, alloc, line.left) {
-        Ok(left) => match position(rt, alloc, line.right) {
+    let (side, error) = match sides.left.position(rt, alloc) {
+        Ok(left) => match sides.right.position(rt, alloc) {
             Ok(right) => {
                 settled.is_told = false;
                 return Some((left, right));
@@ -195,14 +245,6 @@ fn positions<H: Net<Stream = TcpStream>, V: Watch>(
         settled.is_told = true;
     }
     None
-}
-
-/// The position of the replica that is served at the address.
-fn position<H: Net<Stream = TcpStream>>(rt: &H, alloc: Global, address: &str) -> io::Result<u64> {
-    let stream = reach(rt, address)?;
-    let mut side = SideConnection::new(alloc, &stream, &stream);
-    let found = side.position(alloc);
-    found.map_err(|_| io::Error::from(ErrorKind::ConnectionAborted))
 }
 
 /// Runs one session, prints its report where that says something new, and answers what is known
