@@ -1,0 +1,4 @@
+pub mod ReportLemmas
+pub mod SessionLemmas
+pub mod ComeLemmas
+pub mod PromiseLemmas

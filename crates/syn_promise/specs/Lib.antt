@@ -1,0 +1,5 @@
+pub mod Told
+pub mod Steps
+pub mod Sessions
+pub mod Promise
+pub mod Laws
