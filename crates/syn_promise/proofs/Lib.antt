@@ -1,4 +1,5 @@
 pub mod ReportLemmas
 pub mod SessionLemmas
+pub mod PowerLemmas
 pub mod ComeLemmas
 pub mod PromiseLemmas

@@ -1,5 +1,6 @@
 -- Every run keeps its promise.
-use Rattle.std.proofs.Common.{◌≡◌, ◌≢◌, ◌⊎◌, ◌∙◌, ℕ, List, [], ◌∷◌, ◌++◌, Option, Some, None, refl, sym}
+use Rattle.std.proofs.Common.{◌≡◌, ◌≢◌, ◌⊎◌, ◌∙◌, ℕ, List, [], ◌∷◌, ◌++◌, Option, Some, None, refl}
+use Rattle.std.proofs.Common.{sym}
 use Rattle.std.proofs.Common.{ap, subst, inl, inr, append-nil}
 use Rattle.std.specs.Prelude.{All, Contains, IfSome, take, ◌↔◌}
 use Rattle.std.specs.Prelude.{slice_index_or}
@@ -11,7 +12,9 @@ use Rattle.syn_model.specs.Plan.{IsSynchronized, IsConflict}
 use Rattle.syn_model.specs.Archive.{Archive, Kept, after_kept}
 use Rattle.syn_headline.specs.Side.{ListAt, Listed, NotDir}
 use Rattle.syn_headline.specs.Network.{Which, Left, Right, WasAnswered}
-use Rattle.syn_headline.specs.World.{World, Step, Start, Runs}
+use Rattle.syn_headline.specs.World.{World, Machine, Step, Start, Runs}
+use Rattle.syn_promise.specs.Power.{Power}
+use Rattle.syn_promise.specs.Steps.{Come}
 use Rattle.syn_headline.specs.Runs.{IsStart, picture_of, stores_of, OfEachRun, RunsStand}
 use Rattle.syn_headline.specs.Runs.{RunsArePictured}
 use Rattle.syn_headline.specs.Picture as picture
@@ -30,8 +33,7 @@ use Rattle.syn_headline.proofs.WholeRuns.{no_plans, start_kept, run_kept}
 use Rattle.syn_headline.proofs.Invariant.{Plans, IsKept, IsTrueListing, IsTrueNotDir}
 use Rattle.syn_headline.proofs.TokenLemmas.{token_once}
 use Rattle.syn_headline.proofs.EarlyLemmas.{entry_is}
-use Rattle.syn_witness.specs.Asked.{EditsAreAsked, PreferencesAreAsked, IsAskedEvent}
-use Rattle.syn_witness.specs.Forbidden.{StaysWithoutStop}
+use Rattle.syn_witness.specs.Asked.{EditsAreAsked, PreferencesAreAsked, IsAskedEvent, IsAsked}
 use Rattle.syn_promise.specs.Sessions.{IsPlanned, IsLegal, HasPlan, Synchronizes, Tells}
 use Rattle.syn_promise.specs.Promise.{Promised, Stand, IsWithOneMore, as_it_was, one_more}
 use Rattle.syn_promise.specs.Laws.{told_by, MayStand, RunsKeepPromise}
@@ -56,14 +58,14 @@ pub record Laws : Type 0 where
   pub tell : OfEachRun EachReportTells
   pub edits : EditsAreAsked
   pub preferences : PreferencesAreAsked
-  pub stays : StaysWithoutStop
 
 -- What stands
 
 with_one_more : (steps : List Step) (side : Which) (writing : Option Event) (old new : History) →
     IfSome writing (IsAskedEvent steps side) → Grown writing old new →
     IsWithOneMore steps side old new
-with_one_more steps side None old new asked e = subst (IsWithOneMore steps side old) (sym e) as_it_was
+with_one_more steps side None old new asked e =
+    subst (IsWithOneMore steps side old) (sym e) as_it_was
 with_one_more steps side (Some event) old new asked (inl e) =
     subst (IsWithOneMore steps side old) (sym e) as_it_was
 with_one_more steps side (Some event) old new asked (inr (allowed, e)) =
@@ -116,7 +118,6 @@ module _ (laws : Laws) (old new : World) (steps : List Step) (now : Stores) (s :
     side = λ which. with_one_more steps which (picture.side_of (picture_of new) which).writing
         (history_of after which) (history_of now which) (writing_asked which) (may.side which);
     archive = archive_more new.coordinator.journal.writing after.archive now.archive may.archive;
-    pair = pair;
   }
 
   -- No answer of the run is false
@@ -154,11 +155,12 @@ module _ (laws : Laws) (old new : World) (steps : List Step) (now : Stores) (s :
       acks ≡ earlier ++ Happened side (Replaced token path since part) ∷ later →
       IsLegal new.log side (stores_after before earlier) token path since part
   replaced earlier later side token path since part e =
-      legal_then before acks new.sent answered denied new.log (stores_after before earlier) side token
-      path since part (λ which. (
+      legal_then before acks new.sent answered denied new.log (stores_after before earlier) side
+      token path since part (λ which. (
         _,
         ap (λ all. history_of (stores_after before all) which) e
-            ∙ history_more before earlier (Happened side (Replaced token path since part) ∷ later) which,
+            ∙ history_more before earlier
+            (Happened side (Replaced token path since part) ∷ later) which,
       ))
       (laws.legal old new steps s runs earlier later side token path since part e)
 
@@ -233,11 +235,21 @@ module _ (laws : Laws) (old new : World) (steps : List Step) (now : Stores) (s :
       (sym told.2) (report_tells new.sent new.log
       (kept_in_session (take (slice_index_or new.reports i one).1 acks)) told.0 told.1 told.3)
 
+  edits_asked : All (IsAsked steps) acks
+  edits_asked = (laws.edits before steps new.refusals (picture_of new)
+      (laws.pictured old new steps s runs)).0
+
+  come : (power : Machine → Power) × Come before power steps acks new.refusals
+  come = come_all old s steps new runs (at_start old s.nothing_yet.1)
+
   kept_promise : Promised before steps (told_by new) now
   kept_promise = record {
     sessions = new.log;
-    come = come_all laws.stays old s steps new runs (at_start old s.nothing_yet.1);
+    power = come.0;
+    asked = edits_asked;
+    come = come.1;
     stand = stand;
+    held = pair.held;
     once = (laws.logged old new steps s runs).0;
     planned = planned;
     replaced = replaced;

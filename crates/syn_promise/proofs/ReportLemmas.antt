@@ -69,7 +69,8 @@ module _ (sent : Sent) (log : Log) (kept : List Kept) (running : Running)
 
   early : running.plan ≡ None → ended ≢ None
   early none e =
-      let some : IsSome {T = List Planned} None = subst IsSome none (ends_through ended is.ends e).0 in
+      let some : IsSome {T = List Planned} None = subst IsSome none
+      (ends_through ended is.ends e).0 in
       absurd (true≢false (sym some))
 
   incomplete : (o : Option Refusal) → o ≢ None → (running : Running) →

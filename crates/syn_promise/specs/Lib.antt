@@ -1,4 +1,5 @@
 pub mod Told
+pub mod Power
 pub mod Steps
 pub mod Sessions
 pub mod Promise

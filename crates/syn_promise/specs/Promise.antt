@@ -5,16 +5,17 @@ use Rattle.syn_model.specs.Path.{Path}
 use Rattle.syn_model.specs.Tree.{Tree}
 use Rattle.syn_model.specs.Event.{Token, Event, Replaced}
 use Rattle.syn_model.specs.History.{History}
-use Rattle.syn_model.specs.Archive.{Kept, after_kept}
+use Rattle.syn_model.specs.Archive.{Kept, after_kept, BothHeld}
 use Rattle.syn_headline.specs.Network.{Which}
-use Rattle.syn_headline.specs.World.{Step}
+use Rattle.syn_headline.specs.World.{Machine, Step}
 use Rattle.syn_headline.specs.Acknowledged.{Ack, Happened, Stores, history_of, stores_after}
 use Rattle.syn_headline.specs.Acknowledged.{kept_in_session}
 use Rattle.syn_headline.specs.Planning.{Log}
 use Rattle.syn_headline.specs.Report.{Report}
-use Rattle.syn_headline.specs.Headline.{IsPair, IsQuietSession, IsOtherToken}
-use Rattle.syn_witness.specs.Asked.{IsAskedEvent}
+use Rattle.syn_headline.specs.Headline.{IsQuietSession, IsOtherToken}
+use Rattle.syn_witness.specs.Asked.{IsAsked, IsAskedEvent}
 pub use Rattle.syn_promise.specs.Told.{Told}
+use Rattle.syn_promise.specs.Power.{Power}
 use Rattle.syn_promise.specs.Steps.{Come}
 use Rattle.syn_promise.specs.Sessions.{IsPlanned, IsLegal, HasPlan, Synchronizes, Tells}
 
@@ -25,25 +26,29 @@ pub data IsWithOneMore (steps : List Step) (side : Which) (old : History) : Hist
       IsWithOneMore steps side old (old ++ event ∷ [])
 
 -- What stands after a stop of all machines: what was acknowledged, in order, and on each side at
--- most the one event that it was writing; in the archive the records so. And the three are a pair,
--- from which a next run may begin: each archive entry was held by both sides
+-- most the one event that it was writing; in the archive the records so
 pub record Stand (steps : List Step) (acknowledged now : Stores) : Type 0 where
   pub side : (which : Which) →
       IsWithOneMore steps which (history_of acknowledged which) (history_of now which)
   pub archive : (now.archive ≡ acknowledged.archive)
       ⊎ ((kept : Kept) × (now.archive ≡ after_kept acknowledged.archive kept))
-  pub pair : IsPair now
 
 -- A run by these steps began as the disks stood for `before`, and told this. A stop of all machines
 -- after it left disks that stand for `now`
 pub record Promised (before : Stores) (steps : List Step) (told : Told) (now : Stores) :
     Type 0 where
-  -- the sessions that looked at both sides, in order, with what they saw and planned
+  -- which machines are on after it; and the sessions that looked at both sides, in order, with what
+  -- they saw and planned
+  pub power : Machine → Power
   pub sessions : Log
-  -- each step was made as it was asked for, or its user was told why not, or a stop came before it
-  pub come : Come before steps told.acknowledged told.refused
+  -- each step was made as it was asked for, or its user was told why not, or its machine was off
+  pub come : Come before power steps told.acknowledged told.refused
+  -- no user's edit was made that no step asks for
+  pub asked : All (IsAsked steps) told.acknowledged
   -- what was acknowledged stands, with at most one change more on each machine
   pub stand : Stand steps (stores_after before told.acknowledged) now
+  -- each entry of the archive was held by both sides
+  pub held : BothHeld now.left now.right now.archive.marks
   -- a session plans once, from what both sides had as it looked, and from the archive
   pub once : AllPairs (λ earlier later. earlier.session ≢ later.session) sessions
   pub planned : All (IsPlanned before steps told.acknowledged) sessions

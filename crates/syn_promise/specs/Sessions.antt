@@ -1,6 +1,7 @@
 -- What a session looks at, plans, puts, leaves and reports.
 use Rattle.std.specs.Prelude.{ℕ, ◌≡◌, ◌≢◌, ◌≤◌, ◌↔◌, ◌&&◌, true, false, List, [], ◌∷◌, ◌++◌, map}
-use Rattle.std.specs.Prelude.{filter_map, length, take, slice_get, Option, Some, None, All, Contains}
+use Rattle.std.specs.Prelude.{filter_map, length, take, slice_get, Option, Some, None, All}
+use Rattle.std.specs.Prelude.{Contains}
 use Rattle.std.specs.List.{count_by}
 use Rattle.syn_model.specs.Path.{Path, Name, parent}
 use Rattle.syn_model.specs.Tree.{Tree, Content, subtree, is_directory}

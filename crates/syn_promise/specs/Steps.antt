@@ -1,16 +1,16 @@
 -- What comes of the steps of a run: each is made, or its user is told why not.
-use Rattle.std.specs.Prelude.{ℕ, ◌≡◌, ◌⊎◌, ◌+◌, Bool, true, false, List, [], ◌∷◌, ◌++◌, All}
+use Rattle.std.specs.Prelude.{ℕ, ◌≡◌, ◌≢◌, ◌⊎◌, ◌+◌, List, [], ◌∷◌, ◌++◌, All}
 use Rattle.std.specs.Prelude.{Contains, Option, Some}
-use Rattle.std.specs.List.{list_any}
 use Rattle.syn_model.specs.Refusal.{Refusal, Busy, Device, Full, Halted, JournalFull, Memory}
 use Rattle.syn_model.specs.Event.{Edit, Edited, Began, Replaced}
 use Rattle.syn_model.specs.History.{event_refusal}
 use Rattle.syn_model.specs.Archive.{Session, Recorded, RecordedDir}
 use Rattle.syn_headline.specs.Network.{Which}
 use Rattle.syn_headline.specs.World.{Machine, At, Coordinator, Step, Edits, Start, Deliver}
-use Rattle.syn_headline.specs.World.{Checkpoint, Stop, Open, Reopen}
+use Rattle.syn_headline.specs.World.{Checkpoint, Open, Reopen}
 use Rattle.syn_headline.specs.Acknowledged.{Ack, Happened, Kept_by, Stores, history_of}
 use Rattle.syn_headline.specs.Acknowledged.{stores_after}
+use Rattle.syn_promise.specs.Power.{Power, On, Off, Turns}
 
 -- the machine that a user asks for something by the step may refuse it so, where it stands for this
 abbrev pub MayRefuse : Stores → Step → Refusal → Type 0
@@ -23,10 +23,6 @@ MayRefuse stands (Checkpoint machine) why = Contains (Halted ∷ Full ∷ Memory
 MayRefuse stands (Open machine) why = Contains (Device ∷ Memory ∷ []) why
 MayRefuse stands (Reopen machine) why = Contains (Device ∷ Memory ∷ []) why
 MayRefuse stands _ why = ⊥
-
-abbrev pub is_stop : Step → Bool
-is_stop (Stop machine calls) = true
-is_stop _ = false
 
 -- a step that nothing has to come of
 abbrev pub IsQuiet : Step → Type 0
@@ -53,27 +49,33 @@ IsOf Coordinator (Kept_by kept) = Unit {0}
 abbrev pub opens : Machine → List Step
 opens machine = Open machine ∷ Reopen machine ∷ []
 
--- What comes of a step, after the earlier ones, where the machines stand for this: what is
--- acknowledged, and what its user is refused
-pub data Comes (earlier : List Step) (stands : Stores) : Step → List Ack → List Refusal →
+-- What comes of a step, where the machines stand for this, and are on or off so before it and after
+-- it: what is acknowledged, and what its user is refused
+pub data Comes (stands : Stores) (was now : Machine → Power) : Step → List Ack → List Refusal →
     Type 0 where
-  made : (side : Which) (user : ℕ) (edit : Edit) →
-      Comes earlier stands (Edits side user edit) (Happened side (Edited user edit) ∷ []) []
-  started : (preference : Option Which) →
-      Comes earlier stands (Start preference)
+  made : (side : Which) (user : ℕ) (edit : Edit) → was (At side) ≢ Off →
+      Comes stands was now (Edits side user edit) (Happened side (Edited user edit) ∷ []) []
+  started : (preference : Option Which) → was Coordinator ≢ Off →
+      Comes stands was now (Start preference)
       (Kept_by (Session (stands.archive.last_session + 1)) ∷ []) []
   refused : (step : Step) (why : Refusal) → MayRefuse stands step why →
-      Comes earlier stands step [] (why ∷ [])
-  lost : (step : Step) → list_any is_stop earlier ≡ true → Comes earlier stands step [] []
+      Comes stands was now step [] (why ∷ [])
+  edit_lost : (side : Which) (user : ℕ) (edit : Edit) → now (At side) ≡ Off →
+      Comes stands was now (Edits side user edit) [] []
+  start_lost : (preference : Option Which) → now Coordinator ≡ Off →
+      Comes stands was now (Start preference) [] []
   delivered : (message : ℕ) (acks : List Ack) → All IsOfSession acks →
-      Comes earlier stands (Deliver message) acks []
+      Comes stands was now (Deliver message) acks []
   recovered : (step : Step) (machine : Machine) (ack : Ack) → Contains (opens machine) step →
-      IsOf machine ack → Comes earlier stands step (ack ∷ []) []
-  nothing : (step : Step) → IsQuiet step → Comes earlier stands step [] []
+      IsOf machine ack → Comes stands was now step (ack ∷ []) []
+  nothing : (step : Step) → IsQuiet step → Comes stands was now step [] []
 
--- and of all steps, one after another
-pub data Come (before : Stores) : List Step → List Ack → List Refusal → Type 0 where
-  no_step : Come before [] [] []
-  one_more : (steps : List Step) (step : Step) (acks more : List Ack) (told later : List Refusal) →
-      Come before steps acks told → Comes steps (stores_after before acks) step more later →
-      Come before (steps ++ step ∷ []) (acks ++ more) (told ++ later)
+-- what comes of all steps, one after another, from machines that are on
+pub data Come (before : Stores) : (Machine → Power) → List Step → List Ack → List Refusal →
+    Type 0 where
+  no_step : Come before (λ machine. On) [] [] []
+  one_more : (steps : List Step) (step : Step) (acks more : List Ack) (told later : List Refusal)
+      (was now : Machine → Power) → Come before was steps acks told →
+      ((machine : Machine) → Turns machine step later (was machine) (now machine)) →
+      Comes (stores_after before acks) was now step more later →
+      Come before now (steps ++ step ∷ []) (acks ++ more) (told ++ later)

@@ -28,5 +28,4 @@ pub fn promise()
     syn_headline::run_laws();
     syn_headline::session_laws();
     syn_witness::asked();
-    syn_witness::forbidden();
 }

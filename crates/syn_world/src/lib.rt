@@ -44,6 +44,7 @@
 mod headline;
 mod lists;
 mod opening;
+mod promise;
 mod replies;
 mod running;
 mod step;

@@ -19,6 +19,5 @@ returns c = record {
     tell = c.run_laws.ensures.reports;
     edits = c.asked.ensures.edits;
     preferences = c.asked.ensures.preferences;
-    stays = c.forbidden.ensures.up;
   });
 }
