@@ -1,3 +1,4 @@
+pub mod AskedLemmas
 pub mod ReportLemmas
 pub mod SessionLemmas
 pub mod PowerLemmas

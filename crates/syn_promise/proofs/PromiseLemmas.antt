@@ -33,7 +33,7 @@ use Rattle.syn_headline.proofs.WholeRuns.{no_plans, start_kept, run_kept}
 use Rattle.syn_headline.proofs.Invariant.{Plans, IsKept, IsTrueListing, IsTrueNotDir}
 use Rattle.syn_headline.proofs.TokenLemmas.{token_once}
 use Rattle.syn_headline.proofs.EarlyLemmas.{entry_is}
-use Rattle.syn_witness.specs.Asked.{EditsAreAsked, PreferencesAreAsked, IsAskedEvent, IsAsked}
+use Rattle.syn_promise.specs.Asked.{EditsAreAsked, PreferencesAreAsked, IsAskedEvent, IsAsked}
 use Rattle.syn_promise.specs.Sessions.{IsPlanned, IsLegal, HasPlan, Synchronizes, Tells}
 use Rattle.syn_promise.specs.Promise.{Promised, Stand, IsWithOneMore, as_it_was, one_more}
 use Rattle.syn_promise.specs.Laws.{told_by, MayStand, RunsKeepPromise}

@@ -13,7 +13,7 @@ use Rattle.syn_headline.specs.Acknowledged.{kept_in_session}
 use Rattle.syn_headline.specs.Planning.{Log}
 use Rattle.syn_headline.specs.Report.{Report}
 use Rattle.syn_headline.specs.Headline.{IsQuietSession, IsOtherToken}
-use Rattle.syn_witness.specs.Asked.{IsAsked, IsAskedEvent}
+use Rattle.syn_promise.specs.Asked.{IsAsked, IsAskedEvent}
 pub use Rattle.syn_promise.specs.Told.{Told}
 use Rattle.syn_promise.specs.Power.{Power}
 use Rattle.syn_promise.specs.Steps.{Come}
