@@ -1,6 +1,11 @@
 -- The world after a script.
 use Rattle.std.proofs.Common.{◌≡◌, List, ℕ, refl}
 use Rattle.syn_disk.specs.declared.disk.Disk.{Ghosts}
+use Rattle.syn_headline.specs.Acknowledged.{Stores}
+use Rattle.syn_headline.specs.Headline.{formatted}
+use Rattle.syn_headline.specs.Runs.{stores_of}
+use Rattle.syn_headline.specs.World.{World as ModelWorld, Runs, Step}
+use Rattle.syn_recovery.specs.Headline.{Disks as Shown, IsOpenedFrom}
 use Rattle.syn_simulate.specs.Players.{HasPlayedAll, world_of}
 use Rattle.syn_simulate.specs.States.{fresh}
 use Rattle.syn_simulate.specs.declared.player.Player.{Player}
@@ -14,14 +19,23 @@ use Rattle.syn_simulate.specs.Simulations.{IsNoRun, RunsScript}
 use Rattle.syn_simulate.specs.Starts.{IsOutside, StartsFormatted}
 use Rattle.syn_simulate.specs.declared.error.SimulateError.{SimulateError}
 use Rattle.syn_simulate.specs.declared.error.SimulateError.TheVariants.{Memory, Refused, Script}
+use Rattle.syn_world.specs.Openings.{shown_on}
+use Rattle.syn_world.specs.Promises.{KeepsPromise}
+use Rattle.syn_world.specs.Worlds.{IsWorld}
 use Rattle.syn_world.specs.declared.world.World.{World}
+
+-- the world keeps the promise of each run that led to it
+abbrev pub AsPromised : {D : Type 0} → {disk : Ghosts D} → World D disk → Type 0
+AsPromised world = (pair : ℕ) (before : Stores) (bytes : Shown) (old new : ModelWorld)
+    (steps : List Step) → IsOpenedFrom pair bytes old → stores_of old ≡ before
+    → Runs old steps new → IsWorld world new → KeepsPromise pair before steps world
 
 -- a new world, on which the lines of a script are played
 pub runs_script : {D : Type 0} {disk : Ghosts D} (script : Text) (lines : List Line)
     (start : World D disk) (player : Player D disk) → SaySteps (lines_of script) lines
     → (starts : StartsFormatted 1 start) → HasPlayedAll lines (fresh starts.opens.model) player
-    → RunsScript script (world_of player)
-runs_script script lines start player say starts played = record {
+    → AsPromised (world_of player) → RunsScript script (world_of player)
+runs_script {D} {disk} script lines start player say starts played promise = record {
   lines = lines;
   say = say;
   plays = record {
@@ -32,6 +46,9 @@ runs_script script lines start player say starts played = record {
     plays = played.plays;
     runs = played.runs;
     ends = played.is.world;
+    promised = promise 1 formatted (shown_on disk.seen starts.disks) starts.opens.model
+        played.new.world played.steps starts.opens.opened starts.opens.stores_are played.runs
+        played.is.world;
   };
 }
 

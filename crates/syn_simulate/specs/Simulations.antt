@@ -1,6 +1,7 @@
 -- The world after a script.
 use Rattle.std.specs.Prelude.{List}
 use Rattle.syn_disk.specs.declared.disk.Disk.{Ghosts}
+use Rattle.syn_headline.specs.Headline.{formatted}
 use Rattle.syn_headline.specs.World.{Runs, Step}
 use Rattle.syn_simulate.specs.Lines.{PlaysAll}
 use Rattle.syn_simulate.specs.States.{State, fresh}
@@ -10,10 +11,12 @@ use Rattle.syn_script.specs.declared.line.Line.{Line}
 use Rattle.syn_simulate.specs.Starts.{IsOutside, StartsFormatted}
 use Rattle.syn_simulate.specs.declared.error.SimulateError.{SimulateError}
 use Rattle.syn_simulate.specs.declared.error.SimulateError.TheVariants.{Script as Fault}
+use Rattle.syn_world.specs.Promises.{KeepsPromise}
 use Rattle.syn_world.specs.Worlds.{IsWorld}
 use Rattle.syn_world.specs.declared.world.World.{World}
 
--- Playing the lines leads a new world of pair 1 to this one, by a run of the definitions
+-- Playing the lines leads a new world of pair 1 to this one, by a run of the definitions, whose
+-- promise it keeps
 pub record LeadsTo {D : Type 0} {disk : Ghosts D} (lines : List Line) (world : World D disk)
     : Type 0 where
   pub start : World D disk
@@ -23,6 +26,7 @@ pub record LeadsTo {D : Type 0} {disk : Ghosts D} (lines : List Line) (world : W
   pub plays : PlaysAll lines (fresh starts.opens.model) steps new
   pub runs : Runs starts.opens.model steps new.world
   pub ends : IsWorld world new.world
+  pub promised : KeepsPromise 1 formatted steps world
 
 -- and the lines are the script's
 pub record RunsScript {D : Type 0} {disk : Ghosts D} (script : Text) (world : World D disk)

@@ -9,8 +9,8 @@
 //!   leaves reaches its disk is shown by tests.
 //! - `play` answers the player after a script. Its lines say steps (`SaySteps`), and playing these
 //!   leads a world of pair 1 that was just formatted to the player's, by a run of the definitions
-//!   (`run`, `RunsScript`, `LeadsTo`). It is refused with the number of the first line that says no
-//!   step, or 9 or 11 alone (`refused`, `IsNoRun`).
+//!   (`run`, `RunsScript`, `LeadsTo`), which keeps its promise (`promised` there). It is refused
+//!   with the number of the first line that says no step, or 9 or 11 alone (`refused`, `IsNoRun`).
 //! - `simulate` answers that player's world, and is refused as `play` is (`run`, `refused`).
 //! - `show_world` works over any disks and any writer. Where it answers, just the lines of
 //!   `world_shown` were added: of each session that ended, and of each machine's image, or that it

@@ -16,6 +16,8 @@ use syn_world::World;
 /// sides with an empty replica each, and a coordinator with an empty archive, all of pair 1. A
 /// machine's i-th stop leaves of its disk what its i-th stop line says.
 ///
+/// The run keeps its promise, whatever a stop of all machines may leave on the disks of the world.
+///
 /// Refused with the number of the first line that says no step, counted from 1, before anything is
 /// done; and 11 where memory is refused.
 pub fn play(alloc: Global, script: &[u8]) -> Result<Player<Cut<MemDisk>>, SimulateError>
@@ -26,7 +28,10 @@ pub fn play(alloc: Global, script: &[u8]) -> Result<Player<Cut<MemDisk>>, Simula
     let stops = stops_of(alloc, &lines)?;
     let world = formatted_world(alloc, stops)?;
     match Player::new(alloc, world).play_all(alloc, lines) {
-        Ok(player) => Ok(player),
+        Ok(player) => {
+            player.world().promise();
+            Ok(player)
+        }
         Err(disks) => {
             drop(disks);
             Err(SimulateError::Memory)

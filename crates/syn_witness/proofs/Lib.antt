@@ -6,7 +6,6 @@ pub mod WitnessLemmas
 pub mod FailLemmas
 pub mod StopLemmas
 pub mod ForbiddenLemmas
-pub mod AskedLemmas
 pub mod FailureLemmas
 pub mod DeviceLemmas
 pub mod WitnessScans

@@ -7,5 +7,4 @@ pub mod Unstable
 pub mod Removal
 pub mod Still
 pub mod Forbidden
-pub mod Asked
 pub mod Turned

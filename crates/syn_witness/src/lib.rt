@@ -25,9 +25,6 @@
 //!   - A machine is halted only after one of its device calls failed (`halted`). A step is refused
 //!     9, and a session ends 9 for an answer without a fault, only where a device call failed in it
 //!     (`refused`, `ended`).
-//! - `asked` says that a run of the picture does what its steps ask for, and nothing that none asks
-//!   for. So a run that makes an edit of its own, in which a session prefers a side of its own, or
-//!   that does nothing and tells nobody, is none.
 //! - `witnesses` and `short_witnesses` are runs that the definitions allow, step by step, each with
 //!   what it sends, acknowledges, reports and leaves.
 //! - `examples` are answers of a side, one by one; the last three are of a halted side.
@@ -45,8 +42,6 @@
 //!   no room before a checkpoint. A checkpoint is made alone, and within an answer.
 #![tactic(auto)]
 
-ghost use Rattle.syn_witness.specs.Asked.{EditsAreAsked, PreferencesAreAsked, EditsAreMade};
-ghost use Rattle.syn_witness.specs.Asked.{StartsAreMade};
 ghost use Rattle.syn_witness.specs.Rows.{SideRows};
 ghost use Rattle.syn_witness.specs.Forbidden.{StaysWithoutStop, ArmedCallsCome, StartsFresh};
 ghost use Rattle.syn_witness.specs.Forbidden.{BeginsOnce, FaultsAlone, UnstableIsIncomplete};
@@ -113,16 +108,6 @@ pub fn short_witnesses()
     ensures removed { RemovedIsMarked }
     ensures room { RoomIsMade }
     ensures turned { ListingsAreTurned }
-{}
-
-/// A run of the picture does what its steps ask for, and nothing that none asks for. Each edit that
-/// a side acknowledges, or was making, is a step, and so is a start with the preference of each
-/// session. An edit and a start that are refused for nothing, and leave their machine up, are made.
-pub fn asked()
-    ensures edits { EditsAreAsked }
-    ensures preferences { PreferencesAreAsked }
-    ensures made { EditsAreMade }
-    ensures started { StartsAreMade }
 {}
 
 /// What no run does. Without a stop among the steps no machine goes down, and an edit takes its

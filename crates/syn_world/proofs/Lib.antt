@@ -10,3 +10,4 @@ mod OpeningLemmas
 mod WorldOpenLemmas
 mod PairLemmas
 mod HeadlineLemmas
+mod PromiseLemmas

@@ -4,3 +4,4 @@ pub mod Steps
 pub mod Runs
 pub mod Openings
 pub mod Headlines
+pub mod Promises

@@ -10,6 +10,7 @@ ghost use Rattle.syn_world.specs.Headlines.{AreSafe, FindsCause, FindsPair, Reco
 ghost use Rattle.syn_world.specs.Headlines.{EndsSafely, RefusedComeBack, RunsAndRecovers};
 ghost use Rattle.syn_world.specs.Openings.{AreOfPair, ComeBack, CountsAsOpened, RefusesDisks};
 ghost use Rattle.syn_world.specs.Openings.{StandFor, failed_calls, shown_on};
+ghost use Rattle.syn_world.specs.Promises.{HoldsAsPromised, KeepsPromise};
 ghost use Rattle.syn_world.specs.Steps.{step_of};
 ghost use Rattle.syn_world.specs.Worlds.{pair_in};
 
@@ -33,6 +34,12 @@ pub fn run<D: SimulatedDisk>(
     disks: Disks<D>,
     steps: &[Step],
 ) -> Result<World<D>, (Refusal, Disks<D>)>
+    // The whole promise.
+    ensures promised { (pair : ℕ) (before : Stores)
+        → StandFor D.Limit.seen D.Limit.arms pair disks before
+        → IfOk result (KeepsPromise pair before (map step_of steps.now)) }
+
+    // The run itself, for what is composed of it.
     ensures safe { (pair : ℕ) (stores : Stores)
         → StandFor D.Limit.seen D.Limit.arms pair disks stores
         → RunsSafely pair disks stores (map step_of steps.now) result }
@@ -50,6 +57,7 @@ pub fn run<D: SimulatedDisk>(
         → ComeBack D.Limit.may_leave disks refused.1) }
 {
     headline();
+    syn_promise::promise();
     match World::open(alloc, disks) {
         Ok(mut world) => match world.go_by(alloc, steps) {
             Ok(()) => Ok(world),
@@ -104,6 +112,12 @@ pub fn run_and_recover<D: SimulatedDisk>(
     disks: Disks<D>,
     steps: &[Step],
 ) -> Result<World<D>, (Refusal, Disks<D>)>
+    // The whole promise.
+    ensures promised { (pair : ℕ) (before : Stores)
+        → StandFor D.Limit.seen D.Limit.arms pair disks before
+        → IfOk result (HoldsAsPromised pair before (map step_of steps.now)) }
+
+    // The run itself, and what is opened after it, for what is composed of them.
     ensures recovered { (pair : ℕ) (stores : Stores)
         → StandFor D.Limit.seen D.Limit.arms pair disks stores
         → IfOk result (RunsAndRecovers pair disks stores (map step_of steps.now)) }
@@ -122,6 +136,7 @@ pub fn run_and_recover<D: SimulatedDisk>(
     ensures back { IfErr result (λ refused.
         RefusedComeBack D.Limit.may_leave D.Limit.seen disks refused.1) }
 {
+    syn_promise::promise();
     match run(alloc, disks, steps) {
         Ok(world) => recover(alloc, world.into_disks()),
         Err(refused) => Err(refused),

@@ -30,6 +30,11 @@
 //! - Of any disks: what it opens is of one pair (`pair`), and a refusal has the cause of the first
 //!   disk that is refused (`cause`: `RefusesDisks`). The disks count more failed calls than before
 //!   exactly where it is refused 9, and each as many where it succeeds (`failures`).
+//! - `run`, `run_and_recover` and the world itself keep the promise of a run, which is one record
+//!   (`Promised` of `syn_promise`). After `run` it is of what the world shows, and of whatever a
+//!   stop may then leave on its disks (`KeepsPromise`). After `run_and_recover` it is of what the
+//!   world that was opened holds (`HoldsAsPromised`). `World::promise` says it of a world that went
+//!   by steps of its caller. The clauses that follow say more of the run, and are what is composed.
 //! - `run` opens such a world and goes by the steps (`RunsSafely`): whatever a stop may leave on
 //!   the disks after them is crash safe (`AreSafe`), by the sentences of `syn_recovery`. The disks
 //!   come back where nothing was opened (`IsNotOpened`), or after a first part of the steps where
@@ -44,6 +49,7 @@
 mod headline;
 mod lists;
 mod opening;
+mod promise;
 mod replies;
 mod running;
 mod step;

@@ -1,5 +1,6 @@
 use Rattle.std.proofs.lemmas.Result.{err_from_is_err_and}
-use Rattle.syn_simulate.proofs.RunLemmas.{no_lines, no_world, runs_script}
+use Rattle.std.proofs.Common.{subst}
+use Rattle.syn_simulate.proofs.RunLemmas.{AsPromised, no_lines, no_world, runs_script}
 use Rattle.syn_simulate.proofs.runs.play.Goals as goal
 
 pub returns-in-Ok-clause-run : goal.returns-in-Ok-clause-run
@@ -8,6 +9,7 @@ returns-in-Ok-clause-run c =
     runs_script c.args.script.now c.in_ok-lines.lines.items c.in_ok-world.world c.in-Ok.player
     c.in_ok-lines.ensures.ok starts
     (c.in-Ok.ensures _ (c.new.ensures.fresh starts.opens.model starts.opens.is))
+    (subst AsPromised c.world.ensures c.promise.ensures.kept)
 
 pub returns-in_err-lines-clause-refused : goal.returns-in_err-lines-clause-refused
 returns-in_err-lines-clause-refused c =

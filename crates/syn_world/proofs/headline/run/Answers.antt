@@ -1,9 +1,11 @@
 use Rattle.std.proofs.Common.{inl, inr, refl}
 use Rattle.std.specs.Prelude.{map}
 use Rattle.syn_world.specs.Failures.{FailWithDisks, disks_in, failures_in, failures_on}
+use Rattle.syn_world.specs.Openings.{shown_on}
 use Rattle.syn_world.specs.Steps.{step_of}
 use Rattle.syn_world.proofs.FailureLemmas.{counts_from}
 use Rattle.syn_world.proofs.HeadlineLemmas.{holds_in, safe_run, world_left}
+use Rattle.syn_world.proofs.PromiseLemmas.{keeps_promise}
 use Rattle.syn_world.proofs.headline.run.Goals as goal
 
 pub returns-in-Ok-go_by-clause-safe : goal.returns-in-Ok-go_by-clause-safe
@@ -24,6 +26,14 @@ returns-in-Ok-go_by-clause-safe g c pair stores all =
           opens.opened opens.stores_are had.runs counts
           (world_left running had.new had.is.is.machines);
     }
+
+pub returns-in-Ok-go_by-clause-promised : goal.returns-in-Ok-go_by-clause-promised
+returns-in-Ok-go_by-clause-promised g c pair before all =
+    let opens = c.in-Ok.ensures.opened pair before all in
+    let had = c.in-Ok-go_by.ensures opens.model opens.is in
+    keeps_promise c.headline.ensures.crash_safe c.promise.ensures.kept pair before
+    (shown_on g.D.Disk.seen c.args.disks) opens.model had.new (map step_of c.args.steps.now)
+    c.go_by.new.self opens.opened opens.stores_are had.runs had.is
 
 pub returns-in-Err-go_by-clause-safe : goal.returns-in-Err-go_by-clause-safe
 returns-in-Err-go_by-clause-safe g c pair stores all =

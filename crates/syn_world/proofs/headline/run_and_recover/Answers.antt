@@ -12,6 +12,7 @@ use Rattle.syn_world.specs.Steps.{step_of}
 use Rattle.syn_world.specs.declared.world.Disks.{Disks}
 use Rattle.syn_world.proofs.HeadlineLemmas.{counted_more, ends_safely, failed_since, if_ok, of_pair}
 use Rattle.syn_world.proofs.HeadlineLemmas.{safe_stopped}
+use Rattle.syn_world.proofs.PromiseLemmas.{holds_as_promised}
 use Rattle.syn_world.proofs.headline.run_and_recover.Goals as goal
 
 -- the disks that the run left, with what holds of them
@@ -40,6 +41,15 @@ returns-in-Ok-clause-recovered g c pair stores all =
       run = run g c pair stores all;
       recovers = recovers;
     })
+
+pub returns-in-Ok-clause-promised : goal.returns-in-Ok-clause-promised
+returns-in-Ok-clause-promised g c pair before all =
+    let run = run g c pair before all in
+    if_ok c.recover.result
+    (c.recover.ensures.opened before (map step_of c.args.steps.now) (had g c pair before all).new
+    (fits g c pair before all) run.safe)
+    (λ world recovers. holds_as_promised c.promise.ensures.kept pair c.args.disks c.into_disks.result
+    before (map step_of c.args.steps.now) (had g c pair before all).new world run recovers)
 
 pub returns-in-Ok-clause-refused : goal.returns-in-Ok-clause-refused
 returns-in-Ok-clause-refused g c pair stores all =

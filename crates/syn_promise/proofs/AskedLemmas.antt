@@ -35,8 +35,8 @@ use Rattle.syn_headline.proofs.View.{halted_not_up, down_not_up}
 use Rattle.syn_headline.proofs.SettledLemmas.{running_or_none}
 use Rattle.syn_headline.proofs.AdvanceLemmas.{step_advances}
 use Rattle.syn_headline.proofs.WholeRuns.{no_plans, start_kept}
-use Rattle.syn_witness.specs.Asked.{IsAskedEvent, IsAsked, EditsAreAsked, PreferencesAreAsked}
-use Rattle.syn_witness.specs.Asked.{EditsAreMade, StartsAreMade}
+use Rattle.syn_promise.specs.Asked.{IsAskedEvent, IsAsked, EditsAreAsked, PreferencesAreAsked}
+use Rattle.syn_promise.specs.Asked.{EditsAreMade, StartsAreMade}
 
 -- all that a world acknowledged, was making and prefers was asked for by these steps
 record AskedFor (steps : List Step) (world : Picture) : Type 0 where

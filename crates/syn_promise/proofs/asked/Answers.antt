@@ -1,6 +1,6 @@
-use Rattle.syn_witness.proofs.AskedLemmas.{edits_are_asked, preferences_are_asked, edits_are_made}
-use Rattle.syn_witness.proofs.AskedLemmas.{starts_are_made}
-use Rattle.syn_witness.proofs.asked.Goals as goal
+use Rattle.syn_promise.proofs.AskedLemmas.{edits_are_asked, preferences_are_asked, edits_are_made}
+use Rattle.syn_promise.proofs.AskedLemmas.{starts_are_made}
+use Rattle.syn_promise.proofs.asked.Goals as goal
 
 pub returns-clause-edits : goal.returns-clause-edits
 returns-clause-edits c = edits_are_asked

@@ -1,0 +1,7 @@
+pub mod Asked
+pub mod Told
+pub mod Power
+pub mod Steps
+pub mod Sessions
+pub mod Promise
+pub mod Laws

@@ -1,0 +1,152 @@
+-- What a session looks at, plans, puts, leaves and reports.
+use Rattle.std.specs.Prelude.{ℕ, ◌≡◌, ◌≢◌, ◌≤◌, ◌↔◌, ◌&&◌, true, false, List, [], ◌∷◌, ◌++◌, map}
+use Rattle.std.specs.Prelude.{filter_map, length, take, slice_get, Option, Some, None, All}
+use Rattle.std.specs.Prelude.{Contains}
+use Rattle.std.specs.List.{count_by}
+use Rattle.syn_model.specs.Path.{Path, Name, parent}
+use Rattle.syn_model.specs.Tree.{Tree, Content, subtree, is_directory}
+use Rattle.syn_model.specs.Limits.{children}
+use Rattle.syn_model.specs.Event.{Token, Replaced, touches}
+use Rattle.syn_model.specs.History.{History, tree_of, tree_at, last_session, is_quiet}
+use Rattle.syn_model.specs.Mark.{mark, AreApart}
+use Rattle.syn_model.specs.Archive.{Kept}
+use Rattle.syn_model.specs.Dirty.{IsScanBy}
+use Rattle.syn_model.specs.Plan.{plan, IsSynchronized, IsReconciled, AreEqual, IsConflict}
+use Rattle.syn_headline.specs.Network.{Which, Left, Right, other}
+use Rattle.syn_headline.specs.World.{Step, Start}
+use Rattle.syn_headline.specs.Acknowledged.{Ack, Stores, history_of, stores_after, MayOverwrite}
+use Rattle.syn_headline.specs.Planning.{Planned, seen_on, SeesBoth, SessionPlan, Log, WritesTo}
+use Rattle.syn_headline.specs.Headline.{trees_of, HasCounts, UntouchedSince, AreMarked}
+use Rattle.syn_headline.specs.Report.{Report, Complete, Incomplete, is_kept, is_carrying}
+use Rattle.syn_headline.specs.Report.{is_marking, conflict_at}
+use Rattle.syn_headline.specs.Reported.{IsSettledBy}
+
+-- What a session looks at
+
+-- a position that the side has come to, by which the session had begun there
+pub record IsSeenAt (history : History) (session position : ℕ) : Type 0 where
+  pub reached : position ≤ length history
+  pub begun : session ≤ last_session (take position history)
+
+-- at that position the path was a directory with these entries, by marks
+pub record WasDirectory (history : History) (session : ℕ) (path : Path) (position : ℕ)
+    (entries : List (Name × Content)) : Type 0 where
+  pub seen : IsSeenAt history session position
+  pub directory : is_directory (tree_at history position) path ≡ true
+  pub entries_are : entries ≡ children (mark (tree_at history position)) path
+
+-- and at that one it was none
+pub record WasNoDirectory (history : History) (path : Path) (position : ℕ) : Type 0 where
+  pub reached : position ≤ length history
+  pub none : is_directory (tree_at history position) path ≡ false
+
+-- The session's two scans show what the sides had, each directory at its position; the archive is
+-- one of the run; its plan is the plan of these, with the preference that a start asks for
+pub record IsPlanned (before : Stores) (steps : List Step) (acknowledged : List Ack)
+    (made : SessionPlan) : Type 0 where
+  pub asked : Contains steps (Start made.preference)
+  pub scanned : (side : Which) →
+      let history = history_of (stores_after before acknowledged) side in
+      IsScanBy (WasDirectory history made.session) (WasNoDirectory history) (made.scan side)
+      (made.since side)
+  pub moment : ℕ
+  pub archive : made.archive
+      ≡ (stores_after before (take moment acknowledged)).archive.marks
+  pub items : map (λ planned. planned.item) made.plan ≡ plan made.preference (made.scan Left)
+      (made.scan Right) made.archive
+  pub seen : All (SeesBoth made.scan made.since) made.plan
+
+-- What it puts
+
+-- what the side had at the path, in a directory, as the session looked there
+pub record WasHeld (history : History) (session : ℕ) (path : Path) (position : ℕ) (part : Tree) :
+    Type 0 where
+  pub seen : IsSeenAt history session position
+  pub directory : is_directory (tree_at history position) (parent path) ≡ true
+  pub held : part ≡ subtree (tree_at history position) path
+
+-- A replacement of a side, which was written as the machines stood for this: it is an item of its
+-- session's plan, goes over nothing but what that may overwrite, which no event touched since the
+-- session looked there, and puts what the other side had as the session looked at that
+pub record IsLegal (sessions : Log) (side : Which) (written : Stores) (token : Token) (path : Path)
+    (since : ℕ) (new : Tree) : Type 0 where
+  pub made : SessionPlan
+  pub of_session : Contains sessions made × (made.session ≡ token.session)
+  pub planned : Planned
+  pub item : (slice_get made.plan token.item ≡ Some planned) × WritesTo planned.item side path
+  pub looked : IsSeenAt (history_of written side) token.session since
+  pub at : since ≡ (seen_on planned side).since
+  pub untouched :
+      is_quiet (history_of written side) since (length (history_of written side)) path ≡ true
+  pub overwrites : MayOverwrite made written side path
+  pub source : WasHeld (history_of written (other side)) token.session path
+      (seen_on planned (other side)).since new
+
+-- What it leaves, where it is complete and no user made an edit since it began
+
+-- the session's plan is one of these
+pub record HasPlan (sessions : Log) (session : ℕ) (preference : Option Which) : Type 0 where
+  pub made : SessionPlan
+  pub logged : Contains sessions made
+  pub of_session : made.session ≡ session
+  pub prefers : made.preference ≡ preference
+
+-- a session put the part at the path of a side, what the other side had at some position, and
+-- nothing touched the path since
+pub record WasCarried (found : Stores) (side : Which) (path : Path) (part : Tree) : Type 0 where
+  pub earlier : History
+  pub later : History
+  pub token : Token
+  pub since : ℕ
+  pub replaced : history_of found side ≡ earlier ++ Replaced token path since part ∷ later
+  pub untouched : All (λ event. touches event path ≡ false) later
+  pub position : ℕ
+  pub directory :
+      is_directory (tree_at (history_of found (other side)) position) (parent path) ≡ true
+  pub held : part ≡ subtree (tree_at (history_of found (other side)) position) path
+  pub still : UntouchedSince position (history_of found (other side)) path
+
+-- It found this, and left that: the synchronization of what it found, and the archive of it; equal
+-- sides, where it prefers one; the conflicts and counts that it reports; and the record of what was
+-- carried before, even if that was lost
+pub record Synchronizes (preference : Option Which) (report : Report) (found after : Stores) :
+    Type 0 where
+  pub sides : AreApart (tree_of found.left) (tree_of found.right) →
+      IsSynchronized preference (trees_of found) (trees_of after)
+  pub equal : AreApart (tree_of found.left) (tree_of found.right) → preference ≢ None →
+      AreEqual (trees_of after)
+  pub archive : IsReconciled preference (trees_of found) (trees_of after)
+  pub conflicts : (path : Path) → Contains report.conflicts path
+      ↔ IsConflict preference (tree_of found.left) (tree_of found.right) found.archive.marks path
+  pub counts : HasCounts preference found report
+  pub carried : (side : Which) (path : Path) (part : Tree) → WasCarried found side path part →
+      AreMarked after path part
+
+-- What it reports
+
+-- no path of the session's scans was answered as no directory
+abbrev pub IsStable : SessionPlan → Type 0
+IsStable made = (side : Which) → (made.scan side).unstable ≡ []
+
+-- A report of a session with this plan that recorded so much: it came past these items, each of
+-- which is a conflict, recorded or refused. It is of all items where nothing ended it early
+pub record TellsOf (plan : List Planned) (kept : List Kept) (report : Report) : Type 0 where
+  pub reached : ℕ
+  pub settled : All (IsSettledBy kept report.refused) (take reached plan)
+  pub through : report.ended ≡ None → All (IsSettledBy kept report.refused) plan
+  pub conflicts : report.conflicts
+      ≡ filter_map (λ planned. conflict_at planned.item) (take reached plan)
+  pub done : report.done
+      ≡ count_by (λ planned. is_carrying planned.item && is_kept kept planned.item) plan
+  pub marked : report.marked
+      ≡ count_by (λ planned. is_marking planned.item && is_kept kept planned.item) plan
+
+-- a report is of a plan that its session made, or of no item; it is complete only where nothing
+-- ended it, no item was refused and no path was unstable
+pub data Tells (sessions : Log) (kept : List Kept) (report : Report) : Type 0 where
+  with_plan : (made : SessionPlan) → Contains sessions made → made.session ≡ report.session →
+      TellsOf made.plan kept report →
+      (report.end ≡ Complete → (report.ended ≡ None) × (report.refused ≡ []) × IsStable made) →
+      Tells sessions kept report
+  without_plan : TellsOf [] kept report → report.ended ≢ None → report.end ≡ Incomplete →
+      Tells sessions kept report

@@ -1,0 +1,25 @@
+//! What is promised of the run of a world.
+ghost use Rattle.std.specs.Prelude.{◌≡◌, ℕ, List};
+ghost use Rattle.syn_headline.specs.Acknowledged.{Stores};
+ghost use Rattle.syn_headline.specs.Runs.{stores_of};
+ghost use Rattle.syn_headline.specs.World.{World as ModelWorld, Runs, Step as ModelStep};
+ghost use Rattle.syn_recovery.specs.Headline.{Disks as Shown, IsOpenedFrom};
+
+use crate::world::World;
+use syn_host::SimulatedDisk;
+
+impl<D: SimulatedDisk> World<D> {
+    ghost use Rattle.syn_world.specs.Promises.{KeepsPromise};
+    ghost use Rattle.syn_world.specs.Worlds.{IsWorld};
+
+    /// Does nothing. A world that was opened from the disks of a pair, and went by these steps
+    /// since, keeps the promise of the run.
+    pub fn promise(&self)
+        ensures kept { (pair : ℕ) (before : Stores) (bytes : Shown) (old new : ModelWorld)
+            (steps : List ModelStep) → IsOpenedFrom pair bytes old → stores_of old ≡ before
+            → Runs old steps new → IsWorld self.now new → KeepsPromise pair before steps self.now }
+    {
+        syn_recovery::headline();
+        syn_promise::promise();
+    }
+}
