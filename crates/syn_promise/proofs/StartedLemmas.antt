@@ -1,6 +1,7 @@
 -- Each session that runs, and each that reports, was started.
 use Rattle.std.proofs.Common.{◌≡◌, ◌⊎◌, ◌∙◌, ◌+◌, ℕ, zero, suc, List, [], ◌∷◌, ◌++◌, map, take}
-use Rattle.std.proofs.Common.{filter_map, length, Option, Some, None, sym, ap, subst, inl, inr, arith}
+use Rattle.std.proofs.Common.{filter_map, length, Option, Some, None, sym, ap, subst, inl, inr}
+use Rattle.std.proofs.Common.{arith}
 use Rattle.std.specs.Prelude.{All, Contains, IfSome}
 use Rattle.std.proofs.lemmas.List.Elements.{All-nil, All-push, All-weaker, All-head}
 use Rattle.std.proofs.lemmas.List.Elements.{Contains-append_left, Contains-append_right}
@@ -48,7 +49,8 @@ reports_more : (acks more : List Ack) (reports : List (Report × ℕ)) →
     All (IsOfStarted acks) reports → All (IsOfStarted (acks ++ more)) reports
 reports_more acks more reports all =
     All-weaker (IsOfStarted acks) (IsOfStarted (acks ++ more))
-    (λ one started. taken_more one.1 acks more (Kept_by (Session one.0.session)) started) reports all
+    (λ one started. taken_more one.1 acks more (Kept_by (Session one.0.session)) started)
+    reports all
 
 module _ (old new : Picture) (was : AllStarted old) (more : List Ack)
     (grows : new.acknowledged ≡ old.acknowledged ++ more) where
