@@ -1,5 +1,6 @@
 pub mod AskedLemmas
 pub mod ReportLemmas
+pub mod StartedLemmas
 pub mod SessionLemmas
 pub mod PowerLemmas
 pub mod ComeLemmas

@@ -35,9 +35,11 @@ use Rattle.syn_headline.proofs.TokenLemmas.{token_once}
 use Rattle.syn_headline.proofs.EarlyLemmas.{entry_is}
 use Rattle.syn_promise.specs.Asked.{EditsAreAsked, PreferencesAreAsked, IsAskedEvent, IsAsked}
 use Rattle.syn_promise.specs.Sessions.{IsPlanned, IsLegal, HasPlan, Synchronizes, Tells}
-use Rattle.syn_promise.specs.Promise.{Promised, Stand, IsWithOneMore, as_it_was, one_more}
+use Rattle.syn_promise.specs.Promise.{Promised, Reports, Stand, IsWithOneMore, as_it_was}
+use Rattle.syn_promise.specs.Promise.{one_more}
 use Rattle.syn_promise.specs.Laws.{told_by, MayStand, RunsKeepPromise}
 use Rattle.syn_promise.proofs.ReportLemmas.{report_tells}
+use Rattle.syn_promise.proofs.StartedLemmas.{reports_started}
 use Rattle.syn_promise.proofs.SessionLemmas.{history_more, legal_then, planned_so}
 use Rattle.syn_promise.proofs.ComeLemmas.{come_all}
 
@@ -228,12 +230,17 @@ module _ (laws : Laws) (old new : World) (steps : List Step) (now : Stores) (s :
         },
       )
 
-  reported : All (λ one. Tells new.log (kept_in_session (take one.1 acks)) one.0) new.reports
+  reported : All (Reports new.log acks) new.reports
   reported i one within =
+      let at = slice_index_or new.reports i one in
       let told = laws.tell old new steps s runs i one within in
-      subst (Tells new.log (kept_in_session (take (slice_index_or new.reports i one).1 acks)))
-      (sym told.2) (report_tells new.sent new.log
-      (kept_in_session (take (slice_index_or new.reports i one).1 acks)) told.0 told.1 told.3)
+      record {
+        started = reports_started (picture_of old) (picture_of new) (start_view old s)
+            (follows old new steps s runs).follows i one within;
+        tells = subst (Tells new.log (kept_in_session (take at.1 acks))) (sym told.2)
+            (report_tells new.sent new.log (kept_in_session (take at.1 acks)) told.0 told.1
+            told.3);
+      }
 
   edits_asked : All (IsAsked steps) acks
   edits_asked = (laws.edits before steps new.refusals (picture_of new)

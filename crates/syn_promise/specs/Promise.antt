@@ -1,15 +1,15 @@
 -- What is promised of a run, in one record.
 use Rattle.std.specs.Prelude.{ℕ, ◌≡◌, ◌≢◌, ◌⊎◌, List, [], ◌∷◌, ◌++◌, Option, take, All}
-use Rattle.std.specs.Prelude.{AllPairs}
+use Rattle.std.specs.Prelude.{AllPairs, Contains}
 use Rattle.syn_model.specs.Path.{Path}
 use Rattle.syn_model.specs.Tree.{Tree}
 use Rattle.syn_model.specs.Event.{Token, Event, Replaced}
 use Rattle.syn_model.specs.History.{History}
-use Rattle.syn_model.specs.Archive.{Kept, after_kept, BothHeld}
+use Rattle.syn_model.specs.Archive.{Kept, Session, after_kept, BothHeld}
 use Rattle.syn_headline.specs.Network.{Which}
 use Rattle.syn_headline.specs.World.{Machine, Step}
-use Rattle.syn_headline.specs.Acknowledged.{Ack, Happened, Stores, history_of, stores_after}
-use Rattle.syn_headline.specs.Acknowledged.{kept_in_session}
+use Rattle.syn_headline.specs.Acknowledged.{Ack, Happened, Kept_by, Stores, history_of}
+use Rattle.syn_headline.specs.Acknowledged.{stores_after, kept_in_session}
 use Rattle.syn_headline.specs.Planning.{Log}
 use Rattle.syn_headline.specs.Report.{Report}
 use Rattle.syn_headline.specs.Headline.{IsQuietSession, IsOtherToken}
@@ -32,6 +32,11 @@ pub record Stand (steps : List Step) (acknowledged now : Stores) : Type 0 where
       IsWithOneMore steps which (history_of acknowledged which) (history_of now which)
   pub archive : (now.archive ≡ acknowledged.archive)
       ⊎ ((kept : Kept) × (now.archive ≡ after_kept acknowledged.archive kept))
+
+-- a report, which came after so much was acknowledged
+pub record Reports (sessions : Log) (acknowledged : List Ack) (one : Report × ℕ) : Type 0 where
+  pub started : Contains (take one.1 acknowledged) (Kept_by (Session one.0.session))
+  pub tells : Tells sessions (kept_in_session (take one.1 acknowledged)) one.0
 
 -- A run by these steps began as the disks stood for `before`, and told this. A stop of all machines
 -- after it left disks that stand for `now`
@@ -71,7 +76,5 @@ pub record Promised (before : Stores) (steps : List Step) (told : Told) (now : S
       IsQuietSession before told.acknowledged told.reports report found after →
       (preference : Option Which) × HasPlan sessions report.session preference
       × Synchronizes preference report found after
-  -- each report tells what its session did
-  pub reported : All
-      (λ one. Tells sessions (kept_in_session (take one.1 told.acknowledged)) one.0)
-      told.reports
+  -- each report is of a session that was started before it, and tells what that did
+  pub reported : All (Reports sessions told.acknowledged) told.reports

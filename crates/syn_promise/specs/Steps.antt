@@ -46,9 +46,6 @@ IsOf (At which) (Kept_by kept) = ⊥
 IsOf Coordinator (Happened side event) = ⊥
 IsOf Coordinator (Kept_by kept) = Unit {0}
 
-abbrev pub opens : Machine → List Step
-opens machine = Open machine ∷ Reopen machine ∷ []
-
 -- What comes of a step, where the machines stand for this, and are on or off so before it and after
 -- it: what is acknowledged, and what its user is refused
 pub data Comes (stands : Stores) (was now : Machine → Power) : Step → List Ack → List Refusal →
@@ -66,8 +63,9 @@ pub data Comes (stands : Stores) (was now : Machine → Power) : Step → List A
       Comes stands was now (Start preference) [] []
   delivered : (message : ℕ) (acks : List Ack) → All IsOfSession acks →
       Comes stands was now (Deliver message) acks []
-  recovered : (step : Step) (machine : Machine) (ack : Ack) → Contains (opens machine) step →
-      IsOf machine ack → Comes stands was now step (ack ∷ []) []
+  recovered : (step : Step) (machine : Machine) (ack : Ack) →
+      Contains (Open machine ∷ Reopen machine ∷ []) step → IsOf machine ack →
+      Comes stands was now step (ack ∷ []) []
   nothing : (step : Step) → IsQuiet step → Comes stands was now step [] []
 
 -- what comes of all steps, one after another, from machines that are on

@@ -44,12 +44,13 @@ returns-in-Ok-clause-recovered g c pair stores all =
 
 pub returns-in-Ok-clause-promised : goal.returns-in-Ok-clause-promised
 returns-in-Ok-clause-promised g c pair before all =
-    let run = run g c pair before all in
+    let ran = run g c pair before all in
     if_ok c.recover.result
     (c.recover.ensures.opened before (map step_of c.args.steps.now) (had g c pair before all).new
-    (fits g c pair before all) run.safe)
-    (λ world recovers. holds_as_promised c.promise.ensures.kept pair c.args.disks c.into_disks.result
-    before (map step_of c.args.steps.now) (had g c pair before all).new world run recovers)
+    (fits g c pair before all) ran.safe)
+    (λ world recovers. holds_as_promised c.promise.ensures.kept pair c.args.disks
+    c.into_disks.result before (map step_of c.args.steps.now)
+    (had g c pair before all).new world ran recovers)
 
 pub returns-in-Ok-clause-refused : goal.returns-in-Ok-clause-refused
 returns-in-Ok-clause-refused g c pair stores all =

@@ -1,5 +1,5 @@
 use Rattle.syn_world.proofs.PromiseLemmas.{keeps_promise}
-use Rattle.syn_world.proofs.promise.World.promise.Goals as goal
+use Rattle.syn_world.proofs.world.World.promise.Goals as goal
 
 pub returns : goal.returns
 returns g c = record {
