@@ -2,7 +2,8 @@
 ghost use Rattle.std.specs.Prelude.{◌≡◌};
 ghost use Rattle.syn_model.specs.Decision.{path_of};
 ghost use Rattle.syn_recon.specs.Items.{item_of};
-ghost use Rattle.syn_reconcile.specs.Outcomes.{outcome_of};
+ghost use Rattle.syn_reconcile.specs.Outcomes.{count_ended, outcome_of};
+ghost use Rattle.syn_reconcile.specs.Outcomes.{is_conflict, is_done, is_marked, is_refused};
 
 use syn_path::Path;
 use syn_recon::Item;
@@ -50,6 +51,30 @@ impl Settled {
     {
         self.item.path()
     }
+
+    fn is_done(&self) -> bool
+        ensures { result ≡ is_done (outcome_of self.now.item self.now.refused) }
+    {
+        matches!(self.outcome(), Outcome::Done)
+    }
+
+    fn is_marked(&self) -> bool
+        ensures { result ≡ is_marked (outcome_of self.now.item self.now.refused) }
+    {
+        matches!(self.outcome(), Outcome::Marked)
+    }
+
+    fn is_conflict(&self) -> bool
+        ensures { result ≡ is_conflict (outcome_of self.now.item self.now.refused) }
+    {
+        matches!(self.outcome(), Outcome::Conflict)
+    }
+
+    fn is_refused(&self) -> bool
+        ensures { result ≡ is_refused (outcome_of self.now.item self.now.refused) }
+    {
+        matches!(self.outcome(), Outcome::Refused(_))
+    }
 }
 
 /// What came of a reconciliation.
@@ -61,34 +86,30 @@ pub struct Report {
 
 impl Report {
     /// How many items went to the other side and were recorded.
-    pub fn done(&self) -> usize {
-        self.settled
-            .iter()
-            .filter(|one| matches!(one.outcome(), Outcome::Done))
-            .count()
+    pub fn done(&self) -> usize
+        ensures { result ≡ count_ended is_done self.now.settled.items }
+    {
+        self.settled.iter().filter(|one| one.is_done()).count()
     }
 
     /// How many items were recorded since both sides have them already.
-    pub fn marked(&self) -> usize {
-        self.settled
-            .iter()
-            .filter(|one| matches!(one.outcome(), Outcome::Marked))
-            .count()
+    pub fn marked(&self) -> usize
+        ensures { result ≡ count_ended is_marked self.now.settled.items }
+    {
+        self.settled.iter().filter(|one| one.is_marked()).count()
     }
 
     /// How many paths were changed on both sides.
-    pub fn conflicts(&self) -> usize {
-        self.settled
-            .iter()
-            .filter(|one| matches!(one.outcome(), Outcome::Conflict))
-            .count()
+    pub fn conflicts(&self) -> usize
+        ensures { result ≡ count_ended is_conflict self.now.settled.items }
+    {
+        self.settled.iter().filter(|one| one.is_conflict()).count()
     }
 
     /// How many items were refused.
-    pub fn refused(&self) -> usize {
-        self.settled
-            .iter()
-            .filter(|one| matches!(one.outcome(), Outcome::Refused(_)))
-            .count()
+    pub fn refused(&self) -> usize
+        ensures { result ≡ count_ended is_refused self.now.settled.items }
+    {
+        self.settled.iter().filter(|one| one.is_refused()).count()
     }
 }
