@@ -5,7 +5,7 @@ _syn() {
     for ((i = 1; i < COMP_CWORD; i++)); do
         case ${COMP_WORDS[i]} in
             --served) served=-served ;;
-            --connections | --prefer | --archive | --every)
+            --connections | --prefer | --archive | --every | --folder | --user)
                 i=$((i + 1))
                 [ "${COMP_WORDS[i]}" != = ] || i=$((i + 1))
                 ;;
@@ -24,7 +24,8 @@ _syn() {
             return
             ;;
         */--archive) mapfile -t COMPREPLY < <(compgen -f -- "$word"); return ;;
-        :/* | =/* | */: | */= | */--connections | */--every) return ;;
+        */--folder) mapfile -t COMPREPLY < <(compgen -d -- "$word"); return ;;
+        :/* | =/* | */: | */= | */--connections | */--every | */--user) return ;;
     esac
     local commands='format put mkdir rm chmod show check migrate log export import reconcile serve'
     commands+=' sync run plan simulate help'
@@ -37,7 +38,7 @@ _syn() {
         export) options+=' --update --delete --served' ;;
         import) options+=' --skip --served' ;;
         reconcile) options+=' --prefer --archive --dry-run --emptied' ;;
-        serve) options+=' --connections' ;;
+        serve) options+=' --connections --folder --user --every' ;;
         simulate) options+=' --trace' ;;
     esac
     case $word in

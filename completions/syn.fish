@@ -30,7 +30,7 @@ complete -c syn -n '__fish_seen_subcommand_from put mkdir rm chmod show export i
     -l served -d 'Ask the server at HOST:PORT in the place of FILE'
 complete -c syn -n '__fish_seen_subcommand_from sync run plan' -l prefer -x -a 'left right' \
     -d 'Put this side over the other where both changed'
-complete -c syn -n '__fish_seen_subcommand_from sync' -l every -x \
+complete -c syn -n '__fish_seen_subcommand_from sync serve' -l every -x \
     -d 'Go on, and look so many seconds apart'
 complete -c syn -n '__fish_seen_subcommand_from reconcile' -l prefer -x -a 'folder replica' \
     -d 'Put this one over the other where both changed'
@@ -42,6 +42,10 @@ complete -c syn -n '__fish_seen_subcommand_from reconcile' -l emptied \
     -d 'Carry it, too, where one side has become empty'
 complete -c syn -n '__fish_seen_subcommand_from serve' -l connections -x \
     -d 'End when so many connections were served'
+complete -c syn -n '__fish_seen_subcommand_from serve' -l folder -x \
+    -a '(__fish_complete_directories)' -d 'Keep this folder the same as the replica'
+complete -c syn -n '__fish_seen_subcommand_from serve' -l user -x \
+    -d 'Make the edits of the folder by this user'
 complete -c syn -n '__fish_seen_subcommand_from export' -l update \
     -d 'Write what differs into a folder that is there'
 complete -c syn -n '__fish_seen_subcommand_from export' -l delete \

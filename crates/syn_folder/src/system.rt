@@ -13,6 +13,7 @@ use std::io;
 use syn_path::Path;
 use syn_tree::{Edit, Node, Tree};
 
+mod glimpse;
 mod listing;
 mod looking;
 mod looks;
@@ -22,6 +23,8 @@ mod replacing;
 mod streams;
 mod walking;
 mod writing;
+
+pub use glimpse::{Glimpse, take_glimpse};
 
 use looks::Looked;
 use picture::FolderRead;
