@@ -134,7 +134,11 @@ impl Known {
         if is_same && self.looks >= LOOKS {
             return false;
         }
-        self.looks = if is_same { self.looks.saturating_add(1) } else { 1 };
+        self.looks = if is_same {
+            self.looks.saturating_add(1)
+        } else {
+            1
+        };
         self.glimpse = seen;
         self.position = position;
         true
@@ -191,8 +195,9 @@ where
     }
     let (archive, user) = (&mut side.archive, side.user);
     let refuse = WhenEmpty::Refuse;
-    reconcile_shared(rt, alloc, &mut folder, shared, pass, archive, user, refuse)
-        .map_err(LookError::Reconcile)
+    reconcile_shared(rt, alloc, &mut folder, shared, pass, archive, user, refuse).map_err(
+        LookError::Reconcile,
+    )
 }
 
 /// Tells what a look came to: what was carried, and once what stays undone.

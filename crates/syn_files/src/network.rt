@@ -23,8 +23,8 @@ use syn_user::{SideConnection, UserConnection};
 use syn_words::{EditLine, ServeLine};
 
 /// Serves the line's replica at its address, `HOST:PORT`, until so many connections were opened and
-/// served; with none it serves on. Where the line has a folder, that is kept the same as the replica
-/// meanwhile. It logs to the handle's standard error.
+/// served; with none it serves on. Where the line has a folder, that is kept the same as the
+/// replica meanwhile. It logs to the handle's standard error.
 ///
 /// Refused as an opening of the disk is, and of the archive that a folder has; 9 where the address
 /// cannot be bound, and 11 where memory is refused.

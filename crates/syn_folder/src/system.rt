@@ -25,7 +25,6 @@ mod walking;
 mod writing;
 
 pub use glimpse::{Glimpse, take_glimpse};
-
 use looks::Looked;
 use picture::FolderRead;
 use reading::read_folder;

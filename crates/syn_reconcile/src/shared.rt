@@ -60,7 +60,9 @@ pub fn reconcile_shared<H: Wait, F: EditedFolder, R: Disk, A: Disk>(
         report.settled.items) }
 {
     let seen = shared.snapshot(rt, alloc, pass)?;
-    let compared = plan_seen(alloc, folder, &seen.tree, seen.pair, archive, None, when_empty)?;
+    let compared = plan_seen(
+        alloc, folder, &seen.tree, seen.pair, archive, None, when_empty,
+    )?;
     let settled = carry_each(
         rt,
         alloc,

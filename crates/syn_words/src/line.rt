@@ -216,10 +216,7 @@ pub enum Line<'a> {
     Plan(Pairing<'a>),
     /// Runs the steps of a script on a world of three machines in memory, and tells each of them
     /// where it is traced.
-    Simulate {
-        script: &'a str,
-        is_traced: bool,
-    },
+    Simulate { script: &'a str, is_traced: bool },
 }
 
 /// A command, and whether a refusal of it is to be explained.

@@ -11,8 +11,8 @@ ghost use Rattle.syn_words.specs.inner.Lacking.{IsLack, IsLineOf};
 
 use crate::error::LineError;
 use crate::line::{
-    Between, EditKind, EditLine, Existing, ExportLine, FolderLine, ImageKind, ImageLine, ImportLine,
-    KeepLine, Line, Pairing, ReconcileLine, ServeLine,
+    Between, EditKind, EditLine, Existing, ExportLine, FolderLine, ImageKind, ImageLine,
+    ImportLine, KeepLine, Line, Pairing, ReconcileLine, ServeLine,
 };
 use crate::value::ValueName;
 use crate::values::{

@@ -1,24 +1,24 @@
 //! How a folder of the system looks from outside: what its metadata tells, and no contents.
 
 use crate::error::FolderError;
-use crate::system::listing::children_of;
-use crate::system::looking::{is_gone, place_of, read_names};
-use crate::system::looks::{Look, Looked};
-use std::alloc::{AllocError, Global};
-use std::fs::{Files, Metadata};
-use std::io;
-use syn_path::Path;
+use crate::system::listing::is_listed;
+use crate::system::looking::{is_gone, read_names};
+use crate::system::looks::Look;
+use std::alloc::Global;
+use std::fs::Files;
+use std::{io, str};
 
-/// How many files, directories and others of a folder are looked at.
+/// Of a folder with more files, directories and others than this no glimpse says that it is the
+/// same.
 const MOST_LOOKED: usize = 65_536;
 
 /// How a folder looks by its names, and by the numbers, modes, lengths and times of what stands in
 /// it. A glimpse reads no file.
 #[derive(Drop)]
 pub struct Glimpse {
-    looks: Vec<Looked>,
-    /// There was more than is looked at.
-    is_cut: bool,
+    /// The names in each directory, as the system lists them.
+    names: Vec<u8>,
+    looks: Vec<Look>,
 }
 
 impl Glimpse {
@@ -26,99 +26,97 @@ impl Glimpse {
     /// tells: it takes two changes that are very close for one. Of a folder with very much in it
     /// this is never said.
     pub fn is_same(&self, other: &Glimpse) -> bool {
-        !self.is_cut && !other.is_cut && are_same(&self.looks, &other.looks)
+        self.looks.len() <= MOST_LOOKED && self.names == other.names && self.looks == other.looks
     }
 }
 
-/// Each of them has the other's path, and looks as it does.
-fn are_same(looks: &[Looked], others: &[Looked]) -> bool {
-    looks.len() == others.len()
-        && looks
-            .iter()
-            .zip(others.iter())
-            .all(|(one, other)| one.look == other.look && one.path == other.path)
-}
-
-/// Looks at the folder of this name and at all that stands in it, as far as a replica can have its
-/// path. A folder that is missing looks as nothing does.
+/// Looks at the folder of this name and at all that stands in it. A folder that is missing looks as
+/// nothing does.
 ///
 /// Refused 9 where the system refuses it otherwise than for what is gone or may not be read, and 11
 /// where memory is refused.
-pub fn take_glimpse<F: Files>(alloc: Global, files: &F, root: &str) -> Result<Glimpse, FolderError> {
-    let mut looks = Vec::new(alloc);
-    let mut pending = Vec::new(alloc);
-    pending.push(Path::root(alloc))?;
-    for _looked in 0..MOST_LOOKED {
-        let Some(path) = pending.pop() else {
-            break;
-        };
-        look_once(alloc, files, root, path, &mut looks, &mut pending)?;
-    }
-    let is_cut = !pending.is_empty();
-    Ok(Glimpse { looks, is_cut })
-}
-
-/// Notes how what stands at the path looks. What a directory lists is to be looked at next.
-fn look_once<F: Files>(
+pub fn take_glimpse<F: Files>(
     alloc: Global,
     files: &F,
     root: &str,
-    path: Path,
-    looks: &mut Vec<Looked>,
-    pending: &mut Vec<Path>,
-) -> Result<(), FolderError> {
-    let place = place_at(alloc, root, &path)?;
-    let there = match look_outside(files, place.as_str(), &path) {
-        Ok(there) => there,
-        Err(error) if is_hidden(&error) => return Ok(()),
-        Err(error) => return Err(FolderError::System(error)),
+) -> Result<Glimpse, FolderError> {
+    let mut seen = Glimpse {
+        names: Vec::new(alloc),
+        looks: Vec::new(alloc),
     };
-    if there.is_dir() {
-        pend_children(alloc, files, place.as_str(), &path, pending)?;
+    let mut pending = Vec::new(alloc);
+    match files.metadata(root) {
+        Ok(there) => {
+            seen.looks.push(Look::of(&there))?;
+            pending.push(String::from_str(alloc, root)?)?;
+        }
+        Err(error) if is_hidden(&error) => return Ok(seen),
+        Err(error) => return Err(FolderError::System(error)),
     }
-    looks.push(Looked {
-        path,
-        look: Look::of(&there),
-    })?;
-    Ok(())
-}
-
-/// The path of the system to what stands at the path. The folder itself may be a symbolic link, of
-/// which the system follows one with a slash after it.
-fn place_at(alloc: Global, root: &str, path: &Path) -> Result<String, AllocError> {
-    let mut place = place_of(alloc, root, path.names())?;
-    if path.names().is_empty() {
+    for _looked in 0..MOST_LOOKED {
+        let Some(mut place) = pending.pop() else {
+            break;
+        };
+        // After the slash the system follows a symbolic link, which only the folder itself may be.
         place.push('/')?;
+        if seen.looks.len() <= MOST_LOOKED {
+            seen.look_into(alloc, files, place.as_str(), &mut pending)?;
+        }
     }
-    Ok(place)
+    Ok(seen)
 }
 
-/// What the system tells of the place. No symbolic link in the folder is followed.
-fn look_outside<F: Files>(files: &F, place: &str, path: &Path) -> io::Result<Metadata> {
-    if path.names().is_empty() {
-        files.metadata(place)
-    } else {
-        files.symlink_metadata(place)
+impl Glimpse {
+    /// Notes what the directory at the place lists, and how each of that looks. The directories in
+    /// it are to be looked into next.
+    fn look_into<F: Files>(
+        &mut self,
+        alloc: Global,
+        files: &F,
+        place: &str,
+        pending: &mut Vec<String>,
+    ) -> Result<(), FolderError> {
+        let listing = match read_names(alloc, files, place) {
+            Ok(listing) => listing,
+            Err(error) if is_hidden(&error) => return Ok(()),
+            Err(error) => return Err(FolderError::System(error)),
+        };
+        self.names.extend_from_slice(&listing)?;
+        for name in listing.split(|byte| *byte == 0) {
+            if is_listed(name) {
+                self.look_at(alloc, files, place, name, pending)?;
+            }
+        }
+        Ok(())
     }
-}
 
-/// Puts what the directory at the place lists to the pending paths.
-fn pend_children<F: Files>(
-    alloc: Global,
-    files: &F,
-    place: &str,
-    path: &Path,
-    pending: &mut Vec<Path>,
-) -> Result<(), FolderError> {
-    let listing = match read_names(alloc, files, place) {
-        Ok(listing) => listing,
-        Err(error) if is_hidden(&error) => return Ok(()),
-        Err(error) => return Err(FolderError::System(error)),
-    };
-    let root = Path::root(alloc);
-    let mut children = children_of(alloc, &root.key(), path, &listing)?;
-    pending.append(&mut children)?;
-    Ok(())
+    /// Notes how what has the name in the directory at the place looks. A name that is no text has
+    /// no look of its own.
+    fn look_at<F: Files>(
+        &mut self,
+        alloc: Global,
+        files: &F,
+        directory: &str,
+        name: &[u8],
+        pending: &mut Vec<String>,
+    ) -> Result<(), FolderError> {
+        let Ok(name) = str::from_utf8(name) else {
+            return Ok(());
+        };
+        let mut place = String::from_str(alloc, directory)?;
+        place.push_str(name)?;
+        match files.symlink_metadata(place.as_str()) {
+            Ok(there) => {
+                self.looks.push(Look::of(&there))?;
+                if there.is_dir() {
+                    pending.push(place)?;
+                }
+                Ok(())
+            }
+            Err(error) if is_hidden(&error) => Ok(()),
+            Err(error) => Err(FolderError::System(error)),
+        }
+    }
 }
 
 /// What stands there is gone, or may not be seen.
