@@ -34,19 +34,13 @@ edits_after : (tree : Tree) (user : ℕ) (edits : List Edit)
 edits_after tree user [] = refl
 edits_after tree user (e ∷ es) = edits_after (after_event tree (Edited user e)) user es
 
--- no cause refuses
-pub no_cause : (cause : Option Refusal) (answered : Result ℕ ReplicaError → Type 0)
-    → ((why : Refusal) → cause ≡ Some why → ⊥) → cause ≡ None
-no_cause None answered none = refl
-no_cause (Some why) answered none = absurd (none why refl)
-
 module _ {D : Type 0} {disk : Ghosts D} where
   -- what was added in turn stands
   stand_in_turn : (found left : Replica D disk) (events : List Event) (history : History)
       → Stands found history → AddsInTurn found events left → Stands left (history ++ events)
-  stand_in_turn found left events history stands parts.none =
+  stand_in_turn found _ _ history stands parts.none =
       subst (Stands found) (sym (append-nil history)) stands
-  stand_in_turn found left events history stands
+  stand_in_turn found _ _ history stands
       (parts.more made event position before left adds edits) =
       subst (Stands left) (append_assoc history made (event ∷ []))
       (edits.acknowledged (history ++ made)
@@ -71,6 +65,6 @@ module _ {D : Type 0} {disk : Ghosts D} where
     pub part_there : (answer : Result ℕ ReplicaError) (left : Replica D disk)
         → EndsWith found (map (Edited user) edits) answer left
         → IfOk answer (λ _. HasPart user path part found history left)
-    part_there answer left (parts.all left adds) =
+    part_there _ _ (parts.all left adds) =
         has_part left (stand_in_turn found left (map (Edited user) edits) history stands adds)
-    part_there answer left (parts.some made event others e before left are adds edits) = tt
+    part_there _ _ (parts.some made event others e before left are adds edits) = tt

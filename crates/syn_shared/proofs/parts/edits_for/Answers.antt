@@ -1,4 +1,4 @@
-use Rattle.std.proofs.Common.{◌≡◌, ◌∙◌, ap, map, subst}
+use Rattle.std.proofs.Common.{◌≡◌, ◌∙◌, IfOk, ap, map, subst}
 use Rattle.syn_change.specs.Changes.{AreChanges}
 use Rattle.syn_model.proofs.TreeLemmas.{subtree-root}
 use Rattle.syn_model.specs.Path.{Path}
@@ -17,5 +17,5 @@ returns c =
     ∙ (ap (λ (p : Path). subtree tree p) c.root.ensures ∙ subtree-root tree) in
     let wanted : c.replace.new.self ≡ replace tree path part =
     c.in_ok-replace.ensures.done ∙ ap (λ (t : Tree). replace t path part) copy in
-    subst (λ (t : Tree). AreChanges tree t (map edit_of c.in_ok-changes.changes.items)) wanted
-    c.in_ok-changes.ensures.changes
+    subst (λ (t : Tree). IfOk c.changes.result
+    (λ edits. AreChanges tree t (map edit_of edits.items))) wanted c.changes.ensures.changes

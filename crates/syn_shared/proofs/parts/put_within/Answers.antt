@@ -1,6 +1,8 @@
-use Rattle.std.proofs.Common.{◌≡◌, List, Ok, Err, map, subst}
-use Rattle.std.specs.Prelude.{IsErrAnd}
+use Rattle.std.proofs.Common.{ℕ, List, Result, map, refl, subst, sym}
+use Rattle.syn_model.proofs.ExitLemmas.{exit_is}
 use Rattle.syn_model.specs.Event.{Event}
+use Rattle.syn_replica.specs.Growing.{itself}
+use Rattle.syn_standing.specs.declared.error.ReplicaError.{ReplicaError}
 use Rattle.syn_tree.specs.Edits.{edit_of}
 use Rattle.syn_tree.specs.Nodes.{part_of}
 use Rattle.syn_shared.specs.Parts.{EndsWith, Puts}
@@ -24,3 +26,19 @@ returns-clause-puts g c =
           part_there c.args.user c.args.path.now (part_of c.args.new) found edits
           c.in_ok-edits.ensures.changes history stands c.edit_in_turn.result left ends;
     }
+
+pub returns-in_err-edits-clause-puts : goal.returns-in_err-edits-clause-puts
+returns-in_err-edits-clause-puts g c =
+    let found = c.args.replica.now in
+    let e = c.in_err-edits.field-0.0 in
+    subst (λ (r : Result ℕ ReplicaError). Puts c.args.user c.args.path.now c.args.since
+    (part_of c.args.new) r found found)
+    (sym (exit_is c.from_residual.result e c.from_residual.ensures.1)) (record {
+      way = parts.keeps e;
+      touched = λ history why stands some.
+          (c.in_err-edits.ensures.touched history why stands some, refl);
+      acknowledged = λ history stands. tt;
+    })
+
+pub returns-in_err-edits-clause-grown : goal.returns-in_err-edits-clause-grown
+returns-in_err-edits-clause-grown g c = itself c.args.replica.now
