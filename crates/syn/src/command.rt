@@ -40,7 +40,7 @@ pub fn command<H, F, I, O, E>(
 where
     H: Net<Listener = TcpListener, Stream = TcpStream> + Threads + Wait + Clock + Eprint,
     H: Copy + Sync,
-    F: Files,
+    F: Files + Sync,
     F::File: HostFile + Send,
     I: Read,
     O: Write,
@@ -147,7 +147,7 @@ fn carry_out<H, F, N, I, O, E>(
 where
     H: Net<Listener = TcpListener, Stream = TcpStream> + Threads + Wait + Clock + Eprint,
     H: Copy + Sync,
-    F: Files,
+    F: Files + Sync,
     F::File: HostFile,
     N: NamedDisks,
     I: Read,
@@ -177,12 +177,8 @@ where
         }
         Line::Export(line) => done_at(export(rt, alloc, disks, context.files, line)?, output)?,
         Line::Image(line) => carry_out_on_image(context, line, output)?,
-        Line::Serve {
-            file,
-            address,
-            connections,
-        } => {
-            serve_named(rt, alloc, disks, file, address, *connections)?;
+        Line::Serve(line) => {
+            serve_named(rt, alloc, disks, context.files, line)?;
             Outcome::Done
         }
         Line::Simulate { script, is_traced } => {

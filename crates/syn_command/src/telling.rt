@@ -75,7 +75,10 @@ fn name_line<E: Write>(line: &Line<'_>, errors: &mut E) -> io::Result<()> {
         Line::Export(line) => write!(errors, "syn: {} into {}", line.place.as_str(), line.folder),
         Line::Import(line) => write!(errors, "syn: {} into {}", line.folder, line.place.as_str()),
         Line::Reconcile(line) => write!(errors, "syn: {} and {}", line.folder, line.file),
-        Line::Serve { file, address, .. } => write!(errors, "syn: {file} at {address}"),
+        Line::Serve(line) => {
+            let (file, address) = (line.file, line.address);
+            write!(errors, "syn: {file} at {address}")
+        }
         Line::Session(pairing) | Line::Plan(pairing) => {
             let (Between::Files { left, right } | Between::Servers { left, right }) =
                 pairing.between;

@@ -20,16 +20,20 @@
 
 mod bell;
 mod console;
+mod ending;
+mod folder_side;
 mod gates;
 mod keeper;
 mod server;
 mod sessions;
 mod shares;
 mod streams;
+mod told;
 mod worker;
 
 pub use console::Plain;
+pub use folder_side::FolderSide;
 pub use gates::{Gates, OpenGate, OpenGates};
-pub use server::{Bounds, serve, serve_within};
+pub use server::{Bounds, serve, serve_beside, serve_within};
 pub use sessions::{run, sync};
 pub use streams::reach;

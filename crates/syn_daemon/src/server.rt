@@ -4,10 +4,13 @@ ghost use Rattle.syn_model.specs.Refusal.{Memory, NoSeat};
 ghost use Rattle.syn_refusal.specs.Refusals.{cause_of};
 
 use crate::bell::Bell;
+use crate::ending::Ending;
+use crate::folder_side::{FolderSide, keep_folder};
 use crate::gates::Gates;
 use crate::shares::Shares;
 use log::{Log, info, warn};
 use std::alloc::Global;
+use std::fs::Files;
 use std::marker::Brand;
 use std::net::{TcpListener, TcpStream};
 use std::sync::Wait;
@@ -84,6 +87,51 @@ pub fn serve<H: Threads + Wait + Clock + Log + Sync, D: Disk + Send, G: Gates>(
         least_room: LEAST_ROOM,
     };
     serve_within(rt, alloc, shared, listener, bounds, gates)
+}
+
+/// The same, and keeps a folder the same as the replica meanwhile, by a thread of its own. It
+/// serves up to 61 connections at once. It logs `folder carried PATH` for what is carried, and
+/// once, as long as it stays so, `folder conflict PATH`, `folder refused NUMBER PATH`, `folder
+/// skipped TEXT` for what no replica can have, and `folder refused NUMBER NAME` where nothing is
+/// carried.
+///
+/// Refused as `serve` is, and 11 where the folder's thread cannot be made, too.
+pub fn serve_beside<H, D, G, F, A>(
+    rt: &H,
+    alloc: Global,
+    shared: &SharedReplica<D>,
+    listener: &TcpListener,
+    connections: Option<u64>,
+    gates: &G,
+    side: FolderSide<'_, F, A>,
+) -> Result<(), Refusal>
+where
+    H: Threads + Wait + Clock + Log + Sync,
+    D: Disk + Send,
+    G: Gates,
+    F: Files + Sync,
+    A: Disk + Drop + Send,
+    ensures { IfErr result (λ why. (cause_of why ≡ NoSeat) ⊎ (cause_of why ≡ Memory)) }
+{
+    let bounds = Bounds {
+        connections,
+        workers: WORKERS - 1,
+        least_room: LEAST_ROOM,
+    };
+    let Ok(pass) = shared.own().pass() else {
+        return Err(Refusal::NoSeat);
+    };
+    let ending = Ending::new();
+    let ends = &ending;
+    thread::scope(thread::scope_env(), rt, move |scope| {
+        let thread = scope.spawn(move || keep_folder(rt, alloc, shared, pass, side, ends));
+        if thread.is_err() {
+            return Err(Refusal::Memory);
+        }
+        let served = serve_within(rt, alloc, shared, listener, bounds, gates);
+        ends.tell(rt);
+        served
+    })
 }
 
 /// The same within other bounds, refused as `serve` is.

@@ -1,16 +1,18 @@
 //! What goes over the network: a server, and a user of a served replica.
 
 use crate::named::{NamedDisks, replica_in};
+use crate::reconciling::{archive_name, archive_or_new};
 use crate::sessions::shared;
 use log::{LevelFilter, Logged};
 use std::alloc::Global;
+use std::fs::Files;
 use std::io::{Read, Write};
 use std::net::{Net, TcpListener, TcpStream};
 use std::sync::Wait;
 use std::thread::Threads;
 use std::time::Clock;
 use syn_command::{CommandError, read_edit, show_path};
-use syn_daemon::{OpenGates, Plain, reach, serve};
+use syn_daemon::{FolderSide, OpenGates, Plain, reach, serve, serve_beside};
 use syn_disk::Disk;
 use syn_path::Path;
 use syn_print::show_served;
@@ -18,47 +20,67 @@ use syn_refusal::Refusal;
 use syn_shared::SharedReplica;
 use syn_tree::{Content, Edit, Tree};
 use syn_user::{SideConnection, UserConnection};
-use syn_words::EditLine;
+use syn_words::{EditLine, ServeLine};
 
-/// Serves the replica of that name at the address, `HOST:PORT`, until so many connections were
-/// opened and served; with none it serves on. It logs to the handle's standard error.
+/// Serves the line's replica at its address, `HOST:PORT`, until so many connections were opened and
+/// served; with none it serves on. Where the line has a folder, that is kept the same as the
+/// replica meanwhile. It logs to the handle's standard error.
 ///
-/// Refused as an opening of the disk is, 9 where the address cannot be bound, and 11 where memory
-/// is refused.
-pub fn serve_named<H, N>(
+/// Refused as an opening of the disk is, and of the archive that a folder has; 9 where the address
+/// cannot be bound, and 11 where memory is refused.
+pub fn serve_named<H, N, F>(
     rt: &H,
     alloc: Global,
     disks: &N,
-    name: &str,
-    address: &str,
-    connections: Option<u64>,
+    files: &F,
+    line: &ServeLine<'_>,
 ) -> Result<(), CommandError>
 where
     H: Net<Listener = TcpListener, Stream = TcpStream> + Threads + Wait + Clock + Eprint,
     H: Copy + Sync,
     N: NamedDisks,
+    F: Files + Sync,
 {
-    let replica = replica_in(alloc, disks, name)?;
+    let replica = replica_in(alloc, disks, line.file)?;
+    let Some(kept) = line.folder else {
+        let shared = shared(alloc, replica)?;
+        return serve_shared(rt, alloc, &shared, line, None::<FolderSide<'_, F, N::Disk>>);
+    };
+    let name = archive_name(alloc, line.file, None)?;
+    let archive = archive_or_new(alloc, disks, &name, replica.pair())?;
+    let side = FolderSide {
+        files,
+        root: kept.folder,
+        archive,
+        user: kept.user,
+        seconds: kept.seconds.unwrap_or(1),
+    };
     let shared = shared(alloc, replica)?;
-    serve_shared(rt, alloc, &shared, address, connections)
+    serve_shared(rt, alloc, &shared, line, Some(side))
 }
 
-/// Serves the replica at the address.
-fn serve_shared<H, D>(
+/// Serves the replica at the address, and keeps a folder the same where there is one.
+fn serve_shared<H, D, F, A>(
     rt: &H,
     alloc: Global,
     shared: &SharedReplica<D>,
-    address: &str,
-    connections: Option<u64>,
+    line: &ServeLine<'_>,
+    side: Option<FolderSide<'_, F, A>>,
 ) -> Result<(), CommandError>
 where
     H: Net<Listener = TcpListener, Stream = TcpStream> + Threads + Wait + Clock + Eprint,
     H: Copy + Sync,
     D: Disk + Send,
+    F: Files + Sync,
+    A: Disk + Drop + Send,
 {
-    let listener = TcpListener::bind(rt, address)?;
+    let listener = TcpListener::bind(rt, line.address)?;
     let logged = Logged::new(*rt, LevelFilter::Info, Plain(*rt));
-    serve(&logged, alloc, shared, &listener, connections, &OpenGates)?;
+    let most = line.connections;
+    match side {
+        Some(side) => serve_beside(&logged, alloc, shared, &listener, most, &OpenGates, side)?,
+        None => serve(&logged, alloc, shared, &listener, most, &OpenGates)?,
+    }
     Ok(())
 }
 

@@ -31,7 +31,7 @@ pub fn reconcile_named<N: NamedDisks, F: Files, O: Write, E: Write>(
     output: &mut O,
     errors: &mut E,
 ) -> Result<Outcome, CommandError> {
-    let name = archive_name(alloc, line)?;
+    let name = archive_name(alloc, line.file, line.archive)?;
     let replica = replica_in(alloc, disks, line.file)?;
     let mut archive = archive_or_new(alloc, disks, &name, replica.pair())?;
     let mut folder = SystemFolder::open_or_missing(alloc, files, line.folder)?;
@@ -70,7 +70,7 @@ pub fn plan_named<N: NamedDisks, F: Files, O: Write, E: Write>(
     output: &mut O,
     errors: &mut E,
 ) -> Result<Outcome, CommandError> {
-    let name = archive_name(alloc, line)?;
+    let name = archive_name(alloc, line.file, line.archive)?;
     let replica = replica_to_read(alloc, disks, line.file)?;
     let folder = SystemFolder::open_or_missing(alloc, files, line.folder)?;
     tell_strangers(&folder, errors);
@@ -114,17 +114,22 @@ fn plan_opened<F: EditedFolder, R: Disk, A: Disk, O: Write, E: Write>(
     Ok(outcome_planned(compared.items.len(), conflicts))
 }
 
-/// The file of what both last agreed on: the one that is named, or else one beside the replica.
-fn archive_name(alloc: Global, line: &ReconcileLine<'_>) -> Result<String, AllocError> {
-    match line.archive {
+/// The file of what a folder and the replica in the file last agreed on: the one that is named, or
+/// else one beside the replica.
+pub(crate) fn archive_name(
+    alloc: Global,
+    file: &str,
+    named: Option<&str>,
+) -> Result<String, AllocError> {
+    match named {
         Some(name) => String::from_str(alloc, name),
-        None => format!(in alloc; "{}.folder", line.file),
+        None => format!(in alloc; "{file}.folder"),
     }
 }
 
 /// The archive of that name, which no other process may open meanwhile. Where it is missing it is
 /// made, for the pair.
-fn archive_or_new<N: NamedDisks>(
+pub(crate) fn archive_or_new<N: NamedDisks>(
     alloc: Global,
     disks: &N,
     name: &str,

@@ -34,4 +34,4 @@ pub use export::{fill, mirror, update};
 pub use folder::Folder;
 pub use import::{all_known, skipping};
 pub use stranger::{Strangeness, Stranger};
-pub use system::SystemFolder;
+pub use system::{Glimpse, SystemFolder, take_glimpse};

@@ -13,6 +13,7 @@ use std::io;
 use syn_path::Path;
 use syn_tree::{Edit, Node, Tree};
 
+mod glimpse;
 mod listing;
 mod looking;
 mod looks;
@@ -23,6 +24,7 @@ mod streams;
 mod walking;
 mod writing;
 
+pub use glimpse::{Glimpse, take_glimpse};
 use looks::Looked;
 use picture::FolderRead;
 use reading::read_folder;

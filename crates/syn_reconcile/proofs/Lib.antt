@@ -4,4 +4,5 @@ mod SettleLemmas
 mod StrangerLemmas
 mod CarryLemmas
 mod RunLemmas
+mod SharedLemmas
 mod PlannableLemmas

@@ -111,7 +111,7 @@ fn with_replica<R: Disk>(
 }
 
 /// Puts what the replica has at and below the path into the folder.
-fn to_folder<F: EditedFolder, A: Disk>(
+pub(crate) fn to_folder<F: EditedFolder, A: Disk>(
     alloc: Global,
     folder: &mut F,
     replica: &Tree,
@@ -192,7 +192,7 @@ fn to_replica<R: Disk, A: Disk>(
 }
 
 /// Records what both have at and below the path.
-fn mark_same<A: Disk>(
+pub(crate) fn mark_same<A: Disk>(
     alloc: Global,
     folder: &Tree,
     archive: &mut Archive<A>,
@@ -217,7 +217,7 @@ fn mark_same<A: Disk>(
 }
 
 /// Records a directory at the path.
-fn mark_dir<A: Disk>(
+pub(crate) fn mark_dir<A: Disk>(
     alloc: Global,
     archive: &mut Archive<A>,
     path: &Path,

@@ -2,7 +2,6 @@
 ghost use Rattle.std.specs.Prelude.{◌≡◌, ◌<◌, OnOk, IfErr};
 ghost use Rattle.std.specs.FinMap.{len};
 ghost use Rattle.syn_archive.specs.Archive.{pair_of as marks_pair};
-ghost use Rattle.syn_replica.specs.Replica.{pair_of};
 ghost use Rattle.syn_reconcile.specs.Checks.{IsEmptied};
 
 use crate::error::ReconcileError;
@@ -11,7 +10,6 @@ use syn_disk::Disk;
 use syn_folder::{EditedFolder, Stranger};
 use syn_mark::MarkTree;
 use syn_path::Side;
-use syn_replica::Replica;
 use syn_tree::Tree;
 
 /// What is done where the folder or the replica has nothing, and the marks have something.
@@ -23,14 +21,11 @@ pub enum WhenEmpty {
     Carry,
 }
 
-/// Refuses 20 where the marks are of another pair than the replica.
-pub(crate) fn check_pair<R: Disk, A: Disk>(
-    replica: &Replica<R>,
-    archive: &Archive<A>,
-) -> Result<(), ReconcileError>
-    ensures pair { OnOk result (marks_pair archive.now ≡ pair_of replica.now) }
+/// Refuses 20 where the marks are of another pair.
+pub(crate) fn check_pair<A: Disk>(pair: u64, archive: &Archive<A>) -> Result<(), ReconcileError>
+    ensures pair { OnOk result (marks_pair archive.now ≡ pair) }
 {
-    if archive.pair() == replica.pair() {
+    if archive.pair() == pair {
         Ok(())
     } else {
         Err(ReconcileError::OtherPair)

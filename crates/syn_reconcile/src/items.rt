@@ -75,7 +75,7 @@ pub(crate) fn carry_all<F: EditedFolder, R: Disk, A: Disk>(
 }
 
 /// Notes what came of the item. Refused where memory is refused.
-fn note(
+pub(crate) fn note(
     settled: &mut Vec<Settled>,
     item: Item,
     refused: Option<Refusal>,

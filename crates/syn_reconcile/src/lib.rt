@@ -41,9 +41,11 @@ mod items;
 mod marks;
 mod report;
 mod run;
+mod shared;
 mod strangers;
 
 pub use checks::WhenEmpty;
 pub use error::ReconcileError;
 pub use report::{Outcome, Report, Settled};
 pub use run::{plan, reconcile};
+pub use shared::reconcile_shared;

@@ -29,6 +29,7 @@ use syn_folder::EditedFolder;
 use syn_model::plan_laws;
 use syn_path::Side;
 use syn_replica::Replica;
+use syn_tree::Tree;
 
 /// What is to be done so that the folder, which is the left side, and the replica, which is the
 /// right, are the same. With a preference, what that side has goes to the other where both changed.
@@ -57,18 +58,40 @@ pub fn plan<F: EditedFolder, R: Disk, A: Disk>(
         → (1 < len (F.tree folder.now)) × (1 < len (tree_shown replica.now))) }
     ensures pair { OnOk result (marks_pair archive.now ≡ pair_of replica.now) }
 {
-    check_pair(replica, archive)?;
+    plan_seen(
+        alloc,
+        folder,
+        replica.tree(),
+        replica.pair(),
+        archive,
+        preference,
+        when_empty,
+    )
+}
+
+/// The same of a replica of the pair that has this tree.
+pub(crate) fn plan_seen<F: EditedFolder, A: Disk>(
+    alloc: Global,
+    folder: &F,
+    replica: &Tree,
+    pair: u64,
+    archive: &Archive<A>,
+    preference: Option<Side>,
+    when_empty: WhenEmpty,
+) -> Result<Compared, ReconcileError>
+    ensures plan { IfOk result (λ compared. items_of compared.items.items
+        ≡ plan_of (option_map which_of preference) (scan_of (F.tree folder.now))
+        (scan_of replica.now) (marks_shown archive.now)) }
+    ensures emptied { when_empty ≡ WhenEmpty.Refuse → OnOk result (1 < len (marks_shown archive.now)
+        → (1 < len (F.tree folder.now)) × (1 < len replica.now)) }
+    ensures pair { OnOk result (marks_pair archive.now ≡ pair) }
+{
+    check_pair(pair, archive)?;
     check_whole(folder)?;
     if when_empty == WhenEmpty::Refuse {
-        check_empty(folder.tree(), replica.tree(), archive.tree())?;
+        check_empty(folder.tree(), replica, archive.tree())?;
     }
-    match compare(
-        alloc,
-        folder.tree(),
-        replica.tree(),
-        archive.tree(),
-        preference,
-    ) {
+    match compare(alloc, folder.tree(), replica, archive.tree(), preference) {
         Ok(compared) => Ok(compared),
         Err(refusal) => Err(ReconcileError::Unplanned(refusal)),
     }

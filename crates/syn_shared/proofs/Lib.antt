@@ -3,6 +3,7 @@ pub mod CauseLemmas
 pub mod EventLemmas
 pub mod HoldLemmas
 pub mod LimitLemmas
+pub mod PartLemmas
 pub mod StepLemmas
 pub mod UpkeepLemmas
 pub mod WorldLemmas

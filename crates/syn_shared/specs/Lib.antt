@@ -4,6 +4,7 @@ pub mod Reads
 pub mod Steps
 pub mod Machines
 pub mod Edits
+pub mod Parts
 pub mod Replacements
 pub mod Upkeep
 pub mod Workers

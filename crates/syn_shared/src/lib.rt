@@ -56,6 +56,7 @@
 mod edits;
 mod error;
 mod laws;
+mod parts;
 mod reads;
 mod sessions;
 mod shared;
@@ -63,5 +64,6 @@ mod upkeep;
 mod workers;
 
 pub use error::SharedError;
+pub use parts::Snapshot;
 pub use shared::SharedReplica;
 pub use workers::{Work, fill, serve};

@@ -12,18 +12,21 @@ use Rattle.syn_words.specs.Reads.{IsNoNumber, IsNumber, IsOtherKind, IsWrong, Is
 use Rattle.syn_words.specs.Reads.{MayHaveNumber, MayHaveSide, NothingReads, kind_word, side_word}
 use Rattle.syn_words.specs.Reads.{IsOtherFolderSide, MayHaveFolderSide, folder_side_word}
 use Rattle.syn_words.specs.Reads.{HasImageValues, HasSides, IsOnce, image_verb, session_verb}
+use Rattle.syn_words.specs.Reads.{HasServed, LacksFolder, LacksUser, MayHaveFolder, TakesSeconds}
 use Rattle.syn_words.specs.Reads.{verb_of}
 use Rattle.syn_words.specs.Verbs.{edit_verb, name_of, values_of, word_of}
 use Rattle.syn_words.specs.declared.line.Between.{Between}
 use Rattle.syn_words.specs.declared.line.Between.TheVariants.{Files, Servers}
 use Rattle.syn_words.specs.declared.line.EditKind.{EditKind}
 use Rattle.syn_words.specs.declared.line.EditKind.TheVariants as kind
+use Rattle.syn_words.specs.declared.line.FolderLine.{FolderLine}
 use Rattle.syn_words.specs.declared.line.ImageLine.{ImageLine}
 use Rattle.syn_words.specs.declared.line.ImageLine.TheVariants as image
 use Rattle.syn_words.specs.declared.line.Line.{Line}
 use Rattle.syn_words.specs.declared.line.Line.TheVariants as line
 use Rattle.syn_words.specs.declared.line.ReplicaPlace.{ReplicaPlace}
 use Rattle.syn_words.specs.declared.line.ReplicaPlace.TheVariants as place
+use Rattle.syn_words.specs.declared.line.ServeLine.{ServeLine}
 use Rattle.syn_words.specs.declared.value.ValueName.{ValueName}
 use Rattle.syn_words.specs.declared.value.ValueName.TheVariants as value
 use Rattle.syn_words.specs.declared.verb.Verb.{Verb}
@@ -134,8 +137,8 @@ values_given rows (line.Reconcile reconciled) has = (
     ((has.user.0, has.user.1), tt),
   ),
 )
-values_given rows (line.Serve file address connections) has =
-    ((file.now, has.0), ((address.now, has.1), tt))
+values_given rows (line.Serve served) has =
+    ((served.file.now, has.file), ((served.address.now, has.address), tt))
 values_given rows (line.Session pairing) has =
     session_given rows pairing.between (left_given rows pairing.between has.0.sides)
     (right_given rows pairing.between has.0.sides) (pairing.archive.now, has.0.archive)
@@ -315,31 +318,79 @@ module _ (rows : List Row) where
   user_right l (inr (inl is)) wrong has = importer_right l is wrong has
   user_right l (inr (inr is)) wrong has = reconciler_right l is wrong has
 
+  -- a line of a server is none that has this
+  no_serve : ((served : ServeLine) → HasServed rows served → ⊥) → (l : Line)
+      → verb_of l ≡ verb.Serve → HasValues rows l → ⊥
+  unfolding is_edit is_session is_image
+  no_serve none (line.Serve served) is has = none served has
+  no_serve none (line.Image about) is has = no_image about verb.Serve is refl
+  no_serve none (line.Edit edit) is has = no_edit edit.kind verb.Serve is refl
+  no_serve none (line.Session pairing) is has = no_session pairing.between verb.Serve is refl
+  no_serve none _ is has = cc
+
   connections_right : (l : Line) → verb_of l ≡ verb.Serve →
       IsNoNumber 64 rows (name_of value.Connections) → HasValues rows l → ⊥
-  unfolding is_edit is_session is_image
-  connections_right (line.Serve file address connections) is wrong has =
-      no_optional_number rows (name_of value.Connections) connections wrong has.2
-  connections_right (line.Image about) is wrong has = no_image about verb.Serve is refl
-  connections_right (line.Edit edit) is wrong has = no_edit edit.kind verb.Serve is refl
-  connections_right (line.Session pairing) is wrong has =
-      no_session pairing.between verb.Serve is refl
-  connections_right _ is wrong has = cc
+  connections_right l is wrong has =
+      no_serve (λ served its. no_optional_number rows (name_of value.Connections)
+      served.connections wrong its.connections) l is has
+
+  no_folder_user : (folder : Option FolderLine) → IsGiven rows (name_of value.Folder)
+      → LacksUser rows → MayHaveFolder rows folder → ⊥
+  no_folder_user None given lacks has = no_text _ given.0 has.0 given.1
+  no_folder_user (Some kept) given (inl wrong) has =
+      no_number 32 rows (name_of value.User) kept.user wrong has.user
+  no_folder_user (Some kept) given (inr none) has = no_text _ has.user.0 none has.user.1
+
+  folder_user_right : (l : Line) → verb_of l ≡ verb.Serve → IsGiven rows (name_of value.Folder)
+      → LacksUser rows → HasValues rows l → ⊥
+  folder_user_right l is given lacks has =
+      no_serve (λ served its. no_folder_user served.folder given lacks its.folder) l is has
+
+  no_folder : (folder : Option FolderLine) → LacksFolder rows → MayHaveFolder rows folder → ⊥
+  no_folder None (none, inl given) has = no_text _ given.0 has.1 given.1
+  no_folder None (none, inr given) has = no_text _ given.0 has.2 given.1
+  no_folder (Some kept) lacks has = no_text _ kept.folder.now lacks.0 has.folder
+
+  folder_right : (l : Line) → verb_of l ≡ verb.Serve → LacksFolder rows → HasValues rows l → ⊥
+  folder_right l is lacks has =
+      no_serve (λ served its. no_folder served.folder lacks its.folder) l is has
+
+  no_folder_seconds : (folder : Option FolderLine) → IsNoNumber 64 rows (name_of value.Seconds)
+      → MayHaveFolder rows folder → ⊥
+  no_folder_seconds None wrong has = no_text _ wrong.0 has.2 wrong.1
+  no_folder_seconds (Some kept) wrong has =
+      no_optional_number rows (name_of value.Seconds) kept.seconds wrong has.seconds
 
   no_seconds : (between : Between) → IsNoNumber 64 rows (name_of value.Seconds)
-      → session_verb between ≡ verb.Sync → IsOnce rows between → ⊥
-  no_seconds (Files left right) wrong is once = cc
-  no_seconds (Servers left right) wrong is once = no_text _ wrong.0 once wrong.1
+      → TakesSeconds (session_verb between) → IsOnce rows between → ⊥
+  no_seconds (Files left right) wrong takes once = takes
+  no_seconds (Servers left right) wrong takes once = no_text _ wrong.0 once wrong.1
 
-  seconds_right : (l : Line) → verb_of l ≡ verb.Sync →
+  no_edit_seconds : (kind : EditKind) → TakesSeconds (edit_verb kind) → ⊥
+  no_edit_seconds kind.Put takes = takes
+  no_edit_seconds kind.MakeDir takes = takes
+  no_edit_seconds kind.Remove takes = takes
+  no_edit_seconds (kind.Chmod mode) takes = takes
+
+  no_image_seconds : (l : ImageLine) → TakesSeconds (image_verb l) → ⊥
+  no_image_seconds (image.Format kind pair file) takes = takes
+  no_image_seconds (image.Show place) takes = takes
+  no_image_seconds (image.ShowPath place path) takes = takes
+  no_image_seconds (image.Check file) takes = takes
+  no_image_seconds (image.Migrate file) takes = takes
+  no_image_seconds (image.Log file lines) takes = takes
+
+  seconds_right : (l : Line) → TakesSeconds (verb_of l) →
       IsNoNumber 64 rows (name_of value.Seconds) → HasValues rows l → ⊥
-  unfolding is_edit is_image
-  seconds_right (line.Keep kept) is wrong has =
+  seconds_right (line.Keep kept) takes wrong has =
       no_number 64 rows (name_of value.Seconds) kept.seconds wrong has.seconds
-  seconds_right (line.Session pairing) is wrong has = no_seconds pairing.between wrong is has.1
-  seconds_right (line.Image about) is wrong has = no_image about verb.Sync is refl
-  seconds_right (line.Edit edit) is wrong has = no_edit edit.kind verb.Sync is refl
-  seconds_right _ is wrong has = cc
+  seconds_right (line.Serve served) takes wrong has =
+      no_folder_seconds served.folder wrong has.folder
+  seconds_right (line.Session pairing) takes wrong has =
+      no_seconds pairing.between wrong takes has.1
+  seconds_right (line.Image about) takes wrong has = no_image_seconds about takes
+  seconds_right (line.Edit edit) takes wrong has = no_edit_seconds edit.kind takes
+  seconds_right _ takes wrong has = takes
 
   lines_right : (l : Line) → verb_of l ≡ verb.Log → IsNoNumber 64 rows (name_of value.Lines) →
       HasValues rows l → ⊥
@@ -403,7 +454,9 @@ module _ (rows : List Row) where
   none_wrong : (l : Line) (told : ValueName) → IsWrong (verb_of l) rows told → HasValues rows l → ⊥
   none_wrong l value.Kind wrong has = kind_right l wrong.0 wrong.1 has
   none_wrong l value.Pair wrong has = pair_right l wrong.0 wrong.1 has
-  none_wrong l value.User wrong has = user_right l wrong.0 wrong.1 has
+  none_wrong l value.User (inl wrong) has = user_right l wrong.0 wrong.1 has
+  none_wrong l value.User (inr wrong) has = folder_user_right l wrong.0 wrong.1 wrong.2 has
+  none_wrong l value.Folder wrong has = folder_right l wrong.0 wrong.1 has
   none_wrong l value.Connections wrong has = connections_right l wrong.0 wrong.1 has
   none_wrong l value.Seconds wrong has = seconds_right l wrong.0 wrong.1 has
   none_wrong l value.Lines wrong has = lines_right l wrong.0 wrong.1 has

@@ -6,7 +6,7 @@ use Rattle.syn_words.specs.Verbs.{name_of, values_of, verbs, word_of}
 use Rattle.syn_words.specs.declared.value.ValueName.{ValueName}
 use Rattle.syn_words.specs.declared.value.ValueName.TheVariants.{Path, Connections, Lines}
 use Rattle.syn_words.specs.declared.value.ValueName.TheVariants.{Archive, FolderPreference, Seconds}
-use Rattle.syn_words.specs.declared.value.ValueName.TheVariants.{Preference}
+use Rattle.syn_words.specs.declared.value.ValueName.TheVariants.{Folder, Preference, User}
 use Rattle.syn_words.specs.declared.verb.Verb.{Verb}
 use Rattle.syn_words.specs.declared.verb.Verb.TheVariants.{Format, Put, MakeDir, Remove, Chmod}
 use Rattle.syn_words.specs.declared.verb.Verb.TheVariants.{Show, Reconcile}
@@ -49,6 +49,13 @@ with_reconcile_values app = with_rule
     (with_rule app (option_rule (name_of FolderPreference) (codes "prefer")))
     (option_rule (name_of Archive) (codes "archive"))
 
+-- the options of a folder that is kept the same
+abbrev pub with_folder_values : App → App
+with_folder_values app = with_rule (with_rule
+    (with_rule app (option_rule (name_of Folder) (codes "folder")))
+    (option_rule (name_of User) (codes "user")))
+    (option_rule (name_of Seconds) (codes "every"))
+
 -- the command with what may be left out of it
 abbrev pub with_options : Verb → App → App
 with_options Format app = app
@@ -68,7 +75,8 @@ with_options Import app = with_served
 with_options Reconcile app = with_rule
     (with_rule (with_reconcile_values app) (flag_rule (codes "dry-run")))
     (flag_rule (codes "emptied"))
-with_options Serve app = with_rule app (option_rule (name_of Connections) (codes "connections"))
+with_options Serve app = with_folder_values
+    (with_rule app (option_rule (name_of Connections) (codes "connections")))
 with_options Sync app = with_rule (with_preference app)
     (option_rule (name_of Seconds) (codes "every"))
 with_options Run app = with_preference app

@@ -30,8 +30,10 @@ use Rattle.syn_words.specs.declared.line.Line.{Line}
 use Rattle.syn_words.specs.declared.line.Line.TheVariants as line
 use Rattle.syn_words.specs.declared.line.Pairing.{Pairing}
 use Rattle.syn_words.specs.declared.line.ReconcileLine.{ReconcileLine}
+use Rattle.syn_words.specs.declared.line.FolderLine.{FolderLine}
 use Rattle.syn_words.specs.declared.line.ReplicaPlace.{ReplicaPlace}
 use Rattle.syn_words.specs.declared.line.ReplicaPlace.TheVariants as place
+use Rattle.syn_words.specs.declared.line.ServeLine.{ServeLine}
 use Rattle.syn_words.specs.declared.value.ValueName.{ValueName}
 use Rattle.syn_words.specs.declared.value.ValueName.TheVariants as value
 use Rattle.syn_words.specs.declared.verb.Verb.{Verb}
@@ -117,6 +119,12 @@ TakesPreference verb.Run = Unit {0}
 TakesPreference verb.Plan = Unit {0}
 TakesPreference _ = ⊥
 
+-- the command looks again after so many seconds
+abbrev pub TakesSeconds : Verb → Type 0
+TakesSeconds verb.Sync = Unit {0}
+TakesSeconds verb.Serve = Unit {0}
+TakesSeconds _ = ⊥
+
 -- the command of a line about an image
 abbrev pub image_verb : ImageLine → Verb
 image_verb (image.Format kind pair file) = verb.Format
@@ -138,7 +146,7 @@ verb_of (line.Edit edit) = edit_verb edit.kind
 verb_of (line.Export exported) = verb.Export
 verb_of (line.Import imported) = verb.Import
 verb_of (line.Reconcile reconciled) = verb.Reconcile
-verb_of (line.Serve file address connections) = verb.Serve
+verb_of (line.Serve served) = verb.Serve
 verb_of (line.Session pairing) = session_verb pairing.between
 verb_of (line.Keep kept) = verb.Sync
 verb_of (line.Plan pairing) = verb.Plan
@@ -200,6 +208,26 @@ pub record HasReconciled (rows : List Row) (reconciled : ReconcileLine) : Type 0
   pub dry : IsTrue reconciled.is_dry ↔ IsSet rows (codes "dry-run")
   pub emptied : IsTrue reconciled.is_emptied ↔ IsSet rows (codes "emptied")
 
+-- the values of a folder that is kept the same are those that are given
+pub record HasFolder (rows : List Row) (kept : FolderLine) : Type 0 where
+  pub folder : HasText rows (name_of value.Folder) kept.folder.now
+  pub user : HasNumber 32 rows (name_of value.User) kept.user
+  pub seconds : MayHaveNumber 64 rows (name_of value.Seconds) kept.seconds
+
+-- the folder given, or none where nothing of one is given
+abbrev pub MayHaveFolder : List Row → Option FolderLine → Type 0
+MayHaveFolder rows None = (first_of (name_of value.Folder) rows ≡ None)
+    × (first_of (name_of value.User) rows ≡ None)
+    × (first_of (name_of value.Seconds) rows ≡ None)
+MayHaveFolder rows (Some kept) = HasFolder rows kept
+
+-- the values of a server are those that are given
+pub record HasServed (rows : List Row) (served : ServeLine) : Type 0 where
+  pub file : HasText rows (name_of value.File) served.file.now
+  pub address : HasText rows (name_of value.Address) served.address.now
+  pub connections : MayHaveNumber 64 rows (name_of value.Connections) served.connections
+  pub folder : MayHaveFolder rows served.folder
+
 -- the values of a line are those that are given
 abbrev pub HasValues : List Row → Line → Type 0
 HasValues rows (line.Image about) = HasImageValues rows about
@@ -215,9 +243,7 @@ HasValues rows (line.Import imported) = HasPlace rows imported.place
     × MayHaveText rows (name_of value.Path) imported.path
     × (IsTrue imported.is_skipping ↔ IsSet rows (codes "skip"))
 HasValues rows (line.Reconcile reconciled) = HasReconciled rows reconciled
-HasValues rows (line.Serve file address connections) = HasText rows (name_of value.File) file.now
-    × HasText rows (name_of value.Address) address.now
-    × MayHaveNumber 64 rows (name_of value.Connections) connections
+HasValues rows (line.Serve served) = HasServed rows served
 HasValues rows (line.Session pairing) = HasPairing rows pairing × IsOnce rows pairing.between
 HasValues rows (line.Keep kept) = HasKept rows kept
 HasValues rows (line.Plan pairing) = HasPairing rows pairing × AreServed rows pairing.between
@@ -281,17 +307,29 @@ IsEdit _ = ⊥
 abbrev pub HasUser : Verb → Type 0
 HasUser v = IsEdit v ⊎ (v ≡ verb.Import) ⊎ (v ≡ verb.Reconcile)
 
+-- a server is given a folder whose user is no number, or is not given
+abbrev pub LacksUser : List Row → Type 0
+LacksUser rows = IsNoNumber 32 rows (name_of value.User)
+    ⊎ (first_of (name_of value.User) rows ≡ None)
+
+-- a server is given no folder, but a user of one or the seconds between two looks at one
+abbrev pub LacksFolder : List Row → Type 0
+LacksFolder rows = (first_of (name_of value.Folder) rows ≡ None)
+    × (IsGiven rows (name_of value.User) ⊎ IsGiven rows (name_of value.Seconds))
+
 -- this value of the command is wrong: the KIND or the PAIR of a format, the USER of an edit, an
 -- import or a reconciliation, the MODE of a file, the number of connections of a server, of the
--- lines of a log or of the seconds between sessions, or the side that a session or a reconciliation
--- is to prefer
+-- lines of a log or of the seconds between two looks, the side that a session or a reconciliation
+-- is to prefer, or the folder of a server or its user
 abbrev pub IsWrong : Verb → List Row → ValueName → Type 0
 IsWrong v rows value.Kind = (v ≡ verb.Format) × IsOtherKind rows
 IsWrong v rows value.Pair = (v ≡ verb.Format) × IsNoNumber 64 rows (name_of value.Pair)
-IsWrong v rows value.User = HasUser v × IsNoNumber 32 rows (name_of value.User)
+IsWrong v rows value.User = (HasUser v × IsNoNumber 32 rows (name_of value.User))
+    ⊎ ((v ≡ verb.Serve) × IsGiven rows (name_of value.Folder) × LacksUser rows)
+IsWrong v rows value.Folder = (v ≡ verb.Serve) × LacksFolder rows
 IsWrong v rows value.Connections =
     (v ≡ verb.Serve) × IsNoNumber 64 rows (name_of value.Connections)
-IsWrong v rows value.Seconds = (v ≡ verb.Sync) × IsNoNumber 64 rows (name_of value.Seconds)
+IsWrong v rows value.Seconds = TakesSeconds v × IsNoNumber 64 rows (name_of value.Seconds)
 IsWrong v rows value.Lines = (v ≡ verb.Log) × IsNoNumber 64 rows (name_of value.Lines)
 IsWrong v rows value.Mode = (v ≡ verb.Chmod) × IsNoMode rows
 IsWrong v rows value.Preference = TakesPreference v × IsOtherSide rows

@@ -4,8 +4,8 @@ ghost use Rattle.clap.specs.Words.{app_of, rule_of, with_rule};
 ghost use Rattle.clap.specs.declared.Command.TheViews.{out-Command};
 ghost use Rattle.syn_words.specs.App.{flag_rule, option_rule, syn_app, top_app, verb_app};
 ghost use Rattle.syn_words.specs.App.{verbose_rule, with_options, with_preference, word_app};
-ghost use Rattle.syn_words.specs.App.{with_reconcile_values};
-ghost use Rattle.syn_words.specs.declared.verb.Verb.TheVariants.{Export, Reconcile};
+ghost use Rattle.syn_words.specs.App.{with_folder_values, with_reconcile_values};
+ghost use Rattle.syn_words.specs.declared.verb.Verb.TheVariants.{Export, Reconcile, Serve};
 
 use crate::value::ValueName;
 use crate::verb::Verb;
@@ -142,10 +142,7 @@ fn with_optional<'a>(
             with_flag(alloc, skipping, "served", SERVED)
         }
         Verb::Reconcile => with_reconcile_options(alloc, command),
-        Verb::Serve => {
-            let help: &'a str = ValueName::Connections.help(verb);
-            with_option(alloc, command, "N", "connections", help)
-        }
+        Verb::Serve => with_serve_options(alloc, command),
         Verb::Log => {
             let help: &'a str = ValueName::Lines.help(verb);
             command.arg(Arg::new(alloc, "N").help(help))
@@ -216,6 +213,31 @@ fn with_reconcile_values<'a>(alloc: Global, command: Command<'a>) -> Result<Comm
     let archive: &'a str = ValueName::Archive.help(Verb::Reconcile);
     let preferring = with_option(alloc, command, "SIDE", "prefer", side)?;
     with_option(alloc, preferring, "ARCHIVE", "archive", archive)
+}
+
+/// The command with what may be left out of a server.
+fn with_serve_options<'a>(alloc: Global, command: Command<'a>) -> Result<Command<'a>, AllocError>
+    requires { (out-Command command).has_globals ≡ false }
+    ensures app { IfOk result (λ c. app_of c ≡ with_options Serve (app_of command.entry)) }
+    ensures globals { IfOk result (λ c. (out-Command c).has_globals ≡ false) }
+{
+    let connections: &'a str = ValueName::Connections.help(Verb::Serve);
+    let counting = with_option(alloc, command, "N", "connections", connections)?;
+    with_folder_options(alloc, counting)
+}
+
+/// The command with the options of a folder that is kept the same.
+fn with_folder_options<'a>(alloc: Global, command: Command<'a>) -> Result<Command<'a>, AllocError>
+    requires { (out-Command command).has_globals ≡ false }
+    ensures app { IfOk result (λ c. app_of c ≡ with_folder_values (app_of command.entry)) }
+    ensures globals { IfOk result (λ c. (out-Command c).has_globals ≡ false) }
+{
+    let folder: &'a str = ValueName::Folder.help(Verb::Serve);
+    let user: &'a str = ValueName::User.help(Verb::Serve);
+    let seconds: &'a str = ValueName::Seconds.help(Verb::Serve);
+    let placed = with_option(alloc, command, "DIR", "folder", folder)?;
+    let owned = with_option(alloc, placed, "USER", "user", user)?;
+    with_option(alloc, owned, "SECONDS", "every", seconds)
 }
 
 /// The whole command.

@@ -21,8 +21,8 @@ mod words;
 
 pub use error::LineError;
 pub use line::{
-    Asked, Between, EditKind, EditLine, Existing, ExportLine, ImageKind, ImageLine, ImportLine,
-    KeepLine, Line, Pairing, ReconcileLine, ReplicaPlace,
+    Asked, Between, EditKind, EditLine, Existing, ExportLine, FolderLine, ImageKind, ImageLine,
+    ImportLine, KeepLine, Line, Pairing, ReconcileLine, ReplicaPlace, ServeLine,
 };
 pub use value::ValueName;
 pub use verb::Verb;

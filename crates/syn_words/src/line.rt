@@ -137,6 +137,29 @@ pub struct KeepLine<'a> {
     pub seconds: u64,
 }
 
+/// A replica that is to be served.
+#[derive(Clone, Copy, Debug, PartialEq, Eq)]
+pub struct ServeLine<'a> {
+    /// The file that has the replica.
+    pub file: &'a str,
+    /// HOST:PORT to listen at. The text is looked at when it is used.
+    pub address: &'a str,
+    /// The server ends when so many connections were served; with none it goes on.
+    pub connections: Option<u64>,
+    /// The folder that is kept the same as the replica meanwhile, if one is.
+    pub folder: Option<FolderLine<'a>>,
+}
+
+/// A folder that is kept the same as a replica.
+#[derive(Clone, Copy, Debug, PartialEq, Eq)]
+pub struct FolderLine<'a> {
+    pub folder: &'a str,
+    /// Whose edits the folder's changes are.
+    pub user: u32,
+    /// So many seconds pass between two looks: one where none are given.
+    pub seconds: Option<u64>,
+}
+
 /// What is done about an image.
 #[derive(Clone, Copy, Debug, PartialEq, Eq)]
 pub enum ImageLine<'a> {
@@ -183,12 +206,8 @@ pub enum Line<'a> {
     Import(ImportLine<'a>),
     /// Makes a folder and a replica the same.
     Reconcile(ReconcileLine<'a>),
-    /// Serves the replica in a file at the address, until so many connections were served.
-    Serve {
-        file: &'a str,
-        address: &'a str,
-        connections: Option<u64>,
-    },
+    /// Serves the replica in a file.
+    Serve(ServeLine<'a>),
     /// Runs a session.
     Session(Pairing<'a>),
     /// Runs a session of two servers, and others whenever one of them has changed.
@@ -197,10 +216,7 @@ pub enum Line<'a> {
     Plan(Pairing<'a>),
     /// Runs the steps of a script on a world of three machines in memory, and tells each of them
     /// where it is traced.
-    Simulate {
-        script: &'a str,
-        is_traced: bool,
-    },
+    Simulate { script: &'a str, is_traced: bool },
 }
 
 /// A command, and whether a refusal of it is to be explained.

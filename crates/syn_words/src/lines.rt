@@ -3,6 +3,7 @@ ghost use Rattle.std.specs.Prelude.{◌≡◌, IfOk, IfErr};
 ghost use Rattle.clap.specs.Words.{found_of, rows_of};
 ghost use Rattle.syn_words.specs.Reads.{HasExisting, HasMode, HasNumber, HasText, HasUser, IsEdit};
 ghost use Rattle.syn_words.specs.Reads.{MayHaveFolderSide, MayHaveNumber, MayHaveSide};
+ghost use Rattle.syn_words.specs.Reads.{IsGiven, MayHaveFolder, TakesSeconds};
 ghost use Rattle.syn_words.specs.Reads.{TakesPreference, kind_word};
 ghost use Rattle.syn_words.specs.Verbs.{edit_verb, name_of};
 ghost use Rattle.syn_tree.specs.Modes.{mode_digits, mode_of};
@@ -10,8 +11,8 @@ ghost use Rattle.syn_words.specs.inner.Lacking.{IsLack, IsLineOf};
 
 use crate::error::LineError;
 use crate::line::{
-    Between, EditKind, EditLine, Existing, ExportLine, ImageKind, ImageLine, ImportLine, KeepLine,
-    Line, Pairing, ReconcileLine,
+    Between, EditKind, EditLine, Existing, ExportLine, FolderLine, ImageKind, ImageLine,
+    ImportLine, KeepLine, Line, Pairing, ReconcileLine, ServeLine,
 };
 use crate::value::ValueName;
 use crate::values::{
@@ -260,11 +261,46 @@ fn serve_line<'a>(found: &ArgMatches<'a>) -> Result<Line<'a>, LineError>
     let file = text(found, ValueName::File)?;
     let address = text(found, ValueName::Address)?;
     let connections = connections_given(found)?;
-    Ok(Line::Serve {
+    let folder = served_folder_given(found)?;
+    Ok(Line::Serve(ServeLine {
         file,
         address,
         connections,
-    })
+        folder,
+    }))
+}
+
+/// The folder that a server keeps the same as its replica, where one is given. Its user is given
+/// with it, and without it neither a user nor seconds.
+fn served_folder_given<'a>(found: &ArgMatches<'a>) -> Result<Option<FolderLine<'a>>, LineError>
+    ensures ok { IfOk result (MayHaveFolder (rows_of (found_of found.now))) }
+    ensures lacks { IfErr result (IsLack Verb.Serve (rows_of (found_of found.now))) }
+{
+    let user = optional_text(found, ValueName::User);
+    let seconds = optional_text(found, ValueName::Seconds);
+    let Some(folder) = optional_text(found, ValueName::Folder) else {
+        return match (user, seconds) {
+            (None, None) => Ok(None),
+            _ => Err(LineError::Value(ValueName::Folder)),
+        };
+    };
+    let user = folder_user_given(found)?;
+    let seconds = seconds_given(found, Verb::Serve)?;
+    Ok(Some(FolderLine {
+        folder,
+        user,
+        seconds,
+    }))
+}
+
+/// The user whose edits the changes of a folder are.
+fn folder_user_given(found: &ArgMatches<'_>) -> Result<u32, LineError>
+    requires { IsGiven (rows_of (found_of found.now)) (name_of ValueName.Folder) }
+    ensures ok { IfOk result (HasNumber 32 (rows_of (found_of found.now))
+        (name_of ValueName.User)) }
+    ensures lacks { IfErr result (IsLack Verb.Serve (rows_of (found_of found.now))) }
+{
+    user(text(found, ValueName::User)?)
 }
 
 fn connections_given(found: &ArgMatches<'_>) -> Result<Option<u64>, LineError>
@@ -286,7 +322,7 @@ fn sync_line<'a>(found: &ArgMatches<'a>) -> Result<Line<'a>, LineError>
     let left = text(found, ValueName::Left)?;
     let right = text(found, ValueName::Right)?;
     let preference = preference_given(found, Verb::Sync)?;
-    match seconds_given(found)? {
+    match seconds_given(found, Verb::Sync)? {
         Some(seconds) => Ok(Line::Keep(KeepLine {
             left,
             right,
@@ -302,10 +338,12 @@ fn sync_line<'a>(found: &ArgMatches<'a>) -> Result<Line<'a>, LineError>
     }
 }
 
-fn seconds_given(found: &ArgMatches<'_>) -> Result<Option<u64>, LineError>
+/// The seconds between two looks, where they are given.
+fn seconds_given(found: &ArgMatches<'_>, verb: Verb) -> Result<Option<u64>, LineError>
+    requires { TakesSeconds verb }
     ensures ok { IfOk result (MayHaveNumber 64 (rows_of (found_of found.now))
         (name_of ValueName.Seconds)) }
-    ensures lacks { IfErr result (IsLack Verb.Sync (rows_of (found_of found.now))) }
+    ensures lacks { IfErr result (IsLack verb (rows_of (found_of found.now))) }
 {
     match optional_text(found, ValueName::Seconds) {
         Some(text) => Ok(Some(number(text, ValueName::Seconds)?)),

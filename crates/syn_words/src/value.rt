@@ -78,6 +78,15 @@ impl ValueName {
             }
             (ValueName::Folder, Verb::Import) => "The folder that is read",
             (ValueName::Folder, Verb::Reconcile) => "The folder, which may be missing",
+            (ValueName::Folder, Verb::Serve) => {
+                "Keeps the folder DIR the same as the replica, by edits of the user of '--user'"
+            }
+            (ValueName::User, Verb::Serve) => {
+                "The number of the user whose edits the changes of DIR are, below 2^32"
+            }
+            (ValueName::Seconds, Verb::Serve) => {
+                "Looks every SECONDS seconds whether DIR has changed: each second by default"
+            }
             (ValueName::Archive, Verb::Reconcile) => {
                 "The file of what both last agreed on, made where it is missing: else FILE.folder"
             }

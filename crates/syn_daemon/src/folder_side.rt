@@ -1,0 +1,286 @@
+//! The folder's thread: it keeps a folder the same as the replica that is served.
+ghost use Rattle.syn_shared.specs.Shared.{IsFor};
+
+use crate::ending::Ending;
+use crate::told::Told;
+use log::{Log, info, warn};
+use std::alloc::{AllocError, Global};
+use std::fs::Files;
+use std::sync::Wait;
+use std::time::Clock;
+use syn_archive::Archive;
+use syn_disk::Disk;
+use syn_folder::{EditedFolder, FolderError, Glimpse, SystemFolder, take_glimpse};
+use syn_lock::Pass;
+use syn_path::Side;
+use syn_reconcile::{Outcome, ReconcileError, Report, WhenEmpty, reconcile_shared};
+use syn_refusal::Refusal;
+use syn_replica::Replica;
+use syn_serve::{UpkeepStep, keep_up};
+use syn_shared::SharedReplica;
+
+/// The edits that make one tree of a replica another take a journal that takes a payload of so many
+/// bytes.
+const ROOM_FOR_EDITS: usize = 1_441_792;
+
+/// So often a folder is read that looks the same: what was written just as it was read may look as
+/// what was written then.
+const LOOKS: u8 = 2;
+
+/// A folder that a server keeps the same as its replica.
+#[derive(Drop)]
+pub struct FolderSide<'a, F, A: Disk> {
+    pub files: &'a F,
+    /// The name of the folder, which may be missing.
+    pub root: &'a str,
+    /// What folder and replica last agreed on.
+    pub archive: Archive<A>,
+    /// Whose edits the folder's changes are.
+    pub user: u32,
+    /// So many seconds pass between two looks, at least one.
+    pub seconds: u64,
+}
+
+/// What is known since the last look.
+#[derive(Drop)]
+struct Known {
+    /// How the folder looked before it was read.
+    glimpse: Option<Glimpse>,
+    /// The position of the replica then.
+    position: u64,
+    /// How often the folder was read since it looks so and the replica has this position.
+    looks: u8,
+    told: Told,
+}
+
+/// Why a look did not come to its end.
+#[derive(Drop)]
+enum LookError {
+    Folder(FolderError),
+    Reconcile(ReconcileError),
+}
+
+/// Makes folder and replica the same at once, whenever one of them has changed, and once more when
+/// the server has ended.
+pub(crate) fn keep_folder<H, D, F, A>(
+    rt: &H,
+    alloc: Global,
+    shared: &SharedReplica<D>,
+    mut pass: Pass<Replica<D>>,
+    mut side: FolderSide<'_, F, A>,
+    ending: &Ending,
+)
+where
+    H: Wait + Clock + Log,
+    D: Disk,
+    F: Files,
+    A: Disk + Drop,
+    requires { IsFor shared.now pass }
+{
+    let mut known = Known {
+        glimpse: None,
+        position: 0,
+        looks: 0,
+        told: Told::new(alloc),
+    };
+    for _ in rt.forever() {
+        let is_over = ending.is_over(rt);
+        look(rt, alloc, shared, &mut pass, &mut side, &mut known);
+        if is_over {
+            return;
+        }
+        ending.wait(rt, side.seconds.max(1));
+    }
+}
+
+/// Looks at the folder and at the replica. Where one of them has changed, both are made the same.
+fn look<H, D, F, A>(
+    rt: &H,
+    alloc: Global,
+    shared: &SharedReplica<D>,
+    pass: &mut Pass<Replica<D>>,
+    side: &mut FolderSide<'_, F, A>,
+    known: &mut Known,
+)
+where
+    H: Wait + Log,
+    D: Disk,
+    F: Files,
+    A: Disk,
+    requires { IsFor shared.now pass.old }
+    ensures { IsFor shared.now pass.new }
+{
+    let seen = take_glimpse(alloc, side.files, side.root).ok();
+    let position = shared.position(pass);
+    if !known.is_news(seen, position) {
+        return;
+    }
+    make_room(rt, alloc, shared, pass);
+    let answer = make_same(rt, alloc, shared, pass, side, &mut known.told);
+    let _ = tell(rt, alloc, side.root, &answer, &mut known.told);
+    if is_passing(&answer) {
+        known.looks = 0;
+    }
+}
+
+impl Known {
+    /// Takes up how the folder looks and which position the replica has. Whether there may be
+    /// something to do.
+    fn is_news(&mut self, seen: Option<Glimpse>, position: u64) -> bool {
+        let is_same = match (&self.glimpse, &seen) {
+            (Some(last), Some(now)) => last.is_same(now) && self.position == position,
+            _ => false,
+        };
+        if is_same && self.looks >= LOOKS {
+            return false;
+        }
+        self.looks = if is_same {
+            self.looks.saturating_add(1)
+        } else {
+            1
+        };
+        self.glimpse = seen;
+        self.position = position;
+        true
+    }
+}
+
+/// Makes a checkpoint where the journal has too little room for the edits of a folder.
+fn make_room<H: Wait + Log, D: Disk>(
+    rt: &H,
+    alloc: Global,
+    shared: &SharedReplica<D>,
+    pass: &mut Pass<Replica<D>>,
+)
+    requires { IsFor shared.now pass.old }
+    ensures { IsFor shared.now pass.new }
+{
+    match keep_up(alloc, shared, pass, ROOM_FOR_EDITS) {
+        UpkeepStep::Checkpointed(Ok(())) => info!(rt; "checkpoint for the folder"),
+        UpkeepStep::Reopened(Ok(())) => info!(rt; "reopened"),
+        _ => {}
+    }
+}
+
+/// Makes folder and replica the same.
+fn make_same<H, D, F, A>(
+    rt: &H,
+    alloc: Global,
+    shared: &SharedReplica<D>,
+    pass: &mut Pass<Replica<D>>,
+    side: &mut FolderSide<'_, F, A>,
+    told: &mut Told,
+) -> Result<Report, LookError>
+where
+    H: Wait + Log,
+    D: Disk,
+    F: Files,
+    A: Disk,
+    requires { IsFor shared.now pass.old }
+    ensures { IsFor shared.now pass.new }
+{
+    if side.archive.is_halted() {
+        if let Err(error) = side.archive.reopen(alloc) {
+            return Err(LookError::Reconcile(ReconcileError::Archive(error)));
+        }
+    }
+    let mut folder = match SystemFolder::open_or_missing(alloc, side.files, side.root) {
+        Ok(folder) => folder,
+        Err(error) => return Err(LookError::Folder(error)),
+    };
+    for stranger in folder.strangers() {
+        if let Ok(line) = format!(in alloc; "folder skipped {stranger}") {
+            let _ = told.tell(rt, line);
+        }
+    }
+    let (archive, user) = (&mut side.archive, side.user);
+    let refuse = WhenEmpty::Refuse;
+    reconcile_shared(rt, alloc, &mut folder, shared, pass, archive, user, refuse).map_err(
+        LookError::Reconcile,
+    )
+}
+
+/// Tells what a look came to: what was carried, and once what stays undone.
+///
+/// Refused where memory is refused.
+fn tell<H: Log>(
+    rt: &H,
+    alloc: Global,
+    root: &str,
+    answer: &Result<Report, LookError>,
+    told: &mut Told,
+) -> Result<(), AllocError> {
+    match answer {
+        Ok(report) => tell_report(rt, alloc, report, told)?,
+        Err(LookError::Folder(FolderError::Changed(_))) => {
+            told.turn_back(alloc);
+            return Ok(());
+        }
+        Err(error) => told.tell(rt, line_of(alloc, root, error)?)?,
+    }
+    told.turn(alloc);
+    Ok(())
+}
+
+/// Tells each item that was carried, is refused or is in conflict.
+fn tell_report<H: Log>(
+    rt: &H,
+    alloc: Global,
+    report: &Report,
+    told: &mut Told,
+) -> Result<(), AllocError> {
+    for settled in &report.settled {
+        let path = settled.path();
+        match settled.outcome() {
+            Outcome::Done => info!(rt; "folder carried {path}"),
+            Outcome::Marked => {}
+            Outcome::Conflict => told.tell(rt, format!(in alloc; "folder conflict {path}")?)?,
+            Outcome::Refused(why) => {
+                let number = why.number();
+                told.tell(rt, format!(in alloc; "folder refused {number} {path}")?)?;
+            }
+        }
+    }
+    Ok(())
+}
+
+/// Why a look did not come to its end, as a line.
+fn line_of(alloc: Global, root: &str, error: &LookError) -> Result<String, AllocError> {
+    match error {
+        LookError::Reconcile(ReconcileError::Empty(Side::Left)) => {
+            format!(in alloc; "folder refused 5 Absent: {root} is empty or missing, and was not")
+        }
+        LookError::Reconcile(ReconcileError::Empty(Side::Right)) => {
+            format!(in alloc; "folder refused 5 Absent: the replica is empty, and was not")
+        }
+        LookError::Reconcile(error) => {
+            let number = error.number();
+            format!(in alloc; "folder refused {number} {error}")
+        }
+        LookError::Folder(error) => {
+            let number = error.number();
+            format!(in alloc; "folder refused {number} {error}")
+        }
+    }
+}
+
+/// What was refused may be done at the next look, though nothing changes.
+fn is_passing(answer: &Result<Report, LookError>) -> bool {
+    match answer {
+        Ok(report) => report.settled.iter().any(|settled| match settled.refused {
+            Some(why) => passes(why),
+            None => false,
+        }),
+        Err(LookError::Folder(error)) => passes(error.refusal()),
+        Err(LookError::Reconcile(error)) => passes(error.refusal()),
+    }
+}
+
+/// The refusal is none of what folder, replica and marks hold.
+fn passes(why: Refusal) -> bool {
+    match why {
+        Refusal::Touched | Refusal::BelowFloor | Refusal::JournalFull | Refusal::Busy => true,
+        Refusal::Device | Refusal::Halted | Refusal::Memory => true,
+        _ => false,
+    }
+}

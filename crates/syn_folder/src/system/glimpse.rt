@@ -1,0 +1,125 @@
+//! How a folder of the system looks from outside: what its metadata tells, and no contents.
+
+use crate::error::FolderError;
+use crate::system::listing::is_listed;
+use crate::system::looking::{is_gone, read_names};
+use crate::system::looks::Look;
+use std::alloc::Global;
+use std::fs::Files;
+use std::{io, str};
+
+/// Of a folder with more files, directories and others than this no glimpse says that it is the
+/// same.
+const MOST_LOOKED: usize = 65_536;
+
+/// How a folder looks by its names, and by the numbers, modes, lengths and times of what stands in
+/// it. A glimpse reads no file.
+#[derive(Drop)]
+pub struct Glimpse {
+    /// The names in each directory, as the system lists them.
+    names: Vec<u8>,
+    looks: Vec<Look>,
+}
+
+impl Glimpse {
+    /// Nothing was written, made, moved or removed between the two, as far as the system's clock
+    /// tells: it takes two changes that are very close for one. Of a folder with very much in it
+    /// this is never said.
+    pub fn is_same(&self, other: &Glimpse) -> bool {
+        self.looks.len() <= MOST_LOOKED && self.names == other.names && self.looks == other.looks
+    }
+}
+
+/// Looks at the folder of this name and at all that stands in it. A folder that is missing looks as
+/// nothing does.
+///
+/// Refused 9 where the system refuses it otherwise than for what is gone or may not be read, and 11
+/// where memory is refused.
+pub fn take_glimpse<F: Files>(
+    alloc: Global,
+    files: &F,
+    root: &str,
+) -> Result<Glimpse, FolderError> {
+    let mut seen = Glimpse {
+        names: Vec::new(alloc),
+        looks: Vec::new(alloc),
+    };
+    let mut pending = Vec::new(alloc);
+    match files.metadata(root) {
+        Ok(there) => {
+            seen.looks.push(Look::of(&there))?;
+            pending.push(String::from_str(alloc, root)?)?;
+        }
+        Err(error) if is_hidden(&error) => return Ok(seen),
+        Err(error) => return Err(FolderError::System(error)),
+    }
+    for _looked in 0..MOST_LOOKED {
+        let Some(mut place) = pending.pop() else {
+            break;
+        };
+        // After the slash the system follows a symbolic link, which only the folder itself may be.
+        place.push('/')?;
+        if seen.looks.len() <= MOST_LOOKED {
+            seen.look_into(alloc, files, place.as_str(), &mut pending)?;
+        }
+    }
+    Ok(seen)
+}
+
+impl Glimpse {
+    /// Notes what the directory at the place lists, and how each of that looks. The directories in
+    /// it are to be looked into next.
+    fn look_into<F: Files>(
+        &mut self,
+        alloc: Global,
+        files: &F,
+        place: &str,
+        pending: &mut Vec<String>,
+    ) -> Result<(), FolderError> {
+        let listing = match read_names(alloc, files, place) {
+            Ok(listing) => listing,
+            Err(error) if is_hidden(&error) => return Ok(()),
+            Err(error) => return Err(FolderError::System(error)),
+        };
+        self.names.extend_from_slice(&listing)?;
+        for name in listing.split(|byte| *byte == 0) {
+            if is_listed(name) {
+                self.look_at(alloc, files, place, name, pending)?;
+            }
+        }
+        Ok(())
+    }
+
+    /// Notes how what has the name in the directory at the place looks. A name that is no text has
+    /// no look of its own.
+    fn look_at<F: Files>(
+        &mut self,
+        alloc: Global,
+        files: &F,
+        directory: &str,
+        name: &[u8],
+        pending: &mut Vec<String>,
+    ) -> Result<(), FolderError> {
+        let Ok(name) = str::from_utf8(name) else {
+            return Ok(());
+        };
+        let mut place = String::from_str(alloc, directory)?;
+        place.push_str(name)?;
+        match files.symlink_metadata(place.as_str()) {
+            Ok(there) => {
+                self.looks.push(Look::of(&there))?;
+                if there.is_dir() {
+                    pending.push(place)?;
+                }
+                Ok(())
+            }
+            Err(error) if is_hidden(&error) => Ok(()),
+            Err(error) => Err(FolderError::System(error)),
+        }
+    }
+}
+
+/// What stands there is gone, or may not be seen.
+fn is_hidden(error: &io::Error) -> bool {
+    is_gone(error) || error.kind() == io::ErrorKind::PermissionDenied
+}
