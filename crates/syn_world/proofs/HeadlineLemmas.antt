@@ -78,7 +78,7 @@ module _ {D : Type 0} (may_leave : D → Bytes → Type 0) (disks : Disks D) (mo
   side_may_be Left = left.left shown.left holds.left
   side_may_be Right = left.right shown.right holds.right
 
-  may_be_left : MayBeLeft shown model
+  pub may_be_left : MayBeLeft shown model
   may_be_left = record {
     side = side_may_be;
     archive = left.archive shown.archive holds.archive;
