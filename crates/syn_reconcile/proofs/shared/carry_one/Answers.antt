@@ -38,7 +38,8 @@ returns-in-ToLeft-clause-carried g c kept keeps =
 pub returns-in-ToLeft-clause-holds : goal.returns-in-ToLeft-clause-holds
 returns-in-ToLeft-clause-holds g c =
     rests_as (item_of c.args.item.now) (ToLeft c.in-ToLeft.path) (ap item_of c.in-ToLeft.is)
-    (λ f. f) (g.F.EditedFolder.tree c.args.folder.now) c.to_folder.result c.args.shared.now c.args.user
+    (λ f. f) (g.F.EditedFolder.tree c.args.folder.now) c.to_folder.result c.args.shared.now
+    c.args.user
     c.args.seen.now.position c.args.pass.now
 
 pub returns-in-ToLeft-clause-apart : goal.returns-in-ToLeft-clause-apart
@@ -58,7 +59,8 @@ returns-in-MarkSame-clause-carried g c kept keeps =
 pub returns-in-MarkSame-clause-holds : goal.returns-in-MarkSame-clause-holds
 returns-in-MarkSame-clause-holds g c =
     rests_as (item_of c.args.item.now) (MarkSame c.in-MarkSame.path) (ap item_of c.in-MarkSame.is)
-    (λ f. f) (g.F.EditedFolder.tree c.args.folder.now) c.mark_same.result c.args.shared.now c.args.user
+    (λ f. f) (g.F.EditedFolder.tree c.args.folder.now) c.mark_same.result c.args.shared.now
+    c.args.user
     c.args.seen.now.position c.args.pass.now
 
 pub returns-in-MarkDir-clause-carried : goal.returns-in-MarkDir-clause-carried
@@ -71,7 +73,8 @@ returns-in-MarkDir-clause-carried g c kept keeps =
 pub returns-in-MarkDir-clause-holds : goal.returns-in-MarkDir-clause-holds
 returns-in-MarkDir-clause-holds g c =
     rests_as (item_of c.args.item.now) (MarkDir c.in-MarkDir.path) (ap item_of c.in-MarkDir.is)
-    (λ f. f) (g.F.EditedFolder.tree c.args.folder.now) c.mark_dir.result c.args.shared.now c.args.user
+    (λ f. f) (g.F.EditedFolder.tree c.args.folder.now) c.mark_dir.result c.args.shared.now
+    c.args.user
     c.args.seen.now.position c.args.pass.now
 
 pub returns-in-Conflict-clause-carried : goal.returns-in-Conflict-clause-carried
