@@ -1,6 +1,7 @@
 -- What the items of a run over a shared replica leave, one after the other.
-use Rattle.std.proofs.Common.{◌≡◌, ◌∙◌, ◌++◌, ◌∷◌, [], ℕ, List, Option, None, ap, refl, subst, sym}
-use Rattle.std.specs.Prelude.{IfNone}
+use Rattle.std.proofs.Common.{◌≡◌, ◌∙◌, ◌++◌, ◌∷◌, [], ℕ, List, Option, Result, Ok, Err, ap, refl}
+use Rattle.std.proofs.Common.{subst, sym}
+use Rattle.std.specs.Prelude.{IfNone, IfOk}
 use Rattle.syn_archive.specs.Archive.{marks_shown}
 use Rattle.syn_archive.specs.declared.archive.Archive.{Archive}
 use Rattle.syn_disk.specs.declared.disk.Disk.{Ghosts}
@@ -13,11 +14,13 @@ use Rattle.syn_recon.specs.Items.{item_of}
 use Rattle.syn_refusal.specs.declared.refusal.Refusal.{Refusal}
 use Rattle.syn_replica.specs.declared.replica.Replica.{Replica}
 use Rattle.syn_shared.specs.declared.shared.SharedReplica.{SharedReplica}
-use Rattle.syn_reconcile.specs.Settlings.{IsCarried, KeepsMarks, here}
+use Rattle.syn_reconcile.proofs.CarryLemmas.{if_none}
+use Rattle.syn_reconcile.specs.Settlings.{IsCarried, here}
 use Rattle.syn_reconcile.specs.Shared.{HoldInTurn, HoldsFor, IsBeside, LeaveAlone, after_all_seen}
-use Rattle.syn_reconcile.specs.Shared.{after_seen, beside}
+use Rattle.syn_reconcile.specs.Shared.{IsForReplica, after_seen}
 use Rattle.syn_reconcile.specs.Shared as shared
 use Rattle.syn_reconcile.specs.Strangers.{LeavesAlone}
+use Rattle.syn_reconcile.specs.declared.error.ReconcileError.{ReconcileError}
 use Rattle.syn_reconcile.specs.declared.report.Settled.{Settled}
 
 -- one settled item more
@@ -70,3 +73,44 @@ module _ {A : Type 0} {on_archive : Ghosts A} (found : Trees) (settled : List Se
         shared.more settled one old before new holds
         (subst (λ (t : Tree). HoldsFor held user since t (item_of one.item) one.refused before new)
         on.folder this)
+
+module _ {A : Type 0} {on_archive : Ghosts A} (item same : Item) (is : item ≡ same)
+    (folder seen left : Tree) (was now : Archive A on_archive)
+    (result : Result (Option Refusal) ReconcileError) where
+  -- what comes of an item comes of the item that it is
+  pub carried_as : (held : Tree) → held ≡ folder
+      → IfOk result (λ refused. IsCarried same refused (here held seen (marks_shown was)) left now)
+      → IfOk result (λ refused. IsCarried item refused (here folder seen (marks_shown was)) left
+      now)
+  carried_as held at carried =
+      subst (λ (i : Item). IfOk result
+      (λ refused. IsCarried i refused (here folder seen (marks_shown was)) left now)) (sym is)
+      (subst (λ (t : Tree). IfOk result
+      (λ refused. IsCarried same refused (here t seen (marks_shown was)) left now)) at carried)
+
+  -- the same where the folder stays
+  pub kept_as : (held : Tree) → held ≡ folder
+      → IfOk result (λ refused. IsCarried same refused (here held seen (marks_shown was)) held now)
+      → IfOk result (λ refused. IsCarried item refused (here folder seen (marks_shown was)) folder
+      now)
+  kept_as held at carried =
+      subst (λ (i : Item). IfOk result
+      (λ refused. IsCarried i refused (here folder seen (marks_shown was)) folder now)) (sym is)
+      (subst (λ (t : Tree). IfOk result
+      (λ refused. IsCarried same refused (here t seen (marks_shown was)) t now)) at carried)
+
+-- an item that is not for the replica leaves the lock alone
+pub rests_as : {R : Type 0} {disk : Ghosts R} (item same : Item) → item ≡ same
+    → ¬ IsForReplica same → (folder : Tree) (result : Result (Option Refusal) ReconcileError)
+    (held : SharedReplica R disk) (user since : ℕ) (pass : Pass (Replica R disk))
+    → IfOk result (λ refused. HoldsFor held user since folder item refused pass pass)
+rests_as item same is none folder (Ok refused) held user since pass =
+    shared.rests item refused pass (if_none refused (¬ IsForReplica item)
+    (λ it. none (subst IsForReplica is it)))
+rests_as item same is none folder (Err e) held user since pass = tt
+
+-- what leaves the strangers alone does so whatever comes of it
+pub apart_as : (result : Result (Option Refusal) ReconcileError) (P : Type 0) → P
+    → IfOk result (λ refused. IfNone refused P)
+apart_as (Ok refused) P p = if_none refused P p
+apart_as (Err e) P p = tt

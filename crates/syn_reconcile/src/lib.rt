@@ -29,6 +29,16 @@
 //!   read. The laws of the plan say what that is: what the marks have, or what another side is
 //!   preferred to.
 //!
+//! Over a replica that others go on editing, under its lock, `reconcile_shared` carries out the
+//! same plan (`carried`: `IsSharedRun`):
+//!
+//! - It is the plan of the folder and the marks with what the replica had in one hold (`took`,
+//!   `plan`). Each item for the replica is put there in one hold of its own, which is refused and
+//!   changes nothing where somebody touched the path since the first one; no other item enters the
+//!   lock (`holds`).
+//! - The folder and the marks are what the items leave that were not refused (`leave`). So an item
+//!   is marked only where its hold answered that it is there, or the folder took it.
+//!
 //! An archive has no position of the replica. That the replica is older than the marks, as a backup
 //! is, is seen only where it is empty or of another pair.
 #![tactic(auto)]

@@ -35,8 +35,15 @@
 //!   - A checkpoint is the world's (`CompactsSide`: `Compacts`), with its causes. Another opening
 //!     gives what the disk may mean (`ReopensSide`: `Opens`), also of a halted machine; else it is
 //!     refused 9 and 11 alone.
-//! - `edit` and `get` wait for the lock, and say the same after any number of exchanges that found
-//!   it taken (`HeldAfterWait`). No other call of a shared replica may wait.
+//! - `edit`, `get`, `snapshot` and `put_part` wait for the lock, and say the same after any number
+//!   of exchanges that found it taken (`HeldAfterWait`). No other call of a shared replica may
+//!   wait.
+//! - `snapshot` answers what the replica has in one hold (`Takes`). `put_part` puts a part of a
+//!   tree in the place of what the replica has at a path (`Puts`). Where an event touched the path
+//!   since the given position it is refused for that, and nothing changes (`touched`). Else the
+//!   edits of the user are made in turn within the one hold, and each is what an edit is
+//!   (`AddsInTurn`, `Edits`): so each is a step of the world's side. Ok says that all of them
+//!   stand, and that the part is there (`acknowledged`).
 //! - In each history a replica left is grown from the one found (`IsGrown`), and what a pass saw
 //!   last is grown further by each of its calls (`later`). It reads back its own writes, and no
 //!   position that it finds is below one that it found before. So what one caller was told Ok of
