@@ -1,2 +1,3 @@
 pub mod UserLemmas
+mod PieceLemmas
 mod SideLemmas

@@ -1,6 +1,7 @@
 -- What was asked of a side, and what came.
 use Rattle.std.proofs.Common.{◌≡◌, ◌+◌, ◌++◌, ◌∷◌, ℕ, [], length, Option, refl, sym, ap, ap₂, ◌∙◌}
-use Rattle.std.proofs.Common.{subst, append-nil, zero-add, add-zero, add_assoc, length-append}
+use Rattle.std.proofs.Common.{◌⊎◌, inl, inr, subst, append-nil, zero-add, add-zero, add_assoc}
+use Rattle.std.proofs.Common.{length-append}
 use Rattle.std.proofs.lemmas.Grind.{flat_map-append}
 use Rattle.std.proofs.lemmas.Result.{IfOk-weaker}
 use Rattle.std.specs.Io.KnownBytes.{Appends}
@@ -15,10 +16,11 @@ use Rattle.syn_model.specs.Refusal.{Touched}
 use Rattle.syn_model.specs.Spelling.{spelling}
 use Rattle.syn_model.specs.Tree.{Tree}
 use Rattle.syn_refusal.specs.declared.refusal.Refusal.{Refusal}
-use Rattle.syn_user.specs.Sides.{ArePiecesOf, AreFetched, IsHeard, IsNoListing, IsReplied}
-use Rattle.syn_user.specs.Sides.{IsNoPiece, IsTouchedSince, IsUnanswered, IsUnheard, NoPiece}
-use Rattle.syn_user.specs.Sides.{IsListing, NoPieces, NoPosition, Pieces, SideLine, asking_at}
-use Rattle.syn_user.specs.Sides.{bytes_of, no_piece, root_from, rootless, unheard}
+use Rattle.syn_user.specs.Sides.{ArePiecesOf, AreFetched, AreOfNoTree, IsHeard, IsNoListing}
+use Rattle.syn_user.specs.Sides.{IsNoPiece, IsReplied, IsTouchedSince, IsUnanswered, IsUnheard}
+use Rattle.syn_user.specs.Sides.{IsListing, NoPiece, NoPieces, NoPosition, Pieces, SideLine}
+use Rattle.syn_user.specs.Sides.{asking_at, bytes_of, no_memory, no_piece, no_tree, root_from}
+use Rattle.syn_user.specs.Sides.{rootless, unheard}
 use Rattle.syn_user.specs.declared.error.UserError.{UserError}
 use Rattle.syn_user.specs.declared.error.UserError.TheVariants as has
 
@@ -115,7 +117,7 @@ foreign_to_piece told.Done no_piece_is no_refusal = tt
 foreign_to_piece (told.Refused why) no_piece_is no_refusal = absurd (no_refusal why refl)
 
 -- one piece more, from where those before it ended
-fetched_more : (position offset end : ℕ) (a b c : SideLine) (pieces : Pieces) (piece : ℕ × Bytes)
+pub fetched_more : (position offset end : ℕ) (a b c : SideLine) (pieces : Pieces) (piece : ℕ × Bytes)
     → offset + length (bytes_of pieces) ≡ end → AreFetched position a offset pieces b
     → IsReplied b c (root_from position end) (Piece piece.0 piece.1)
     → AreFetched position a offset (pieces ++ piece ∷ []) c
@@ -144,7 +146,7 @@ Gathers position a b bytes = (pieces : Pieces) × AreFetched position a 0 pieces
 -- a piece that was asked for from where those before it ended, and the refusal where it was touched
 module _ (position : ℕ) (a b c : SideLine) (bytes : Bytes) (offset : ℕ)
     (ends : offset ≡ length bytes) where
-  pub piece_gathered : (more : Bytes) (total : ℕ) → Gathers position a b bytes
+  abbrev pub piece_gathered : (more : Bytes) (total : ℕ) → Gathers position a b bytes
       → IsReplied b c (root_from position offset) (Piece total more)
       → Gathers position a c (bytes ++ more)
   piece_gathered more total (pieces, came, same) is =
@@ -171,6 +173,16 @@ module _ (position : ℕ) (a b c : SideLine) (bytes : Bytes) (offset : ℕ)
       → NoPiece position offset b c error → NoPieces position a c error
   no_piece_so error (pieces, came, same) is = no_piece pieces b error came
       (subst (λ n. NoPiece position n b c error) (ends ∙ ap length (sym same)) is)
+
+-- no tree comes of the pieces, which are of none, or for which memory is wanting
+pub refused_so : (position : ℕ) (a b : SideLine) (pieces : Pieces) (error : UserError)
+    → AreFetched position a 0 pieces b
+    → ((error ≡ has.BadMessage) × AreOfNoTree pieces) ⊎ (error ≡ has.Memory)
+    → NoPieces position a b error
+refused_so position a b pieces error came (inl (is, none)) =
+    subst (NoPieces position a b) (sym is) (no_tree pieces came none)
+refused_so position a b pieces error came (inr is) =
+    subst (NoPieces position a b) (sym is) (no_memory pieces came)
 
 pub pieces_of : (position : ℕ) (a b : SideLine) (bytes : Bytes) (tree : Tree)
     → Gathers position a b bytes → spelling tree ≡ bytes → ArePiecesOf position a b tree

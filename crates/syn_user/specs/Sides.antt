@@ -1,6 +1,6 @@
 -- What a side of a session is asked over a connection, what it tells, and the tree that it tells.
 use Rattle.std.specs.Prelude.{◌≡◌, ◌≢◌, ◌⊎◌, ◌≤◌, ◌+◌, ℕ, List, [], ◌∷◌, length, Option, Some}
-use Rattle.std.specs.Prelude.{flat_map}
+use Rattle.std.specs.Prelude.{drop, flat_map, take}
 use Rattle.std.specs.Io.KnownBytes.{Appends}
 use Rattle.syn_headline.specs.Side.{Fetch, ListAt, Listed, NotDir, Piece, Refused, Reply, Request}
 use Rattle.syn_link.specs.Frames.{AppendsSome, Bytes, frame_of}
@@ -8,10 +8,12 @@ use Rattle.syn_link.specs.Streams.{Comes, ComesAtFault, EndsBefore}
 use Rattle.syn_link.specs.declared.error.LinkError.TheVariants as link
 use Rattle.syn_message.specs.Replies.{IsLawfulReply, answering_spelling}
 use Rattle.syn_message.specs.Requests.{Asking, IsLawfulAsking, asking_spelling}
+use Rattle.syn_model.specs.Limits.{greatest_piece}
 use Rattle.syn_model.specs.Path.{Path}
 use Rattle.syn_model.specs.Refusal.{Touched}
 use Rattle.syn_model.specs.Spelling.{spelling}
 use Rattle.syn_model.specs.Tree.{Tree}
+use Rattle.syn_model.specs.Version.{current_version}
 use Rattle.syn_refusal.specs.Refusals.{cause_of}
 use Rattle.syn_refusal.specs.declared.refusal.Refusal.{Refusal}
 use Rattle.syn_refusal.specs.declared.refusal.Refusal.TheVariants as refusal
@@ -20,6 +22,7 @@ use Rattle.syn_user.specs.declared.error.UserError.{UserError}
 use Rattle.syn_user.specs.declared.error.UserError.TheVariants as has
 use Rattle.syn_user.specs.declared.side.SideConnection.{SideConnection}
 use Rattle.syn_user.specs.declared.side.TheConstants.{MOST_TRIES, SESSION}
+use Rattle.syn_wire.specs.Trees.{IsWholeTreeIn}
 
 -- what the reader is to give, what came and was not handed out, what the writer has, and the number
 -- of the next request
@@ -158,6 +161,19 @@ AreFetched position old offset (piece ∷ more) new = (between : SideLine)
     × IsReplied old between (root_from position offset) (Piece piece.0 piece.1)
     × AreFetched position between (offset + length piece.1) more new
 
+-- The first pieces of a spelling, from that byte on: each tells how long all of it is, and has as
+-- many bytes of it as a piece can have, from where the one before it ended.
+abbrev pub AreFirstOf : Bytes → ℕ → Pieces → Type 0
+AreFirstOf spelled offset [] = Unit {0}
+AreFirstOf spelled offset (piece ∷ more) = (piece.0 ≡ length spelled)
+    × (piece.1 ≡ take greatest_piece (drop offset spelled))
+    × AreFirstOf spelled (offset + length piece.1) more
+
+-- they are the first pieces of no tree that a replica can have
+abbrev pub AreOfNoTree : Pieces → Type 0
+AreOfNoTree pieces = (tree : Tree) → IsWholeTreeIn current_version tree
+    → ¬ AreFirstOf (spelling tree) 0 pieces
+
 -- all pieces of the tree that the replica had at the position came
 pub record ArePiecesOf (position : ℕ) (old new : SideLine) (tree : Tree) : Type 0 where
   pub pieces : Pieces
@@ -178,14 +194,16 @@ NoPiece position offset old new error =
     IsDenied old new (root_from position offset) IsNoPiece error
 
 -- Why no tree came at the position: some pieces came, and after them not the next one; or those
--- that came are not all pieces of one tree, or memory is wanting for it
+-- that came are of no tree, or memory is wanting for them
 pub data NoPieces (position : ℕ) (old new : SideLine) : UserError → Type 0 where
   no_piece : (pieces : Pieces) (between : SideLine) (error : UserError) →
       AreFetched position old 0 pieces between →
       NoPiece position (length (bytes_of pieces)) between new error →
       NoPieces position old new error
-  given_up : (pieces : Pieces) (error : UserError) → AreFetched position old 0 pieces new →
-      (error ≡ has.BadMessage) ⊎ (error ≡ has.Memory) → NoPieces position old new error
+  no_tree : (pieces : Pieces) → AreFetched position old 0 pieces new → AreOfNoTree pieces →
+      NoPieces position old new has.BadMessage
+  no_memory : (pieces : Pieces) → AreFetched position old 0 pieces new →
+      NoPieces position old new has.Memory
 
 -- why no position is told: the root is not listed, or is no directory
 pub data NoPosition (old new : SideLine) : UserError → Type 0 where

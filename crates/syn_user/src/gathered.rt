@@ -1,12 +1,14 @@
 //! The spelling of a tree, out of the pieces in which it comes.
-ghost use Rattle.std.specs.Prelude.{◌≡◌, ◌⊎◌, ◌≤◌, ◌+◌, ◌++◌, [], IfErr, IfOk, OnOk, length};
-ghost use Rattle.std.specs.Prelude.{true};
+ghost use Rattle.std.specs.Prelude.{◌≡◌, ◌↔◌, ◌⊎◌, ◌≤◌, ◌+◌, ◌++◌, [], None, Some, length, true};
+ghost use Rattle.std.specs.Prelude.{IfErr, IfOk, IfSome, OnOk};
 ghost use Rattle.syn_tree.specs.declared.measures.TheConstants.{LONGEST_SPELLING};
 ghost use Rattle.syn_model.specs.Spelling.{spelling};
+ghost use Rattle.syn_user.specs.inner.Parts.{IsFull, IsNext, SpellNoTree};
 
 use crate::error::UserError;
 use std::alloc::Global;
 use syn_message::LONGEST_PIECE;
+use syn_model::spelling_laws;
 use syn_tree::{LONGEST_SPELLING, Tree};
 use syn_wire::{Version, decode_tree};
 
@@ -22,7 +24,8 @@ pub(crate) struct Gathered {
 impl Gathered {
     /// Nothing came yet. It takes no memory.
     pub(crate) fn new(alloc: Global) -> Gathered
-        ensures { result.bytes.items ≡ [] }
+        ensures bytes { result.bytes.items ≡ [] }
+        ensures total { result.total ≡ None }
     {
         Gathered {
             bytes: Vec::new(alloc),
@@ -38,7 +41,9 @@ impl Gathered {
     }
 
     /// Whether all of it came.
-    pub(crate) fn is_whole(&self) -> bool {
+    pub(crate) fn is_whole(&self) -> bool
+        ensures { (result ≡ true) ↔ (self.now.total ≡ Some (length self.now.bytes.items)) }
+    {
         match self.total {
             Some(total) => self.bytes.len() == total as usize,
             None => false,
@@ -51,14 +56,14 @@ impl Gathered {
     /// or not all the bytes that it can have; and 11 where memory is refused.
     pub(crate) fn take(&mut self, total: u32, bytes: &[u8]) -> Result<(), UserError>
         ensures taken { OnOk result (self.new.bytes.items ≡ self.old.bytes.items ++ bytes.now) }
-        ensures refused { IfErr result (λ error. (error ≡ UserError.BadMessage)
+        ensures total { OnOk result (self.new.total ≡ Some total) }
+        ensures refused { IfErr result (λ error. ((error ≡ UserError.BadMessage)
+            × ¬ IsNext self.old.total (length self.old.bytes.items) total (length bytes.now))
             ⊎ (error ≡ UserError.Memory)) }
     {
-        let as_told = match self.total {
-            Some(told) => total == told,
-            None => true,
-        };
-        if !as_told || !is_full(self.bytes.len(), total as usize, bytes.len()) {
+        if !is_as_told(self.total, total)
+            || !is_full(self.bytes.len(), total as usize, bytes.len())
+        {
             return Err(UserError::BadMessage);
         }
         self.total = Some(total);
@@ -72,20 +77,35 @@ impl Gathered {
     /// Refused 23 where it spells none, and 11 where memory is refused.
     pub(crate) fn tree(&self, alloc: Global) -> Result<Tree, UserError>
         ensures tree { IfOk result (λ tree. spelling tree ≡ self.now.bytes.items) }
-        ensures refused { IfErr result (λ error. (error ≡ UserError.BadMessage)
-            ⊎ (error ≡ UserError.Memory)) }
+        ensures refused { IfErr result (λ error. ((error ≡ UserError.BadMessage)
+            × SpellNoTree self.now.bytes.items) ⊎ (error ≡ UserError.Memory)) }
     {
-        match decode_tree(alloc, Version::Two, &self.bytes)? {
-            Some((tree, [])) => Ok(tree),
-            _ => Err(UserError::BadMessage),
+        spelling_laws();
+        let Some((tree, rest)) = decode_tree(alloc, Version::Two, &self.bytes)? else {
+            return Err(UserError::BadMessage);
+        };
+        if !rest.is_empty() {
+            return Err(UserError::BadMessage);
         }
+        Ok(tree)
+    }
+}
+
+/// A piece tells as many bytes in all as the first one did, if that came.
+fn is_as_told(told: Option<u32>, total: u32) -> bool
+    ensures { (result ≡ true) ↔ IfSome told (λ first. total ≡ first) }
+{
+    match told {
+        Some(first) => total == first,
+        None => true,
     }
 }
 
 /// A piece from the offset on has as many bytes as it can have, of so many in all as a tree may
 /// have.
 fn is_full(offset: usize, total: usize, count: usize) -> bool
-    ensures { result ≡ true → offset + count ≤ LONGEST_SPELLING }
+    ensures full { (result ≡ true) ↔ IsFull offset total count }
+    ensures short { result ≡ true → offset + count ≤ LONGEST_SPELLING }
 {
     offset <= total && total <= LONGEST_SPELLING && count == LONGEST_PIECE.min(total - offset)
 }

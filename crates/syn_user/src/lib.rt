@@ -23,7 +23,7 @@
 //! cause (`unlisted`: `IsUnlisted`). Nothing else was written then. `tree` answers the position
 //! that a listing of the root told, and the tree that the pieces spell which were asked for at that
 //! position, one after the other (`shown`: `ShowsTree`). It is refused for the same causes, and
-//! where the pieces are at odds (`refused`: `NoTree`).
+//! where the pieces that came are of no tree (`refused`: `NoTree`).
 #![tactic(auto)]
 
 mod connection;

@@ -136,7 +136,7 @@ impl<R: Read, W: Write> SideConnection<R, W> {
             (side_line R.remaining W.contents self.new)) }
     {
         let mut gathered = Gathered::new(alloc);
-        for _ in 0..MOST_PIECES {
+        for _count in 0..MOST_PIECES {
             let Some((total, bytes)) = self.piece(alloc, position, gathered.offset())? else {
                 return Ok(None);
             };

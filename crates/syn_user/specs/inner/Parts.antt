@@ -1,15 +1,20 @@
 -- The parts of an exchange.
-use Rattle.std.specs.Prelude.{◌≡◌, Bool, true, false}
+use Rattle.std.specs.Prelude.{◌≡◌, ◌≢◌, ◌≤◌, ◌-◌, ℕ, Bool, true, false, IfSome, List, min, Option}
 use Rattle.syn_link.specs.declared.error.LinkError.{LinkError}
 use Rattle.syn_link.specs.declared.error.LinkError.TheVariants as link
 use Rattle.syn_message.specs.UserReplies.{Telling, Told}
 use Rattle.syn_message.specs.Users.{Wished}
+use Rattle.syn_model.specs.Limits.{greatest_piece, greatest_spelling}
+use Rattle.syn_model.specs.Spelling.{spelling}
+use Rattle.syn_model.specs.Tree.{Tree}
+use Rattle.syn_model.specs.Version.{current_version}
 use Rattle.syn_refusal.specs.declared.refusal.Refusal.TheVariants.{Full}
 use Rattle.syn_user.specs.Exchanges.{Answers, BreaksOff, IsHeard, IsSent, IsTooLong, IsUnheard}
 use Rattle.syn_user.specs.Lines.{IsUnread, Line}
 use Rattle.syn_user.specs.declared.error.UserError.{UserError}
 use Rattle.syn_user.specs.declared.error.UserError.TheVariants.{BadFrame, BadMessage, Device}
 use Rattle.syn_user.specs.declared.error.UserError.TheVariants.{Memory, Refused, TooLarge}
+use Rattle.syn_wire.specs.Trees.{IsWholeTreeIn}
 
 -- a frame's error
 abbrev pub of_link : LinkError → UserError
@@ -59,3 +64,16 @@ module _ (old new : Line) (wished : Wished) where
         Breaks error
     unheard : (error : UserError) → IsSent old new wished → IsUnheard old new wished error →
         Breaks error
+
+-- so many bytes are as many as a piece can have from the offset on, of so many as a tree may have
+abbrev pub IsFull : ℕ → ℕ → ℕ → Type 0
+IsFull offset total count = (offset ≤ total) × (total ≤ greatest_spelling)
+    × (count ≡ min greatest_piece (total - offset))
+
+-- and the piece tells as many in all as the first one did
+abbrev pub IsNext : Option ℕ → ℕ → ℕ → ℕ → Type 0
+IsNext told offset total count = IfSome told (λ first. total ≡ first) × IsFull offset total count
+
+-- no tree of a replica is spelled so
+abbrev pub SpellNoTree : List ℕ → Type 0
+SpellNoTree bytes = (tree : Tree) → IsWholeTreeIn current_version tree → spelling tree ≢ bytes
