@@ -1,6 +1,6 @@
 //! How a session goes past the items of its plan.
 ghost use Rattle.std.specs.Prelude.{◌≡◌, ◌+◌, ◌<◌, ◌^◌, Some, IfErr, OnErr, OnOk, false, slice_get};
-ghost use Rattle.std.specs.Prelude.{true};
+ghost use Rattle.std.specs.Prelude.{IsOk, true};
 ghost use Rattle.syn_headline.specs.Planning.{Planned};
 ghost use Rattle.syn_headline.specs.Report.{conflict_at, is_carrying};
 ghost use Rattle.syn_headline.specs.Session.{record_for};
@@ -68,6 +68,9 @@ impl Course {
             → IsCourse self.old left right reached
             → OnErr result (IsCourse self.new left right reached) }
         ensures memory { IfErr result (λ e. e ≡ SessionError.Memory) }
+        ensures none { (left right : Found)
+            → slice_get (plan_in self.old left right) self.old.cursor ≡ None
+            → IsOk result × (self.new ≡ self.old) }
     {
         let Some(item) = self.items.get(self.cursor as usize) else {
             return Ok(());
