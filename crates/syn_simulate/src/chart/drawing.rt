@@ -1,4 +1,6 @@
 //! The chart of a run is drawn from what was heard in it.
+ghost use Rattle.std.specs.Prelude.{IfErr};
+ghost use Rattle.syn_simulate.specs.Simulations.{IsNoRun};
 
 use crate::chart::Chart;
 use crate::chart::happened::{Happened, Heard};
@@ -24,7 +26,9 @@ pub fn draw_chart<D: SimulatedDisk>(
     alloc: Global,
     script: &[u8],
     player: &Player<D>,
-) -> Result<String, SimulateError> {
+) -> Result<String, SimulateError>
+    ensures refused { IfErr result (IsNoRun script.now) }
+{
     let lines = Script::parse(alloc, script)?;
     let world = player.world();
     let heard = Heard {
