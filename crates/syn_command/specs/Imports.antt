@@ -1,13 +1,15 @@
 -- What an import makes of a replica.
 use Rattle.std.specs.Prelude.{◌≡◌, ◌≢◌, ◌⊎◌, ◌++◌, ℕ, false, List, Some, Result, Ok, Err, map}
 use Rattle.syn_change.specs.Changes.{AreChanges, IsNeeded, IsRefusedAmong}
+use Rattle.syn_disk.specs.Stops.{LeavesOnly}
 use Rattle.syn_disk.specs.declared.disk.Disk.{Ghosts}
 use Rattle.syn_model.specs.Event.{Edit, Edited}
 use Rattle.syn_model.specs.History.{History, tree_of}
 use Rattle.syn_model.specs.Path.{Path, is_root}
+use Rattle.syn_model.specs.Refusal.{Refusal, Device}
 use Rattle.syn_model.specs.Tree.{Tree, replace}
 use Rattle.syn_replica.specs.Disks.{DiskStands}
-use Rattle.syn_replica.specs.Replica.{Stands, disk_of}
+use Rattle.syn_replica.specs.Replica.{Stands, disk_of, pair_of}
 use Rattle.syn_replica.specs.declared.replica.Replica.{Replica}
 use Rattle.syn_folder.specs.declared.error.FolderError.TheVariants as planned
 use Rattle.syn_tree.specs.Lists.{replace_refusal}
@@ -43,6 +45,14 @@ pub record IsImported {D : Type 0} {disk : Ghosts D} (history : History) (user :
   pub edits : List Edit
   pub changes : AreChanges (tree_of history) (replace (tree_of history) path part) edits
   pub stands : Stands new (history ++ map (Edited user) edits)
+
+-- A call that is refused otherwise than 9 has made no edit: whenever the machine stops, the disk
+-- has the history alone. A checkpoint may have been made.
+abbrev pub IsUnmade : {D : Type 0} → {disk : Ghosts D} → Replica D disk → History → Refusal → D
+    → Type 0
+IsUnmade {disk = disk} replica history refusal left = (refusal ≡ Device)
+    ⊎ LeavesOnly disk.moment disk.left_since (disk_of replica) left
+    (λ bytes. DiskStands (pair_of replica) bytes history)
 
 -- Why a plan to put the part in its place is refused: the tree refuses the part there, or one of
 -- the needed edits after some of the others, or memory is refused.

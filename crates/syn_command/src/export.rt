@@ -7,7 +7,7 @@ ghost use Rattle.syn_model.specs.Tree.{empty_directory, subtree};
 
 use std::alloc::Global;
 use syn_change::copy_part;
-use syn_folder::{Folder, FolderError, fill, mirror, update};
+use syn_folder::{FolderError, WrittenFolder, fill, mirror, update};
 use syn_path::Path;
 use syn_tree::Tree;
 use syn_words::Existing;
@@ -18,7 +18,7 @@ use syn_words::Existing;
 /// have nothing, and else 3, 4 and 7 as `update` and `mirror` are; and 11 where memory is refused.
 /// Refused 9, or 11 for lack of memory, where a call of the system fails: a part may be written
 /// then.
-pub fn export_part<F: Folder>(
+pub fn export_part<F: WrittenFolder>(
     alloc: Global,
     tree: &Tree,
     path: &Path,
@@ -26,17 +26,18 @@ pub fn export_part<F: Folder>(
     folder: &mut F,
 ) -> Result<(), FolderError>
     ensures whole { existing ≢ Existing.Updated
-        → OnOk result (F.tree folder.new ≡ subtree tree.now path.now) }
+        → OnOk result (F.Folder.tree folder.new ≡ subtree tree.now path.now) }
     ensures added { existing ≡ Existing.Updated → OnOk result
-        (IsOverlaid (F.tree folder.old) (subtree tree.now path.now) (F.tree folder.new)) }
+        (IsOverlaid (F.Folder.tree folder.old) (subtree tree.now path.now)
+        (F.Folder.tree folder.new)) }
     ensures empty { existing ≡ Existing.Refused
-        → OnOk result (F.tree folder.old ≡ empty_directory) }
+        → OnOk result (F.Folder.tree folder.old ≡ empty_directory) }
     ensures refused { IfErr result (λ e. IsOfSystem e ⊎ (folder.new ≡ folder.old)) }
 
     // What can stand in no replica is not there, or with `--update` not where something is written.
-    ensures known { existing ≢ Existing.Updated → OnOk result (F.strangers folder.old ≡ []) }
+    ensures known { existing ≢ Existing.Updated → OnOk result (F.Folder.strangers folder.old ≡ []) }
     ensures apart { existing ≡ Existing.Updated → OnOk result
-        (IsApart (F.strangers folder.old) (subtree tree.now path.now)) }
+        (IsApart (F.Folder.strangers folder.old) (subtree tree.now path.now)) }
 {
     let part = copy_part(alloc, tree, path)?;
     match existing {

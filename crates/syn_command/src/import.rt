@@ -9,9 +9,10 @@ ghost use Rattle.syn_replica.specs.Refusals.{IsOneOf, edit_refusals};
 ghost use Rattle.syn_disk.specs.Stops.{LeavesOnly};
 ghost use Rattle.syn_replica.specs.Disks.{DiskStands};
 ghost use Rattle.syn_replica.specs.Replica.{Stands, disk_of, pair_of, tree_shown};
-ghost use Rattle.syn_command.specs.Errors.{IsOfEdits, IsOfFolder};
-ghost use Rattle.syn_command.specs.Imports.{IsImported, IsPlanRefusal, LeavesImport, NoneOrAll};
-ghost use Rattle.syn_command.specs.Imports.{disk_left};
+ghost use Rattle.syn_standing.specs.Refusals.{refusal_of as of_replica};
+ghost use Rattle.syn_command.specs.Errors.{IsOfEdits, IsOfFolder, refusal_of};
+ghost use Rattle.syn_command.specs.Imports.{IsImported, IsPlanRefusal, IsUnmade, LeavesImport};
+ghost use Rattle.syn_command.specs.Imports.{NoneOrAll, disk_left};
 
 use crate::edits_told::{EditsTold, lines_of};
 use crate::error::CommandError;
@@ -65,6 +66,10 @@ pub fn import_folder<D: Disk, F: Folder, E: Write>(
     ensures none { (history : History) → Stands replica history → F.strangers folder.now ≡ []
         → subtree (tree_shown replica) path.now ≡ F.tree folder.now
         → IfOk result (λ new. Stands new history) }
+
+    // Where it is refused otherwise than 9, no edit is made: a stop leaves the history then, too.
+    ensures unmade { (history : History) → Stands replica history → IfErr result
+        (λ refused. IsUnmade replica history (refusal_of refused.0) refused.1) }
     ensures refused { IfErr result (λ refused. IsOfFolder refused.0
         → refused.1 ≡ disk_of replica) }
     ensures refusals { IfErr result (λ refused. IsOfFolder refused.0 ⊎ IsOfEdits refused.0) }
@@ -133,6 +138,10 @@ pub fn import_part<D: Disk, E: Write>(
         → subtree (tree_shown replica) path.now ≡ part.now
         → IfOk result (λ new. Stands new history) }
 
+    // Where it is refused otherwise than 9, no edit is made: a stop leaves the history then, too.
+    ensures unmade { (history : History) → Stands replica history → IfErr result
+        (λ refused. IsUnmade replica history (refusal_of refused.0) refused.1) }
+
     // What is refused by the plan is refused before anything is written, and for a cause.
     ensures refused { IfErr result (λ refused. IsOfFolder refused.0
         → refused.1 ≡ disk_of replica) }
@@ -160,6 +169,8 @@ fn make_edits<D: Disk, E: Write>(
     ensures any_moment { (history : History) → Stands replica history
         → LeavesOnly D.moment D.left_since (disk_of replica) (disk_left result)
         (NoneOrAll (pair_of replica) history (map (event_by user) edits.items)) }
+    ensures unmade { (history : History) → Stands replica history → IfErr result
+        (λ refused. IsUnmade replica history (refusal_of refused.0) refused.1) }
     ensures refused { IfErr result (λ refused. ¬ IsOfFolder refused.0) }
     ensures refusals { IfErr result (λ refused. IsOfEdits refused.0) }
 {
@@ -188,6 +199,8 @@ fn edit_with_room<D: Disk>(
     ensures any_moment { (history : History) → Stands replica history
         → LeavesOnly D.moment D.left_since (disk_of replica) (disk_left result)
         (NoneOrAll (pair_of replica) history (map (event_by user) edits.items)) }
+    ensures unmade { (history : History) → Stands replica history → IfErr result
+        (λ refused. IsUnmade replica history (of_replica refused.0) refused.1) }
     ensures refusals { IfErr result (λ refused. IsOneOf edit_refusals refused.0) }
 {
     if edits.is_empty() {

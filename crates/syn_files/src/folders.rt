@@ -10,11 +10,12 @@ use std::alloc::Global;
 use std::fs::Files;
 use std::io::Write;
 use std::net::{Net, TcpStream};
+use std::thread::Threads;
 use syn_command::{
     CommandError, EditsTold, export_part, import_folder, part_of, plan_import, send_edits,
 };
 use syn_daemon::reach;
-use syn_folder::{Folder, FolderError, SystemFolder};
+use syn_folder::{ExportedFolder, Folder, FolderError, SystemFolder};
 use syn_path::Path;
 use syn_tree::Tree;
 use syn_user::UserConnection;
@@ -25,13 +26,15 @@ use syn_words::{ExportLine, ImportLine, ReplicaPlace};
 ///
 /// A text that names no path is refused. Else it is refused 5 where no directory is at the path, as
 /// an opening is or as the server refuses it, and as the folder is written.
-pub fn export<H: Net<Stream = TcpStream>, N: NamedDisks, F: Files>(
+pub fn export<H: Net<Stream = TcpStream> + Threads + Sync, N: NamedDisks, F: Files>(
     rt: &H,
     alloc: Global,
     disks: &N,
     files: &F,
     line: &ExportLine<'_>,
 ) -> Result<u64, CommandError>
+where
+    F::File: Sync,
     ensures { IfSome line.now.path (λ path.
         ((at : ModelPath) → ¬ NamesPath path.now at) → IsErrAnd result IsOfPath) }
 {
@@ -39,13 +42,13 @@ pub fn export<H: Net<Stream = TcpStream>, N: NamedDisks, F: Files>(
     match line.place {
         ReplicaPlace::File(name) => {
             let replica = replica_to_read(alloc, disks, name)?;
-            export_into(alloc, files, replica.tree(), &path, line)?;
+            export_into(rt, alloc, files, replica.tree(), &path, line)?;
             Ok(replica.position())
         }
         ReplicaPlace::Served(address) => {
             let stream = reach(rt, address)?;
             let (position, tree) = tree_over(alloc, &stream)?;
-            export_into(alloc, files, &tree, &path, line)?;
+            export_into(rt, alloc, files, &tree, &path, line)?;
             Ok(position)
         }
     }
@@ -139,13 +142,22 @@ fn import_over<F: Folder, E: Write>(
 }
 
 /// Writes what the directory at the path of the tree has into the line's folder.
-fn export_into<F: Files>(
+fn export_into<H: Threads + Sync, F: Files>(
+    rt: &H,
     alloc: Global,
     files: &F,
     tree: &Tree,
     path: &Path,
     line: &ExportLine<'_>,
-) -> Result<(), FolderError> {
-    let mut folder = SystemFolder::open_or_missing(alloc, files, line.folder)?;
-    export_part(alloc, tree, path, line.existing, &mut folder)
+) -> Result<(), FolderError>
+where
+    F::File: Sync,
+{
+    let mut folder = ExportedFolder::open(alloc, files, line.folder)?;
+    let written = export_part(alloc, tree, path, line.existing, &mut folder);
+    if written.is_err() {
+        folder.give_up();
+    }
+    written?;
+    folder.settle(rt, alloc)
 }

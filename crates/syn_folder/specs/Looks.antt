@@ -4,7 +4,7 @@ use Rattle.std.specs.Prelude.{Bool, true, false, if◌then◌else◌, List, [], 
 use Rattle.std.specs.Prelude.{All, Contains, filter_map, Option, Some, None, option_map}
 use Rattle.std.specs.Prelude.{string_bytes}
 use Rattle.std.specs.Prelude.{bytes_eq, codes}
-use Rattle.std.specs.List.{flat_map, slice_split}
+use Rattle.std.specs.List.{flat_map, slice_split, starts_with}
 use Rattle.std.specs.Str.Lossy.{utf8_lossy}
 use Rattle.std.specs.FinMap.{entries, get}
 use Rattle.std.specs.Fs.{file_type, metadata_len, metadata_mode, IsDir, IsFile}
@@ -81,7 +81,7 @@ IsShownAs there shown.Changed = IsWhyStrange there None
 -- export
 abbrev pub is_listed : Bytes → Bool
 is_listed name = not (length name == 0) && (not (bytes_eq name (codes "."))
-    && (not (bytes_eq name (codes "..")) && not (bytes_eq name PART.now)))
+    && (not (bytes_eq name (codes "..")) && not (starts_with ◌==◌ name PART.now)))
 
 -- the pieces of what is listed, each of which ends with a zero byte
 abbrev pub pieces : Bytes → List Bytes

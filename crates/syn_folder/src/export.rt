@@ -1,28 +1,31 @@
 //! Writes a tree into a folder.
-ghost use Rattle.std.specs.Prelude.{◌≡◌, ◌⊎◌, [], false, map, OnOk, IfErr, IfOk, None, Some};
+ghost use Rattle.std.specs.Prelude.{◌≡◌, ◌⊎◌, [], false, OnOk, IfErr, IfOk, None, Some};
 ghost use Rattle.std.specs.FinMap.{get};
-ghost use Rattle.syn_change.specs.Changes.{IsOverlaid, after_edits};
+ghost use Rattle.syn_change.specs.Changes.{IsOverlaid};
 ghost use Rattle.syn_model.specs.Path.{Path};
 ghost use Rattle.syn_model.specs.Tree.{empty_directory};
-ghost use Rattle.syn_tree.specs.Edits.{edit_of};
 ghost use Rattle.syn_folder.specs.Refusals.{IsOfSystem};
 ghost use Rattle.syn_folder.specs.Strangers.{IsApart};
 
 use crate::error::FolderError;
-use crate::folder::Folder;
+use crate::folder::WrittenFolder;
 use crate::stranger::Stranger;
 use std::alloc::Global;
 use syn_change::{changes, puts};
-use syn_tree::{Edit, Tree};
+use syn_tree::Tree;
 
 /// Writes the tree into a folder that is missing or empty.
 ///
 /// Refused 4 where something stands in it, and 11 where memory is refused. Refused 9, or 11 for
 /// lack of memory, where a call of the system fails: a part may be written then.
-pub fn fill<F: Folder>(alloc: Global, wanted: &Tree, folder: &mut F) -> Result<(), FolderError>
-    ensures empty { OnOk result (F.tree folder.old ≡ empty_directory) }
-    ensures known { OnOk result (F.strangers folder.old ≡ []) }
-    ensures done { OnOk result (F.tree folder.new ≡ wanted.now) }
+pub fn fill<F: WrittenFolder>(
+    alloc: Global,
+    wanted: &Tree,
+    folder: &mut F,
+) -> Result<(), FolderError>
+    ensures empty { OnOk result (F.Folder.tree folder.old ≡ empty_directory) }
+    ensures known { OnOk result (F.Folder.strangers folder.old ≡ []) }
+    ensures done { OnOk result (F.Folder.tree folder.new ≡ wanted.now) }
     ensures refused { IfErr result (λ e. IsOfSystem e ⊎ (folder.new ≡ folder.old)) }
 {
     if !folder.strangers().is_empty() || folder.tree().entries().len() > 0 {
@@ -36,16 +39,20 @@ pub fn fill<F: Folder>(alloc: Global, wanted: &Tree, folder: &mut F) -> Result<(
 /// Refused 7 where something stands in the folder that can stand in no replica, and 11 where memory
 /// is refused. Refused 9, or 11 for lack of memory, where a call of the system fails: a part may be
 /// written then.
-pub fn mirror<F: Folder>(alloc: Global, wanted: &Tree, folder: &mut F) -> Result<(), FolderError>
-    ensures known { OnOk result (F.strangers folder.old ≡ []) }
-    ensures done { OnOk result (F.tree folder.new ≡ wanted.now) }
+pub fn mirror<F: WrittenFolder>(
+    alloc: Global,
+    wanted: &Tree,
+    folder: &mut F,
+) -> Result<(), FolderError>
+    ensures known { OnOk result (F.Folder.strangers folder.old ≡ []) }
+    ensures done { OnOk result (F.Folder.tree folder.new ≡ wanted.now) }
     ensures refused { IfErr result (λ e. IsOfSystem e ⊎ (folder.new ≡ folder.old)) }
 {
     if !folder.strangers().is_empty() {
         return Err(FolderError::Strange(copy_all(alloc, folder.strangers())?));
     }
     let edits = changes(alloc, folder.tree(), wanted)?;
-    make_all(alloc, edits, folder)
+    folder.make_all(alloc, edits)
 }
 
 /// Writes what the folder lacks of the wanted tree, or has otherwise. Nothing is removed.
@@ -54,9 +61,14 @@ pub fn mirror<F: Folder>(alloc: Global, wanted: &Tree, folder: &mut F) -> Result
 /// place of a file, 7 where something that can stand in no replica is in the way or the folder
 /// would have more than a replica may, and 11 where memory is refused. Refused 9, or 11 for lack of
 /// memory, where a call of the system fails: a part may be written then.
-pub fn update<F: Folder>(alloc: Global, wanted: &Tree, folder: &mut F) -> Result<(), FolderError>
-    ensures apart { OnOk result (IsApart (F.strangers folder.old) wanted.now) }
-    ensures done { OnOk result (IsOverlaid (F.tree folder.old) wanted.now (F.tree folder.new)) }
+pub fn update<F: WrittenFolder>(
+    alloc: Global,
+    wanted: &Tree,
+    folder: &mut F,
+) -> Result<(), FolderError>
+    ensures apart { OnOk result (IsApart (F.Folder.strangers folder.old) wanted.now) }
+    ensures done { OnOk result
+        (IsOverlaid (F.Folder.tree folder.old) wanted.now (F.Folder.tree folder.new)) }
     ensures refused { IfErr result (λ e. IsOfSystem e ⊎ (folder.new ≡ folder.old)) }
 {
     let strange = in_the_way(alloc, wanted, folder.strangers())?;
@@ -64,20 +76,7 @@ pub fn update<F: Folder>(alloc: Global, wanted: &Tree, folder: &mut F) -> Result
         return Err(FolderError::Strange(strange));
     }
     let edits = puts(alloc, folder.tree(), wanted)?;
-    make_all(alloc, edits, folder)
-}
-
-/// Makes the edits in the folder.
-fn make_all<F: Folder>(alloc: Global, edits: Vec<Edit>, folder: &mut F) -> Result<(), FolderError>
-    ensures made { OnOk result (F.tree folder.new
-        ≡ after_edits (F.tree folder.old) (map edit_of edits.items)) }
-    ensures system { IfErr result IsOfSystem }
-{
-    folder.found()?;
-    for edit in edits {
-        folder.make(alloc, edit)?;
-    }
-    Ok(())
+    folder.make_all(alloc, edits)
 }
 
 /// Equal ones of their own.

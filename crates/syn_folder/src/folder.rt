@@ -1,6 +1,6 @@
 //! What is asked of a folder.
-ghost use Rattle.std.specs.Prelude.{◌≡◌, List, OnOk, IfErr};
-ghost use Rattle.syn_model.specs.Event.{after_edit};
+ghost use Rattle.std.specs.Prelude.{◌≡◌, List, map, OnOk, IfErr};
+ghost use Rattle.syn_change.specs.Changes.{after_edits};
 ghost use Rattle.syn_model.specs.Tree.{Tree as Pairs};
 ghost use Rattle.syn_tree.specs.Edits.{edit_of};
 ghost use Rattle.syn_folder.specs.Refusals.{IsOfSystem};
@@ -25,19 +25,17 @@ pub trait Folder {
     /// What else stands in it.
     fn strangers(&self) -> &[Stranger]
         ensures { result.now ≡ strangers self.now };
+}
 
-    /// Makes the folder itself, where it is missing.
-    ///
-    /// Refused 9, or 11 for lack of memory, where a call of the system fails.
-    fn found(&mut self) -> Result<(), FolderError>
-        ensures same { tree self.new ≡ tree self.old }
-        ensures system { IfErr result IsOfSystem };
-
-    /// Makes the edit in the folder. A file comes whole, or stays as it is.
+/// A folder that is written.
+pub trait WrittenFolder: Folder {
+    /// Makes the folder itself, where it is missing, and then the edits in it, in their order. A
+    /// file comes whole, or stays as it is.
     ///
     /// Refused 9, or 11 for lack of memory, where a call of the system fails. Then nobody knows
     /// what stands in the folder.
-    fn make(&mut self, alloc: Global, edit: Edit) -> Result<(), FolderError>
-        ensures made { OnOk result (tree self.new ≡ after_edit (tree self.old) (edit_of edit)) }
+    fn make_all(&mut self, alloc: Global, edits: Vec<Edit>) -> Result<(), FolderError>
+        ensures made { OnOk result (Self.Folder.tree self.new
+            ≡ after_edits (Self.Folder.tree self.old) (map edit_of edits.items)) }
         ensures system { IfErr result IsOfSystem };
 }

@@ -2,13 +2,14 @@
 //!
 //! # What it promises
 //!
-//! A `Folder` shows the tree of the files and directories that stand in it. `make` makes an edit of
-//! that tree. `fill` and `mirror` leave the wanted tree in the folder (`done`), and `update` adds
-//! it. Each of the three is refused before anything is written, with the folder as it was, or since
-//! a call of the system failed, and then a part may be written (`refused`). Such a failure is
-//! refused 9, or 11 where it is for lack of memory (`FolderError::refusal`). `SystemFolder` is a
-//! folder of the system with its tree in memory. What the standard library's calls do to a folder
-//! no clause says: that the system's folder follows the memory is taken as given.
+//! A `Folder` shows the tree of the files and directories that stand in it. In a `WrittenFolder`
+//! `make_all` makes edits of that tree. `fill` and `mirror` leave the wanted tree in the folder
+//! (`done`), and `update` adds it. Each of the three is refused before anything is written, with
+//! the folder as it was, or since a call of the system failed, and then a part may be written
+//! (`refused`). Such a failure is refused 9, or 11 where it is for lack of memory
+//! (`FolderError::refusal`). `SystemFolder` is a folder of the system with its tree in memory, and
+//! `ExportedFolder` one that is written. What the standard library's calls do to a folder no clause
+//! says: that the system's folder follows the memory is taken as given.
 //!
 //! It is read as it is (`SystemFolder::open`). There are looks, each of which holds what the calls
 //! gave at a path. The tree has at each path what the look there shows, each name that a directory
@@ -31,7 +32,7 @@ mod system;
 pub use edited::EditedFolder;
 pub use error::FolderError;
 pub use export::{fill, mirror, update};
-pub use folder::Folder;
+pub use folder::{Folder, WrittenFolder};
 pub use import::{all_known, skipping};
 pub use stranger::{Strangeness, Stranger};
-pub use system::{Glimpse, SystemFolder, take_glimpse};
+pub use system::{ExportedFolder, Glimpse, SystemFolder, take_glimpse};

@@ -11,8 +11,9 @@ use std::alloc::{AllocError, Global};
 use std::fs::Files;
 use std::io;
 use syn_path::Path;
-use syn_tree::{Edit, Node, Tree};
+use syn_tree::{Node, Tree};
 
+mod exported;
 mod glimpse;
 mod listing;
 mod looking;
@@ -24,6 +25,7 @@ mod streams;
 mod walking;
 mod writing;
 
+pub use exported::ExportedFolder;
 pub use glimpse::{Glimpse, take_glimpse};
 use looks::Looked;
 use picture::FolderRead;
@@ -146,17 +148,6 @@ impl<F: Files> Folder for SystemFolder<'_, F> {
 
     fn strangers(&self) -> &[Stranger] {
         self.strangers.as_slice()
-    }
-
-    fn found(&mut self) -> Result<(), FolderError> {
-        self.make_missing()?;
-        Ok(())
-    }
-
-    fn make(&mut self, alloc: Global, edit: Edit) -> Result<(), FolderError> {
-        writing::make(alloc, self.files, self.root, &self.tree, &edit)?;
-        let made = self.tree.apply(alloc, edit);
-        made.map_err(|_| FolderError::System(io::ErrorKind::OutOfMemory.into()))
     }
 }
 

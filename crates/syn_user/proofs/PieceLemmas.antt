@@ -1,13 +1,13 @@
 -- What pieces are the first of a spelling.
 use Rattle.std.proofs.Common.{◌≡◌, ◌+◌, ◌*◌, ◌-◌, ◌≤◌, ◌≢◌, ◌++◌, ◌∷◌, ℕ, [], length, true, Option}
-use Rattle.std.proofs.Common.{None, Some, refl, sym, ap, ap₂, ◌∙◌, add-zero, zero-add, add_assoc, inl, inr}
-use Rattle.std.proofs.Common.{length-append, arith, subst}
+use Rattle.std.proofs.Common.{None, Some, refl, sym, ap, ap₂, ◌∙◌, add-zero, zero-add, add_assoc}
+use Rattle.std.proofs.Common.{inl, inr, length-append, arith, subst}
 use Rattle.std.proofs.Math.Seq.{take-add}
 use Rattle.std.proofs.lemmas.Bool.{and_parts, cases_lt, leb-true}
 use Rattle.std.proofs.lemmas.List.{length-take, length-drop, take_all}
 use Rattle.std.specs.FinMap.{len}
 use Rattle.std.specs.Option.{is_some, unwrap_or}
-use Rattle.std.specs.Prelude.{◌&&◌, IfSome, drop, min, nat_le, take}
+use Rattle.std.specs.Prelude.{IfSome, drop, min, nat_le, take}
 use Rattle.syn_link.specs.Frames.{Bytes}
 use Rattle.syn_model.specs.Limits.{fits_part, fits_paths, greatest_piece, greatest_spelling}
 use Rattle.syn_model.specs.Limits.{tree_spelling_length}

@@ -1,6 +1,7 @@
 -- What was asked of a side, and what came.
 use Rattle.std.proofs.Common.{◌≡◌, ◌+◌, ◌++◌, ◌∷◌, ℕ, [], length, Option, refl, sym, ap, ap₂, ◌∙◌}
-use Rattle.std.proofs.Common.{◌⊎◌, inl, inr, subst, append-nil, zero-add, add-zero, add_assoc, length-append}
+use Rattle.std.proofs.Common.{◌⊎◌, inl, inr, subst, append-nil, zero-add, add-zero, add_assoc}
+use Rattle.std.proofs.Common.{length-append}
 use Rattle.std.proofs.lemmas.Grind.{flat_map-append}
 use Rattle.std.proofs.lemmas.Result.{IfOk-weaker}
 use Rattle.std.specs.Io.KnownBytes.{Appends}

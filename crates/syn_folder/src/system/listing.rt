@@ -11,8 +11,9 @@ use crate::stranger::{Strangeness, Stranger};
 use std::alloc::{AllocError, Global};
 use syn_path::{Key, Name, Path, PathError};
 
-/// The name of a file that is being written, which lies beside the one that it will be. It is too
-/// long for a name of a replica, so it is none of anybody's.
+/// The name of a file that is being written, which lies beside the one that it will be. Where many
+/// are written at a time, each has a number after it. It is too long for a name of a replica, so it
+/// is none of anybody's.
 pub(super) const PART: &str =
     ".a-part-of-a-file-that-syn-export-was-writing-when-it-was-cut-off-remove-it";
 
@@ -34,7 +35,7 @@ pub(super) fn is_listed(name: &[u8]) -> bool
     !name.is_empty()
         && name != b".".as_slice()
         && name != b"..".as_slice()
-        && name != PART.as_bytes()
+        && !name.starts_with(PART.as_bytes())
 }
 
 /// How many names are listed.

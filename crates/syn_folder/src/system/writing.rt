@@ -8,22 +8,40 @@ use std::alloc::Global;
 use std::fs::{Files, OpenFile, OpenOptions, Permissions};
 use std::io::{self, Write};
 use std::os::unix::fs::PermissionsExt;
+use std::thread::{Threads, map_chunks};
 use syn_path::{Name, Path};
 use syn_tree::checking::mode_after_put;
 use syn_tree::{Edit, Found, Mode, Tree};
 
-/// Makes the edit in the folder, which holds the tree.
+/// So many files are open at a time to be synced.
+const MOST_OPEN: usize = 128;
+
+/// So many threads sync them.
+const MOST_THREADS: usize = 32;
+
+/// A file that lies beside its place, which it gets once it is synced.
+#[derive(Drop)]
+pub(super) struct Part {
+    path: Path,
+    mode: Mode,
+    /// Where it lies.
+    beside: String,
+}
+
+/// Makes the edit in the folder, which holds the tree once each of the parts has its place. What is
+/// put is a part more.
 pub(super) fn make<F: Files>(
     alloc: Global,
     files: &F,
     root: &str,
     tree: &Tree,
     edit: &Edit,
+    parts: &mut Vec<Part>,
 ) -> io::Result<()> {
     match edit {
         Edit::Put(path, bytes) => {
-            check_above(alloc, files, root, path)?;
-            put(alloc, files, root, path, mode_after_put(tree, path), bytes)
+            let mode = mode_after_put(tree, path);
+            put(alloc, files, root, path, mode, bytes, parts)
         }
         Edit::MakeDir(path) => {
             check_above(alloc, files, root, path)?;
@@ -44,9 +62,111 @@ pub(super) fn make<F: Files>(
             let Some(Found::File(_, bytes)) = tree.get(path) else {
                 return Err(io::Error::from(io::ErrorKind::NotFound));
             };
-            check_above(alloc, files, root, path)?;
-            put(alloc, files, root, path, *mode, bytes)
+            put(alloc, files, root, path, *mode, bytes, parts)
         }
+    }
+}
+
+/// Writes the bytes into a file beside the path, which is a part more.
+fn put<F: Files>(
+    alloc: Global,
+    files: &F,
+    root: &str,
+    path: &Path,
+    mode: Mode,
+    bytes: &[u8],
+    parts: &mut Vec<Part>,
+) -> io::Result<()> {
+    check_above(alloc, files, root, path)?;
+    let part = Part {
+        path: path.copy(alloc)?,
+        mode,
+        beside: place_beside(alloc, root, path)?,
+    };
+    // A part of an export that was cut off goes. It is no file of anybody's: see its name.
+    let _ = files.remove_file(part.beside.as_str());
+    let written = new_file(files, part.beside.as_str(), bytes);
+    if written.is_err() {
+        let _ = files.remove_file(part.beside.as_str());
+    }
+    drop(written?);
+    Ok(parts.push(part)?)
+}
+
+/// Where the part that is for the path lies: beside it, with its name behind that of a part.
+fn place_beside(alloc: Global, root: &str, path: &Path) -> io::Result<String> {
+    let mut beside = place_of(alloc, root, above(path))?;
+    beside.push('/')?;
+    beside.push_str(PART)?;
+    if let Some(name) = path.names().last() {
+        beside.push('-')?;
+        beside.push_str(name.as_str())?;
+    }
+    Ok(beside)
+}
+
+/// Syncs the parts, many at a time side by side, and gives each its place then. So a file is there
+/// whole, with its mode whatever the process masks, or is what it was, and no symbolic link is
+/// followed.
+pub(super) fn settle<H: Threads + Sync, F: Files>(
+    rt: &H,
+    alloc: Global,
+    files: &F,
+    root: &str,
+    parts: &[Part],
+) -> io::Result<()>
+where
+    F::File: Sync,
+{
+    for some in parts.chunks(MOST_OPEN) {
+        sync(rt, alloc, &opened(alloc, files, some)?)?;
+        for part in some {
+            check_above(alloc, files, root, &part.path)?;
+            let place = place_of(alloc, root, part.path.names())?;
+            files.rename(part.beside.as_str(), place.as_str())?;
+        }
+    }
+    Ok(())
+}
+
+/// The files of the parts, each with its mode. They are open, since that may let nobody open them.
+fn opened<F: Files>(alloc: Global, files: &F, parts: &[Part]) -> io::Result<Vec<F::File>> {
+    let mut open = Vec::new(alloc);
+    for part in parts {
+        let mut options = OpenOptions::new();
+        let file = options.read(true).open(files, part.beside.as_str())?;
+        file.set_permissions(Permissions::from_mode(part.mode.bits() as u32))?;
+        open.push(file)?;
+    }
+    Ok(open)
+}
+
+/// Syncs the files, by threads side by side.
+fn sync<H: Threads + Sync, O: OpenFile + Sync>(
+    rt: &H,
+    alloc: Global,
+    files: &[O],
+) -> io::Result<()> {
+    let size = files.len().div_ceil(MOST_THREADS).max(1);
+    let synced = map_chunks(rt, alloc, files, size, &|_, files| sync_each(files))?;
+    for one in synced {
+        one?;
+    }
+    Ok(())
+}
+
+/// Syncs each of the files.
+fn sync_each<O: OpenFile>(files: &[O]) -> io::Result<()> {
+    for file in files {
+        file.sync_data()?;
+    }
+    Ok(())
+}
+
+/// Removes the parts, each of which lies beside its place.
+pub(super) fn give_up<F: Files>(files: &F, parts: &[Part]) {
+    for part in parts {
+        let _ = files.remove_file(part.beside.as_str());
     }
 }
 
@@ -68,32 +188,6 @@ pub(super) fn check_above<F: Files>(
     Ok(())
 }
 
-/// Writes the bytes into a file beside the path, with the mode, and gives it the path's name: so
-/// the file is there whole, or is what it was, and no symbolic link is followed.
-fn put<F: Files>(
-    alloc: Global,
-    files: &F,
-    root: &str,
-    path: &Path,
-    mode: Mode,
-    bytes: &[u8],
-) -> io::Result<()> {
-    let whole = place_of(alloc, root, path.names())?;
-    let mut part = place_of(alloc, root, above(path))?;
-    part.push('/')?;
-    part.push_str(PART)?;
-    // A part of an export that was cut off goes. It is no file of anybody's: see its name.
-    let _ = files.remove_file(part.as_str());
-    let moved = match write_new(files, part.as_str(), mode, bytes) {
-        Ok(()) => files.rename(part.as_str(), whole.as_str()),
-        refused => refused,
-    };
-    if moved.is_err() {
-        let _ = files.remove_file(part.as_str());
-    }
-    moved
-}
-
 /// The names of the directory that the path is in.
 pub(super) fn above(path: &Path) -> &[Name]
     ensures { result.now ≡ parent path.now }
@@ -104,21 +198,27 @@ pub(super) fn above(path: &Path) -> &[Name]
     }
 }
 
-/// Writes the bytes into a file that is new, so that no symbolic link is followed. It has the mode
-/// whatever the process masks.
+/// Writes the bytes into a file that is new, with the mode whatever the process masks, and syncs
+/// it.
 pub(super) fn write_new<F: Files>(
     files: &F,
     place: &str,
     mode: Mode,
     bytes: &[u8],
 ) -> io::Result<()> {
+    let file = new_file(files, place, bytes)?;
+    file.set_permissions(Permissions::from_mode(mode.bits() as u32))?;
+    file.sync_data()
+}
+
+/// A new file with the bytes, so that no symbolic link is followed.
+fn new_file<F: Files>(files: &F, place: &str, bytes: &[u8]) -> io::Result<F::File> {
     let mut file = OpenOptions::new()
         .write(true)
         .create_new(true)
         .open(files, place)?;
     file.write_all(bytes)?;
-    file.set_permissions(Permissions::from_mode(mode.bits() as u32))?;
-    file.sync_data()
+    Ok(file)
 }
 
 /// Removes a file, or a directory that is empty. What nobody has read stays, and is refused.

@@ -1,13 +1,16 @@
-use Rattle.std.proofs.Common.{map, subst, sym}
+use Rattle.std.proofs.Common.{ℕ, IfErr, List, inl, inr, map, subst, sym}
+use Rattle.std.proofs.lemmas.Result.{IfErr-weaker}
 use Rattle.syn_command.proofs.ImportLemmas.{left_of}
 use Rattle.syn_command.proofs.MomentLemmas.{Leaves, at_once, none_made}
 use Rattle.syn_command.proofs.import.edit_with_room.Goals as goal
-use Rattle.syn_command.specs.Imports.{NoneOrAll, disk_left}
+use Rattle.syn_command.specs.Imports.{IsUnmade, NoneOrAll, disk_left}
 use Rattle.syn_journal.proofs.Moments.{in_turn, weakened}
 use Rattle.syn_model.proofs.ExitLemmas.{exit_is}
 use Rattle.syn_replica.specs.Batches.{KeepsNoneOrAll}
 use Rattle.syn_replica.specs.Edits.{event_by}
+use Rattle.syn_replica.specs.Disks.{DiskStands}
 use Rattle.syn_replica.specs.Replica.{disk_of, pair_of}
+use Rattle.syn_standing.specs.Refusals.{refusal_of}
 
 pub returns-in_err-with_room-clause-any_moment : goal.returns-in_err-with_room-clause-any_moment
 returns-in_err-with_room-clause-any_moment g c history stands =
@@ -40,3 +43,21 @@ returns-clause-any_moment g c history stands =
     c.in_ok-with_room.ensures.pair (at_once roomy history events bytes keeps))
     (left_of c.edit_all.result (λ disk. Leaves g.D.Disk (disk_of roomy) disk Q)
     (c.edit_all.ensures.any_moment history (c.in_ok-with_room.ensures.made history stands))))
+
+pub returns-in_err-with_room-clause-unmade : goal.returns-in_err-with_room-clause-unmade
+returns-in_err-with_room-clause-unmade g c history stands =
+    let old = c.args.replica in
+    let refused = c.in_err-with_room.field-0.0 in
+    subst (λ result. IfErr result (λ r. IsUnmade old history (refusal_of r.0) r.1))
+    (sym (exit_is c.from_residual.result refused c.from_residual.ensures.1))
+    (inr (c.in_err-with_room.ensures.any_moment history stands))
+
+pub returns-clause-unmade : goal.returns-clause-unmade
+returns-clause-unmade g c history stands =
+    let old = c.args.replica in
+    let P : List ℕ → Type 0 = λ bytes. DiskStands (pair_of old) bytes history in
+    IfErr-weaker c.edit_all.result _ _ (λ refused is. elim is [
+      | inl device ↦ inl device
+      | inr same ↦ inr (subst (λ disk. Leaves g.D.Disk (disk_of old) disk P) (sym same)
+          (c.in_ok-with_room.ensures.any_moment history stands))
+    ]) c.edit_all.ensures.unchanged

@@ -1,7 +1,8 @@
-use Rattle.std.proofs.Common.{◌≡◌, ◌∙◌, IfOk, ap, subst, sym}
+use Rattle.std.proofs.Common.{◌≡◌, ◌∙◌, IfOk, ap, inr, subst, sym}
 use Rattle.std.proofs.lemmas.Result.{IfOk-weaker}
 use Rattle.syn_folder.specs.Strangers.{directory_at, skipped}
 use Rattle.syn_model.specs.Tree.{Tree, subtree}
+use Rattle.syn_replica.specs.Disks.{DiskStands}
 use Rattle.syn_replica.specs.Replica.{Stands, disk_of, pair_of, tree_shown}
 use Rattle.syn_command.specs.Imports.{IsImported, LeavesImport, disk_left}
 use Rattle.syn_command.proofs.ImportLemmas.{leaves_before}
@@ -46,4 +47,11 @@ returns-in-Err-clause-any_moment g c history stands =
     subst (λ left. Leaves g.D.Disk (disk_of old) left
     (LeavesImport (pair_of old) history c.args.user path part)) (sym c.into_disk.ensures)
     (leaves_before old (disk_of old) c.args.user path part history stands
+    (still g.met.D.Disk.only_now old history stands))
+
+pub returns-in-Err-clause-unmade : goal.returns-in-Err-clause-unmade
+returns-in-Err-clause-unmade g c history stands =
+    let old = c.args.replica in
+    inr (subst (λ left. Leaves g.D.Disk (disk_of old) left
+    (λ bytes. DiskStands (pair_of old) bytes history)) (sym c.into_disk.ensures)
     (still g.met.D.Disk.only_now old history stands))

@@ -1,8 +1,9 @@
-use Rattle.std.proofs.Common.{◌++◌, ap, map, subst, append-nil, ◌∙◌, sym}
+use Rattle.std.proofs.Common.{◌++◌, ap, inr, map, subst, append-nil, ◌∙◌, sym}
 use Rattle.std.proofs.lemmas.Result.{IfOk-weaker}
 use Rattle.syn_model.specs.Event.{Event}
 use Rattle.syn_model.specs.Tree.{Tree, subtree}
 use Rattle.syn_replica.specs.Edits.{event_by}
+use Rattle.syn_replica.specs.Disks.{DiskStands}
 use Rattle.syn_replica.specs.Replica.{Stands, disk_of, pair_of, tree_shown}
 use Rattle.syn_command.specs.Imports.{IsPlanRefusal, LeavesImport, disk_left}
 use Rattle.syn_command.proofs.ImportLemmas.{has_part, is_imported, leaves_before, leaves_import}
@@ -62,4 +63,11 @@ returns-in-Err-clause-any_moment g c history stands =
     subst (λ left. Leaves g.D.Disk (disk_of old) left
     (LeavesImport (pair_of old) history c.args.user path part)) (sym c.into_disk.ensures)
     (leaves_before old (disk_of old) c.args.user path part history stands
+    (still g.met.D.Disk.only_now old history stands))
+
+pub returns-in-Err-clause-unmade : goal.returns-in-Err-clause-unmade
+returns-in-Err-clause-unmade g c history stands =
+    let old = c.args.replica in
+    inr (subst (λ left. Leaves g.D.Disk (disk_of old) left
+    (λ bytes. DiskStands (pair_of old) bytes history)) (sym c.into_disk.ensures)
     (still g.met.D.Disk.only_now old history stands))

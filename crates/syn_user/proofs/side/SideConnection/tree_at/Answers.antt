@@ -32,7 +32,8 @@ returns-in_err-total-clause-refused g c =
     let error = c.in_err-total.field-0.0 in
     if_err_of_exit c.from_residual.result error
     (NoPieces c.args.position (line c.args.self.now) (line c.piece.new.self))
-    c.from_residual.ensures.1 (no_piece_so _ _ _ _ _ _ c.offset.ensures error c.loop-count.invariant.0
+    c.from_residual.ensures.1 (no_piece_so _ _ _ _ _ _ c.offset.ensures error
+    c.loop-count.invariant.0
     c.in_err-total.ensures.refused)
 
 pub returns-then-is_whole-clause-tree : goal.returns-then-is_whole-clause-tree

@@ -5,7 +5,7 @@ use Rattle.std.proofs.lemmas.List.Sums.{fold_push}
 use Rattle.syn_model.specs.Event.{after_edit}
 use Rattle.syn_change.specs.Changes.{after_edits}
 use Rattle.syn_tree.specs.Edits.{edit_of}
-use Rattle.syn_folder.proofs.export.make_all.Goals as goal
+use Rattle.syn_folder.proofs.system.exported.ExportedFolderWrittenFolder.make_all.Goals as goal
 
 pub loop-edit-init : goal.loop-edit-init
 loop-edit-init g c = record {
@@ -17,7 +17,7 @@ pub loop-edit-preserved : goal.loop-edit-preserved
 loop-edit-preserved g c =
     let made = c.loop-edit.yielded in
     let x = c.in-Some.edit in
-    let first = g.F.Folder.tree c.found.new.self in
+    let first = c.make_missing.new.self.tree in
     record {
       whole =
           c.loop-edit.invariant.whole ∙ (ap (λ xs. made ++ xs) c.in-Some.ensures.steps.0
@@ -37,5 +37,5 @@ returns-clause-made g c =
     let all = c.loop-edit.invariant.whole
     ∙ (ap (λ xs. c.loop-edit.yielded ++ xs) none ∙ append-nil c.loop-edit.yielded) in
     c.loop-edit.invariant.made
-    ∙ (ap (λ t. after_edits t (map edit_of c.loop-edit.yielded)) c.in_ok-found.ensures.same
-    ∙ ap (λ xs. after_edits (g.F.Folder.tree c.args.folder.now) (map edit_of xs)) (sym all))
+    ∙ (ap (λ t. after_edits t (map edit_of c.loop-edit.yielded)) c.in_ok-make_missing.ensures.tree
+    ∙ ap (λ xs. after_edits c.args.self.now.folder.tree (map edit_of xs)) (sym all))
