@@ -43,12 +43,8 @@ pub struct FolderSide<'a, F, A: Disk> {
 
 /// What works in a thread of its own beside a server.
 pub(crate) trait Companion {
-    // Its thread may be started.
-    ghost is_ready: { Self → Type 0 };
-
     /// Works until the server has ended.
-    fn keep(self)
-        requires { is_ready self };
+    fn keep(self);
 }
 
 /// What the folder's thread works with.
@@ -57,7 +53,6 @@ pub(crate) struct FolderKeeper<'a, H, D: Disk, F, A: Disk> {
     pub(crate) rt: &'a H,
     pub(crate) alloc: Global,
     pub(crate) shared: &'a SharedReplica<D>,
-    pub(crate) pass: Pass<Replica<D>>,
     pub(crate) side: FolderSide<'a, F, A>,
     pub(crate) ending: &'a Ending,
 }
@@ -69,18 +64,18 @@ where
     F: Files,
     A: Disk + Drop,
 {
-    ghost is_ready = { λ keeper. IsFor keeper.shared.now keeper.pass };
-
     fn keep(self) {
         let FolderKeeper {
             rt,
             alloc,
             shared,
-            pass,
             side,
             ending,
         } = self;
-        keep_folder(rt, alloc, shared, pass, side, ending);
+        match shared.own().pass() {
+            Ok(pass) => keep_folder(rt, alloc, shared, pass, side, ending),
+            Err(_) => warn!(rt; "folder refused 24 NoSeat"),
+        }
     }
 }
 

@@ -110,6 +110,8 @@ where
     D: Disk + Send,
     G: Gates,
     F: Files + Sync,
+    F::File: Send,
+    F::Dir: Send,
     A: Disk + Drop + Send,
     ensures { IfErr result (λ why. (cause_of why ≡ NoSeat) ⊎ (cause_of why ≡ Memory)) }
 {
@@ -118,15 +120,11 @@ where
         workers: WORKERS - 1,
         least_room: LEAST_ROOM,
     };
-    let Ok(pass) = shared.own().pass() else {
-        return Err(Refusal::NoSeat);
-    };
     let ending = Ending::new();
     let keeper = FolderKeeper {
         rt,
         alloc,
         shared,
-        pass,
         side,
         ending: &ending,
     };
@@ -151,14 +149,12 @@ where
     D: Disk + Send,
     G: Gates,
     C: Companion + Send + Drop,
-    requires { C.is_ready companion }
     ensures { IfErr result (λ why. (cause_of why ≡ NoSeat) ⊎ (cause_of why ≡ Memory)) }
 {
     thread::scope(
         thread::scope_env(),
         rt,
         move |scope|
-            requires { C.is_ready companion }
             ensures { IfErr result (λ why. (cause_of why ≡ NoSeat) ⊎ (cause_of why ≡ Memory)) }
         {
             if !start_companion(scope, companion) {
@@ -175,16 +171,8 @@ where
 fn start_companion<'s, E, C: Companion + Send + Drop + 's>(
     scope: &Scope<'s, E>,
     companion: C,
-) -> bool
-    requires { C.is_ready companion }
-{
-    scope
-        .spawn(
-            move ||
-                requires { C.is_ready companion }
-            { companion.keep() },
-        )
-        .is_ok()
+) -> bool {
+    scope.spawn(move || companion.keep()).is_ok()
 }
 
 /// The same within other bounds, refused as `serve` is.
