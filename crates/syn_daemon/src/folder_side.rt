@@ -41,6 +41,44 @@ pub struct FolderSide<'a, F, A: Disk> {
     pub seconds: u64,
 }
 
+/// What works in a thread of its own beside a server.
+pub(crate) trait Companion {
+    /// Works until the server has ended.
+    fn keep(self);
+}
+
+/// What the folder's thread works with.
+#[derive(Drop)]
+pub(crate) struct FolderKeeper<'a, H, D: Disk, F, A: Disk> {
+    pub(crate) rt: &'a H,
+    pub(crate) alloc: Global,
+    pub(crate) shared: &'a SharedReplica<D>,
+    pub(crate) side: FolderSide<'a, F, A>,
+    pub(crate) ending: &'a Ending,
+}
+
+impl<H, D, F, A> Companion for FolderKeeper<'_, H, D, F, A>
+where
+    H: Wait + Clock + Log,
+    D: Disk,
+    F: Files,
+    A: Disk + Drop,
+{
+    fn keep(self) {
+        let FolderKeeper {
+            rt,
+            alloc,
+            shared,
+            side,
+            ending,
+        } = self;
+        match shared.own().pass() {
+            Ok(pass) => keep_folder(rt, alloc, shared, pass, side, ending),
+            Err(_) => warn!(rt; "folder refused 24 NoSeat"),
+        }
+    }
+}
+
 /// What is known since the last look.
 #[derive(Drop)]
 struct Known {
@@ -62,7 +100,7 @@ enum LookError {
 
 /// Makes folder and replica the same at once, whenever one of them has changed, and once more when
 /// the server has ended.
-pub(crate) fn keep_folder<H, D, F, A>(
+fn keep_folder<H, D, F, A>(
     rt: &H,
     alloc: Global,
     shared: &SharedReplica<D>,

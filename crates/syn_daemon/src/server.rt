@@ -5,7 +5,7 @@ ghost use Rattle.syn_refusal.specs.Refusals.{cause_of};
 
 use crate::bell::Bell;
 use crate::ending::Ending;
-use crate::folder_side::{FolderSide, keep_folder};
+use crate::folder_side::{Companion, FolderKeeper, FolderSide};
 use crate::gates::Gates;
 use crate::shares::Shares;
 use log::{Log, info, warn};
@@ -110,6 +110,8 @@ where
     D: Disk + Send,
     G: Gates,
     F: Files + Sync,
+    F::File: Send,
+    F::Dir: Send,
     A: Disk + Drop + Send,
     ensures { IfErr result (λ why. (cause_of why ≡ NoSeat) ⊎ (cause_of why ≡ Memory)) }
 {
@@ -118,20 +120,59 @@ where
         workers: WORKERS - 1,
         least_room: LEAST_ROOM,
     };
-    let Ok(pass) = shared.own().pass() else {
-        return Err(Refusal::NoSeat);
-    };
     let ending = Ending::new();
-    let ends = &ending;
-    thread::scope(thread::scope_env(), rt, move |scope| {
-        let thread = scope.spawn(move || keep_folder(rt, alloc, shared, pass, side, ends));
-        if thread.is_err() {
-            return Err(Refusal::Memory);
-        }
-        let served = serve_within(rt, alloc, shared, listener, bounds, gates);
-        ends.tell(rt);
-        served
-    })
+    let keeper = FolderKeeper {
+        rt,
+        alloc,
+        shared,
+        side,
+        ending: &ending,
+    };
+    serve_with(rt, alloc, shared, listener, bounds, gates, keeper, &ending)
+}
+
+/// Serves within these bounds beside the companion, which hears of the end.
+///
+/// Refused as `serve` is, and 11 where the companion's thread cannot be made, too.
+fn serve_with<H, D, G, C>(
+    rt: &H,
+    alloc: Global,
+    shared: &SharedReplica<D>,
+    listener: &TcpListener,
+    bounds: Bounds,
+    gates: &G,
+    companion: C,
+    ending: &Ending,
+) -> Result<(), Refusal>
+where
+    H: Threads + Wait + Clock + Log + Sync,
+    D: Disk + Send,
+    G: Gates,
+    C: Companion + Send + Drop,
+    ensures { IfErr result (λ why. (cause_of why ≡ NoSeat) ⊎ (cause_of why ≡ Memory)) }
+{
+    thread::scope(
+        thread::scope_env(),
+        rt,
+        move |scope|
+            ensures { IfErr result (λ why. (cause_of why ≡ NoSeat) ⊎ (cause_of why ≡ Memory)) }
+        {
+            if !start_companion(scope, companion) {
+                return Err(Refusal::Memory);
+            }
+            let served = serve_within(rt, alloc, shared, listener, bounds, gates);
+            ending.tell(rt);
+            served
+        },
+    )
+}
+
+/// Starts the companion. False where no thread can be made for it.
+fn start_companion<'s, E, C: Companion + Send + Drop + 's>(
+    scope: &Scope<'s, E>,
+    companion: C,
+) -> bool {
+    scope.spawn(move || companion.keep()).is_ok()
 }
 
 /// The same within other bounds, refused as `serve` is.

@@ -28,23 +28,25 @@ use syn_words::{EditLine, ServeLine};
 ///
 /// Refused as an opening of the disk is, and of the archive that a folder has; 9 where the address
 /// cannot be bound, and 11 where memory is refused.
-pub fn serve_named<H, N, F>(
+pub fn serve_named<'a, H, N, F>(
     rt: &H,
     alloc: Global,
     disks: &N,
-    files: &F,
-    line: &ServeLine<'_>,
+    files: &'a F,
+    line: &ServeLine<'a>,
 ) -> Result<(), CommandError>
 where
     H: Net<Listener = TcpListener, Stream = TcpStream> + Threads + Wait + Clock + Eprint,
     H: Copy + Sync,
     N: NamedDisks,
     F: Files + Sync,
+    F::File: Send,
+    F::Dir: Send,
 {
     let replica = replica_in(alloc, disks, line.file)?;
     let Some(kept) = line.folder else {
         let shared = shared(alloc, replica)?;
-        return serve_shared(rt, alloc, &shared, line, None::<FolderSide<'_, F, N::Disk>>);
+        return serve_alone(rt, alloc, &shared, line);
     };
     let name = archive_name(alloc, line.file, None)?;
     let archive = archive_or_new(alloc, disks, &name, replica.pair())?;
@@ -56,31 +58,49 @@ where
         seconds: kept.seconds.unwrap_or(1),
     };
     let shared = shared(alloc, replica)?;
-    serve_shared(rt, alloc, &shared, line, Some(side))
+    serve_with_folder(rt, alloc, &shared, line, side)
 }
 
-/// Serves the replica at the address, and keeps a folder the same where there is one.
-fn serve_shared<H, D, F, A>(
+/// Serves the replica at the address.
+fn serve_alone<H, D>(
     rt: &H,
     alloc: Global,
     shared: &SharedReplica<D>,
     line: &ServeLine<'_>,
-    side: Option<FolderSide<'_, F, A>>,
+) -> Result<(), CommandError>
+where
+    H: Net<Listener = TcpListener, Stream = TcpStream> + Threads + Wait + Clock + Eprint,
+    H: Copy + Sync,
+    D: Disk + Send,
+{
+    let listener = TcpListener::bind(rt, line.address)?;
+    let logged = Logged::new(*rt, LevelFilter::Info, Plain(*rt));
+    let most = line.connections;
+    serve(&logged, alloc, shared, &listener, most, &OpenGates)?;
+    Ok(())
+}
+
+/// Serves the replica at the address, and keeps the folder the same.
+fn serve_with_folder<H, D, F, A>(
+    rt: &H,
+    alloc: Global,
+    shared: &SharedReplica<D>,
+    line: &ServeLine<'_>,
+    side: FolderSide<'_, F, A>,
 ) -> Result<(), CommandError>
 where
     H: Net<Listener = TcpListener, Stream = TcpStream> + Threads + Wait + Clock + Eprint,
     H: Copy + Sync,
     D: Disk + Send,
     F: Files + Sync,
+    F::File: Send,
+    F::Dir: Send,
     A: Disk + Drop + Send,
 {
     let listener = TcpListener::bind(rt, line.address)?;
     let logged = Logged::new(*rt, LevelFilter::Info, Plain(*rt));
     let most = line.connections;
-    match side {
-        Some(side) => serve_beside(&logged, alloc, shared, &listener, most, &OpenGates, side)?,
-        None => serve(&logged, alloc, shared, &listener, most, &OpenGates)?,
-    }
+    serve_beside(&logged, alloc, shared, &listener, most, &OpenGates, side)?;
     Ok(())
 }
 
