@@ -1,5 +1,5 @@
 -- A world keeps the promise of its run, and so does one that is opened after it.
-use Rattle.std.proofs.Common.{◌≡◌, ◌∙◌, ℕ, List, Option, Some, None, option_map, refl, sym, ap}
+use Rattle.std.proofs.Common.{◌≡◌, ◌∙◌, ℕ, List, Some, option_map, sym, ap}
 use Rattle.std.proofs.Common.{map, subst}
 use Rattle.std.specs.Prelude.{IsSomeAnd}
 use Rattle.std.proofs.lemmas.Option.{same_Some}
@@ -8,7 +8,7 @@ use Rattle.syn_disk.specs.declared.disk.Disk.{Ghosts}
 use Rattle.syn_agent.specs.Machines.{StandsAs}
 use Rattle.syn_headline.specs.Acknowledged.{Stores, history_of}
 use Rattle.syn_headline.specs.Coordinator.{CoordinatorMachine}
-use Rattle.syn_headline.specs.Machine.{Status, Up, Down}
+use Rattle.syn_headline.specs.Machine.{Up, Down}
 use Rattle.syn_headline.specs.Runs.{stores_of, picture_of}
 use Rattle.syn_headline.specs.SideMachine.{SideMachine}
 use Rattle.syn_headline.specs.World.{World as ModelWorld, Runs, Step}
@@ -18,8 +18,7 @@ use Rattle.syn_host.specs.declared.coordinator.CoordinatorHost.{CoordinatorHost}
 use Rattle.syn_host.specs.declared.coordinator.CoordinatorHost.TheVariants as machine
 use Rattle.syn_host.specs.declared.side.SideHost.{SideHost}
 use Rattle.syn_host.specs.declared.side.SideHost.TheVariants as host
-use Rattle.syn_model.specs.Archive.{Archive}
-use Rattle.syn_model.specs.History.{History, tree_of}
+use Rattle.syn_model.specs.History.{tree_of}
 use Rattle.syn_path.specs.Sides.{which_of}
 use Rattle.syn_path.specs.declared.side.Side.{Side}
 use Rattle.syn_path.specs.declared.side.Side.TheVariants as side
@@ -30,13 +29,12 @@ use Rattle.syn_recovery.specs.Headline.{IsOpenedFrom}
 use Rattle.syn_replica.specs.Replica.{tree_shown}
 use Rattle.syn_world.specs.Failures.{disks_in}
 use Rattle.syn_world.specs.Headlines.{IsSafeRun, MayHold, Recovers}
-use Rattle.syn_world.specs.Openings.{HoldsDisks, OpensFrom}
+use Rattle.syn_world.specs.Openings.{OpensFrom}
 use Rattle.syn_world.specs.Promises.{Holds, HoldsAsPromised, KeepsPromise, Shows, StandAsPromised}
 use Rattle.syn_world.specs.Worlds.{IsWorld, archive_at, archive_by, pair_by, replica_by}
 use Rattle.syn_world.specs.Worlds.{acknowledged_by, refusals_by, report_in, reports_by}
 use Rattle.syn_world.specs.Worlds as worlds
 use Rattle.syn_refusal.specs.Refusals.{cause_of}
-use Rattle.syn_world.specs.declared.running.Running.{Running}
 use Rattle.syn_world.specs.declared.world.Disks.{Disks}
 use Rattle.syn_world.specs.declared.world.World.{World}
 use Rattle.syn_world.proofs.HeadlineLemmas.{may_be_left, world_left}
