@@ -137,7 +137,8 @@ module _ (count : ℕ) (told : Option ℕ) (bytes : Bytes) (pieces : Pieces) (pi
       let long = ap length more_came ∙ length-take (greatest_piece * (count + 1)) spelled in
       let total = parts.1 in
       let whole : piece.0 ≡ length (bytes ++ piece.1) = ap (λ o. unwrap_or o 0) same_length in
-      more_came ∙ take_all (greatest_piece * (count + 1)) spelled (omega (arith, long, total, whole))
+      more_came
+      ∙ take_all (greatest_piece * (count + 1)) spelled (omega (arith, long, total, whole))
 
 -- before the first piece
 pub none_came : (told : Option ℕ) (bytes : Bytes) → told ≡ None → bytes ≡ []

@@ -117,8 +117,9 @@ foreign_to_piece told.Done no_piece_is no_refusal = tt
 foreign_to_piece (told.Refused why) no_piece_is no_refusal = absurd (no_refusal why refl)
 
 -- one piece more, from where those before it ended
-pub fetched_more : (position offset end : ℕ) (a b c : SideLine) (pieces : Pieces) (piece : ℕ × Bytes)
-    → offset + length (bytes_of pieces) ≡ end → AreFetched position a offset pieces b
+pub fetched_more : (position offset end : ℕ) (a b c : SideLine) (pieces : Pieces)
+    (piece : ℕ × Bytes) → offset + length (bytes_of pieces) ≡ end
+    → AreFetched position a offset pieces b
     → IsReplied b c (root_from position end) (Piece piece.0 piece.1)
     → AreFetched position a offset (pieces ++ piece ∷ []) c
 fetched_more position offset end a b c [] piece ends came is =
