@@ -67,7 +67,8 @@ pub(super) fn make<F: Files>(
     }
 }
 
-/// Writes the bytes into a file beside the path, which is a part more.
+/// Writes the bytes into a file beside the path, which is a part more, or takes the place of the
+/// one that lies there for the path.
 fn put<F: Files>(
     alloc: Global,
     files: &F,
@@ -90,6 +91,9 @@ fn put<F: Files>(
         let _ = files.remove_file(part.beside.as_str());
     }
     drop(written?);
+    if let Some(earlier) = parts.iter().position(|other| other.path == part.path) {
+        parts.swap_remove(earlier);
+    }
     Ok(parts.push(part)?)
 }
 
