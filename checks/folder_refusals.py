@@ -149,14 +149,16 @@ def on_full_disk(tree):
     told = syn("-v", "export", "image", "disk/out", wanted=1)
     expect("refused 9 Device" in told and "No space left" in told, told)
     left = read("disk/out")
-    expect(0 < len(left) < 30 and left.items() <= tree.items(), "whole files")
+    expect(len(left) < 30 and left.items() <= tree.items(), "whole files")
+    expect(sorted(os.listdir("disk/out")) == sorted(left), "what was beside its place is left")
     subprocess.run(["mount", "-o", "remount,size=4m", "disk"], check=True)
     syn("export", "--update", "image", "disk/out")
     expect(read("disk/out") == tree, "an export that had room in the end")
 
 
 def full_disk(source):
-    """A full disk refuses an import 9 whole, and leaves whole files of an export, ended later."""
+    """A full disk refuses an import 9 whole, and leaves whole files of an export, if any, and nothing
+    beside them. An export that has room ends it later."""
     tree = {f"f{number:02}": plain(source.randbytes(16000)) for number in range(30)}
     write("folder", tree)
     os.mkdir("disk")
