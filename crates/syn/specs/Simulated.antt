@@ -2,7 +2,7 @@
 use Rattle.std.specs.Io.KnownBytes.{Appends}
 use Rattle.std.specs.Prelude.{ℕ, List, Option}
 use Rattle.syn_disk.specs.declared.disk.Disk.{Ghosts}
-use Rattle.syn_script.specs.Words.{Text}
+use Rattle.syn_simulate.specs.Words.{Text}
 use Rattle.syn_simulate.specs.Shown.{world_shown}
 use Rattle.syn_simulate.specs.Simulations.{RunsScript}
 use Rattle.syn_world.specs.declared.world.World.{World}

@@ -1,7 +1,7 @@
 //! Carries out a command.
 ghost use Rattle.std.specs.Prelude.{◌≡◌, ◌⊎◌, map, IfOk};
-ghost use Rattle.syn_words.specs.Reads.{Asks, AsksHelp, IsMistake, IsRequest};
-ghost use Rattle.syn_words.specs.declared.line.Line.{Line};
+ghost use Rattle.syn_cli.specs.Reads.{Asks, AsksHelp, IsMistake, IsRequest};
+ghost use Rattle.syn_cli.specs.declared.line.Line.{Line};
 
 use crate::files::DisksInFiles;
 use crate::format::format;
@@ -14,13 +14,13 @@ use std::net::{Net, TcpListener, TcpStream};
 use std::sync::Wait;
 use std::thread::Threads;
 use std::time::Clock;
+use syn_cli::{ImageLine, Line, LineError, read_words};
 use syn_command::{CommandError, EditsTold, Failure, Outcome, Status, print_meanings, report};
-use syn_file::HostFile;
+use syn_disk::OsFile;
 use syn_files::{
     NamedDisks, Telling, edit, export, import, keep_servers, migrate, plan_named, print_image,
     print_log, print_numbers, print_plan, reconcile_named, run_session, serve_named, show,
 };
-use syn_words::{ImageLine, Line, LineError, read_words};
 
 /// Carries out what the words ask for, of which the first is the program's own name. What is asked
 /// for goes to `output`, and why it is refused to `errors`, with what is told of a session. Whether
@@ -41,7 +41,7 @@ where
     H: Net<Listener = TcpListener, Stream = TcpStream> + Threads + Wait + Clock + Eprint,
     H: Copy + Sync,
     F: Files + Sync,
-    F::File: HostFile + Send + Sync,
+    F::File: OsFile + Send + Sync,
     F::Dir: Send,
     I: Read,
     O: Write,
@@ -149,7 +149,7 @@ where
     H: Net<Listener = TcpListener, Stream = TcpStream> + Threads + Wait + Clock + Eprint,
     H: Copy + Sync,
     F: Files + Sync,
-    F::File: HostFile + Send + Sync,
+    F::File: OsFile + Send + Sync,
     F::Dir: Send,
     N: NamedDisks,
     I: Read,
@@ -207,7 +207,7 @@ fn carry_out_on_image<H, F, N, O>(
 where
     H: Net<Listener = TcpListener, Stream = TcpStream> + Clock,
     F: Files,
-    F::File: HostFile,
+    F::File: OsFile,
     N: NamedDisks,
     O: Write,
 {
@@ -238,7 +238,7 @@ fn play_script<F: Files, O: Write>(
     output: &mut O,
 ) -> Result<(), Failure>
 where
-    F::File: HostFile,
+    F::File: OsFile,
 {
     if is_traced {
         let_go(trace_script(alloc, files, script, output)?);

@@ -3,10 +3,10 @@
 use crate::format::format;
 use std::alloc::Global;
 use std::fs::Files;
+use syn_cli::ImageKind;
 use syn_command::CommandError;
-use syn_file::{Access, FileDisk, HostFile, LockedFile, MirroredFile, OpenError};
+use syn_disk::{Access, FileDisk, LockedFile, MirroredFile, OpenError, OsFile};
 use syn_files::NamedDisks;
-use syn_words::ImageKind;
 
 /// The disks in files. The name of one is the path of its file.
 #[derive(Drop)]
@@ -14,7 +14,7 @@ pub struct DisksInFiles<'a, F>(pub &'a F);
 
 impl<F: Files> NamedDisks for DisksInFiles<'_, F>
 where
-    F::File: HostFile + Send,
+    F::File: OsFile + Send,
 {
     type Disk = FileDisk<MirroredFile<F::File>>;
 

@@ -3,10 +3,9 @@
 use std::alloc::Global;
 use std::fs::{Files, OpenFile, OpenOptions};
 use std::io;
+use syn_cli::ImageKind;
 use syn_command::{CommandError, format_image};
-use syn_disk::DISK_SIZE;
-use syn_file::{Access, FileDisk, HostFile, take_lock};
-use syn_words::ImageKind;
+use syn_disk::{Access, DISK_SIZE, FileDisk, OsFile, take_lock};
 
 /// Makes the file an image of the kind, for the pair. Where that is refused, the file is as long as
 /// it was, or missing.
@@ -21,7 +20,7 @@ pub fn format<F: Files>(
     pair: u64,
 ) -> Result<(), CommandError>
 where
-    F::File: HostFile,
+    F::File: OsFile,
 {
     let (file, is_new) = open_or_make(files, name)?;
     take_lock(&file, Access::Write)?;
@@ -54,7 +53,7 @@ fn open_or_make<F: Files>(files: &F, name: &str) -> Result<(F::File, bool), Comm
 }
 
 /// Gives a file that is locked the length of a disk, and makes it an image of the kind.
-fn format_file<H: HostFile>(
+fn format_file<H: OsFile>(
     alloc: Global,
     file: H,
     kind: ImageKind,

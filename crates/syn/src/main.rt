@@ -30,7 +30,7 @@
 //!   one (`wrong`).
 //! - The disks of its lines are disks in files, and the lock of each is the system's on its file
 //!   (`is_held` of `DisksInFiles`). `format` changes the length of no file to a disk's before it
-//!   has the lock to write (`take_lock` of `syn_file`, `format_file`: `held`).
+//!   has the lock to write (`take_lock` of `syn_disk`, `format_file`: `held`).
 //! - Words that ask for nothing are told as such (`mistaken`), and what `simulate` prints is the
 //!   run of the script that it read (`PrintsRun`).
 //! - That the file of the line is the one that is opened, that no file has the number of a standard

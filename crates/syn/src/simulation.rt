@@ -1,19 +1,17 @@
 //! What `syn simulate` prints.
 ghost use Rattle.std.specs.Prelude.{◌≡◌, IfOk, IfSome};
 ghost use Rattle.syn.specs.Simulated.{PrintsRun};
-ghost use Rattle.syn_script.specs.Words.{Text};
+ghost use Rattle.syn_simulate.specs.Words.{Text};
 ghost use Rattle.syn_simulate.specs.Simulations.{RunsScript};
 
 use std::alloc::Global;
 use std::fs::{Files, OpenOptions};
 use std::io::{Read, Write};
 use syn_command::{CommandError, Failure};
-use syn_disk::{Cut, MemDisk};
-use syn_file::HostFile;
-use syn_host::SimulatedDisk;
+use syn_disk::{Cut, MemDisk, OsFile};
 use syn_refusal::Refusal;
 use syn_simulate::{Player, SimulateError, draw_chart, play, show_world, simulate};
-use syn_world::World;
+use syn_world::{SimulatedDisk, World};
 
 /// Runs the script in the file, and prints the world after it, which it answers.
 ///
@@ -26,7 +24,7 @@ pub fn run_script<F: Files, O: Write>(
     output: &mut O,
 ) -> Result<World<Cut<MemDisk>>, Failure>
 where
-    F::File: HostFile,
+    F::File: OsFile,
     ensures { IfOk result (λ world. (script : Text)
         × PrintsRun script (O.contents output.old) (O.contents output.new) world) }
 {
@@ -43,7 +41,7 @@ pub fn trace_script<F: Files, O: Write>(
     output: &mut O,
 ) -> Result<World<Cut<MemDisk>>, Failure>
 where
-    F::File: HostFile,
+    F::File: OsFile,
 {
     let script = read_script(alloc, files, name)?;
     let player = play(alloc, &script).map_err(failure_of)?;
@@ -136,7 +134,7 @@ fn was_short_of_memory<D: SimulatedDisk>(world: &World<D>) -> bool {
 /// The bytes of the file.
 fn read_script<F: Files>(alloc: Global, files: &F, name: &str) -> Result<Vec<u8>, CommandError>
 where
-    F::File: HostFile,
+    F::File: OsFile,
 {
     let mut file = files.open_file(OpenOptions::new().read(true), name)?;
     all_of(alloc, &mut file)

@@ -23,11 +23,11 @@ use Rattle.syn_model.specs.Refusal as why
 use Rattle.syn_model.specs.Spelling.{event_spelling}
 use Rattle.syn_replica.specs.Calls.{Writes, unless}
 use Rattle.syn_replica.specs.Refusals.{IsOneOf, outside_refusals}
-use Rattle.syn_standing.specs.Refusals.{refusal_of}
+use Rattle.syn_replica.specs.ErrorRefusals.{refusal_of}
 use Rattle.syn_replica.specs.Replica.{IsHalted, KeepsBeforeOrAfter, Stands, disk_of, journal_of}
 use Rattle.syn_replica.specs.Replica.{left_shown, pair_of, room_shown, standing_shown, tried_shown}
 use Rattle.syn_replica.specs.Steps.{begin_refusal, begun, room_causes}
-use Rattle.syn_standing.specs.declared.error.ReplicaError.{ReplicaError}
+use Rattle.syn_replica.specs.declared.error.ReplicaError.{ReplicaError}
 use Rattle.syn_replica.specs.declared.replica.Replica.{Replica}
 
 module _ (room left own session pair : ℕ) (history : History) (agent : Agent)

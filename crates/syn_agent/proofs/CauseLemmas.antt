@@ -13,9 +13,9 @@ use Rattle.syn_replica.specs.Steps.{add_refusal, room_causes}
 use Rattle.syn_model.specs.Refusal.{Refusal, Cause, first_cause, number}
 use Rattle.syn_model.specs.Refusal as why
 use Rattle.syn_replica.specs.Refusals.{IsOneOf, checkpoint_refusals, outside_refusals}
-use Rattle.syn_standing.specs.Refusals.{refusal_of}
-use Rattle.syn_journaled.specs.Endings as device
-use Rattle.syn_standing.specs.declared.error.ReplicaError.{ReplicaError}
+use Rattle.syn_replica.specs.ErrorRefusals.{refusal_of}
+use Rattle.syn_journal.specs.Endings as device
+use Rattle.syn_replica.specs.declared.error.ReplicaError.{ReplicaError}
 
 pub or_cases : (a b : Bool) → (a || b) ≡ true → (a ≡ true) ⊎ (b ≡ true)
 or_cases true b is = inl refl

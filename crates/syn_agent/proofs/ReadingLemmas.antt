@@ -34,13 +34,13 @@ use Rattle.syn_refusal.specs.Refusals.{cause_of}
 use Rattle.syn_refusal.specs.declared.refusal.Refusal.{Refusal as Answer}
 use Rattle.syn_refusal.specs.declared.refusal.Refusal.TheVariants as own
 use Rattle.syn_replica.specs.Refusals.{IsOneOf, reading_refusals}
-use Rattle.syn_standing.specs.Refusals.{refusal_of}
+use Rattle.syn_replica.specs.ErrorRefusals.{refusal_of}
 use Rattle.syn_replica.specs.Replica.{IsHalted, Stands, pair_of, position_shown, tree_shown}
-use Rattle.syn_standing.specs.Causes.{since_causes}
-use Rattle.syn_standing.specs.declared.error.ReplicaError.{ReplicaError}
-use Rattle.syn_standing.specs.declared.error.ReplicaError.TheVariants.{Tree as OfTree}
-use Rattle.syn_standing.specs.declared.error.ReplicaError.TheVariants.{History as OfHistory}
-use Rattle.syn_standing.specs.declared.error.ReplicaError.TheVariants.{Journal as OfJournal}
+use Rattle.syn_replica.specs.Causes.{since_causes}
+use Rattle.syn_replica.specs.declared.error.ReplicaError.{ReplicaError}
+use Rattle.syn_replica.specs.declared.error.ReplicaError.TheVariants.{Tree as OfTree}
+use Rattle.syn_replica.specs.declared.error.ReplicaError.TheVariants.{History as OfHistory}
+use Rattle.syn_replica.specs.declared.error.ReplicaError.TheVariants.{Journal as OfJournal}
 use Rattle.syn_replica.specs.declared.replica.Replica.{Replica}
 use Rattle.syn_tree.specs.Refusals.{refusal_of as of_tree}
 use Rattle.syn_tree.specs.declared.error.TreeError.{TreeError}

@@ -29,14 +29,14 @@ use Rattle.syn_model.specs.Standing.{full_causes, place_causes}
 use Rattle.syn_model.specs.Tree.{Tree, replace}
 use Rattle.syn_replica.specs.Calls.{Writes, unless}
 use Rattle.syn_replica.specs.Refusals.{IsOneOf, outside_refusals}
-use Rattle.syn_standing.specs.Refusals.{refusal_of}
+use Rattle.syn_replica.specs.ErrorRefusals.{refusal_of}
 use Rattle.syn_replica.specs.Replica.{KeepsBeforeOrAfter, Stands, disk_of, journal_of, left_shown}
 use Rattle.syn_replica.specs.Replica.{pair_of, room_shown, standing_shown}
 use Rattle.syn_replica.specs.Steps.{is_done, is_done_at, replace_refusal, replaced, room_causes}
-use Rattle.syn_standing.specs.Causes.{since_causes}
-use Rattle.syn_standing.specs.declared.error.ReplicaError.{ReplicaError}
+use Rattle.syn_replica.specs.Causes.{since_causes}
+use Rattle.syn_replica.specs.declared.error.ReplicaError.{ReplicaError}
 use Rattle.syn_replica.specs.declared.replica.Replica.{Replica}
-use Rattle.syn_replica.specs.declared.replica.session.TokenStanding.TheVariants as TokenStanding
+use Rattle.syn_replica.specs.declared.replica.session.TokenStatus.TheVariants as TokenStatus
 
 -- of two tokens that are not one, one is below the other
 other_way : (a b : Token) → is_same_token a b ≡ false → not (is_below a b) ≡ is_below b a
@@ -367,15 +367,15 @@ staging_memory staging token size refusal some = never_first why.Memory refusal
 
 -- what a token's standing says of it
 pub stands_done : (a b : Bool)
-    → TokenStanding.Done ≡ (if a then TokenStanding.Done
-    else if b then TokenStanding.Old else TokenStanding.Open) → a ≡ true
+    → TokenStatus.Done ≡ (if a then TokenStatus.Done
+    else if b then TokenStatus.Old else TokenStatus.Open) → a ≡ true
 stands_done true b is = refl
 stands_done false true is = cc
 stands_done false false is = cc
 
 pub stands_old : (a b : Bool)
-    → TokenStanding.Old ≡ (if a then TokenStanding.Done
-    else if b then TokenStanding.Old else TokenStanding.Open) → (a ≡ false) × (b ≡ true)
-stands_old true b is = absurd (let k : TokenStanding.Old ≡ TokenStanding.Done = is in cc)
+    → TokenStatus.Old ≡ (if a then TokenStatus.Done
+    else if b then TokenStatus.Old else TokenStatus.Open) → (a ≡ false) × (b ≡ true)
+stands_old true b is = absurd (let k : TokenStatus.Old ≡ TokenStatus.Done = is in cc)
 stands_old false true is = (refl, refl)
-stands_old false false is = absurd (let k : TokenStanding.Old ≡ TokenStanding.Open = is in cc)
+stands_old false false is = absurd (let k : TokenStatus.Old ≡ TokenStatus.Open = is in cc)

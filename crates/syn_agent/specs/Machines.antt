@@ -14,16 +14,11 @@ use Rattle.syn_model.specs.Spelling.{event_spelling}
 use Rattle.syn_recovery.specs.Calls.{CountsNoMore, armed_at}
 use Rattle.syn_recovery.specs.Machines.{of_side}
 use Rattle.syn_recovery.specs.Meaning.{MayBeOf}
+pub use Rattle.syn_replica.specs.Machines.{StandsAs}
 use Rattle.syn_replica.specs.Disks.{DiskCompacted, DiskKeeps, event_size}
 use Rattle.syn_replica.specs.Replica.{IsHalted, Remembers, Stands, disk_of, generation_shown}
 use Rattle.syn_replica.specs.Replica.{left_shown, pair_of, tried_shown}
 use Rattle.syn_replica.specs.declared.replica.Replica.{Replica}
-
--- a machine that is up has a replica that stands for its history; of a halted one it remembers it
-abbrev pub StandsAs : {D : Type 0} → {disk : Ghosts D} → Status → Replica D disk → History → Type 0
-StandsAs Up replica history = Stands replica history
-StandsAs Halted replica history = IsHalted replica × Remembers replica history
-StandsAs Down replica history = ⊥
 
 -- whatever a stop may now leave on the disk may be the machine's
 abbrev pub MayLeave : {D : Type 0} → {disk : Ghosts D} → ℕ → Replica D disk → SideMachine → Type 0

@@ -22,7 +22,7 @@ use syn_history::Token;
 use syn_message::Reply;
 use syn_path::Path;
 use syn_refusal::Refusal;
-use syn_replica::{Replica, TokenStanding};
+use syn_replica::{Replica, TokenStatus};
 use syn_tree::Node;
 use syn_wire::{Version, WireError, decode_node, spelling_laws};
 
@@ -60,9 +60,9 @@ impl Agent {
             return Reply::Refused(Refusal::Halted);
         }
         match replica.standing(token) {
-            TokenStanding::Done => Reply::Done,
-            TokenStanding::Old => Reply::Refused(Refusal::OldSession),
-            TokenStanding::Open => self.replace_open(alloc, replica, token, path, since, length),
+            TokenStatus::Done => Reply::Done,
+            TokenStatus::Old => Reply::Refused(Refusal::OldSession),
+            TokenStatus::Open => self.replace_open(alloc, replica, token, path, since, length),
         }
     }
 

@@ -4,8 +4,8 @@ use Rattle.std.proofs.Common.{◌≡◌, ◌⊎◌, ap, inl, inr}
 use Rattle.syn_disk.specs.declared.disk.Disk.{Ghosts}
 use Rattle.syn_journal.specs.Journal as journal
 use Rattle.syn_journal.specs.Layout.{Value}
-use Rattle.syn_journaled.specs.Endings.{Reads, ended}
-use Rattle.syn_journaled.specs.Journaled as machine
+use Rattle.syn_journal.specs.Endings.{Reads, ended}
+use Rattle.syn_journal.specs.Journaled as machine
 use Rattle.syn_model.specs.Refusal.{Memory}
 use Rattle.syn_archive.specs.Archive.{IsHalted, KeepsReadings, SameMemory, ShowsDisk, disk_of}
 use Rattle.syn_archive.specs.Archive.{journal_of, pair_of}

@@ -4,8 +4,8 @@ use Rattle.std.proofs.Common.{◌≡◌, ◌⊎◌, ◌∙◌, inl, inr, refl, s
 use Rattle.std.proofs.lemmas.Option.{none-some, same_Some}
 use Rattle.syn_model.specs.Refusal.{Refusal}
 use Rattle.syn_model.specs.Refusal as reason
-use Rattle.syn_journaled.specs.Endings.{ended}
-use Rattle.syn_journaled.specs.Journaled.{IsOfCheckpoint as OfCheckpoint}
+use Rattle.syn_journal.specs.Endings.{ended}
+use Rattle.syn_journal.specs.Journaled.{IsOfCheckpoint as OfCheckpoint}
 use Rattle.syn_archive.specs.Refusals.{IsOfCheckpoint, refusal_of}
 use Rattle.syn_archive.specs.declared.error.ArchiveError.{ArchiveError}
 use Rattle.syn_archive.specs.declared.error.ArchiveError.TheVariants.{NoParent, Root, Full}

@@ -1,5 +1,5 @@
 -- Why it is not kept, and what it says of a refusal that nothing was prepared.
-use Rattle.std.proofs.Common.{◌≡◌, ◌⊎◌, ◌<◌, ◌≤◌, ◌∙◌, ℕ, length, nat_lt, true, false}
+use Rattle.std.proofs.Common.{◌≡◌, ◌≢◌, ◌⊎◌, ◌<◌, ◌≤◌, ◌∙◌, ℕ, length, nat_lt, true, false}
 use Rattle.std.proofs.Common.{true≢false, if◌then◌else◌, inl, inr, refl, sym, ap, subst, Some, None}
 use Rattle.std.proofs.Common.{arith}
 use Rattle.std.proofs.lemmas.Bool.Decides.{nat_tests}
@@ -8,7 +8,7 @@ use Rattle.std.specs.Option.{option_or}
 use Rattle.std.specs.Prelude.{◌↔◌, Option}
 use Rattle.syn_disk.specs.Calls.{Makes}
 use Rattle.syn_disk.specs.declared.disk.Disk.{Ghosts}
-use Rattle.syn_journaled.specs.Endings.{BreaksIf, Grows, is_device}
+use Rattle.syn_journal.specs.Endings.{BreaksIf, Grows, is_device}
 use Rattle.syn_model.specs.Refusal.{Refusal}
 use Rattle.syn_model.specs.Refusal as why
 use Rattle.syn_model.specs.Archive as model
@@ -134,6 +134,14 @@ module _ {halted : Type 0} {room : ℕ} {archive : model.Archive} {kept : Kept} 
   has_cause (not_running h) = inl tt
   has_cause (refused e run cause inner) = inr cause
   has_cause (no_memory run none) = inl tt
+
+  pub no_device : {e : ArchiveError} → NotPrepared halted room archive kept e →
+      refusal_of e ≢ why.Device
+  no_device (not_running h) = λ is. cc
+  no_device (refused e run cause inner) =
+      inner_is (λ e. refusal_of e ≢ why.Device) (λ is. cc) (λ is. cc) (λ is. cc) (λ is. cc)
+      (λ is. cc) e inner
+  no_device (no_memory run none) = λ is. cc
 
   pub of_record : {e : ArchiveError} → NotPrepared halted room archive kept e → IsOfRecord e
   of_record (not_running h) = tt

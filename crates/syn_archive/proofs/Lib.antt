@@ -8,3 +8,5 @@ mod CallLemmas
 pub mod EndLemmas
 pub mod KeepLemmas
 pub mod WriteLemmas
+mod KeepingLemmas
+mod MachineLemmas

@@ -12,8 +12,8 @@ use Rattle.syn_journal.proofs.Meanings.{no_value, one_value}
 use Rattle.syn_journal.specs.Refusals as journal_refusals
 use Rattle.syn_journal.specs.declared.error.JournalError.{JournalError}
 use Rattle.syn_journal.specs.declared.error.JournalError.TheVariants as refused_by
-use Rattle.syn_journaled.specs.Journaled.{Opened as IsOpened}
-use Rattle.syn_journaled.specs.Openings.{NotOpened}
+use Rattle.syn_journal.specs.Journaled.{Opened as IsOpened}
+use Rattle.syn_journal.specs.Openings.{NotOpened}
 use Rattle.syn_model.specs.MarkSpelling.{IsOldArchiveImage}
 use Rattle.syn_model.specs.Path.{Bytes}
 use Rattle.syn_archive.specs.Archive.{Stands, shown, pair_of, journal_of}

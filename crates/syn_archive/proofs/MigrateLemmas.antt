@@ -10,10 +10,10 @@ use Rattle.syn_journal.specs.Layout.{longest_image, meaning}
 use Rattle.syn_journal.specs.Refusals as journal_refusals
 use Rattle.syn_journal.specs.declared.error.JournalError.{JournalError}
 use Rattle.syn_journal.specs.declared.error.JournalError.TheVariants as refused_by
-use Rattle.syn_journaled.specs.Endings.{Reads}
-use Rattle.syn_journaled.specs.Migrations.{Holds, IsUnwritten, Migrated, Migrates, NotMigrated}
-use Rattle.syn_journaled.specs.Migrations.{NotWritten}
-use Rattle.syn_journaled.proofs.Migrations.{after_reads, one_journal}
+use Rattle.syn_journal.specs.Endings.{Reads}
+use Rattle.syn_journal.specs.Migrations.{Holds, IsUnwritten, Migrated, Migrates, NotMigrated}
+use Rattle.syn_journal.specs.Migrations.{NotWritten}
+use Rattle.syn_journal.proofs.Migrations.{after_reads, one_journal}
 use Rattle.syn_model.specs.Archive as model
 use Rattle.syn_model.specs.ArchiveImage.{ArchiveImageStands, ArchiveImagesFit, ArchiveStandsFor}
 use Rattle.syn_model.specs.ArchiveImage.{ArchiveStandsForIn, StandsForSound}

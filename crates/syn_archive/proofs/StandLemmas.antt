@@ -55,23 +55,6 @@ pub left_behind : {D : Type 0} {disk : Ghosts D} (archive : Shown D disk) (value
     journal.Stands (journal_of archive) value → bytes_left value ≡ left_shown archive
 left_behind archive value runs = ap (λ gate. half_size - 1 - gate) (sym runs.gate)
 
-same : (n : ℕ) → (n == n) ≡ true
-same n = grind (arith, nat_tests)
-
-below : (n : ℕ) → n < 2 ^ 64 - 1 → nat_le greatest n ≡ false
-below n h = grind (arith, nat_tests)
-
--- the next session can be kept until the greatest
-pub can_begin : (archive : Archive) → archive.last_session < greatest →
-    CanKeep archive (Session (archive.last_session + 1))
-can_begin archive h = record {
-  lawful = tt;
-  not_refused =
-      ap (λ b. if b then Some Full else (if not (archive.last_session + 1 == archive.last_session
-      + 1) then Some BadMessage else None)) (below archive.last_session h)
-      ∙ ap (λ b. if not b then Some BadMessage else None) (same (archive.last_session + 1));
-}
-
 -- the image of what an archive shows stands for it
 pub image_keeps : StandsForSound → ArchiveImageStands → (pair : ℕ) (value : Value) (image : Bytes)
     (archive : Archive) → ArchiveStandsFor pair value.image value.payloads archive →

@@ -15,9 +15,9 @@ use Rattle.syn_model.specs.Archive as model
 use Rattle.syn_model.specs.Archive.{Kept, Session, Recorded, RecordedDir, CanKeep, after_kept}
 use Rattle.syn_model.specs.ArchiveImage.{ArchiveStandsFor, RecordGoesOn}
 use Rattle.syn_model.specs.MarkSpelling.{archive_spelling, kept_spelling}
-use Rattle.syn_journaled.specs.Endings.{ended}
-use Rattle.syn_journaled.specs.Journaled.{Appends, IsOfWrite, generation_after, left_after}
-use Rattle.syn_journaled.specs.Journaled.{Compacts as MachineCompacts}
+use Rattle.syn_journal.specs.Endings.{ended}
+use Rattle.syn_journal.specs.Journaled.{Appends, IsOfWrite, generation_after, left_after}
+use Rattle.syn_journal.specs.Journaled.{Compacts as MachineCompacts}
 use Rattle.syn_archive.specs.Archive.{HasRecord, KeepsBeforeOrAfter, KeepsReadings, Stands, disk_of}
 use Rattle.syn_archive.specs.Archive.{IsHalted, generation_shown, journal_of, left_shown, pair_of}
 use Rattle.syn_archive.specs.Archive.{KeepsOrCompacts, SameMemory, room_shown, shown}

@@ -3,7 +3,7 @@ use Rattle.std.specs.Prelude.{◌≡◌, ◌≢◌, ◌⊎◌, ◌↔◌, ◌+�
 use Rattle.syn_disk.specs.declared.disk.Disk.{Ghosts}
 use Rattle.syn_journal.specs.Journal as journal
 use Rattle.syn_journal.specs.Layout.{image_alone}
-use Rattle.syn_journaled.specs.Endings.{Reads, Spends}
+use Rattle.syn_journal.specs.Endings.{Reads, Spends}
 use Rattle.syn_model.specs.Archive as model
 use Rattle.syn_model.specs.Archive.{Kept}
 use Rattle.syn_model.specs.MarkSpelling.{archive_spelling}

@@ -2,4 +2,5 @@ pub mod Archive
 pub mod Disks
 pub mod Refusals
 pub mod Calls
+pub mod Machines
 pub mod inner

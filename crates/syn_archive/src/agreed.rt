@@ -2,8 +2,9 @@
 ghost use Rattle.std.specs.Prelude.{◌≡◌};
 ghost use Rattle.syn_archive.specs.inner.Agreements.{Gives, GivesOld, IsReady, IsUnread};
 ghost use Rattle.syn_archive.specs.inner.Agreements.{IsUnreadAgain, IsUnreadOld, agreed_archive};
-ghost use Rattle.syn_archive.specs.inner.Agreements.{after_update};
+ghost use Rattle.syn_archive.specs.inner.Agreements.{after_update, kept_as};
 ghost use Rattle.syn_archive.specs.Refusals.{refusal_of, of_journal};
+ghost use Rattle.syn_model.specs.Archive.{Archive as KeptArchive, Kept as KeptRecord};
 ghost use Rattle.syn_model.specs.MarkSpelling.{archive_spelling};
 
 use crate::error::ArchiveError;
@@ -11,9 +12,9 @@ use crate::laws::opening_laws;
 use crate::opening::{read_archive, read_own, read_wanted};
 use std::alloc::Global;
 use syn_image::{ArchiveImage, encode_archive};
-use syn_journal::JournalError;
-use syn_journaled::State;
+use syn_journal::{JournalError, State};
 use syn_mark::{MarkChange, MarkTree};
+use syn_model::archive_laws;
 use syn_refusal::Refusal;
 use syn_wire::Version;
 
@@ -82,9 +83,19 @@ impl State for Agreed {
 
     ghost unread_again = { IsUnreadAgain };
 
+    ghost Kept = { KeptArchive };
+
+    ghost Added = { KeptRecord };
+
+    ghost kept_as = { kept_as };
+
     ghost ready = { IsReady };
 
     ghost makes = { λ old update new. new ≡ after_update old update };
+
+    fn keeping_laws() {
+        archive_laws();
+    }
 
     fn refused(error: JournalError) -> ArchiveError {
         ArchiveError::from(error)

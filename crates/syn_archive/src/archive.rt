@@ -21,15 +21,14 @@ ghost use Rattle.syn_archive.specs.Refusals.{IsOfFormat, IsOfSession, IsOfRecord
 ghost use Rattle.syn_archive.specs.inner.Agreements.{IsReady, agreed_archive, after_update};
 ghost use Rattle.syn_archive.specs.inner.Keepings.{kept_in, IsNews, NotPrepared};
 ghost use Rattle.syn_archive.specs.inner.Openings.{Keeps};
-ghost use Rattle.syn_journaled.specs.Endings.{Spends, ended};
+ghost use Rattle.syn_journal.specs.Endings.{Spends, ended};
 
 use crate::agreed::Agreed;
 use crate::error::ArchiveError;
 use crate::keeping::{Keeping, Prepared};
 use std::alloc::Global;
 use syn_disk::{Arm, Disk, Limit};
-use syn_journal::layout_laws;
-use syn_journaled::Journaled;
+use syn_journal::{Journaled, layout_laws};
 use syn_mark::{Mark, MarkEntry, MarkTree};
 use syn_model::archive_laws;
 use syn_path::Path;
@@ -51,6 +50,7 @@ impl<D: Disk> Archive<D> {
     ghost use Rattle.syn_archive.specs.Archive.{left_shown, IsHalted, Stands, SameMemory};
     ghost use Rattle.syn_archive.specs.Archive.{KeepsBeforeOrAfter};
     ghost use Rattle.syn_archive.specs.Calls.{Writes};
+    ghost use Rattle.syn_archive.specs.Machines.{IsMachine, Journal, KeepsRecord};
 
     /// Formats the disk as an archive of the pair, whose root is an empty directory, with no
     /// session.
@@ -185,6 +185,11 @@ impl<D: Disk> Archive<D> {
         // Four device calls where it succeeds. After 9 the last that was made failed.
         ensures machine { Writes self.old self.new (Some (Session (session_shown self.old + 1)))
             (ended refusal_of result) }
+
+        // What it is to the model's machine, also where its device fails or stops.
+        ensures world { (number : ℕ) (machine : Journal) → IsMachine self.old number machine
+            → KeepsRecord self.new number machine (Session (session_shown self.old + 1))
+            (ended refusal_of result) }
     {
         self.keep(alloc, Keeping::Session)?;
         Ok(self.last_session())
@@ -233,6 +238,11 @@ impl<D: Disk> Archive<D> {
         // Four device calls where it succeeds. After 9 the last that was made failed.
         ensures machine { Writes self.old self.new (Some (Recorded path.now (or_absent marks)))
             (ended refusal_of result) }
+
+        // What it is to the model's machine, also where its device fails or stops.
+        ensures world { (number : ℕ) (machine : Journal) → IsMachine self.old number machine
+            → KeepsRecord self.new number machine (Recorded path.now (or_absent marks))
+            (ended refusal_of result) }
     {
         self.keep(alloc, Keeping::Record(path, marks))
     }
@@ -267,6 +277,11 @@ impl<D: Disk> Archive<D> {
         // made where it succeeds, and after 9 the last that was made failed.
         ensures machine { Writes self.old self.new
             (to_write (shown self.old) (RecordedDir path.now)) (ended refusal_of result) }
+
+        // What it is to the model's machine, also where its device fails or stops.
+        ensures world { (number : ℕ) (machine : Journal) → IsMachine self.old number machine
+            → KeepsRecord self.new number machine (RecordedDir path.now)
+            (ended refusal_of result) }
     {
         archive_laws();
         if self.is_halted() {
@@ -302,6 +317,9 @@ impl<D: Disk> Archive<D> {
         ensures refusals { IfErr result IsOfRecord }
         ensures machine { Writes self.old self.new
             (Some (kept_in (session_shown self.old) what.entry)) (ended refusal_of result) }
+        ensures world { (number : ℕ) (machine : Journal) → IsMachine self.old number machine
+            → KeepsRecord self.new number machine (kept_in (session_shown self.old) what.entry)
+            (ended refusal_of result) }
     {
         archive_laws();
         layout_laws();

@@ -3,9 +3,9 @@ use Rattle.std.specs.Prelude.{◌≡◌, Option, Some}
 use Rattle.syn_model.specs.Path.{Bytes, Path}
 use Rattle.syn_model.specs.Event.{Event, Edited, Edit, Put, MakeDir, Remove, Chmod}
 use Rattle.syn_tree.specs.Modes.{mode_of}
-use Rattle.syn_words.specs.declared.line.EditKind.{EditKind}
-use Rattle.syn_words.specs.declared.line.EditKind.TheVariants as kind
-use Rattle.syn_words.specs.declared.line.EditLine.{EditLine}
+use Rattle.syn_cli.specs.declared.line.EditKind.{EditKind}
+use Rattle.syn_cli.specs.declared.line.EditKind.TheVariants as kind
+use Rattle.syn_cli.specs.declared.line.EditLine.{EditLine}
 
 -- this is left of the input, which only a put reads
 abbrev pub IsInput : EditKind → Option Bytes → Bytes → Type 0

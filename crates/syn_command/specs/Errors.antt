@@ -2,8 +2,8 @@
 use Rattle.syn_model.specs.Refusal.{Refusal}
 use Rattle.syn_model.specs.Refusal as why
 use Rattle.syn_path.specs.Refusals.{refusal_of as of_path}
-use Rattle.syn_file.specs.OpenError.{refusal_of as of_disk}
-use Rattle.syn_standing.specs.Refusals.{refusal_of as of_replica}
+use Rattle.syn_disk.specs.OpenError.{refusal_of as of_disk}
+use Rattle.syn_replica.specs.ErrorRefusals.{refusal_of as of_replica}
 use Rattle.syn_replica.specs.Refusals.{IsOneOf, edit_refusals, outside_refusals}
 use Rattle.syn_archive.specs.Refusals.{refusal_of as of_archive}
 use Rattle.syn_refusal.specs.Refusals.{cause_of}
@@ -13,8 +13,8 @@ use Rattle.syn_command.specs.declared.error.CommandError.{CommandError}
 use Rattle.syn_command.specs.declared.error.CommandError.TheVariants.{Path, Open, Replica, Archive}
 use Rattle.syn_command.specs.declared.error.CommandError.TheVariants.{Refused, Device, Longer}
 use Rattle.syn_command.specs.declared.error.CommandError.TheVariants.{Memory, User, Folder}
-use Rattle.syn_words.specs.declared.line.EditKind.{EditKind}
-use Rattle.syn_words.specs.declared.line.EditKind.TheVariants.{Put}
+use Rattle.syn_cli.specs.declared.line.EditKind.{EditKind}
+use Rattle.syn_cli.specs.declared.line.EditKind.TheVariants.{Put}
 
 -- it is that of what refused
 abbrev pub refusal_of : CommandError → Refusal

@@ -15,12 +15,12 @@ ghost use Rattle.syn_command.specs.Errors.{refusal_of, IsEditRefusal, IsOfStream
 use crate::error::CommandError;
 use std::alloc::Global;
 use std::io::Read;
+use syn_cli::{EditKind, EditLine};
 use syn_disk::Disk;
 use syn_model::history_laws;
 use syn_path::Path;
 use syn_replica::Replica;
 use syn_tree::{Edit, LONGEST_FILE};
-use syn_words::{EditKind, EditLine};
 
 /// How many bytes of the input are read at most: one more than a file may have.
 const MOST_INPUT: u64 = LONGEST_FILE as u64 + 1;

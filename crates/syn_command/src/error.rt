@@ -7,12 +7,12 @@ ghost use Rattle.syn_command.specs.Errors.{refusal_of};
 use std::alloc::{AllocError, AllocFailed};
 use std::{fmt, io};
 use syn_archive::ArchiveError;
-use syn_file::OpenError;
+use syn_disk::OpenError;
 use syn_folder::FolderError;
 use syn_path::PathError;
 use syn_print::PrintError;
 use syn_refusal::Refusal;
-use syn_standing::ReplicaError;
+use syn_replica::ReplicaError;
 use syn_user::UserError;
 use thiserror::Error;
 

@@ -7,10 +7,10 @@ ghost use Rattle.syn_model.specs.Tree.{empty_directory, subtree};
 
 use std::alloc::Global;
 use syn_change::copy_part;
+use syn_cli::Existing;
 use syn_folder::{FolderError, WrittenFolder, fill, mirror, update};
 use syn_path::Path;
 use syn_tree::Tree;
-use syn_words::Existing;
 
 /// Writes what the directory at the path of the tree has into the folder.
 ///

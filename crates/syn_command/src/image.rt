@@ -17,9 +17,9 @@ ghost use Rattle.syn_command.specs.Images.{StandsForHistory, disk_under, letters
 use crate::error::CommandError;
 use std::alloc::Global;
 use syn_archive::{Archive, ArchiveError};
+use syn_cli::ImageKind;
 use syn_disk::Disk;
 use syn_replica::Replica;
-use syn_words::ImageKind;
 
 /// An image that was opened.
 #[derive(Drop)]

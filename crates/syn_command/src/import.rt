@@ -9,7 +9,7 @@ ghost use Rattle.syn_replica.specs.Refusals.{IsOneOf, edit_refusals};
 ghost use Rattle.syn_disk.specs.Stops.{LeavesOnly};
 ghost use Rattle.syn_replica.specs.Disks.{DiskStands};
 ghost use Rattle.syn_replica.specs.Replica.{Stands, disk_of, pair_of, tree_shown};
-ghost use Rattle.syn_standing.specs.Refusals.{refusal_of as of_replica};
+ghost use Rattle.syn_replica.specs.ErrorRefusals.{refusal_of as of_replica};
 ghost use Rattle.syn_command.specs.Errors.{IsOfEdits, IsOfFolder, refusal_of};
 ghost use Rattle.syn_command.specs.Imports.{IsImported, IsPlanRefusal, IsUnmade, LeavesImport};
 ghost use Rattle.syn_command.specs.Imports.{NoneOrAll, disk_left};
@@ -22,8 +22,7 @@ use std::io::Write;
 use syn_disk::Disk;
 use syn_folder::{Folder, FolderError, all_known, skipping};
 use syn_path::Path;
-use syn_replica::Replica;
-use syn_standing::ReplicaError;
+use syn_replica::{Replica, ReplicaError};
 use syn_tree::{Edit, Tree};
 
 /// The bytes of the records of the longest import, and some more: each of them is needed, so that

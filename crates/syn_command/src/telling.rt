@@ -7,11 +7,10 @@ use crate::failure::Failure;
 use crate::outcome::Outcome;
 use crate::status::{Status, status_in};
 use std::io::{self, Write};
-use syn_disk::DISK_SIZE;
-use syn_file::OpenError;
+use syn_cli::{Between, ImageLine, Line};
+use syn_disk::{DISK_SIZE, OpenError};
 use syn_folder::FolderError;
 use syn_refusal::Refusal;
-use syn_words::{Between, ImageLine, Line};
 
 /// The status of the answer. A refusal is told in one line, and where `asked` is given in a second
 /// one in plain words. Of a script the first faulty line is told.

@@ -1,6 +1,6 @@
 -- What becomes of a record that is due is a step of the session through its plan.
 use Rattle.std.proofs.Common.{◌≡◌, ◌≢◌, ℕ, Bool, true, false, List, [], ◌∷◌, ◌++◌, Option, Some}
-use Rattle.std.proofs.Common.{None, refl, sym, ap, ◌∙◌, subst, inr, is_some}
+use Rattle.std.proofs.Common.{None, refl, sym, ap, ◌∙◌, subst, inr}
 use Rattle.std.specs.List.{slice_get}
 use Rattle.syn_archive.specs.declared.archive.Archive.{Archive}
 use Rattle.syn_disk.specs.declared.disk.Disk.{Ghosts}
@@ -13,19 +13,20 @@ use Rattle.syn_headline.specs.Planning.{Planned, seen_on, WritesTo}
 use Rattle.syn_model.specs.Archive.{Kept, Recorded}
 use Rattle.syn_model.specs.Decision.{Item, ToLeft, ToRight, MarkSame, MarkDir, Conflict}
 use Rattle.syn_refusal.specs.declared.refusal.Refusal.TheVariants as refusal
-use Rattle.syn_keep.specs.Machines.{Journal}
-use Rattle.syn_keep.specs.Tries.{HoldsTried, IsShown, Tries}
-use Rattle.syn_keep.specs.declared.due.Due.{Due}
-use Rattle.syn_keep.specs.declared.tried.Tried.{Tried}
-use Rattle.syn_coordinator.proofs.TriedLemmas.{compact_writes, failed_at, fits_in, kept_quiet}
+use Rattle.syn_coordinator.specs.Machines.{Journal}
+use Rattle.syn_coordinator.specs.Tries.{HoldsTried, IsShown, Tries}
+use Rattle.syn_coordinator.specs.declared.ended.Ended.{Ended}
+use Rattle.syn_coordinator.specs.declared.ended.Ended.TheVariants.{Early, Failed}
+use Rattle.syn_coordinator.specs.declared.due.Due.{Due}
+use Rattle.syn_coordinator.specs.declared.tried.Tried.{Tried}
+use Rattle.syn_coordinator.proofs.TriedLemmas.{compact_writes, failed_at, kept_quiet}
 use Rattle.syn_coordinator.proofs.TriedLemmas.{tries_held, tries_none}
-use Rattle.std.proofs.lemmas.Option.{none-some}
 use Rattle.syn_coordinator.specs.inner.Advancing.{Advanced, kept_it, refused_it, ended, stopped}
 use Rattle.syn_coordinator.specs.inner.Advancing.{Remembers}
-use Rattle.syn_keep.specs.Due as due
-use Rattle.syn_keep.specs.Due.{IsReady, MakesRoom, TriesBy, has_some, makes_some, Settles}
-use Rattle.syn_keep.specs.Steps.{moves_on, moves_down}
-use Rattle.syn_keep.proofs.DueLemmas.{ready_still}
+use Rattle.syn_coordinator.specs.Due as due
+use Rattle.syn_coordinator.specs.Due.{IsReady, MakesRoom, TriesBy, has_some, makes_some, Settles}
+use Rattle.syn_coordinator.specs.Steps.{moves_on, moves_down}
+use Rattle.syn_coordinator.proofs.DueLemmas.{ready_still}
 
 -- ---- which record is due
 
@@ -96,23 +97,19 @@ halted_not_up halted up = cc
 
 -- ---- what is remembered
 
-module _ (pair : ℕ) (before : Status) (tried : Option Tried) (journal : Journal)
-    (tries : Tries pair tried journal) where
+module _ (before : Status) (tried : Option Tried) (journal : Journal)
+    (tries : Tries tried journal) where
   -- the machine is as it was
-  pub remembers_still : journal.status ≡ before → Remembers pair before tried journal
-  remembers_still same = record {
+  pub remembers_still : (how : Ended) → journal.status ≡ before →
+      Remembers before tried journal how
+  remembers_still how same = record {
     tries = tries;
-    some = λ up halted. absurd (halted_not_up halted (same ∙ up));
+    fails = λ up halted. absurd (halted_not_up halted (same ∙ up));
   }
 
-  -- its device failed, and the record was not kept
-  remembers_held : {D : Type 0} {disk : Ghosts D} (new : Archive D disk) (what : Kept) →
-      HoldsTried new what tried → Remembers pair before tried journal
-  remembers_held new what held = record { tries = tries; some = λ _ _. by tried held }
-    where
-      by : (tried : Option Tried) → HoldsTried new what tried → is_some tried ≡ true
-      by None never = absurd never
-      by (Some there) held = refl
+  -- its device failed
+  remembers_failed : Remembers before tried journal Failed
+  remembers_failed = record { tries = tries; fails = λ _ _. refl }
 
 -- ---- a step
 
@@ -152,29 +149,23 @@ module _ {D : Type 0} {disk : Ghosts D} (new : Archive D disk) (tried : Option T
 
   -- the record that is kept is not remembered
   tries_kept : (between journal : Journal) → Keeps pair between what journal (what ∷ []) →
-      between.writing ≡ None → tried ≡ None → Tries pair tried journal
+      between.writing ≡ None → tried ≡ None → Tries tried journal
   tries_kept between journal keeps quiet none =
-      tries_none pair tried journal none (kept_quiet pair between journal what what keeps quiet)
+      tries_none tried journal none (kept_quiet pair between journal what what keeps quiet)
 
   -- the record whose device failed is
   tries_failed : (between journal : Journal) → Keeps pair between what journal [] →
-      IsShown new pair journal → has_room (archive_layout pair) between what ≡ true →
-      between.writing ≡ None → journal.status ≢ Up → HoldsTried new what tried →
-      Tries pair tried journal
-  tries_failed between journal keeps shown has quiet stops held =
-      tries_held pair new what tried journal held stops shown
-      (failed_at pair between journal what keeps quiet)
-      (fits_in pair between journal what keeps quiet has)
+      IsShown new journal → has_room (archive_layout pair) between what ≡ true →
+      journal.status ≢ Up → HoldsTried new what tried → Tries tried journal
+  tries_failed between journal keeps shown has stops held =
+      tries_held new what tried journal held stops shown
+      (failed_at pair between journal what keeps has)
 
-  -- the checkpoint for it failed
-  tries_unmade : (journal : Journal) → Compacts (archive_layout pair) walk.journal journal →
-      IsShown new pair journal → walk.journal.writing ≡ None → journal.status ≢ Up →
-      HoldsTried new what tried → Tries pair tried journal
-  tries_unmade journal compacts shown quiet stops held =
-      let none : (kept : Kept) → journal.writing ≡ Some kept → ⊥ = λ kept is. none-some _
-      (sym (compact_writes pair walk.journal journal compacts ∙ quiet) ∙ is) in
-      tries_held pair new what tried journal held stops shown (λ kept is. absurd (none kept is))
-      (λ kept is. absurd (none kept is))
+  -- where the checkpoint for it failed none is
+  tries_unsent : (journal : Journal) → Compacts (archive_layout pair) walk.journal journal →
+      walk.journal.writing ≡ None → tried ≡ None → Tries tried journal
+  tries_unsent journal compacts quiet none =
+      tries_none tried journal none (compact_writes pair walk.journal journal compacts ∙ quiet)
 
   pub advanced : (became : Due) → Settles new pair walk.journal what became →
       walk.journal.writing ≡ None → TriesBy new what None tried became →
@@ -208,71 +199,70 @@ module _ {D : Type 0} {disk : Ghosts D} (new : Archive D disk) (tried : Option T
       refused_it refusal.Full
       (model.no_checkpoint walk _ [] what fresh (no_room ready none) last (model.stands _)) is
   advanced became (due.failed_before halted is) quiet tries =
-      ended refusal.Halted walk (model.stands walk) refl refl
+      ended _ (Early refusal.Halted) walk refl (model.stands walk) refl refl
       (λ running same. model.failed_before planned what
       (subst (λ p. slice_get p walk.cursor ≡ Some planned) (sym same) at) is_due halted halted) is
-      (remembers_still pair walk.journal.status tried walk.journal
-      (tries_none pair tried _ tries quiet) refl)
+      (remembers_still walk.journal.status tried walk.journal
+      (tries_none tried _ tries quiet) _ refl)
   advanced became (due.checkpoint_breaks ready none less
-      (moves_on journal (compacts, shown) halted is)) quiet tries =
-      ended refusal.Device (record walk { journal = journal }) (model.checkpoint_breaks walk what
+      (moves_on journal compacts halted is)) quiet tries =
+      ended _ Failed (record walk { journal = journal }) refl (model.checkpoint_breaks walk what
       journal fresh (no_room ready none) less compacts (halted_not_up halted)) refl refl
       (λ running same. model.fails ready.up halted) is
-      (remembers_held pair walk.journal.status tried journal
-      (tries_unmade journal compacts shown quiet (halted_not_up halted) tries) new what tries)
+      (remembers_failed walk.journal.status tried journal
+      (tries_unsent journal compacts quiet tries))
   advanced became (due.checkpoint_breaks ready none less
-      (moves_down journal (compacts, shown) cut down leaves)) quiet tries =
+      (moves_down journal compacts cut down leaves)) quiet tries =
       stopped _ (record walk { journal = journal }) (model.checkpoint_breaks walk what journal fresh
       (no_room ready none) less compacts (not_up down)) down cut leaves
-      (tries_unmade journal compacts shown quiet (not_up down) tries)
+      (tries_unsent journal compacts quiet tries)
   advanced became (due.record_breaks false between ready (has_some enough) has
       (moves_on journal (keeps, shown) halted is)) quiet tries =
-      ended refusal.Device (record walk { journal = journal }) (model.record_breaks walk what
+      ended _ Failed (record walk { journal = journal }) refl (model.record_breaks walk what
       [] journal (to_keep ready) has keeps (halted_not_up halted)) refl refl
       (λ running same. model.fails ready.up halted) is
-      (remembers_held pair walk.journal.status tried journal
-      (tries_failed walk.journal journal keeps shown enough quiet (halted_not_up halted) tries) new
-      what tries)
+      (remembers_failed walk.journal.status tried journal
+      (tries_failed walk.journal journal keeps shown enough (halted_not_up halted) tries))
   advanced became (due.record_breaks true between ready room has
       (moves_on journal (keeps, shown) halted is)) quiet tries =
-      ended refusal.Device (record (making_room walk between) { journal = journal })
+      ended _ Failed (record (making_room walk between) { journal = journal }) refl
       (after_room ready between room [] (record (making_room walk between) { journal = journal })
       (model.record_breaks (making_room walk between) what
       [] journal (room_made ready between room) has keeps (halted_not_up halted))) refl refl
       (λ running same. model.fails ready.up halted) is
-      (remembers_held pair walk.journal.status tried journal
-      (tries_failed between journal keeps shown has (quiet_between true between room quiet)
-      (halted_not_up halted) tries) new what tries)
+      (remembers_failed walk.journal.status tried journal
+      (tries_failed between journal keeps shown has (halted_not_up halted) tries))
   advanced became (due.record_breaks false between ready (has_some enough) has
       (moves_down journal (keeps, shown) cut down leaves)) quiet tries =
       stopped _ (record walk { journal = journal })
       (model.record_breaks walk what [] journal (to_keep ready) has keeps (not_up down)) down cut
-      leaves (tries_failed walk.journal journal keeps shown enough quiet (not_up down) tries)
+      leaves (tries_failed walk.journal journal keeps shown enough (not_up down) tries)
   advanced became (due.record_breaks true between ready room has
       (moves_down journal (keeps, shown) cut down leaves)) quiet tries =
       stopped _ (record (making_room walk between) { journal = journal })
       (after_room ready between room [] (record (making_room walk between) { journal = journal })
       (model.record_breaks (making_room walk between) what [] journal (room_made ready between room)
-      has keeps (not_up down))) down cut leaves (tries_failed between journal keeps shown has
-      (quiet_between true between room quiet) (not_up down) tries)
+      has keeps (not_up down))) down cut leaves
+      (tries_failed between journal keeps shown has (not_up down) tries)
   advanced became (due.no_room_left between ready room none is) quiet tries =
-      ended refusal.JournalFull (making_room walk between) (after_room ready between room
+      ended _ (Early refusal.JournalFull) (making_room walk between) refl (after_room ready between
+      room
       [] (making_room walk between) (model.stands (making_room walk between))) refl refl
       (λ running same. model.no_room_left what
       (subst (λ p. HasNoRoom pair p taken (making_room walk between) what) (sym same)
       (record { to_keep = room_made ready between room; no_room = none })) refl) is
-      (remembers_still pair walk.journal.status tried between
-      (tries_none pair tried _ tries (quiet_between true between room quiet))
+      (remembers_still walk.journal.status tried between
+      (tries_none tried _ tries (quiet_between true between room quiet)) _
       ((room_made ready between room).up ∙ sym ready.up))
   advanced became (due.no_memory is) quiet tries =
-      ended refusal.Memory walk (model.stands walk) refl refl
+      ended _ (Early refusal.Memory) walk refl (model.stands walk) refl refl
       (λ running same. model.no_memory refl) is
-      (remembers_still pair walk.journal.status tried walk.journal
-      (tries_none pair tried _ tries quiet) refl)
+      (remembers_still walk.journal.status tried walk.journal
+      (tries_none tried _ tries quiet) _ refl)
   advanced became (due.no_memory_after between ready room is) quiet tries =
-      ended refusal.Memory (making_room walk between) (after_room ready between room
+      ended _ (Early refusal.Memory) (making_room walk between) refl (after_room ready between room
       [] (making_room walk between) (model.stands (making_room walk between))) refl refl
       (λ running same. model.no_memory ((room_made ready between room).up ∙ sym ready.up)) is
-      (remembers_still pair walk.journal.status tried between
-      (tries_none pair tried _ tries (quiet_between true between room quiet))
+      (remembers_still walk.journal.status tried between
+      (tries_none tried _ tries (quiet_between true between room quiet)) _
       ((room_made ready between room).up ∙ sym ready.up))

@@ -9,8 +9,8 @@ use Rattle.syn_headline.specs.Machine.{after_device}
 use Rattle.syn_journal.specs.Journal.{SameReadings}
 use Rattle.syn_model.specs.Archive as model
 use Rattle.syn_recovery.specs.Calls.{armed_at}
-use Rattle.syn_keep.specs.Machines.{Fails, IsMachine, Journal, Runs}
-use Rattle.syn_recovery.proofs.DiskLemmas.{may_be_still}
+use Rattle.syn_coordinator.specs.Machines.{Fails, IsMachine, Journal, Runs}
+use Rattle.syn_journal.proofs.DiskLemmas.{may_be_still}
 use Rattle.syn_recovery.specs.Machines.{of_archive}
 
 module _ {D : Type 0} {disk : Ghosts D} (old new : Archive D disk) (pair : ℕ) (machine : Journal)

@@ -12,17 +12,17 @@ use Rattle.syn_headline.specs.Network.{Left, Right, Which, other}
 use Rattle.syn_headline.specs.Side.{Begin, Fetch, Listed, ListAt, NotDir, Replace, Request, Stage}
 use Rattle.syn_headline.specs.Side as said
 use Rattle.syn_model.specs.Plan as planning
-use Rattle.syn_propagate.specs.Transfers.{IsForItem, WaitsFor, WaitsForItem, carriage_of}
-use Rattle.syn_propagate.specs.declared.carriage.Carriage.{Carriage}
+use Rattle.syn_propagate.specs.Transfers.{IsForItem, WaitsFor, WaitsForItem, spec_of}
+use Rattle.syn_propagate.specs.declared.transfer_spec.TransferSpec.{TransferSpec}
 use Rattle.syn_recon.specs.Items.{items_of}
 use Rattle.syn_refusal.specs.declared.refusal.Refusal.TheVariants as refusal
 use Rattle.syn_model.specs.Dirty.{IsScanBy}
 use Rattle.syn_scan.specs.Found.{Found, position_of, scan_of}
 use Rattle.syn_coordinator.specs.Coordinators.{written}
-use Rattle.syn_keep.specs.Machines.{IsMachine, Journal}
+use Rattle.syn_coordinator.specs.Machines.{IsMachine, Journal}
 use Rattle.syn_session.specs.Scanning.{WasListedAt, WasNoDirectoryAt, found_of}
 use Rattle.syn_coordinator.specs.declared.coordinator.Coordinator.{Coordinator}
-use Rattle.syn_session.specs.declared.course.Course.{Course}
+use Rattle.syn_session.specs.declared.plan_progress.PlanProgress.{PlanProgress}
 use Rattle.syn_session.specs.declared.line.Line.{Line}
 use Rattle.syn_coordinator.specs.declared.ended.Ended.{Ended}
 use Rattle.syn_coordinator.specs.declared.ended.Ended.TheVariants.{Early}
@@ -36,7 +36,7 @@ use Rattle.syn_session.specs.Hearing.{HasHeard, IsScanned, afterwards}
 use Rattle.syn_session.specs.Plans.{Plan}
 use Rattle.syn_session.specs.Sessions.{IsLine, IsSession, IsStage, Tells}
 use Rattle.syn_coordinator.specs.inner.Settling.{AsksSo, EndsSo, IsQuiet}
-use Rattle.syn_session.specs.Stages.{Carries, IsAskedBefore, IsCarrying, IsCourse, IsOfScan}
+use Rattle.syn_session.specs.Stages.{Carries, IsAskedBefore, IsCarrying, IsPlanProgress, IsOfScan}
 use Rattle.syn_session.specs.Stages.{Reached, found_on, line_of, plan_in, reached_by, requests_on}
 use Rattle.syn_session.specs.Stages.{waiting_of}
 use Rattle.syn_coordinator.specs.inner.Taking as taking
@@ -52,9 +52,9 @@ use Rattle.syn_coordinator.proofs.TriedLemmas.{tries_none}
 
 -- ---- whatever its plan, a session is heard alike
 
-heard_with : (session : Session) (course : Option Course) (heard : Running) →
-    IsHeard session heard → IsHeard (record session { course = course }) heard
-heard_with session course heard h =
+heard_with : (session : Session) (progress : Option PlanProgress) (heard : Running) →
+    IsHeard session heard → IsHeard (record session { progress = progress }) heard
+heard_with session progress heard h =
     record {
       number = h.number;
       preference = h.preference;
@@ -63,15 +63,16 @@ heard_with session course heard h =
       once = h.once;
     }
   where
-    line : (side : Which) → IsLine (line_of (record session { course = course }) side) heard side
+    line : (side : Which) → IsLine (line_of (record session { progress = progress }) side) heard
+        side
     line Left = h.line Left
     line Right = h.line Right
 
-silent_with : (session : Session) (course : Option Course) →
+silent_with : (session : Session) (progress : Option PlanProgress) →
     ((side : Which) → waiting_of (line_of session side) ≡ []) → (side : Which) →
-    waiting_of (line_of (record session { course = course }) side) ≡ []
-silent_with session course silent Left = silent Left
-silent_with session course silent Right = silent Right
+    waiting_of (line_of (record session { progress = progress }) side) ≡ []
+silent_with session progress silent Left = silent Left
+silent_with session progress silent Right = silent Right
 
 -- ---- its plan is made
 
@@ -95,12 +96,12 @@ module _ {D : Type 0} {disk : Ghosts D} (old : Coordinator D disk) (pair : ℕ) 
       session (written old) (Early refusal.Memory)
   no_plan quiet =
       hears_end old.archive pair journal running taken session is_machine old.tried
-      (tries_none pair old.tried journal quiet.0 quiet.1) (written old) nothing refusal.Memory
+      (tries_none old.tried journal quiet.0 quiet.1) (written old) nothing refusal.Memory
       (afterwards fault refl (tells_heard session (hearing running taken) heard))
 
-  module _ (made : Course) (left right : Found) (same_left : left ≡ found_on session Left)
+  module _ (made : PlanProgress) (left right : Found) (same_left : left ≡ found_on session Left)
       (same_right : right ≡ found_on session Right)
-      (course_is : IsCourse made left right (first_reached (plan_in made left right))) where
+      (course_is : IsPlanProgress made left right (first_reached (plan_in made left right))) where
     abbrev first : Reached
     first = first_reached (plan_in made left right)
 
@@ -128,50 +129,51 @@ module _ {D : Type 0} {disk : Ghosts D} (old : Coordinator D disk) (pair : ℕ) 
           (makes_plan (hearing running taken) journal.value left right
           (items_of made.items.items) items scanned.begun on_left on_right)
 
-      module _ (new : Coordinator D disk) (course : Course) where
+      module _ (new : Coordinator D disk) (progress : PlanProgress) where
         abbrev later : Session
-        later = record session { course = Some course }
+        later = record session { progress = Some progress }
 
         begins_asking : (asks : Asks) →
-            AsksSo old new pair taken journal first course left right (running.taken ++ taken ∷ [])
+            AsksSo old new pair taken journal first progress left right
+            (running.taken ++ taken ∷ [])
             asks → TakesOn new.archive pair journal running taken later (written new) asks
         begins_asking asks so =
             subst (λ k. TakesOn new.archive pair journal running taken later k asks)
             (sym (so.1 ∙ ap (λ l. l ++ so.0) nothing))
-            (asks_course new.archive pair journal running taken later course refl
-            (heard_with session (Some course) (hearing running taken) heard.heard_is)
-            heard.unstable (silent_with session (Some course) scanned.silent) fault first
+            (asks_course new.archive pair journal running taken later progress refl
+            (heard_with session (Some progress) (hearing running taken) heard.heard_is)
+            heard.unstable (silent_with session (Some progress) scanned.silent) fault first
             (sym (ap (λ (r : Reached). r.cursor) heard.reached))
             (sym (ap (λ (r : Reached). r.refused) heard.reached))
             (sym (ap (λ (r : Reached). r.kept) heard.reached)) _ made_it so.0 asks
-            (subst (λ r. ComesToAsk new.archive pair taken journal first so.0 course
+            (subst (λ r. ComesToAsk new.archive pair taken journal first so.0 progress
             (found_on session Left) r (running.taken ++ taken ∷ []) asks) same_right
-            (subst (λ l. ComesToAsk new.archive pair taken journal first so.0 course l right
+            (subst (λ l. ComesToAsk new.archive pair taken journal first so.0 progress l right
             (running.taken ++ taken ∷ []) asks) same_left so.2))
             (λ last. absurd (scans_further running.taken taken.side taken.request
             (heard.of_scan taken (Contains-push running.taken taken)) taken.reply fault last)))
 
         begins_ending : (ended : Ended) →
-            EndsSo old new pair taken journal first course left right ended →
+            EndsSo old new pair taken journal first progress left right ended →
             TakesEnd new.archive new.tried pair journal running taken later (written new) ended
         begins_ending ended so =
             subst (λ k. TakesEnd new.archive new.tried pair journal running taken later k ended)
             (sym (so.1 ∙ ap (λ l. l ++ so.0) nothing))
-            (ends_course new.archive pair journal running taken later course refl
-            (heard_with session (Some course) (hearing running taken) heard.heard_is)
-            heard.unstable (silent_with session (Some course) scanned.silent) fault first
+            (ends_course new.archive pair journal running taken later progress refl
+            (heard_with session (Some progress) (hearing running taken) heard.heard_is)
+            heard.unstable (silent_with session (Some progress) scanned.silent) fault first
             (sym (ap (λ (r : Reached). r.cursor) heard.reached))
             (sym (ap (λ (r : Reached). r.refused) heard.reached))
             (sym (ap (λ (r : Reached). r.kept) heard.reached)) _ made_it new.tried so.0 ended
-            (subst (λ r. Ends new.archive new.tried pair taken journal first so.0 course
+            (subst (λ r. Ends new.archive new.tried pair taken journal first so.0 progress
             (found_on session Left) r ended) same_right
-            (subst (λ l. Ends new.archive new.tried pair taken journal first so.0 course l right
+            (subst (λ l. Ends new.archive new.tried pair taken journal first so.0 progress l right
             ended) same_left so.2)))
 
         pub begins_so : (result : Result Asks Ended) → MatchResult result
-            (AsksSo old new pair taken journal first course left right
+            (AsksSo old new pair taken journal first progress left right
             (running.taken ++ taken ∷ []))
-            (EndsSo old new pair taken journal first course left right) →
+            (EndsSo old new pair taken journal first progress left right) →
             TakesSo new.archive new.tried pair journal running taken later (written new) result
         begins_so (Ok asks) so = (begins_asking asks so, so.3)
         begins_so (Err ended) so = begins_ending ended so
@@ -179,7 +181,7 @@ module _ {D : Type 0} {disk : Ghosts D} (old : Coordinator D disk) (pair : ℕ) 
 -- ---- it goes on in its plan
 
 -- an answer for an item that does not end the session tells of no directory that is none
-is_stable : (taken : List Exchange) (side : Which) (c : Carriage) (request : Request) →
+is_stable : (taken : List Exchange) (side : Which) (c : TransferSpec) (request : Request) →
     IsForItem c side request → (reply : said.Reply) → fault_of taken side request reply ≡ None →
     is_not_dir reply ≡ false
 is_stable taken side c request it (said.Begun position) fault = refl
@@ -209,15 +211,15 @@ no_such x has = omega (arith, has.1)
 module _ (pair : ℕ) (journal : Journal) (before session : Session) (running : Running)
     (side : Which) (number : ℕ) (request : Request) (reply : said.Reply)
     (is : IsSession journal.value before running)
-    (answers : IsAnswering before session side number request) (course : Course)
-    (was : session.course ≡ Some course) where
+    (answers : IsAnswering before session side number request) (progress : PlanProgress)
+    (was : session.progress ≡ Some progress) where
   abbrev taken : Exchange
   taken = exchange_of side number request reply
 
-  carrying_then : IsCarrying journal.value before course running.taken (reached_by running)
+  carrying_then : IsCarrying journal.value before progress running.taken (reached_by running)
   carrying_then =
       subst (λ c. IsStage journal.value before c running.taken (reached_by running))
-      (sym answers.course ∙ was) is.stage
+      (sym answers.progress ∙ was) is.stage
 
   asked_now : Contains (requests_on (line_of before side)) request
   asked_now = asked_has (waiting_of (line_of before side)) number request answers.asked
@@ -268,26 +270,26 @@ module _ (pair : ℕ) (journal : Journal) (before session : Session) (running : 
 
   module _ (left right : Found) (same_left : left ≡ found_on session Left)
       (same_right : right ≡ found_on session Right) where
-    pub carries_now : Carries journal.value course left right running.taken (reached_by running)
+    pub carries_now : Carries journal.value progress left right running.taken (reached_by running)
         (λ transfer. WaitsFor transfer running.taken side request)
     carries_now =
-        subst (λ l. Carries journal.value course l right running.taken (reached_by running)
+        subst (λ l. Carries journal.value progress l right running.taken (reached_by running)
         (λ transfer. WaitsFor transfer running.taken side request))
         (sym (same_left ∙ ap found_of (same_scan Left)))
-        (subst (λ r. Carries journal.value course (found_on before Left) r running.taken
+        (subst (λ r. Carries journal.value progress (found_on before Left) r running.taken
         (reached_by running) (λ transfer. WaitsFor transfer running.taken side request))
         (sym (same_right ∙ ap found_of (same_scan Right)))
-        (subst (λ w. Carries journal.value course (found_on before Left)
+        (subst (λ w. Carries journal.value progress (found_on before Left)
         (found_on before Right) running.taken (reached_by running)
         (λ transfer. WaitsFor transfer running.taken w request)) asked_side
-        (subst (λ q. Carries journal.value course (found_on before Left)
+        (subst (λ q. Carries journal.value progress (found_on before Left)
         (found_on before Right) running.taken (reached_by running) (λ transfer.
         WaitsFor transfer running.taken carrying_then.to q)) asked_it carrying_then.carries)))
 
     module _ (law : WaitsForItem) {D : Type 0} {disk : Ghosts D} (old new : Coordinator D disk)
-        (nothing : written old ≡ []) (later : Course) where
+        (nothing : written old ≡ []) (later : PlanProgress) where
       abbrev next : Session
-      next = record session { course = Some later }
+      next = record session { progress = Some later }
 
       heard : IsHeard next (hearing running taken)
       heard =
@@ -300,10 +302,10 @@ module _ (pair : ℕ) (journal : Journal) (before session : Session) (running : 
           let it = law carries_now.carried.transfer running.taken side request carries_now.is in
           unstable_then journal.value before session running number request reply is side
           ∙ (ap (λ b. before.is_unstable || b) (is_stable running.taken side
-          (carriage_of carries_now.carried.transfer) request it reply fault)
+          (spec_of carries_now.carried.transfer) request it reply fault)
           ∙ (or_false before.is_unstable ∙ sym answers.unstable))
 
-      tells_before : IsCourse later left right (reached_by running) → Tells next running
+      tells_before : IsPlanProgress later left right (reached_by running) → Tells next running
       tells_before course_is = record {
         number = is.number ∙ sym answers.number_is;
         unstable = is.unstable ∙ sym answers.unstable;
@@ -330,7 +332,7 @@ module _ (pair : ℕ) (journal : Journal) (before session : Session) (running : 
           TakesEnd new.archive new.tried pair journal running taken next (written new) ended
       carries_ending ended (carrying.at_once why fault same is_machine quiet course_is) =
           taking.at_once why fault (tells_before course_is) is_machine (same ∙ nothing)
-          (tries_none pair new.tried journal quiet.0 quiet.1)
+          (tries_none new.tried journal quiet.0 quiet.1)
       carries_ending ended (carrying.afterwards how fault so) =
           subst (λ k. TakesEnd new.archive new.tried pair journal running taken next k ended)
           (sym (so.1 ∙ ap (λ l. l ++ so.0) nothing))

@@ -1,17 +1,19 @@
 -- What breaks off in a call that goes through a plan.
 use Rattle.std.proofs.Common.{◌≡◌, ◌⊎◌, ◌∙◌, None, Ok, Err, inl, inr, ap, refl, subst, sym}
-use Rattle.std.specs.Prelude.{Result, is_some, option_map, true, ◌<◌}
+use Rattle.std.specs.Prelude.{IfErr, Result, is_some, option_map, true, ◌<◌}
 use Rattle.syn_archive.specs.Archive.{disk_of}
-use Rattle.syn_coordinator.specs.Coordinators.{Breaks, BreaksNothing, BreaksOff, broken}
-use Rattle.syn_coordinator.specs.Coordinators.{broken_by, device_of, tried_shown}
+use Rattle.syn_coordinator.specs.Coordinators.{BreaksNothing, BreaksOff, BreaksUnsent, broken}
+use Rattle.syn_coordinator.specs.Coordinators.{FailsOrStops, TellsNone, broken_by, device_of}
 use Rattle.syn_coordinator.specs.declared.coordinator.Broken.TheVariants.{Nothing}
 use Rattle.syn_coordinator.specs.declared.coordinator.Coordinator.{Coordinator}
-use Rattle.syn_coordinator.specs.inner.Advancing.{BreaksBy}
+use Rattle.syn_coordinator.specs.declared.ended.Ended.{Ended}
+use Rattle.syn_coordinator.specs.declared.ended.Ended.TheVariants.{Early, Failed, Settled}
+use Rattle.syn_coordinator.specs.inner.Advancing.{Breaks, BreaksAs, BreaksBy}
 use Rattle.syn_disk.specs.Arms.{is_stopped}
 use Rattle.syn_disk.specs.declared.disk.Disk.{Ghosts}
-use Rattle.syn_keep.specs.Tries.{record_of}
-use Rattle.syn_keep.specs.declared.due.Due.{Due}
-use Rattle.syn_keep.specs.declared.due.Due.TheVariants.{Ends}
+use Rattle.syn_coordinator.specs.Tries.{record_of}
+use Rattle.syn_coordinator.specs.declared.due.Due.{Due}
+use Rattle.syn_coordinator.specs.declared.due.Due.TheVariants as due
 use Rattle.syn_refusal.specs.declared.refusal.Refusal.TheVariants as refusal
 
 module _ {D : Type 0} {disk : Ghosts D} where
@@ -33,42 +35,46 @@ module _ {D : Type 0} {disk : Ghosts D} where
   told_nothing new whole = ap (λ b. broken_by b new.tried) whole
 
   -- a call that forgot first what was told of the one before
-  module _ (old middle new : Coordinator D disk) where
-    pub nothing_told : middle.broke ≡ Nothing → middle.tried ≡ old.tried →
-        middle.archive ≡ old.archive → BreaksNothing middle new → (broken new ≡ None)
-        × (tried_shown new ≡ tried_shown old)
-        × (disk.failures (device_of new) ≡ disk.failures (device_of old))
-    nothing_told whole tried archive nothing = (
-      nothing.broken_is ∙ told_nothing middle whole,
-      nothing.tried_is ∙ tried,
-      nothing.counted ∙ ap (λ a. disk.failures (disk_of a)) archive,
-    )
+  module _ (old middle new : Coordinator D disk) (whole : middle.broke ≡ Nothing)
+      (tried : middle.tried ≡ old.tried) (archive : middle.archive ≡ old.archive) where
+    same : disk.failures (device_of middle) ≡ disk.failures (device_of old)
+    same = ap (λ a. disk.failures (disk_of a)) archive
 
-    pub off_before : middle.archive ≡ old.archive → BreaksOff middle new → BreaksOff old new
-    off_before archive off =
-        let same = ap (λ a. disk.failures (disk_of a)) archive in
-        record {
-          broken_is = off.broken_is;
-          is_told = off.is_told;
-          counted = elim off.counted [
-            | inl grew ↦ inl (subst (λ n. n < disk.failures (device_of new)) same grew)
-            | inr stopped ↦ inr (stopped.0, stopped.1 ∙ same)
-          ];
-        }
+    counted_before : FailsOrStops middle new → FailsOrStops old new
+    counted_before (inl grew) = inl (subst (λ n. n < disk.failures (device_of new)) same grew)
+    counted_before (inr stopped) = inr (stopped.0, stopped.1 ∙ same)
 
-    pub off_then : BreaksOff old middle → BreaksNothing middle new →
-        new.archive ≡ middle.archive → BreaksOff old new
-    off_then off still archive = record {
-      broken_is = still.broken_is
-          ∙ (off.broken_is ∙ ap (option_map record_of) (sym still.tried_is));
-      is_told = ap is_some still.broken_is ∙ off.is_told;
-      counted = subst (λ a. (disk.failures (device_of old) < disk.failures (disk_of a))
-          ⊎ ((is_stopped (disk.arms (disk_of a)) ≡ true)
-          × (disk.failures (disk_of a) ≡ disk.failures (device_of old)))) (sym archive) off.counted;
+    pub none_told : BreaksNothing middle new → TellsNone old new
+    none_told nothing = record {
+      broken_is = nothing.broken_is ∙ told_nothing middle whole;
+      tried_is = nothing.tried_is ∙ tried;
+      counted = inl (nothing.counted ∙ same);
     }
 
-  -- one call after another
+    unsent_told : BreaksUnsent middle new → TellsNone old new
+    unsent_told unsent = record {
+      broken_is = unsent.broken_is ∙ told_nothing middle whole;
+      tried_is = unsent.tried_is ∙ tried;
+      counted = inr (counted_before unsent.counted);
+    }
+
+    pub told_so : (how : Ended) → BreaksAs middle new how → TellsNone old new ⊎ BreaksOff old new
+    told_so Settled nothing = inl (none_told nothing)
+    told_so (Early why) nothing = inl (none_told nothing)
+    told_so Failed (inl unsent) = inl (unsent_told unsent)
+    told_so Failed (inr off) = inr (record {
+      broken_is = off.broken_is;
+      is_told = off.is_told;
+      counted = counted_before off.counted;
+    })
+
+  -- one call after another, of which the first breaks nothing
   module _ (old middle new : Coordinator D disk) (first : BreaksNothing old middle) where
+    counted_first : FailsOrStops middle new → FailsOrStops old new
+    counted_first (inl grew) =
+        inl (subst (λ n. n < disk.failures (device_of new)) first.counted grew)
+    counted_first (inr stopped) = inr (stopped.0, stopped.1 ∙ first.counted)
+
     pub then_nothing : BreaksNothing middle new → BreaksNothing old new
     then_nothing second = record {
       broken_is = second.broken_is ∙ first.broken_is;
@@ -76,34 +82,70 @@ module _ {D : Type 0} {disk : Ghosts D} where
       counted = second.counted ∙ first.counted;
     }
 
-    pub then_off : BreaksOff middle new → BreaksOff old new
-    then_off off = record {
+    pub then_ends : (how : Ended) → BreaksAs middle new how → BreaksAs old new how
+    then_ends Settled nothing = then_nothing nothing
+    then_ends (Early why) nothing = then_nothing nothing
+    then_ends Failed (inl unsent) = inl (record {
+      broken_is = unsent.broken_is ∙ first.broken_is;
+      tried_is = unsent.tried_is ∙ first.tried_is;
+      counted = counted_first unsent.counted;
+    })
+    then_ends Failed (inr off) = inr (record {
       broken_is = off.broken_is;
       is_told = off.is_told;
-      counted = elim off.counted [
-        | inl grew ↦ inl (subst (λ n. n < disk.failures (device_of new)) first.counted grew)
-        | inr stopped ↦ inr (stopped.0, stopped.1 ∙ first.counted)
-      ];
-    }
+      counted = counted_first off.counted;
+    })
 
-    pub then_ends : BreaksNothing middle new ⊎ BreaksOff middle new →
-        BreaksNothing old new ⊎ BreaksOff old new
-    then_ends (inl nothing) = inl (then_nothing nothing)
-    then_ends (inr off) = inr (then_off off)
-
-    pub then_breaks : {A E : Type 0} (result : Result A E) → Breaks middle new result →
+    pub then_breaks : {A : Type 0} (result : Result A Ended) → Breaks middle new result →
         Breaks old new result
     then_breaks (Ok went) nothing = then_nothing nothing
-    then_breaks (Err ended) breaks = then_ends breaks
+    then_breaks (Err how) breaks = then_ends how breaks
+
+  -- or of which the second leaves the archive
+  module _ (old middle new : Coordinator D disk) (still : BreaksNothing middle new)
+      (archive : new.archive ≡ middle.archive) where
+    counted_still : FailsOrStops old middle → FailsOrStops old new
+    counted_still = subst (λ a. (disk.failures (device_of old) < disk.failures (disk_of a))
+        ⊎ ((is_stopped (disk.arms (disk_of a)) ≡ true)
+        × (disk.failures (disk_of a) ≡ disk.failures (device_of old)))) (sym archive)
+
+    pub ends_still : (how : Ended) → BreaksAs old middle how → BreaksAs old new how
+    ends_still Settled nothing = then_nothing old middle new nothing still
+    ends_still (Early why) nothing = then_nothing old middle new nothing still
+    ends_still Failed (inl unsent) = inl (record {
+      broken_is = still.broken_is ∙ unsent.broken_is;
+      tried_is = still.tried_is ∙ unsent.tried_is;
+      counted = counted_still unsent.counted;
+    })
+    ends_still Failed (inr off) = inr (record {
+      broken_is = still.broken_is
+          ∙ (off.broken_is ∙ ap (option_map record_of) (sym still.tried_is));
+      is_told = ap is_some still.broken_is ∙ off.is_told;
+      counted = counted_still off.counted;
+    })
 
   -- what is told of it otherwise
   module _ (old new : Coordinator D disk) where
-    pub nothing_breaks : {A E : Type 0} (result : Result A E) → BreaksNothing old new →
+    -- where lack of memory alone ends it
+    pub nothing_breaks : {A : Type 0} (result : Result A Ended) →
+        IfErr result (λ how. how ≡ Early refusal.Memory) → BreaksNothing old new →
         Breaks old new result
-    nothing_breaks (Ok went) nothing = nothing
-    nothing_breaks (Err ended) nothing = inl nothing
+    nothing_breaks (Ok went) memory nothing = nothing
+    nothing_breaks (Err how) memory nothing = subst (BreaksAs old new) (sym memory) nothing
 
-    -- and of a record that is due
-    pub due_breaks : (due : Due) → BreaksBy old new due → BreaksNothing old new ⊎ BreaksOff old new
-    due_breaks (Ends refusal.Device) off = inr off
-    due_breaks due nothing = inl nothing
+    -- of a record that is due, after which the machine was stopped
+    stopped_short : is_stopped (disk.arms (device_of new)) ≡ true → BreaksNothing old new →
+        BreaksUnsent old new
+    stopped_short stopped nothing = record {
+      broken_is = nothing.broken_is;
+      tried_is = nothing.tried_is;
+      counted = inr (stopped, nothing.counted);
+    }
+
+    pub cut_breaks : (it : Due) → is_stopped (disk.arms (device_of new)) ≡ true →
+        BreaksBy old new it → BreaksAs old new Failed
+    cut_breaks due.Recorded stopped nothing = inl (stopped_short stopped nothing)
+    cut_breaks (due.Refused why) stopped nothing = inl (stopped_short stopped nothing)
+    cut_breaks (due.Ends why) stopped nothing = inl (stopped_short stopped nothing)
+    cut_breaks due.Unsent stopped unsent = inl unsent
+    cut_breaks due.Tried stopped off = inr off

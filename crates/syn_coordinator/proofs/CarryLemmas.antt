@@ -26,14 +26,14 @@ use Rattle.syn_model.specs.Decision.{path_of}
 use Rattle.syn_propagate.specs.Carrying.{source_of, target_of}
 use Rattle.syn_propagate.specs.Carrying as carrying
 use Rattle.syn_propagate.specs.Transfers.{Asks as TransferAsks, WaitsFor as TransferWaitsFor}
-use Rattle.syn_propagate.specs.Transfers.{carriage_of}
-use Rattle.syn_propagate.specs.declared.carriage.Carriage.{Carriage}
-use Rattle.syn_keep.specs.Machines.{Journal}
+use Rattle.syn_propagate.specs.Transfers.{spec_of}
+use Rattle.syn_propagate.specs.declared.transfer_spec.TransferSpec.{TransferSpec}
+use Rattle.syn_coordinator.specs.Machines.{Journal}
 use Rattle.syn_session.specs.Scanning.{found_of}
-use Rattle.syn_session.specs.declared.course.Course.{Course}
+use Rattle.syn_session.specs.declared.plan_progress.PlanProgress.{PlanProgress}
 use Rattle.syn_coordinator.specs.declared.ended.Ended.{Ended}
 use Rattle.syn_session.specs.declared.session.Session.{Session}
-use Rattle.syn_keep.specs.declared.tried.Tried.{Tried}
+use Rattle.syn_coordinator.specs.declared.tried.Tried.{Tried}
 use Rattle.syn_session.specs.Answering.{IsHeard, asks_of}
 use Rattle.syn_coordinator.specs.inner.Taking.{TakesEnd, TakesOn, Walks, reaching}
 use Rattle.syn_session.specs.declared.session.Asks.{Asks}
@@ -41,7 +41,7 @@ use Rattle.syn_session.specs.declared.session.Asks.TheVariants.{Listings, One}
 use Rattle.syn_session.specs.Hearing.{IsAsking, IsFresh}
 use Rattle.syn_session.specs.Sessions.{IsLine, IsStage, Tells, TellsOf}
 use Rattle.syn_image.specs.Archives.{kept_for}
-use Rattle.syn_session.specs.Stages.{Carries, IsCarriageOf, IsCourse, Reached, found_on}
+use Rattle.syn_session.specs.Stages.{Carries, IsCarriageOf, IsPlanProgress, Reached, found_on}
 use Rattle.syn_session.specs.Stages.{line_of, plan_in, reached_by, requests_on, waiting_of}
 use Rattle.syn_coordinator.specs.inner.Taking as taking
 use Rattle.syn_coordinator.specs.inner.Walking.{ComesToAsk, Ends, HasKept, ends, goes_down, plan_at}
@@ -56,7 +56,7 @@ no_such x has = omega (arith, has.1)
 -- ---- what a transfer asks, a session may ask
 
 module _ (archive : model.Archive) (running : Running) (plan : List Planned) (planned : Planned)
-    (c : Carriage) (kept : Kept) (has_plan : running.plan ≡ Some plan) (item : ℕ)
+    (c : TransferSpec) (kept : Kept) (has_plan : running.plan ≡ Some plan) (item : ℕ)
     (come : running.cursor ≡ item) (at : slice_get plan item ≡ Some planned)
     (is : IsCarriageOf c planned item) (recorded : record_for planned planned.item ≡ Some kept)
     (can : kept_refusal archive kept ≡ None) where
@@ -175,8 +175,8 @@ heard_reaching session running taken after h =
     once Right m n a b was_m was_n = h.once Right m n a b was_m was_n
 
 module _ {D : Type 0} {disk : Ghosts D} (new : Archive D disk) (pair : ℕ) (journal : Journal)
-    (running : Running) (taken : Exchange) (session : Session) (course : Course)
-    (is_course : session.course ≡ Some course)
+    (running : Running) (taken : Exchange) (session : Session) (progress : PlanProgress)
+    (is_course : session.progress ≡ Some progress)
     (heard : IsHeard session (hearing running taken))
     (unstable : is_unstable (hearing running taken) ≡ session.is_unstable)
     (silent : (side : Which) → waiting_of (line_of session side) ≡ [])
@@ -185,7 +185,7 @@ module _ {D : Type 0} {disk : Ghosts D} (new : Archive D disk) (pair : ℕ) (jou
     (same_refused : before.refused ≡ running.refused) (same_kept : before.kept ≡ running.kept)
     (logged : Log) (has : HasPlan journal.value (hearing running taken) before.plan logged) where
   tells_course : (after : Reached) →
-      IsCourse course (found_on session Left) (found_on session Right) after →
+      IsPlanProgress progress (found_on session Left) (found_on session Right) after →
       Tells session (reaching running taken after)
   tells_course after is =
       record {
@@ -216,7 +216,7 @@ module _ {D : Type 0} {disk : Ghosts D} (new : Archive D disk) (pair : ℕ) (jou
 
   -- it comes to its end
   pub ends_course : (tried : Option Tried) (kept : List Kept) (ended : Ended) → Ends new tried pair
-      taken journal before kept course (found_on session Left) (found_on session Right) ended →
+      taken journal before kept progress (found_on session Left) (found_on session Right) ended →
       TakesEnd new tried pair journal running taken session kept ended
   ends_course tried kept ended (ends walk after goes cursor refused has_kept why is is_at tries) =
       taking.ends ended walk after (walks_so after kept walk has_kept goes) cursor refused
@@ -228,13 +228,13 @@ module _ {D : Type 0} {disk : Ghosts D} (new : Archive D disk) (pair : ℕ) (jou
 
   -- it asks a side for what comes next
   module _ (kept : List Kept) (asker : Side) (wants : Asked)
-      (comes : ComesToAsk new pair taken journal before kept course (found_on session Left)
+      (comes : ComesToAsk new pair taken journal before kept progress (found_on session Left)
       (found_on session Right) (running.taken ++ taken ∷ []) (One asker wants)) where
     abbrev now_at : Running
     now_at = reaching running taken comes.after
 
-    abbrev c : Carriage
-    c = carriage_of comes.carries.carried.transfer
+    abbrev c : TransferSpec
+    c = spec_of comes.carries.carried.transfer
 
     asked : TransferAsks comes.carries.carried.transfer (running.taken ++ taken ∷ [])
         (which_of asker) (request_of wants)
@@ -313,15 +313,15 @@ module _ {D : Type 0} {disk : Ghosts D} (new : Archive D disk) (pair : ℕ) (jou
     some_so = (which_of asker, let one = ap length (asks_own asker) in omega (arith, one))
 
     carries_later : (later : Session) → IsAsking session later (One asker wants) →
-        Carries comes.journal.value course (found_on later Left) (found_on later Right)
+        Carries comes.journal.value progress (found_on later Left) (found_on later Right)
         (running.taken ++ taken ∷ []) comes.after (λ transfer. TransferWaitsFor transfer
         (running.taken ++ taken ∷ []) (which_of asker) (request_of wants))
     carries_later later asking =
-        subst (λ r. Carries comes.journal.value course (found_on later Left) (found_of r)
+        subst (λ r. Carries comes.journal.value progress (found_on later Left) (found_of r)
         (running.taken ++ taken ∷ []) comes.after (λ transfer. TransferWaitsFor transfer
         (running.taken ++ taken ∷ []) (which_of asker) (request_of wants)))
         (sym (asking.line Right).scan)
-        (subst (λ l. Carries comes.journal.value course (found_of l) (found_on session Right)
+        (subst (λ l. Carries comes.journal.value progress (found_of l) (found_on session Right)
         (running.taken ++ taken ∷ []) comes.after (λ transfer. TransferWaitsFor transfer
         (running.taken ++ taken ∷ []) (which_of asker) (request_of wants)))
         (sym (asking.line Left).scan) (record {
@@ -363,18 +363,18 @@ module _ {D : Type 0} {disk : Ghosts D} (new : Archive D disk) (pair : ℕ) (jou
             let course_is = comes.carries.course_is in
             subst (λ r. MayAsk comes.journal.value now_at side r × IsLawfulBody r) (sym that.1) (
               subst (λ w. MayAsk comes.journal.value now_at w (request_of wants)) (sym that.0)
-                  (may_ask comes.journal.value now_at (plan_in course (found_on session Left)
+                  (may_ask comes.journal.value now_at (plan_in progress (found_on session Left)
                   (found_on session Right)) comes.carries.planned c
-                  (kept_for comes.carries.carried.kept) course_is.plan course.cursor
+                  (kept_for comes.carries.carried.kept) course_is.plan progress.cursor
                   course_is.cursor
-                  comes.carries.at comes.carries.carries.carriage comes.carries.carries.record_is
+                  comes.carries.at comes.carries.carries.spec comes.carries.carries.record_is
                   comes.carries.carries.can (which_of asker) (request_of wants) asked.may),
               asked.lawful,
             );
         some = some_so;
         stage =
             λ later asking. subst (λ o. IsStage comes.journal.value later o
-            (running.taken ++ taken ∷ []) comes.after) (sym (asking.course ∙ is_course)) (record {
+            (running.taken ++ taken ∷ []) comes.after) (sym (asking.progress ∙ is_course)) (record {
               to = which_of asker;
               request = request_of wants;
               waits = now_asks (which_of asker) later asking ∙ asks_own asker;
@@ -385,7 +385,7 @@ module _ {D : Type 0} {disk : Ghosts D} (new : Archive D disk) (pair : ℕ) (jou
     }
 
   pub asks_course : (kept : List Kept) (asks : Asks) (comes : ComesToAsk new pair taken journal
-      before kept course (found_on session Left) (found_on session Right)
+      before kept progress (found_on session Left) (found_on session Right)
       (running.taken ++ taken ∷ []) asks) →
       (is_last taken.reply ≡ true → comes.after.cursor ≢ running.cursor) →
       TakesOn new pair journal running taken session kept asks

@@ -17,7 +17,7 @@ use Rattle.syn_headline.specs.MachineSteps.{opens as opens_down}
 use Rattle.syn_headline.specs.Machine.{Arms, Down, Halted, Meets, Opens, Status, Up, all_made}
 use Rattle.syn_headline.specs.Machine.{one_fails, one_stops, unarmed}
 use Rattle.syn_journal.specs.Layout.{bytes_left}
-use Rattle.syn_journaled.specs.Endings.{Reads}
+use Rattle.syn_journal.specs.Endings.{Reads}
 use Rattle.syn_model.specs.Archive as model
 use Rattle.syn_model.specs.Archive.{CanKeep, Kept}
 use Rattle.syn_model.specs.Path.{Bytes}
@@ -25,17 +25,17 @@ use Rattle.syn_recovery.specs.Calls.{BrokenCallsMeet, CallsMeet, MadeReadsMeet, 
 use Rattle.syn_recovery.specs.Calls.{goes_on}
 use Rattle.syn_recovery.specs.Machines.{ArchivesOpen, of_archive}
 use Rattle.syn_recovery.specs.Meaning.{MayBeOf}
-use Rattle.syn_keep.specs.Machines.{IsMachine, Journal, Runs}
+use Rattle.syn_coordinator.specs.Machines.{IsMachine, Journal, Runs}
 use Rattle.syn_coordinator.specs.Openings.{OpensAs, RestsStill, RestsWith}
 use Rattle.syn_coordinator.specs.Coordinators.{Stands}
-use Rattle.syn_keep.specs.Tries.{found_in, listed}
+use Rattle.syn_coordinator.specs.Tries.{found_in, listed}
 use Rattle.syn_coordinator.specs.declared.coordinator.Coordinator.{Coordinator}
-use Rattle.syn_keep.specs.declared.tried.Tried.{Tried}
-use Rattle.syn_keep.proofs.MachineLemmas.{may_be}
+use Rattle.syn_coordinator.specs.declared.tried.Tried.{Tried}
+use Rattle.syn_coordinator.proofs.MachineLemmas.{may_be}
 use Rattle.syn_coordinator.proofs.OpeningLemmas.{found_is}
 use Rattle.syn_coordinator.proofs.ReopenLemmas.{some_archive}
 use Rattle.syn_coordinator.proofs.TriedLemmas.{tries_still}
-use Rattle.syn_recovery.proofs.DiskLemmas.{may_be_still, one_generation, one_value}
+use Rattle.syn_journal.proofs.DiskLemmas.{may_be_still, one_generation, one_value}
 
 -- where nothing is armed no stop comes, and nothing is armed then
 pub never_stops : (calls failed : ℕ) (now : Arms) → Meets unarmed calls Down now failed → ⊥
@@ -212,7 +212,7 @@ module _ {D : Type 0} (disk : Ghosts D) (pair : ℕ) (device : D) (tried : Optio
                 (armed_at (disk.arms back)) 1 bytes
                 (rests.leaves bytes (read.untouched.nothing_new bytes left));
             tries =
-                tries_still pair tried machine Down (armed_at (disk.arms back)) 1
+                tries_still tried machine Down (armed_at (disk.arms back)) 1
                 (λ _. down_not_up) rests.tries;
           };
         })

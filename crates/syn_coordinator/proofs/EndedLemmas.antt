@@ -1,6 +1,6 @@
 -- How a session ends that is refused for lack of memory.
 use Rattle.std.proofs.Common.{◌≡◌, ◌∙◌, Result, Ok, Err, Some, ap, refl, subst, sym}
-use Rattle.std.specs.Prelude.{IsErrAnd, MatchResult}
+use Rattle.std.specs.Prelude.{IfErr, IsErrAnd, MatchResult}
 use Rattle.syn_coordinator.specs.declared.ended.Ended.{Ended}
 use Rattle.syn_coordinator.specs.declared.ended.Ended.TheVariants.{Early}
 use Rattle.syn_coordinator.specs.inner.Walking.{ended_by}
@@ -22,6 +22,13 @@ pub exit_for_memory : {T : Type 0} (result : Result T Ended) (error : SessionErr
 exit_for_memory (Ok value) error is memory = absurd is
 exit_for_memory (Err how) error is memory =
     ap (λ how. Err how) (early_for_memory how (is ∙ ap (λ e. Some (refusal_of e)) memory))
+
+pub memory_alone : {T : Type 0} (result : Result T Ended) (error : SessionError) →
+    IsErrAnd result (λ how. ended_by how ≡ Some (refusal_of error)) → error ≡ session.Memory →
+    IfErr result (λ how. how ≡ Early refusal.Memory)
+memory_alone (Ok value) error is memory = absurd is
+memory_alone (Err how) error is memory =
+    early_for_memory how (is ∙ ap (λ e. Some (refusal_of e)) memory)
 
 pub match_of_memory : {T : Type 0} (result : Result T Ended) (error : SessionError)
     (P : T → Type 0) (Q : Ended → Type 0) →

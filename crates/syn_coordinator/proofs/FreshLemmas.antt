@@ -12,7 +12,7 @@ use Rattle.syn_model.specs.Decision.{path_of}
 use Rattle.syn_model.specs.Path.{Path, path_cmp}
 use Rattle.syn_model.proofs.PathLemmas.{same_path}
 use Rattle.syn_propagate.specs.Carrying.{IsEarlier, IsFresh}
-use Rattle.syn_propagate.specs.declared.carriage.Carriage.{Carriage}
+use Rattle.syn_propagate.specs.declared.transfer_spec.TransferSpec.{TransferSpec}
 use Rattle.syn_session.specs.Plans.{Plan}
 use Rattle.syn_session.specs.Stages.{AreAskedBefore, IsAskedBefore}
 use Rattle.syn_session.proofs.TallyLemmas.{NamedOnce, paths_apart}
@@ -44,15 +44,15 @@ none_found h (x ∷ xs) never =
     ∙ none_found h xs (λ y has. never y (suc has.0, omega (arith, has.1), has.2))
 
 module _ (plan : Plan) (once : NamedOnce plan) (cursor : ℕ) (planned : Planned)
-    (at : slice_get plan cursor ≡ Some planned) (carriage : Carriage)
-    (item : carriage.item ≡ cursor)
-    (path : carriage.path ≡ path_of planned.item) where
+    (at : slice_get plan cursor ≡ Some planned) (spec : TransferSpec)
+    (item : spec.item ≡ cursor)
+    (path : spec.path ≡ path_of planned.item) where
   other_path : (asked : Path) (since offset : ℕ) →
-      IsAskedBefore plan cursor (Fetch asked since offset) → asked ≡ carriage.path → ⊥
+      IsAskedBefore plan cursor (Fetch asked since offset) → asked ≡ spec.path → ⊥
   other_path asked since offset was same =
       paths_apart plan once was.0 cursor was.1 planned was.3 at was.2 (sym was.4 ∙ (same ∙ path))
 
-  earlier : (request : Request) → IsAskedBefore plan cursor request → IsEarlier carriage 0 0 request
+  earlier : (request : Request) → IsAskedBefore plan cursor request → IsEarlier spec 0 0 request
   earlier (Begin pair) was = tt
   earlier (ListAt path) was = tt
   earlier (Fetch asked since offset) was = λ same. absurd (other_path asked since offset was same)
@@ -60,13 +60,13 @@ module _ (plan : Plan) (once : NamedOnce plan) (cursor : ℕ) (planned : Planned
   earlier (Replace number asked since size) was = λ same. absurd (omega (arith, was, same, item))
 
   told_nothing : (request : Request) (reply : Reply) → IsAskedBefore plan cursor request →
-      piece_total carriage.path request reply ≡ None
+      piece_total spec.path request reply ≡ None
   told_nothing (Fetch asked since offset) (Piece total bytes) was =
-      by (eq_by_cmp path_cmp asked carriage.path) refl
+      by (eq_by_cmp path_cmp asked spec.path) refl
     where
-      by : (b : Bool) → eq_by_cmp path_cmp asked carriage.path ≡ b →
-          piece_total carriage.path (Fetch asked since offset) (Piece total bytes) ≡ None
-      by true same = absurd (other_path asked since offset was (same_path asked carriage.path same))
+      by : (b : Bool) → eq_by_cmp path_cmp asked spec.path ≡ b →
+          piece_total spec.path (Fetch asked since offset) (Piece total bytes) ≡ None
+      by true same = absurd (other_path asked since offset was (same_path asked spec.path same))
       by false other = ap (λ b. if b then Some total else None) other
   told_nothing (Fetch asked since offset) (Begun position) was = refl
   told_nothing (Fetch asked since offset) (Listed position entries) was = refl
@@ -79,11 +79,11 @@ module _ (plan : Plan) (once : NamedOnce plan) (cursor : ℕ) (planned : Planned
   told_nothing (Stage number offset bytes) reply was = refl
   told_nothing (Replace number asked since size) reply was = refl
 
-  pub is_fresh : (taken : List Exchange) → AreAskedBefore plan cursor taken → IsFresh carriage taken
+  pub is_fresh : (taken : List Exchange) → AreAskedBefore plan cursor taken → IsFresh spec taken
   is_fresh taken before = record {
     asked = λ exchange has. earlier exchange.request (before exchange has);
     total =
         ap (λ l. slice_get l 0)
-        (none_found (λ exchange. piece_total carriage.path exchange.request exchange.reply) taken
+        (none_found (λ exchange. piece_total spec.path exchange.request exchange.reply) taken
         (λ exchange has. told_nothing exchange.request exchange.reply (before exchange has)));
   }

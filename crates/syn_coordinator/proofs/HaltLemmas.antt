@@ -4,17 +4,19 @@ use Rattle.std.proofs.Common.{sym}
 use Rattle.std.proofs.lemmas.Bool.{false≢true}
 use Rattle.syn_archive.specs.Archive.{IsHalted, Stands, disk_of}
 use Rattle.syn_archive.specs.declared.archive.Archive.{Archive}
-use Rattle.syn_coordinator.specs.Coordinators.{BreaksNothing, BreaksOff, device_of, tried_shown}
+use Rattle.syn_coordinator.specs.Coordinators.{BreaksOff, BreaksUnsent, device_of}
+use Rattle.syn_coordinator.specs.Coordinators.{FailsOrStops as Counted}
 use Rattle.syn_coordinator.specs.declared.coordinator.Coordinator.{Coordinator}
 use Rattle.syn_coordinator.specs.declared.ended.Ended.{Ended}
+use Rattle.syn_coordinator.specs.inner.Advancing.{BreaksAs}
 use Rattle.syn_coordinator.specs.inner.Taking.{TakesEnd, at_once, ends, goes_down}
 use Rattle.syn_disk.specs.Arms.{is_stopped}
 use Rattle.syn_disk.specs.declared.disk.Disk.{Ghosts}
 use Rattle.syn_headline.specs.Coordinator.{Exchange, Running}
 use Rattle.syn_headline.specs.Machine.{Up}
-use Rattle.syn_keep.specs.Machines.{IsMachine, Journal}
-use Rattle.syn_keep.specs.Steps.{KeepsSo, moves_down, moves_on}
-use Rattle.syn_keep.proofs.DueLemmas.{not_halted, when_halted, when_up}
+use Rattle.syn_coordinator.specs.Machines.{IsMachine, Journal}
+use Rattle.syn_coordinator.specs.Steps.{KeepsSo, moves_down, moves_on}
+use Rattle.syn_coordinator.proofs.DueLemmas.{not_halted, when_halted, when_up}
 use Rattle.syn_model.specs.Archive.{Kept}
 use Rattle.syn_model.specs.Archive as model
 use Rattle.syn_session.specs.declared.session.Session.{Session}
@@ -45,23 +47,28 @@ module _ {D : Type 0} {disk : Ghosts D} (old new : Coordinator D disk) where
   FailsOrStops = (disk.failures (device_of old) < disk.failures (device_of new))
       ⊎ (is_stopped (disk.arms (device_of new)) ≡ true)
 
-  -- the session ended in the call, before which nothing was remembered
+  counted_so : Counted old new → FailsOrStops
+  counted_so (inl grew) = inl grew
+  counted_so (inr stopped) = inr stopped.0
+
+  broken : BreaksUnsent old new ⊎ BreaksOff old new → FailsOrStops
+  broken (inl unsent) = counted_so unsent.counted
+  broken (inr off) = counted_so off.counted
+
+  -- the session ended in the call
   pub ends_by_failure : (pair : ℕ) (journal : Journal) → journal.status ≡ Up → (running : Running)
       (taken : Exchange) (session : Session) (kept : List Kept) (ended : Ended) →
-      tried_shown old ≡ None →
       TakesEnd new.archive new.tried pair journal running taken session kept ended →
-      BreaksNothing old new ⊎ BreaksOff old new → IsHalted new.archive → FailsOrStops
-  ends_by_failure pair journal up running taken session kept _ none how (inr off) halted =
-      elim off.counted as (λ _. FailsOrStops) [ inl grew ↦ inl grew | inr stopped ↦ inr stopped.0 ]
-  ends_by_failure pair journal up running taken session kept _ none
-      (at_once why fault tells is nothing tries) (inl still) halted =
+      BreaksAs old new ended → IsHalted new.archive → FailsOrStops
+  ends_by_failure pair journal up running taken session kept _
+      (at_once why fault tells is nothing tries) breaks halted =
       absurd (up_not_halted new.archive pair journal is up halted)
-  ends_by_failure pair journal up running taken session kept _ none
-      (ends ended walk after walks cursor refused why is tells remembers) (inl still) halted =
-      absurd (false≢true (sym (ap is_some (still.tried_is ∙ none))
-      ∙ remembers.some up (when_halted new.archive pair walk.journal is halted)))
-  ends_by_failure pair journal up running taken session kept _ none
-      (goes_down ended walk after walks stopped down leaves tries) (inl still) halted = inr stopped
+  ends_by_failure pair journal up running taken session kept _
+      (ends ended walk after walks cursor refused why is tells remembers) breaks halted =
+      broken (subst (BreaksAs old new)
+      (remembers.fails up (when_halted new.archive pair walk.journal is halted)) breaks)
+  ends_by_failure pair journal up running taken session kept _
+      (goes_down ended walk after walks stopped down leaves tries) breaks halted = inr stopped
 
 -- and so it was where the calls before and after it left the archive
 pub fails_or_stops : {D : Type 0} {disk : Ghosts D} (first old new last : Coordinator D disk) →

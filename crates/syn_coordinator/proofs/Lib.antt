@@ -5,7 +5,6 @@ pub mod DownLemmas
 pub mod ReopenLemmas
 pub mod RefusedLemmas
 pub mod StartLemmas
-pub mod KeepLemmas
 pub mod TickLemmas
 pub mod MakingLemmas
 pub mod AdvanceLemmas
@@ -22,3 +21,7 @@ pub mod OnwardLemmas
 pub mod BeginLemmas
 pub mod BreakLemmas
 pub mod HaltLemmas
+pub mod MachineLemmas
+pub mod StayLemmas
+pub mod OutcomeLemmas
+pub mod DueLemmas

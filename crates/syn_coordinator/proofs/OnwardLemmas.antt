@@ -10,10 +10,10 @@ use Rattle.syn_headline.specs.Planning.{Planned}
 use Rattle.syn_headline.specs.Side as model
 use Rattle.syn_model.specs.Refusal.{Refusal as Why}
 use Rattle.syn_scan.specs.Found.{Found}
-use Rattle.syn_keep.specs.Machines.{IsMachine, Journal}
+use Rattle.syn_coordinator.specs.Machines.{IsMachine, Journal}
 use Rattle.syn_session.specs.declared.answering.Carrying.TheVariants as carrying
 use Rattle.syn_coordinator.specs.declared.coordinator.Coordinator.{Coordinator}
-use Rattle.syn_session.specs.declared.course.Course.{Course}
+use Rattle.syn_session.specs.declared.plan_progress.PlanProgress.{PlanProgress}
 use Rattle.syn_session.specs.declared.session.Asks.{Asks}
 use Rattle.syn_session.specs.Passing.{refused_at}
 use Rattle.syn_coordinator.specs.inner.Carrying.{AsksLater, CarriesOn, EndsCarrying, afterwards}
@@ -28,45 +28,45 @@ use Rattle.syn_coordinator.proofs.WalkLemmas.{passes_refused}
 
 module _ {D : Type 0} {disk : Ghosts D} (pair : ℕ) (taken : Exchange) (journal : Journal)
     (before : Reached) (left right : Found) (all : List Exchange) (old middle : Coordinator D disk)
-    (was course : Course) (planned : Planned)
+    (was progress : PlanProgress) (planned : Planned)
     (out : IsCarriedOut was left right all before planned)
-    (past : IsPast old middle pair taken journal before course left right) where
+    (past : IsPast old middle pair taken journal before progress left right) where
   -- it is past the item, and nothing was asked for the next
-  come : HasCome old middle pair taken journal before course left right all
+  come : HasCome old middle pair taken journal before progress left right all
   come = (
     past.0,
     past.1,
     past.3,
     omega (arith, past.2),
-    subst (λ p. AreAskedBefore p course.cursor all) plans
+    subst (λ p. AreAskedBefore p progress.cursor all) plans
         (subst (λ n. AreAskedBefore (plan_in was left right) n all) next out.asked),
     past.4,
   )
     where
-      plans : plan_in was left right ≡ plan_in course left right
+      plans : plan_in was left right ≡ plan_in progress left right
       plans =
           some_in _ _ (sym out.course_is.plan
           ∙ (sym past.3.passes.has.plan ∙ past.3.course_is.plan))
 
-      next : suc was.cursor ≡ course.cursor
+      next : suc was.cursor ≡ progress.cursor
       next = ap suc (sym out.course_is.cursor) ∙ past.2
 
   -- nothing is being written there
   pub still_quiet : IsQuiet old journal → IsQuiet middle past.3.journal
   still_quiet quiet = (past.4, past.3.passes.quiet quiet.1)
 
-  pub at_next : IsAtItem course left right all past.3.after
+  pub at_next : IsAtItem progress left right all past.3.after
   unfolding come
-  at_next = at_turn pair taken journal before left right all old middle course come
+  at_next = at_turn pair taken journal before left right all old middle progress come
 
-  module _ (new : Coordinator D disk) (later : Course) where
+  module _ (new : Coordinator D disk) (later : PlanProgress) where
     pub asks_later : (asks : Asks) →
         AsksSo middle new pair taken past.3.journal past.3.after later left right all asks →
         AsksLater old new pair taken journal before later left right all asks
     unfolding come
     asks_later asks so = record {
       asks_so =
-          turn_asks pair taken journal before left right all old middle course come new later asks
+          turn_asks pair taken journal before left right all old middle progress come new later asks
           so;
       later =
           omega (
@@ -75,7 +75,7 @@ module _ {D : Type 0} {disk : Ghosts D} (pair : ℕ) (taken : Exchange) (journal
             past.3.course_is.cursor,
             so.2.onward,
             turn_further pair taken
-                journal before left right all old middle course come new later asks so,
+                journal before left right all old middle progress come new later asks so,
           );
     }
 
@@ -84,7 +84,7 @@ module _ {D : Type 0} {disk : Ghosts D} (pair : ℕ) (taken : Exchange) (journal
         EndsSo old new pair taken journal before later left right how
     unfolding come
     ends_later how so =
-        turn_ends pair taken journal before left right all old middle course come new later how so
+        turn_ends pair taken journal before left right all old middle progress come new later how so
 
     pub later_so : (result : Result Asks Ended) → MatchResult result
         (AsksSo middle new pair taken past.3.journal past.3.after later left right all)
@@ -96,42 +96,42 @@ module _ {D : Type 0} {disk : Ghosts D} (pair : ℕ) (taken : Exchange) (journal
 
 -- a side refused what was asked for the item
 pub refused_so : (pair : ℕ) (taken : Exchange) (journal : Journal) (before : Reached)
-    (left right : Found) (all : List Exchange) (course : Course) (planned : Planned)
-    (out : IsCarriedOut course left right all before planned) (why : Why) →
-    taken.reply ≡ model.Refused why → IsFor course.cursor planned taken.request →
+    (left right : Found) (all : List Exchange) (progress : PlanProgress) (planned : Planned)
+    (out : IsCarriedOut progress left right all before planned) (why : Why) →
+    taken.reply ≡ model.Refused why → IsFor progress.cursor planned taken.request →
     Passes pair taken journal before journal (refused_at before why planned) []
-refused_so pair taken journal before left right all course planned out why refused asked =
+refused_so pair taken journal before left right all progress planned out why refused asked =
     passes_refused pair taken journal before planned
     (ap (λ p. slice_get (option_map_or (λ plan. plan) p []) before.cursor) out.course_is.plan
-    ∙ (ap (slice_get (plan_in course left right)) out.course_is.cursor ∙ out.at))
+    ∙ (ap (slice_get (plan_in progress left right)) out.course_is.cursor ∙ out.at))
     why refused (subst (λ n. IsFor n planned taken.request) (sym out.course_is.cursor) asked)
 
 module _ {D : Type 0} {disk : Ghosts D} (pair : ℕ) (taken : Exchange) (journal : Journal)
     (before : Reached) (left right : Found) (all : List Exchange) where
   -- it asks for the same item again
-  pub carries_further : (coordinator : Coordinator D disk) (course : Course) →
+  pub carries_further : (coordinator : Coordinator D disk) (progress : PlanProgress) →
       IsMachine coordinator.archive pair journal → IsQuiet coordinator journal → (asks : Asks) →
-      TakesAnswer journal.value left right all before taken course (Ok (carrying.Asks asks)) →
-      CarriesOn coordinator coordinator pair taken journal before course left right all asks
-  carries_further coordinator course is quiet asks took = record {
+      TakesAnswer journal.value left right all before taken progress (Ok (carrying.Asks asks)) →
+      CarriesOn coordinator coordinator pair taken journal before progress left right all asks
+  carries_further coordinator progress is quiet asks took = record {
     fault = took.0;
     asks_so =
-        asks_here pair taken journal before left right coordinator is quiet course
+        asks_here pair taken journal before left right coordinator is quiet progress
         (all ++ taken ∷ []) asks took.1.1;
     last = λ last. absurd (false≢true (sym took.1.0 ∙ last));
   }
 
   -- it is past the item
-  pub goes_later : (old new : Coordinator D disk) (course : Course) →
+  pub goes_later : (old new : Coordinator D disk) (progress : PlanProgress) →
       fault_of all taken.side taken.request taken.reply ≡ None →
       (result : Result Asks Ended) → MatchResult result
-      (AsksLater old new pair taken journal before course left right (all ++ taken ∷ []))
-      (EndsSo old new pair taken journal before course left right) →
-      MatchResult result (CarriesOn old new pair taken journal before course left right all)
-      (EndsCarrying old new pair taken journal before course left right all)
-  goes_later old new course fault (Ok asks) so = record {
+      (AsksLater old new pair taken journal before progress left right (all ++ taken ∷ []))
+      (EndsSo old new pair taken journal before progress left right) →
+      MatchResult result (CarriesOn old new pair taken journal before progress left right all)
+      (EndsCarrying old new pair taken journal before progress left right all)
+  goes_later old new progress fault (Ok asks) so = record {
     fault = fault;
     asks_so = so.asks_so;
     last = λ last same. omega (arith, so.later, same);
   }
-  goes_later old new course fault (Err how) so = afterwards how fault so
+  goes_later old new progress fault (Err how) so = afterwards how fault so

@@ -1,10 +1,10 @@
 -- What another opening of an archive found of the record that was tried.
 use Rattle.std.proofs.Common.{◌≡◌, ◌⊎◌, ◌≤◌, ◌-◌, ◌==◌, ◌+◌, ℕ, suc, Bool, true, false, nat_lt}
 use Rattle.std.proofs.Common.{List, [], ◌∷◌, ◌++◌, length, Option, Some, None, if◌then◌else◌, refl}
-use Rattle.std.proofs.Common.{sym, ap, ap₂, ◌∙◌, inl, inr, arith}
+use Rattle.std.proofs.Common.{sym, ap, ap₂, ◌∙◌, inl, inr, arith, subst}
 use Rattle.std.specs.Prelude.{◌&&◌}
 use Rattle.std.proofs.lemmas.Bool.Decides.{nat_tests}
-use Rattle.std.proofs.lemmas.Option.{none-some}
+use Rattle.std.proofs.lemmas.Option.{none-some, same_Some}
 use Rattle.syn_archive.specs.Archive.{generation_shown, left_shown}
 use Rattle.syn_archive.specs.Disks.{kept_size}
 use Rattle.syn_archive.specs.declared.archive.Archive.{Archive}
@@ -15,9 +15,9 @@ use Rattle.syn_model.specs.Archive.{CanKeep, Kept, Recorded, RecordedDir, Sessio
 use Rattle.std.specs.Int.{to_be_bytes, w64}
 use Rattle.syn_model.specs.MarkSpelling.{mark_spelling}
 use Rattle.syn_model.specs.Path.{path_spelling}
-use Rattle.syn_keep.specs.Machines.{Journal}
-use Rattle.syn_keep.specs.Tries.{IsWriting, Tries, found_in, is_in, listed, record_of}
-use Rattle.syn_keep.specs.declared.tried.Tried.{Tried}
+use Rattle.syn_coordinator.specs.Machines.{Journal}
+use Rattle.syn_coordinator.specs.Tries.{Tries, found_in, is_in, listed, record_of}
+use Rattle.syn_coordinator.specs.declared.tried.Tried.{Tried}
 use Rattle.syn_coordinator.proofs.TriedLemmas.{room_left}
 
 -- ---- numbers
@@ -27,9 +27,6 @@ is_same m n e = grind (arith, nat_tests)
 
 is_later : (m n : ℕ) → m ≡ suc n → (m == n) ≡ false
 is_later m n e = grind (arith, nat_tests)
-
-is_before : (m n : ℕ) → suc m ≡ n → (m == n) ≡ false
-is_before m n e = grind (arith, nat_tests)
 
 not_less : (m n : ℕ) → m ≡ n → nat_lt m n ≡ false
 not_less m n e = grind (arith, nat_tests)
@@ -51,20 +48,14 @@ takes_six (Recorded path marks) = six (length (path_spelling path ++ mark_spelli
 takes_six (RecordedDir path) = six (length (path_spelling path))
 
 -- where nothing was added there is not less room in the same generation
-no_less : (room generation image left before now after : ℕ) →
-    ((left ≡ room) × (before ≡ generation)) ⊎ ((left ≡ image) × (before ≡ suc generation)) →
+no_less : (room generation image now after : ℕ) →
     ((now ≡ room) × (after ≡ generation)) ⊎ ((now ≡ image) × (after ≡ suc generation)) →
-    ((after == before) && nat_lt (now - 5) (left - 5)) ≡ false
-no_less room generation image left before now after (inl was) (inl is) =
-    ap (λ b. (after == before) && b) (not_less _ _ (ap (λ n. n - 5) (is.0 ∙ sym was.0)))
-    ∙ or_not (after == before)
-no_less room generation image left before now after (inl was) (inr is) =
-    ap (λ b. b && nat_lt (now - 5) (left - 5)) (is_later after before (is.1 ∙ ap suc (sym was.1)))
-no_less room generation image left before now after (inr was) (inl is) =
-    ap (λ b. b && nat_lt (now - 5) (left - 5)) (is_before after before (ap suc is.1 ∙ sym was.1))
-no_less room generation image left before now after (inr was) (inr is) =
-    ap (λ b. (after == before) && b) (not_less _ _ (ap (λ n. n - 5) (is.0 ∙ sym was.0)))
-    ∙ or_not (after == before)
+    ((after == generation) && nat_lt (now - 5) (room - 5)) ≡ false
+no_less room generation image now after (inl is) =
+    ap (λ b. (after == generation) && b) (not_less _ _ (ap (λ n. n - 5) is.0))
+    ∙ or_not (after == generation)
+no_less room generation image now after (inr is) =
+    ap (λ b. b && nat_lt (now - 5) (room - 5)) (is_later after generation is.1)
 
 -- how a journal was left, but for the checkpoint that was under way
 either : (pair : ℕ) (machine : Journal) (room generation : ℕ) →
@@ -79,7 +70,7 @@ module _ {D : Type 0} {disk : Ghosts D} (archive : Archive D disk) (pair : ℕ)
     (machine : Journal) where
   -- what its readings tell is what the opening gave
   pub found_is : (tried : Option Tried) (calls : ℕ) (new : Journal) (kept : List Kept) →
-      Tries pair tried machine → Opens (archive_layout pair) CanKeep machine calls new kept →
+      Tries tried machine → Opens (archive_layout pair) CanKeep machine calls new kept →
       left_shown archive ≡ new.room → generation_shown archive ≡ new.generation →
       kept ≡ listed (found_in tried archive)
   found_is None calls new kept tries (opened room generation arms meets left) shown numbered = refl
@@ -93,23 +84,23 @@ module _ {D : Type 0} {disk : Ghosts D} (archive : Archive D disk) (pair : ℕ)
       none_in =
           ap₂ (λ g n. (g == tried.generation) && nat_lt n tried.room) numbered
           (room_left archive ∙ ap (λ n. n - 5) shown)
-          ∙ (ap (λ n. (generation == tried.generation) && nat_lt (room - 5) n) tries.room_is
+          ∙ (ap₂ (λ g n. (generation == g) && nat_lt (room - 5) n) tries.generation_is
+          tries.room_is
           ∙ no_less machine.room machine.generation (room_after
-          ((archive_layout pair).image machine.value)) tries.left tried.generation room generation
-          (either pair machine tries.left tried.generation tries.as_left)
+          ((archive_layout pair).image machine.value)) room generation
           (either pair machine room generation left))
   found_is (Some tried) calls new kept tries (recovered arms one meets writing can) shown numbered =
-      ap (λ k. k ∷ []) was.kept_is
+      ap (λ k. k ∷ []) same
       ∙ sym (ap (λ b. listed (if b then Some (record_of tried) else None)) some_in)
     where
-      was : IsWriting tried tries.left machine one
-      was = tries.writing one writing
+      same : one ≡ record_of tried
+      same = same_Some _ _ (sym writing ∙ tries.writing)
 
       some_in : is_in tried archive ≡ true
       some_in =
           ap₂ (λ g n. (g == tried.generation) && nat_lt n tried.room) numbered
           (room_left archive ∙ ap (λ n. n - 5) shown)
           ∙ (ap₂ (λ b n. b && nat_lt (machine.room - kept_size one - 5) n)
-          (is_same machine.generation tried.generation (sym was.generation_is))
-          (tries.room_is ∙ ap (λ n. n - 5) was.left_is)
-          ∙ less machine.room (kept_size one) was.fits (takes_six one))
+          (is_same machine.generation tried.generation (sym tries.generation_is)) tries.room_is
+          ∙ less machine.room (kept_size one)
+          (subst (λ k. kept_size k ≤ machine.room) (sym same) tries.fits) (takes_six one))

@@ -12,27 +12,27 @@ use Rattle.syn_headline.specs.Coordinator.{Exchange, settled, stands}
 use Rattle.syn_headline.specs.Planning.{Planned}
 use Rattle.syn_headline.specs.Session.{record_for}
 use Rattle.syn_model.specs.Archive.{kept_refusal, Kept}
-use Rattle.syn_propagate.specs.Transfers.{carriage_of}
+use Rattle.syn_propagate.specs.Transfers.{spec_of}
 use Rattle.syn_refusal.specs.Refusals.{cause_of}
 use Rattle.syn_refusal.specs.declared.refusal.Refusal.{Refusal}
 use Rattle.syn_refusal.specs.declared.refusal.Refusal.TheVariants as refusal
 use Rattle.syn_scan.specs.Found.{Found}
 use Rattle.syn_coordinator.specs.Coordinators.{written}
-use Rattle.syn_keep.specs.Machines.{IsMachine, Journal}
+use Rattle.syn_coordinator.specs.Machines.{IsMachine, Journal}
 use Rattle.syn_coordinator.specs.declared.coordinator.Coordinator.{Coordinator}
-use Rattle.syn_session.specs.declared.course.Carried.{Carried}
+use Rattle.syn_session.specs.declared.plan_progress.Carried.{Carried}
 use Rattle.syn_session.specs.Carrying.{AsksOne}
-use Rattle.syn_session.specs.declared.course.Course.{Course}
+use Rattle.syn_session.specs.declared.plan_progress.PlanProgress.{PlanProgress}
 use Rattle.syn_session.specs.declared.session.Asks.{Asks}
 use Rattle.syn_coordinator.specs.declared.ended.Ended.{Ended}
 use Rattle.syn_coordinator.specs.declared.ended.Ended.TheVariants.{Early, Settled}
 use Rattle.syn_session.specs.Passing.{refused_at}
 use Rattle.syn_session.specs.Plans.{Plan}
 use Rattle.syn_coordinator.specs.inner.Settling.{AsksSo, EndsSo, HasCome, IsPast, IsQuiet, PassesOn}
-use Rattle.syn_keep.specs.declared.tried.Tried.{Tried}
+use Rattle.syn_coordinator.specs.declared.tried.Tried.{Tried}
 use Rattle.syn_coordinator.proofs.AdvanceLemmas.{remembers_still}
 use Rattle.syn_coordinator.proofs.TriedLemmas.{tries_none}
-use Rattle.syn_session.specs.Stages.{AreAskedBefore, Carries, IsCarriageOf, IsCourse, Reached}
+use Rattle.syn_session.specs.Stages.{AreAskedBefore, Carries, IsCarriageOf, IsPlanProgress, Reached}
 use Rattle.syn_session.specs.Stages.{plan_in}
 use Rattle.syn_coordinator.specs.inner.Walking.{Ends, IsAtItem, Passes, ends, walk_at}
 use Rattle.syn_coordinator.proofs.FreshLemmas.{asked_past}
@@ -62,35 +62,36 @@ module _ {D : Type 0} {disk : Ghosts D} (pair : ℕ) (taken : Exchange) (journal
     (before : Reached) (left right : Found) where
   -- the archive refuses the record of what is carried
   pub carried_unfit : (archive : Archive D disk) → IsMachine archive pair journal →
-      (course : Course) → IsCourse course left right before → (planned : Planned) →
-      slice_get (plan_in course left right) course.cursor ≡ Some planned → (carried : Carried) →
-      IsCarriageOf (carriage_of carried.transfer) planned course.cursor →
+      (progress : PlanProgress) → IsPlanProgress progress left right before → (planned : Planned) →
+      slice_get (plan_in progress left right) progress.cursor ≡ Some planned → (carried : Carried) →
+      IsCarriageOf (spec_of carried.transfer) planned progress.cursor →
       record_for planned planned.item ≡ Some (kept_for carried.kept) → (why : Refusal) →
       Some (cause_of why) ≡ kept_refusal (shown archive) (kept_for carried.kept) →
       Passes pair taken journal before journal (refused_at before (cause_of why) planned) []
-  carried_unfit archive is course course_is planned at carried carriage record_is why refused =
+  carried_unfit archive is progress course_is planned at carried spec record_is why refused =
       passes_unfit pair taken journal before planned
-      (at_walk before course left right course_is planned at) (kept_for carried.kept)
+      (at_walk before progress left right course_is planned at) (kept_for carried.kept)
       (cause_of why) record_is
-      (inl (is_carried planned (carriage_of carried.transfer) course.cursor carriage))
+      (inl (is_carried planned (spec_of carried.transfer) progress.cursor spec))
       (ap (λ a. kept_refusal a (kept_for carried.kept)) (sym is.remembers) ∙ sym refused)
 
   -- no item is left
   pub ends_settled : (archive : Archive D disk) (tried : Option Tried) →
-      IsMachine archive pair journal → tried ≡ None → journal.writing ≡ None → (course : Course) →
-      IsCourse course left right before →
-      slice_get (plan_in course left right) course.cursor ≡ None →
-      Ends archive tried pair taken journal before [] course left right Settled
-  ends_settled archive tried is untried quiet course course_is none =
+      IsMachine archive pair journal → tried ≡ None → journal.writing ≡ None →
+      (progress : PlanProgress) →
+      IsPlanProgress progress left right before →
+      slice_get (plan_in progress left right) progress.cursor ≡ None →
+      Ends archive tried pair taken journal before [] progress left right Settled
+  ends_settled archive tried is untried quiet progress course_is none =
       ends (walk_at journal before) before
       (stands (walk_at journal before)) refl refl (keeps_none before)
       (λ running same. settled (subst IsSome (sym (same ∙ course_is.plan)) refl)
       (ap (λ p. slice_get (option_map_or (λ plan. plan) p []) before.cursor) (same ∙ course_is.plan)
-      ∙ (ap (slice_get (plan_in course left right)) course_is.cursor ∙ none)) refl)
-      is course_is (remembers_still pair journal.status tried journal
-      (tries_none pair tried journal untried quiet) refl)
+      ∙ (ap (slice_get (plan_in progress left right)) course_is.cursor ∙ none)) refl)
+      is course_is (remembers_still journal.status tried journal
+      (tries_none tried journal untried quiet) _ refl)
 
-  module _ (old new : Coordinator D disk) (was later : Course) (all : List Exchange)
+  module _ (old new : Coordinator D disk) (was later : PlanProgress) (all : List Exchange)
       (at : IsAtItem was left right all before) where
     -- nothing was asked for the item after
     pub on_past : IsPast old new pair taken journal before later left right →
@@ -110,9 +111,10 @@ module _ {D : Type 0} {disk : Ghosts D} (pair : ℕ) (taken : Exchange) (journal
         next : suc was.cursor ≡ later.cursor
         next = ap suc (sym at.course_is.cursor) ∙ past.2
 
-  -- memory is refused, and the course stays
+  -- memory is refused, and the progress stays
   pub ends_here : (coordinator : Coordinator D disk) → IsMachine coordinator.archive pair journal →
-      IsQuiet coordinator journal → (was later : Course) → IsCourse was left right before →
+      IsQuiet coordinator journal → (was later : PlanProgress) →
+      IsPlanProgress was left right before →
       later ≡ was → (how : Ended) → how ≡ Early refusal.Memory →
       EndsSo coordinator coordinator pair taken journal before later left right how
   ends_here coordinator is quiet was later course_is same how memory = (
@@ -128,11 +130,11 @@ module _ {D : Type 0} {disk : Ghosts D} (pair : ℕ) (taken : Exchange) (journal
 
   -- it asks for the item that it has come to
   pub asks_here : (coordinator : Coordinator D disk) → IsMachine coordinator.archive pair journal →
-      IsQuiet coordinator journal → (course : Course) (all : List Exchange) (asks : Asks) →
-      Carries journal.value course left right all before
+      IsQuiet coordinator journal → (progress : PlanProgress) (all : List Exchange) (asks : Asks) →
+      Carries journal.value progress left right all before
       (λ transfer. AsksOne transfer all asks) →
-      AsksSo coordinator coordinator pair taken journal before course left right all asks
-  asks_here coordinator is quiet course all asks carries = (
+      AsksSo coordinator coordinator pair taken journal before progress left right all asks
+  asks_here coordinator is quiet progress all asks carries = (
     [],
     sym (append-nil _),
     record {
@@ -155,9 +157,10 @@ module _ {D : Type 0} {disk : Ghosts D} (pair : ℕ) (taken : Exchange) (journal
     (before : Reached) (left right : Found) (all : List Exchange) where
   -- before the first
   pub no_turn : (coordinator : Coordinator D disk) → IsMachine coordinator.archive pair journal →
-      IsQuiet coordinator journal → (course : Course) → IsAtItem course left right all before →
-      HasCome coordinator coordinator pair taken journal before course left right all
-  no_turn coordinator is quiet course at = (
+      IsQuiet coordinator journal → (progress : PlanProgress) →
+      IsAtItem progress left right all before →
+      HasCome coordinator coordinator pair taken journal before progress left right all
+  no_turn coordinator is quiet progress at = (
     [],
     sym (append-nil _),
     record {
@@ -172,10 +175,10 @@ module _ {D : Type 0} {disk : Ghosts D} (pair : ℕ) (taken : Exchange) (journal
     quiet.0,
   )
 
-  module _ (first middle : Coordinator D disk) (course : Course)
-      (come : HasCome first middle pair taken journal before course left right all) where
+  module _ (first middle : Coordinator D disk) (progress : PlanProgress)
+      (come : HasCome first middle pair taken journal before progress left right all) where
     -- where a turn begins
-    pub at_turn : IsAtItem course left right all come.2.after
+    pub at_turn : IsAtItem progress left right all come.2.after
     at_turn = record { course_is = come.2.course_is; asked = come.4 }
 
     -- and nothing is being written there
@@ -184,21 +187,21 @@ module _ {D : Type 0} {disk : Ghosts D} (pair : ℕ) (taken : Exchange) (journal
 
     -- it runs out of turns
     pub no_turn_left : journal.writing ≡ None → (how : Ended) → how ≡ Early refusal.Memory →
-        EndsSo first middle pair taken journal before course left right how
+        EndsSo first middle pair taken journal before progress left right how
     no_turn_left quiet how memory = (
       come.0,
       come.1,
-      subst (λ l. Ends middle.archive middle.tried pair taken journal before l course left right
+      subst (λ l. Ends middle.archive middle.tried pair taken journal before l progress left right
           how) (append-nil come.0)
           (ends_after pair taken journal come.2.journal before come.2.after come.0 come.2.passes
-          middle.archive [] course left right middle.tried how
+          middle.archive [] progress left right middle.tried how
           (subst (λ e. Ends middle.archive middle.tried pair taken come.2.journal come.2.after
-          [] course left right e) (sym memory)
+          [] progress left right e) (sym memory)
           (ends_for_memory middle.archive middle.tried pair taken come.2.journal come.2.after
-          course left right come.2.is come.5 (come.2.passes.quiet quiet) come.2.course_is))),
+          progress left right come.2.is come.5 (come.2.passes.quiet quiet) come.2.course_is))),
     )
 
-    module _ (last : Coordinator D disk) (later : Course) where
+    module _ (last : Coordinator D disk) (later : PlanProgress) where
       both : (kept : List Kept) → written last ≡ written middle ++ kept →
           written last ≡ written first ++ (come.0 ++ kept)
       both kept more =
@@ -239,8 +242,9 @@ module _ {D : Type 0} {disk : Ghosts D} (pair : ℕ) (taken : Exchange) (journal
       )
 
       -- and stands where it then stands
-      pub turn_further : (asks : Asks) (so :
-          AsksSo middle last pair taken come.2.journal come.2.after later left right all asks) →
+      pub turn_further : (asks : Asks)
+          (so : AsksSo middle last pair taken come.2.journal come.2.after later left right all
+          asks) →
           (turn_asks asks so).2.after.cursor ≡ so.2.after.cursor
       unfolding turn_asks
       turn_further asks so = refl

@@ -25,20 +25,20 @@ use Rattle.syn_model.specs.Archive.{CanKeep, Kept}
 use Rattle.syn_coordinator.specs.Coordinators.{ReopensNot, Does, Stands, heard, checkpoint_causes}
 use Rattle.syn_coordinator.specs.Coordinators.{checkpoint_refusals, device_of, ended_in, in_report}
 use Rattle.syn_coordinator.specs.Coordinators.{report_shown, runs, goes_on, goes_down}
-use Rattle.syn_keep.specs.Tries.{Tries, found_in, listed}
+use Rattle.syn_coordinator.specs.Tries.{Tries, found_in, listed}
 use Rattle.syn_coordinator.proofs.OpeningLemmas.{found_is}
-use Rattle.syn_keep.specs.declared.tried.Tried.{Tried}
+use Rattle.syn_coordinator.specs.declared.tried.Tried.{Tried}
 use Rattle.syn_coordinator.proofs.TriedLemmas.{tries_none, tries_still, untried_up}
 use Rattle.syn_coordinator.proofs.ReopenLemmas.{Reopened, opened_again, cut_off, NotReopened}
 use Rattle.syn_coordinator.proofs.ReopenLemmas.{stayed, went_down}
-use Rattle.syn_keep.specs.Machines.{Journal, Runs, Fails, IsMachine}
+use Rattle.syn_coordinator.specs.Machines.{Journal, Runs, Fails, IsMachine}
 use Rattle.syn_coordinator.specs.declared.coordinator.Coordinator.{Coordinator}
 use Rattle.syn_session.specs.Sessions.{IsRunning, IsSession}
 use Rattle.syn_session.specs.declared.session.Session.{Session}
 use Rattle.std.proofs.lemmas.Option.{none-some}
-use Rattle.syn_keep.specs.Steps.{CompactsSo, Moves, moves_on, moves_down}
-use Rattle.syn_keep.proofs.OutcomeLemmas.{failed}
-use Rattle.syn_keep.proofs.DueLemmas.{is_greatest, is_less}
+use Rattle.syn_coordinator.specs.Steps.{CompactsSo, Moves, moves_on, moves_down}
+use Rattle.syn_coordinator.proofs.OutcomeLemmas.{failed}
+use Rattle.syn_coordinator.proofs.DueLemmas.{is_greatest, is_less}
 
 -- by what each of the causes is
 causes_with : (machine : CoordinatorMachine) (halted full : Bool) →
@@ -169,8 +169,8 @@ runs_up archive pair journal is up =
     [ inl runs ↦ runs | inr fails ↦ absurd (halted_not_up (sym fails.halted ∙ up)) ]
 
 cut_tries : (pair : ℕ) (tried : Option Tried) (machine journal : Journal) (kept : List Kept) →
-    Reopened pair machine journal kept → journal.status ≡ Down → Tries pair tried machine →
-    Tries pair tried journal
+    Reopened pair machine journal kept → journal.status ≡ Down → Tries tried machine →
+    Tries tried journal
 cut_tries pair tried machine journal kept
     (opened_again calls new now some (opened room generation arms meets left)) down tries =
     absurd (up_not_down down)
@@ -178,16 +178,16 @@ cut_tries pair tried machine journal kept
     (opened_again calls new now some (recovered arms one meets writing can)) down tries =
     absurd (up_not_down down)
 cut_tries pair tried machine journal kept (cut_off calls arms failures meets) down tries =
-    tries_still pair tried machine Down arms failures (λ _. down_not_up) tries
+    tries_still tried machine Down arms failures (λ _. down_not_up) tries
 
 unopened_tries : (pair : ℕ) (tried : Option Tried) (machine journal : Journal) (met left : Status) →
     (machine.status ≢ Up → left ≢ Up) → NotReopened machine met left journal →
-    Tries pair tried machine → Tries pair tried journal
+    Tries tried machine → Tries tried journal
 unopened_tries pair tried machine journal met left stops (stayed calls arms failures meets) tries =
-    tries_still pair tried machine left arms failures stops tries
+    tries_still tried machine left arms failures stops tries
 unopened_tries pair tried machine journal met left stops
     (went_down calls arms failures meets) tries =
-    tries_still pair tried machine Down arms failures (λ _. down_not_up) tries
+    tries_still tried machine Down arms failures (λ _. down_not_up) tries
 
 -- a session stays what it is where the archive of the machine does
 pub runs_still : (a b : model.Archive) (session : Option Session) (running : Option Running) →
@@ -223,7 +223,7 @@ module _ {D : Type 0} {disk : Ghosts D} (old new : Coordinator D disk) (pair : �
   stands_with : (status : Status) → status ≢ Down → (journal : Journal) → journal.status ≡ status →
       IsMachine new.archive pair journal → (is_some machine.running ≡ true →
       (journal.value ≡ machine.journal.value) × (journal.writing ≡ None)) →
-      (is_some machine.running ≡ true → new.tried ≡ None) → Tries pair new.tried journal →
+      (is_some machine.running ≡ true → new.tried ≡ None) → Tries new.tried journal →
       Stands new pair (with_archive machine journal)
   stands_with status up journal is_status is keeps untried tries =
       let running = still_running status up journal is_status in record {
@@ -240,16 +240,16 @@ module _ {D : Type 0} {disk : Ghosts D} (old new : Coordinator D disk) (pair : �
 
   -- nothing was tried at a machine that is up, and a checkpoint writes no record
   tries_none_up : Runs old.archive machine.journal → new.tried ≡ old.tried → (journal : Journal) →
-      Compacts (archive_layout pair) machine.journal journal → Tries pair new.tried journal
+      Compacts (archive_layout pair) machine.journal journal → Tries new.tried journal
   tries_none_up was same_tried journal compacts =
-      tries_none pair new.tried journal
-      (same_tried ∙ untried_up pair old.tried machine.journal stands.tries was.up)
+      tries_none new.tried journal
+      (same_tried ∙ untried_up old.tried machine.journal stands.tries was.up)
       ((compact_keeps pair machine.journal journal compacts).1 ∙ was.idle)
 
   pub checkpoint_does : Runs old.archive machine.journal → new.tried ≡ old.tried →
       (status : Status) → status ≢ Down → CompactsSo new.archive pair machine.journal status →
       Does old new pair (Checkpoints (coordinator_kind pair) machine) [] []
-  checkpoint_does was same_tried status up (moves_on journal (compacts, shown) is_status is) =
+  checkpoint_does was same_tried status up (moves_on journal compacts is_status is) =
       goes_on _ _ (checkpoints journal compacts)
       (stands_with status up journal is_status is (λ some. (
         (compact_keeps pair _ _ compacts).0,
@@ -257,29 +257,29 @@ module _ {D : Type 0} {disk : Ghosts D} (old new : Coordinator D disk) (pair : �
       )) (λ some. same_tried
       ∙ stands.untried some) (tries_none_up was same_tried journal compacts)) refl refl none_ended
   checkpoint_does was same_tried status up
-      (moves_down journal (compacts, shown) stopped down leaves) =
+      (moves_down journal compacts stopped down leaves) =
       goes_down _ _ (checkpoints journal compacts) stopped down leaves refl
       (tries_none_up was same_tried journal compacts)
 
   -- it forgets what was tried once it is opened again
   tries_again : (kept : List Kept) (journal : Journal) →
       Reopened pair machine.journal journal kept → journal.status ≡ Up → new.tried ≡ None →
-      Tries pair new.tried journal
+      Tries new.tried journal
   tries_again kept journal again up forgets =
-      tries_none pair new.tried journal forgets
+      tries_none new.tried journal forgets
       (opened_quiet pair machine.journal journal kept again up)
 
   tries_cut : (kept : List Kept) (journal : Journal) → Reopened pair machine.journal journal kept →
-      journal.status ≡ Down → new.tried ≡ old.tried → Tries pair new.tried journal
+      journal.status ≡ Down → new.tried ≡ old.tried → Tries new.tried journal
   tries_cut kept journal again down same_tried =
-      subst (λ t. Tries pair t journal) (sym same_tried)
+      subst (λ t. Tries t journal) (sym same_tried)
       (cut_tries pair old.tried machine.journal journal kept again down stands.tries)
 
   tries_unopened : (met left : Status) → (machine.journal.status ≢ Up → left ≢ Up) →
       (journal : Journal) → NotReopened machine.journal met left journal → new.tried ≡ old.tried →
-      Tries pair new.tried journal
+      Tries new.tried journal
   tries_unopened met left stops journal not_opened same_tried =
-      subst (λ t. Tries pair t journal) (sym same_tried) (unopened_tries pair old.tried
+      subst (λ t. Tries t journal) (sym same_tried) (unopened_tries pair old.tried
       machine.journal journal met left stops not_opened stands.tries)
 
   -- what it gave is what the archive shows

@@ -17,13 +17,13 @@ use Rattle.syn_model.specs.Refusal.{Memory}
 use Rattle.syn_refusal.specs.Refusals.{cause_of}
 use Rattle.syn_coordinator.specs.Coordinators.{Does, Stands, in_report, report_shown, runs}
 use Rattle.syn_coordinator.specs.Coordinators as does
-use Rattle.syn_keep.specs.Machines.{IsMachine}
+use Rattle.syn_coordinator.specs.Machines.{IsMachine}
 use Rattle.syn_coordinator.specs.declared.coordinator.Coordinator.{Coordinator}
-use Rattle.syn_keep.specs.Tries.{Tries}
+use Rattle.syn_coordinator.specs.Tries.{Tries}
 use Rattle.syn_coordinator.specs.declared.ended.Ended.{Ended}
 use Rattle.syn_session.specs.declared.session.Asks.{Asks}
 use Rattle.syn_session.specs.declared.session.Session.{Session}
-use Rattle.syn_keep.specs.declared.tried.Tried.{Tried}
+use Rattle.syn_coordinator.specs.declared.tried.Tried.{Tried}
 use Rattle.syn_coordinator.specs.inner.Answered.{Answered, goes_down, goes_on, reported}
 use Rattle.syn_session.specs.Answering.{IsAnswering, IsAskedOn, asks_of, exchange_of}
 use Rattle.syn_session.specs.Answering.{messages_asked}
@@ -41,12 +41,12 @@ use Rattle.std.proofs.lemmas.Option.{none-some}
 
 -- what a session tells stays with its number, its plan and whether it is unstable
 pub tells_same : (old new : Session) (running : Running) → new.number ≡ old.number →
-    new.is_unstable ≡ old.is_unstable → new.course ≡ old.course → Tells old running →
+    new.is_unstable ≡ old.is_unstable → new.progress ≡ old.progress → Tells old running →
     Tells new running
-tells_same old new running number unstable course tells = record {
+tells_same old new running number unstable progress tells = record {
   number = tells.number ∙ sym number;
   unstable = tells.unstable ∙ sym unstable;
-  told = subst (λ c. TellsOf c (reached_by running)) (sym course) tells.told;
+  told = subst (λ c. TellsOf c (reached_by running)) (sym progress) tells.told;
 }
 
 -- how far it came, as the model says it
@@ -71,12 +71,12 @@ module _ (pair : ℕ) (machine : CoordinatorMachine) (running : Running) (taken 
       (number : next.number ≡ session.number)
       (preferred : next.preference ≡ session.preference) (unstable : next.is_unstable ≡
       session.is_unstable)
-      (course : next.course ≡ session.course) where
+      (progress : next.progress ≡ session.progress) where
     abbrev heard : Running
     heard = reaching running taken on.after
 
     abbrev asks_it : IsAsking session next asks
-    asks_it = record { line = asked; course = course }
+    asks_it = record { line = asked; progress = progress }
 
     abbrev says : model.Running → model.Running
     says r = asking r (asks_of asks Left) (asks_of asks Right)
@@ -124,7 +124,7 @@ module _ (pair : ℕ) (machine : CoordinatorMachine) (running : Running) (taken 
               (subst (λ r. IsSession on.now.value next (says r)) (sym same) is_session);
           quiet = λ _. on.quiet quiet;
           untried = λ _. untried;
-          tries = tries_none pair new.tried on.now untried (on.quiet quiet);
+          tries = tries_none new.tried on.now untried (on.quiet quiet);
         }) refl
         (ap (λ r. sent_now r (asks_of asks Left) (asks_of asks Right)) same
         ∙ (sym (sends_that heard session next asks on.heard asked number preferred on.may.may_wait
@@ -151,7 +151,7 @@ module _ (pair : ℕ) (machine : CoordinatorMachine) (running : Running) (taken 
         goes_on _ _ (model.ends on.after.plan on.walks.logged (walk_at on.now on.after) kept
         (Some Memory) on.walks.fault on.walks.has on.walks.goes (model.no_memory on.status))
         (no_session new pair on.now on.is is_over
-        (tries_none pair new.tried on.now untried (on.quiet quiet))) refl refl
+        (tries_none new.tried on.now untried (on.quiet quiet))) refl refl
         (ap (λ r. report_of r (Some Memory) ∷ []) same
         ∙ report_is (reaching running taken on.after) (Some Memory) (told _ on.tells))
 
@@ -244,7 +244,7 @@ module _ {D : Type 0} {disk : Ghosts D} (old new : Coordinator D disk) (pair : �
             (sym running) stands.running;
         quiet = stands.quiet;
         untried = λ some. tried ∙ stands.untried some;
-        tries = subst (λ t. Tries pair t machine.journal) (sym tried) stands.tries;
+        tries = subst (λ t. Tries t machine.journal) (sym tried) stands.tries;
       }) (sym no_kept) (sym no_messages) (sym (ap (λ s. if runs old && not (is_some s)
       then in_report (report_shown new) else []) running ∙ by (runs old)))
     where

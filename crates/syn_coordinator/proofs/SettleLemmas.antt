@@ -16,30 +16,30 @@ use Rattle.syn_model.specs.Archive as model
 use Rattle.syn_model.specs.Archive.{Kept}
 use Rattle.syn_model.specs.Plan.{PlanIsOrderly}
 use Rattle.syn_propagate.specs.Carrying.{IsFresh}
-use Rattle.syn_propagate.specs.Transfers.{carriage_of}
-use Rattle.syn_session.specs.declared.course.Carried.{Carried}
+use Rattle.syn_propagate.specs.Transfers.{spec_of}
+use Rattle.syn_session.specs.declared.plan_progress.Carried.{Carried}
 use Rattle.syn_coordinator.proofs.FreshLemmas.{is_fresh}
 use Rattle.syn_recon.specs.Items.{items_of}
 use Rattle.syn_refusal.specs.Refusals.{cause_of}
 use Rattle.syn_refusal.specs.declared.refusal.Refusal.{Refusal}
 use Rattle.syn_refusal.specs.declared.refusal.Refusal.TheVariants as refusal
 use Rattle.syn_scan.specs.Found.{Found}
-use Rattle.syn_keep.specs.Machines.{IsMachine, Journal}
-use Rattle.syn_session.specs.declared.course.Course.{Course}
-use Rattle.syn_keep.specs.declared.due.Due.{Due}
-use Rattle.syn_keep.specs.declared.due.Due.TheVariants as due
+use Rattle.syn_coordinator.specs.Machines.{IsMachine, Journal}
+use Rattle.syn_session.specs.declared.plan_progress.PlanProgress.{PlanProgress}
+use Rattle.syn_coordinator.specs.declared.due.Due.{Due}
+use Rattle.syn_coordinator.specs.declared.due.Due.TheVariants as due
 use Rattle.syn_coordinator.specs.declared.ended.Ended.{Ended}
 use Rattle.syn_coordinator.specs.declared.ended.Ended.TheVariants.{Early}
-use Rattle.syn_keep.specs.declared.tried.Tried.{Tried}
+use Rattle.syn_coordinator.specs.declared.tried.Tried.{Tried}
 use Rattle.syn_coordinator.proofs.TriedLemmas.{tries_none}
-use Rattle.syn_coordinator.specs.inner.Advancing.{Advanced, ended, kept_by, kept_it, refused_it}
-use Rattle.syn_coordinator.specs.inner.Advancing.{stopped}
+use Rattle.syn_coordinator.specs.inner.Advancing.{Advanced, EndsAs, ended, kept_by, kept_it}
+use Rattle.syn_coordinator.specs.inner.Advancing.{refused_it, stopped}
 use Rattle.syn_session.specs.Passing.{kept_at, refused_at}
-use Rattle.syn_keep.specs.Due.{Settles, TriesBy, recorded}
-use Rattle.syn_session.specs.Stages.{AreAskedBefore, IsCarriedFor, IsCourse, Reached, plan_in}
+use Rattle.syn_coordinator.specs.Due.{Settles, TriesBy, recorded}
+use Rattle.syn_session.specs.Stages.{AreAskedBefore, IsCarriedFor, IsPlanProgress, Reached, plan_in}
 use Rattle.syn_coordinator.specs.inner.Walking.{Comes, Ends, ends, goes_down, plan_at, walk_at}
 use Rattle.syn_coordinator.proofs.AdvanceLemmas.{advanced, remembers_still}
-use Rattle.syn_keep.proofs.DueLemmas.{when_up}
+use Rattle.syn_coordinator.proofs.DueLemmas.{when_up}
 use Rattle.syn_session.proofs.PlanLemmas.{named_once}
 use Rattle.syn_coordinator.proofs.WalkLemmas.{ends_at, keeps_none, passes_by}
 
@@ -50,53 +50,54 @@ pub tries_by : {D : Type 0} {disk : Ghosts D} (new : Archive D disk) (what : Kep
 tries_by new what old tried due none tries = subst (λ o. TriesBy new what o tried due) none tries
 
 -- the item of the plan that the walk has come to
-pub at_walk : (before : Reached) (course : Course) (left right : Found) →
-    IsCourse course left right before → (planned : Planned) →
-    slice_get (plan_in course left right) course.cursor ≡ Some planned →
+pub at_walk : (before : Reached) (progress : PlanProgress) (left right : Found) →
+    IsPlanProgress progress left right before → (planned : Planned) →
+    slice_get (plan_in progress left right) progress.cursor ≡ Some planned →
     slice_get (plan_at before) before.cursor ≡ Some planned
-at_walk before course left right is planned at =
+at_walk before progress left right is planned at =
     ap (λ p. slice_get (option_map_or (λ plan. plan) p []) before.cursor) is.plan
-    ∙ (ap (slice_get (plan_in course left right)) is.cursor ∙ at)
+    ∙ (ap (slice_get (plan_in progress left right)) is.cursor ∙ at)
 
 module _ {D : Type 0} {disk : Ghosts D} (new : Archive D disk) (tried : Option Tried) (pair : ℕ)
     (taken : Exchange) (journal : Journal) (before : Reached) where
   -- lack of memory ends it where it is
-  pub ends_for_memory : (course : Course) (left right : Found) → IsMachine new pair journal →
-      tried ≡ None → journal.writing ≡ None → IsCourse course left right before →
-      Ends new tried pair taken journal before [] course left right (Early refusal.Memory)
-  ends_for_memory course left right is untried quiet course_is =
+  pub ends_for_memory : (progress : PlanProgress) (left right : Found) →
+      IsMachine new pair journal →
+      tried ≡ None → journal.writing ≡ None → IsPlanProgress progress left right before →
+      Ends new tried pair taken journal before [] progress left right (Early refusal.Memory)
+  ends_for_memory progress left right is untried quiet course_is =
       ends (walk_at journal before) before
       (stands (walk_at journal before)) refl refl (keeps_none before)
       (λ running same. no_memory refl) is course_is
-      (remembers_still pair journal.status tried journal
-      (tries_none pair tried journal untried quiet) refl)
+      (remembers_still journal.status tried journal
+      (tries_none tried journal untried quiet) _ refl)
 
-  module _ (course : Course) (left right : Found)
-      (is : IsCourse course left right before) (planned : Planned)
-      (at : slice_get (plan_in course left right) course.cursor ≡ Some planned) where
-    module _ (what : Kept) (is_due : IsDue course.cursor planned taken what)
+  module _ (progress : PlanProgress) (left right : Found)
+      (is : IsPlanProgress progress left right before) (planned : Planned)
+      (at : slice_get (plan_in progress left right) progress.cursor ≡ Some planned) where
+    module _ (what : Kept) (is_due : IsDue progress.cursor planned taken what)
         (quiet : journal.writing ≡ None) where
       pub became : (due : Due) → Settles new pair journal what due →
           TriesBy new what None tried due →
           Advanced new tried pair (plan_at before) taken (walk_at journal before) planned what due
       became due settles tries =
           advanced new tried pair (plan_at before) taken (walk_at journal before) planned what refl
-          (at_walk before course left right is planned at)
+          (at_walk before progress left right is planned at)
           (subst (λ n. IsDue n planned taken what) (sym is.cursor) is_due) due settles quiet tries
 
       -- the machine is down
       pub is_cut_off : (due : Due) → Settles new pair journal what due →
           TriesBy new what None tried due →
-          is_stopped (disk.arms (disk_of new)) ≡ true → (course : Course) (how : Ended) →
-          Ends new tried pair taken journal before (kept_by what due) course left right how
-      is_cut_off due settles tries cut course how = by due (became due settles tries)
+          is_stopped (disk.arms (disk_of new)) ≡ true → (progress : PlanProgress) (how : Ended) →
+          Ends new tried pair taken journal before (kept_by what due) progress left right how
+      is_cut_off due settles tries cut progress how = by due (became due settles tries)
         where
           by : (due : Due) → Advanced new tried pair (plan_at before) taken
               (walk_at journal before) planned what due →
-              Ends new tried pair taken journal before (kept_by what due) course left right how
+              Ends new tried pair taken journal before (kept_by what due) progress left right how
           by due (kept_it journal advances up is) = absurd (false≢true (sym is.goes ∙ cut))
           by due (refused_it why advances is) = absurd (false≢true (sym is.goes ∙ cut))
-          by due (ended why later advances cursor refused for is tries) =
+          by due (ended _ how later so advances cursor refused for is tries) =
               absurd (false≢true (sym is.goes ∙ cut))
           by due (stopped became later advances down cut leaves tries) =
               goes_down later advances cut down leaves tries
@@ -106,8 +107,9 @@ module _ {D : Type 0} {disk : Ghosts D} (new : Archive D disk) (tried : Option T
 
       -- it is kept, or refused, and the machine goes on
       module _ (goes : is_stopped (disk.arms (disk_of new)) ≡ false) where
-        pub is_kept : Settles new pair journal what due.Recorded → tried ≡ None → (later : Course) →
-            IsCourse later left right (kept_at before what) →
+        pub is_kept : Settles new pair journal what due.Recorded → tried ≡ None →
+            (later : PlanProgress) →
+            IsPlanProgress later left right (kept_at before what) →
             Comes new pair taken journal before (what ∷ []) later left right
         is_kept settles tries later course_is = by (became due.Recorded settles tries)
           where
@@ -123,6 +125,7 @@ module _ {D : Type 0} {disk : Ghosts D} (new : Archive D disk) (tried : Option T
               is = is;
               course_is = course_is;
             }
+            by (ended _ how later so advances cursor refused for is tries) = absurd so
             by (stopped became later advances down cut leaves tries) =
                 absurd (false≢true (sym goes ∙ cut))
 
@@ -134,11 +137,12 @@ module _ {D : Type 0} {disk : Ghosts D} (new : Archive D disk) (tried : Option T
               by : Advanced new tried pair (plan_at before) taken (walk_at journal before) planned
                   what (due.Refused why) → IsMachine new pair journal
               by (refused_it why advances is) = is
+              by (ended _ how later so advances cursor refused for is tries) = absurd so
               by (stopped became later advances down cut leaves tries) =
                   absurd (false≢true (sym goes ∙ cut))
 
-          pub is_refused : (later : Course) →
-              IsCourse later left right (refused_at before (cause_of why) planned) →
+          pub is_refused : (later : PlanProgress) →
+              IsPlanProgress later left right (refused_at before (cause_of why) planned) →
               Comes new pair taken journal before [] later left right
           is_refused later course_is = by (became (due.Refused why) settles tries)
             where
@@ -154,26 +158,29 @@ module _ {D : Type 0} {disk : Ghosts D} (new : Archive D disk) (tried : Option T
                 is = is;
                 course_is = course_is;
               }
+              by (ended _ how later so advances cursor refused for is tries) = absurd so
               by (stopped became later advances down cut leaves tries) =
                   absurd (false≢true (sym goes ∙ cut))
 
-      pub is_ended : (why : Refusal) → Settles new pair journal what (due.Ends why) →
-          TriesBy new what None tried (due.Ends why) →
-          Ends new tried pair taken journal before [] course left right (Early why)
-      is_ended why settles tries =
-          ends_at pair taken journal before new tried planned what course left right why is
-          (became (due.Ends why) settles tries)
+      pub is_ended : (it : Due) (how : Ended) → EndsAs it how → Settles new pair journal what it →
+          TriesBy new what None tried it →
+          Ends new tried pair taken journal before [] progress left right how
+      is_ended it how so settles tries =
+          ends_at pair taken journal before new tried planned what progress left right it how so is
+          (became it settles tries)
 
 -- ---- what is carried
 
 -- nothing was asked yet for what is carried
-pub fresh_for : PlanIsOrderly → (archive : model.Archive) (course : Course) (left right : Found)
-    (reached : Reached) (is : IsCourse course left right reached) (planned : Planned)
-    (at : slice_get (plan_in course left right) course.cursor ≡ Some planned) (carried : Carried) →
-    IsCarriedFor archive carried planned course.cursor → (all : List Exchange) →
-    AreAskedBefore (plan_in course left right) course.cursor all →
-    IsFresh (carriage_of carried.transfer) all
-fresh_for orderly archive course left right reached is planned at carried carries all asked =
-    is_fresh (plan_in course left right) (named_once is.made.0 left right is.made.1
-    (items_of course.items.items) is.made.2 orderly) course.cursor planned at
-    (carriage_of carried.transfer) carries.carriage.item_is carries.carriage.path_is all asked
+pub fresh_for : PlanIsOrderly → (archive : model.Archive) (progress : PlanProgress)
+    (left right : Found)
+    (reached : Reached) (is : IsPlanProgress progress left right reached) (planned : Planned)
+    (at : slice_get (plan_in progress left right) progress.cursor ≡ Some planned)
+    (carried : Carried) →
+    IsCarriedFor archive carried planned progress.cursor → (all : List Exchange) →
+    AreAskedBefore (plan_in progress left right) progress.cursor all →
+    IsFresh (spec_of carried.transfer) all
+fresh_for orderly archive progress left right reached is planned at carried carries all asked =
+    is_fresh (plan_in progress left right) (named_once is.made.0 left right is.made.1
+    (items_of progress.items.items) is.made.2 orderly) progress.cursor planned at
+    (spec_of carried.transfer) carries.spec.item_is carries.spec.path_is all asked

@@ -21,12 +21,12 @@ use Rattle.syn_coordinator.specs.Coordinators.{runs, goes_on, goes_down, refusal
 use Rattle.syn_coordinator.specs.declared.coordinator.Coordinator.{Coordinator}
 use Rattle.syn_session.specs.Sessions.{IsRunning, IsSession, begun}
 use Rattle.syn_session.specs.declared.session.Session.{Session as Ran}
-use Rattle.syn_keep.specs.Machines.{IsMachine, Journal}
-use Rattle.syn_keep.specs.Tries.{HoldsTried, IsShown, Tries}
-use Rattle.syn_coordinator.proofs.TriedLemmas.{failed_at, fits_in, kept_quiet, tries_held}
+use Rattle.syn_coordinator.specs.Machines.{IsMachine, Journal}
+use Rattle.syn_coordinator.specs.Tries.{HoldsTried, IsShown, Tries}
+use Rattle.syn_coordinator.proofs.TriedLemmas.{failed_at, kept_quiet, tries_held}
 use Rattle.syn_coordinator.proofs.TriedLemmas.{tries_none}
 use Rattle.syn_archive.specs.declared.archive.Archive.{Archive}
-use Rattle.syn_keep.specs.Steps.{KeepsSo, moves_on, moves_down}
+use Rattle.syn_coordinator.specs.Steps.{KeepsSo, moves_on, moves_down}
 use Rattle.syn_model.specs.Which.{Which}
 
 is_up : Status → Bool
@@ -86,7 +86,7 @@ idle_when_up archive pair journal is up = elim is.state as (λ _. journal.writin
 -- no session runs
 pub no_session : {D : Type 0} {disk : Ghosts D} (coordinator : Coordinator D disk) (pair : ℕ)
     (journal : Journal) → IsMachine coordinator.archive pair journal → coordinator.running ≡ None →
-    Tries pair coordinator.tried journal →
+    Tries coordinator.tried journal →
     Stands coordinator pair (record { journal = journal; running = None })
 no_session coordinator pair journal is running tries = record {
   journal = is;
@@ -124,36 +124,33 @@ module _ {D : Type 0} {disk : Ghosts D} (preference : Option Which)
           quiet = λ _. idle_when_up new.archive pair journal is up;
           untried = λ _. untried;
           tries =
-              tries_none pair new.tried journal untried
+              tries_none new.tried journal untried
               (idle_when_up new.archive pair journal is up);
         }) refl refl no_report
     started quiet untried session running begins
         (moves_down journal (keeps, shown) stopped down leaves) =
         goes_down _ _ (start_breaks number journal (Session number ∷ []) refl keeps (not_up down))
-        stopped down leaves refl (tries_none pair new.tried journal untried
+        stopped down leaves refl (tries_none new.tried journal untried
         (kept_quiet pair machine.journal journal (Session number) (Session number) keeps quiet))
 
   -- and what was being written is remembered
-  remembers : (quiet : machine.journal.writing ≡ None)
-      (held : HoldsTried new.archive (Session number) new.tried) →
+  remembers : HoldsTried new.archive (Session number) new.tried →
       has_room (archive_layout pair) machine.journal (Session number) ≡ true → (journal : Journal) →
-      Keeps pair machine.journal (Session number) journal [] → IsShown new.archive pair journal →
-      journal.status ≢ Up → Tries pair new.tried journal
-  remembers quiet held has journal keeps shown stops =
-      tries_held pair new.archive (Session number) new.tried journal held stops shown
-      (failed_at pair machine.journal journal (Session number) keeps quiet)
-      (fits_in pair machine.journal journal (Session number) keeps quiet has)
+      Keeps pair machine.journal (Session number) journal [] → IsShown new.archive journal →
+      journal.status ≢ Up → Tries new.tried journal
+  remembers held has journal keeps shown stops =
+      tries_held new.archive (Session number) new.tried journal held stops shown
+      (failed_at pair machine.journal journal (Session number) keeps has)
 
   -- the device failed as the number was kept
-  pub start_failed : machine.journal.writing ≡ None →
-      HoldsTried new.archive (Session number) new.tried →
+  pub start_failed : HoldsTried new.archive (Session number) new.tried →
       has_room (archive_layout pair) machine.journal (Session number) ≡ true → new.running ≡ None →
       KeepsSo new.archive pair machine.journal (Session number) [] Halted →
       Does old new pair (CoordinatorStarts pair preference machine) [] []
-  start_failed quiet held has running (moves_on journal (keeps, shown) halted is) =
+  start_failed held has running (moves_on journal (keeps, shown) halted is) =
       goes_on _ _ (start_breaks number journal [] refl keeps (halted_not_up halted))
       (no_session new pair journal is running
-      (remembers quiet held has journal keeps shown (halted_not_up halted))) refl refl no_report
-  start_failed quiet held has running (moves_down journal (keeps, shown) stopped down leaves) =
+      (remembers held has journal keeps shown (halted_not_up halted))) refl refl no_report
+  start_failed held has running (moves_down journal (keeps, shown) stopped down leaves) =
       goes_down _ _ (start_breaks number journal [] refl keeps (not_up down)) stopped down leaves
-      refl (remembers quiet held has journal keeps shown (not_up down))
+      refl (remembers held has journal keeps shown (not_up down))

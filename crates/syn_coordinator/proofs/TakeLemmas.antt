@@ -8,12 +8,12 @@ use Rattle.syn_headline.specs.Coordinator.{no_memory, stands, stays}
 use Rattle.syn_model.specs.Archive.{Kept}
 use Rattle.syn_model.specs.Archive as model
 use Rattle.syn_refusal.specs.declared.refusal.Refusal.{Refusal}
-use Rattle.syn_keep.specs.Machines.{IsMachine, Journal}
-use Rattle.syn_keep.specs.Tries.{Tries}
+use Rattle.syn_coordinator.specs.Machines.{IsMachine, Journal}
+use Rattle.syn_coordinator.specs.Tries.{Tries}
 use Rattle.syn_coordinator.specs.declared.ended.Ended.TheVariants.{Early}
 use Rattle.syn_session.specs.declared.session.Asks.{Asks}
 use Rattle.syn_session.specs.declared.session.Session.{Session}
-use Rattle.syn_keep.specs.declared.tried.Tried.{Tried}
+use Rattle.syn_coordinator.specs.declared.tried.Tried.{Tried}
 use Rattle.syn_session.specs.Hearing.{EndsHearing, HasHeard, MayGoOn, at_once, afterwards}
 use Rattle.syn_session.specs.Stages.{reached_by}
 use Rattle.syn_coordinator.specs.inner.Taking.{TakesEnd, TakesOn, Walks, reaching}
@@ -56,7 +56,7 @@ module _ {D : Type 0} {disk : Ghosts D} (new : Archive D disk) (pair : ℕ) (jou
         may = may journal.value;
       })
 
-  pub hears_end : (tried : Option Tried) → Tries pair tried journal → (kept : List Kept) →
+  pub hears_end : (tried : Option Tried) → Tries tried journal → (kept : List Kept) →
       kept ≡ [] → (why : Refusal) → EndsHearing session running taken why →
       TakesEnd new tried pair journal running taken session kept (Early why)
   hears_end tried tries kept nothing why (at_once fault tells) =
@@ -67,4 +67,4 @@ module _ {D : Type 0} {disk : Ghosts D} (new : Archive D disk) (pair : ℕ) (jou
       (walks_none fault) refl refl
       (subst (λ w. EndsFor pair (reaching running taken (reached_by running)) taken journal.status
       (walk_at journal (reached_by running)) (Some w)) (sym memory) (no_memory refl)) is tells
-      (remembers_still pair journal.status tried journal tries refl))
+      (remembers_still journal.status tried journal tries _ refl))

@@ -11,8 +11,8 @@ use Rattle.syn_headline.specs.Network.{Left, Right, Message}
 use Rattle.syn_model.specs.Refusal.{Refusal, NoAnswer, Memory}
 use Rattle.syn_coordinator.specs.Coordinators.{Does, Stands, ended_in, in_report, report_shown}
 use Rattle.syn_coordinator.specs.Coordinators.{runs, goes_on}
-use Rattle.syn_keep.specs.Machines.{IsMachine}
-use Rattle.syn_keep.specs.Tries.{Tries}
+use Rattle.syn_coordinator.specs.Machines.{IsMachine}
+use Rattle.syn_coordinator.specs.Tries.{Tries}
 use Rattle.syn_coordinator.specs.declared.coordinator.Coordinator.{Coordinator}
 use Rattle.syn_session.specs.Sessions.{IsRunning, IsSession, Tells, is_worn_now, messages_now}
 use Rattle.syn_session.specs.Sessions.{resent_once, IsStage, TellsOf, is_worn_out}
@@ -20,7 +20,7 @@ use Rattle.syn_session.specs.declared.session.Session.{Session as Ran, Session}
 use Rattle.syn_model.specs.Archive as model
 use Rattle.std.proofs.lemmas.Bool.{false≢true}
 use Rattle.std.proofs.lemmas.List.Folds.{list_any-append}
-use Rattle.syn_session.specs.declared.course.Course.{Course}
+use Rattle.syn_session.specs.declared.plan_progress.PlanProgress.{PlanProgress}
 use Rattle.syn_session.specs.Stages.{reached_by, waiting_of}
 
 -- none is there
@@ -39,13 +39,13 @@ worn_so archive session running is =
 pub tells_now : (archive : model.Archive) (session : Session) (running : Running) →
     IsSession archive session running → Tells session running
 tells_now archive session running is =
-    record { number = is.number; unstable = is.unstable; told = by session.course is.stage }
+    record { number = is.number; unstable = is.unstable; told = by session.progress is.stage }
   where
-    by : (course : Option Course) →
-        IsStage archive session course running.taken (reached_by running) →
-        TellsOf course (reached_by running)
+    by : (progress : Option PlanProgress) →
+        IsStage archive session progress running.taken (reached_by running) →
+        TellsOf progress (reached_by running)
     by None stage = stage.nothing
-    by (Some course) stage = (_, _, stage.carries.course_is)
+    by (Some progress) stage = (_, _, stage.carries.course_is)
 
 -- both run a session, or none does
 pub run_alike : (archive : model.Archive) (session : Option Ran) (running : Option Running) →
@@ -76,7 +76,7 @@ module _ {D : Type 0} {disk : Ghosts D} (old new : Coordinator D disk) (pair : �
         quiet = λ some. stands.quiet (before some);
         untried = λ some. same_tried
             ∙ stands.untried (before some);
-        tries = subst (λ t. Tries pair t machine.journal) (sym same_tried) stands.tries;
+        tries = subst (λ t. Tries t machine.journal) (sym same_tried) stands.tries;
       }
 
   ended_by : (was is : Bool) → runs old ≡ was → runs new ≡ is →

@@ -16,17 +16,17 @@ use Rattle.syn_model.specs.Archive.{Kept, kept_refusal}
 use Rattle.syn_model.specs.Decision.{Conflict}
 use Rattle.syn_model.specs.Path.{Path}
 use Rattle.syn_model.specs.Refusal.{Refusal}
-use Rattle.syn_refusal.specs.declared.refusal.Refusal.{Refusal as Why}
 use Rattle.syn_scan.specs.Found.{Found}
-use Rattle.syn_keep.specs.Machines.{Journal}
-use Rattle.syn_session.specs.declared.course.Course.{Course}
-use Rattle.syn_keep.specs.declared.due.Due.TheVariants as due
+use Rattle.syn_coordinator.specs.Machines.{Journal}
+use Rattle.syn_session.specs.declared.plan_progress.PlanProgress.{PlanProgress}
+use Rattle.syn_coordinator.specs.declared.due.Due.{Due}
+use Rattle.syn_coordinator.specs.declared.due.Due.TheVariants as due
 use Rattle.syn_coordinator.specs.declared.ended.Ended.{Ended}
-use Rattle.syn_coordinator.specs.declared.ended.Ended.TheVariants.{Early}
-use Rattle.syn_keep.specs.declared.tried.Tried.{Tried}
-use Rattle.syn_coordinator.specs.inner.Advancing.{Advanced, Remembers, ended, stopped}
+use Rattle.syn_coordinator.specs.declared.tried.Tried.{Tried}
+use Rattle.syn_coordinator.specs.inner.Advancing.{Advanced, EndsAs, Remembers, ended, kept_by}
+use Rattle.syn_coordinator.specs.inner.Advancing.{kept_it, refused_it, stopped}
 use Rattle.syn_session.specs.Passing.{past_at, refused_at}
-use Rattle.syn_session.specs.Stages.{IsCourse, Reached}
+use Rattle.syn_session.specs.Stages.{IsPlanProgress, Reached}
 use Rattle.syn_coordinator.specs.inner.Walking.{Comes, Ends, HasKept, Passes, ends, goes_down}
 use Rattle.syn_coordinator.specs.inner.Walking.{plan_at, walk_at, ended_by}
 use Rattle.syn_coordinator.proofs.AdvanceLemmas.{goes_further}
@@ -86,9 +86,9 @@ module _ (pair : ℕ) (taken : Exchange) where
     }
 
     module _ {D : Type 0} {disk : Ghosts D} (new : Archive D disk) (more : List Kept)
-        (course : Course) (left right : Found) where
-      pub comes_after : Comes new pair taken middle between more course left right →
-          Comes new pair taken old before (kept ++ more) course left right
+        (progress : PlanProgress) (left right : Found) where
+      pub comes_after : Comes new pair taken middle between more progress left right →
+          Comes new pair taken old before (kept ++ more) progress left right
       comes_after comes =
           record {
             journal = comes.journal;
@@ -100,14 +100,14 @@ module _ (pair : ℕ) (taken : Exchange) where
           }
 
       pub ends_after : (tried : Option Tried) (how : Ended) →
-          Ends new tried pair taken middle between more course left right how →
-          Ends new tried pair taken old before (kept ++ more) course left right how
+          Ends new tried pair taken middle between more progress left right how →
+          Ends new tried pair taken old before (kept ++ more) progress left right how
       ends_after tried how (ends walk after advances cursor refused has why is course_is tries) =
           ends walk after (led walk more advances) cursor refused
           (keeps_more before between after kept more first.has has)
           (λ running same. subst (λ s. EndsFor pair running taken s walk (ended_by how))
           first.status (why running (same ∙ sym first.has.plan))) is course_is
-          (subst (λ s. Remembers pair s tried walk.journal) first.status tries)
+          (subst (λ s. Remembers s tried walk.journal how) first.status tries)
       ends_after tried how (goes_down walk advances cut down leaves tries) =
           goes_down walk (led walk more advances) cut down leaves tries
 
@@ -164,12 +164,29 @@ module _ (pair : ℕ) (taken : Exchange) where
     -- ---- what became of its record
 
     module _ {D : Type 0} {disk : Ghosts D} (new : Archive D disk) (tried : Option Tried)
-        (planned : Planned) (what : Kept) (course : Course) (left right : Found) where
-      pub ends_at : (why : Why) → IsCourse course left right before → Advanced new tried pair
-          (plan_at before) taken (walk_at old before) planned what (due.Ends why) →
-          Ends new tried pair taken old before [] course left right (Early why)
-      ends_at why course_is (ended why' walk advances cursor refused for is tries) =
-          ends walk before advances cursor refused (keeps_none before) (λ running same. for running
-          (ap (λ plan. option_map_or (λ plan. plan) plan []) same)) is course_is tries
-      ends_at why course_is (stopped became walk advances down cut leaves tries) =
-          goes_down walk advances cut down leaves tries
+        (planned : Planned) (what : Kept) (progress : PlanProgress) (left right : Found) where
+      -- where it ends the session nothing was kept, and it ends it in one way
+      ends_one : (it : Due) (how : Ended) → EndsAs it how →
+          (kept_by what it ≡ []) × ((other : Ended) → EndsAs it other → other ≡ how)
+      ends_one (due.Ends why) how is = (refl, λ other same. same ∙ sym is)
+      ends_one due.Unsent how is = (refl, λ other same. same ∙ sym is)
+      ends_one due.Tried how is = (refl, λ other same. same ∙ sym is)
+      ends_one due.Recorded how is = absurd is
+      ends_one (due.Refused why) how is = absurd is
+
+      pub ends_at : (it : Due) (how : Ended) → EndsAs it how →
+          IsPlanProgress progress left right before →
+          Advanced new tried pair (plan_at before) taken (walk_at old before) planned what it →
+          Ends new tried pair taken old before [] progress left right how
+      ends_at it how so course_is
+          (ended _ other walk same advances cursor refused for is tries) =
+          subst (Ends new tried pair taken old before [] progress left right)
+          ((ends_one it how so).1 other same)
+          (ends walk before advances cursor refused (keeps_none before) (λ running same. for running
+          (ap (λ plan. option_map_or (λ plan. plan) plan []) same)) is course_is tries)
+      ends_at it how so course_is (stopped _ walk advances down cut leaves tries) =
+          goes_down walk
+          (subst (λ k. Advances pair (plan_at before) taken (walk_at old before) k walk)
+          (ends_one it how so).0 advances) cut down leaves tries
+      ends_at it how so course_is (kept_it journal advances up is) = absurd so
+      ends_at it how so course_is (refused_it why advances is) = absurd so

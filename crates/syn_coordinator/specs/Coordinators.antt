@@ -1,6 +1,6 @@
 -- What a coordinator shows, which of the model's machines it is, and what a call does.
 use Rattle.std.specs.Option.{option_map_or}
-use Rattle.std.specs.Prelude.{◌≡◌, ◌⊎◌, ◌<◌, ◌++◌, ℕ, Result, MatchResult, nat_lt, Bool, true}
+use Rattle.std.specs.Prelude.{◌≡◌, ◌⊎◌, ◌<◌, ◌++◌, ℕ, nat_lt, Bool, true}
 use Rattle.std.specs.Prelude.{false, not, ◌&&◌, List, [], ◌∷◌, map, Option, Some, None, length}
 use Rattle.std.specs.Prelude.{option_map, is_some, if◌then◌else◌}
 use Rattle.syn_archive.specs.Archive.{IsHalted, disk_of}
@@ -16,9 +16,9 @@ use Rattle.syn_headline.specs.Machine.{Arms, Down, Halted, Status, Up, after_dev
 use Rattle.syn_headline.specs.MachineSteps.{Reopens, causes_at, full_generation}
 use Rattle.syn_headline.specs.Network.{Message, Which}
 use Rattle.syn_headline.specs.Report.{Report}
-use Rattle.syn_keep.specs.Machines.{IsMachine, LeavesMachine}
-use Rattle.syn_keep.specs.Tries.{Tries, record_of}
-use Rattle.syn_keep.specs.declared.tried.Tried.{Tried}
+use Rattle.syn_coordinator.specs.Machines.{IsMachine, LeavesMachine}
+use Rattle.syn_coordinator.specs.Tries.{Tries, record_of}
+use Rattle.syn_coordinator.specs.declared.tried.Tried.{Tried}
 use Rattle.syn_model.specs.Archive.{Kept}
 use Rattle.syn_model.specs.Refusal.{Cause, Refusal}
 use Rattle.syn_model.specs.Refusal as why
@@ -67,7 +67,7 @@ module _ {D : Type 0} {disk : Ghosts D} (coordinator : Coordinator D disk) where
     pub quiet : is_some machine.running ≡ true → machine.journal.writing ≡ None
     pub untried : is_some machine.running ≡ true → tried_shown ≡ None
     -- and it remembers one that was
-    pub tries : Tries pair tried_shown machine.journal
+    pub tries : Tries tried_shown machine.journal
 
 -- a request of the session waits for its answer from the side
 abbrev pub is_waiting : Option Running → Which → Bool
@@ -99,7 +99,7 @@ pub data Does {D : Type 0} {disk : Ghosts D} (old new : Coordinator D disk) (pai
   goes_down : (machine : CoordinatorMachine) (call : Call) → Step machine call →
       is_stopped (disk.arms (device_of new)) ≡ true → machine.journal.status ≡ Down →
       LeavesMachine disk (device_of new) pair machine.journal → call.kept ≡ kept →
-      Tries pair (tried_shown new) machine.journal → Does old new pair Step kept messages
+      Tries (tried_shown new) machine.journal → Does old new pair Step kept messages
 
 module _ {D : Type 0} {disk : Ghosts D} (old new : Coordinator D disk) where
   -- no device call failed, and nothing was answered 9
@@ -108,13 +108,29 @@ module _ {D : Type 0} {disk : Ghosts D} (old new : Coordinator D disk) where
     pub tried_is : tried_shown new ≡ tried_shown old
     pub counted : disk.failures (device_of new) ≡ disk.failures (device_of old)
 
-  -- What was tried and not kept is told as answered 9: a device call failed, or the machine stopped
+  -- a device call failed, or the machine stopped
+  abbrev pub FailsOrStops : Type 0
+  FailsOrStops = (disk.failures (device_of old) < disk.failures (device_of new))
+      ⊎ ((is_stopped (disk.arms (device_of new)) ≡ true)
+      × (disk.failures (device_of new) ≡ disk.failures (device_of old)))
+
+  -- so it was before a record was sent to the disk, and no more is told as answered 9
+  pub record BreaksUnsent : Type 0 where
+    pub broken_is : broken new ≡ broken old
+    pub tried_is : tried_shown new ≡ tried_shown old
+    pub counted : FailsOrStops
+
+  -- so it was after a record was sent, which was not kept and is told as answered 9
   pub record BreaksOff : Type 0 where
     pub broken_is : broken new ≡ option_map record_of (tried_shown new)
     pub is_told : is_some (broken new) ≡ true
-    pub counted : (disk.failures (device_of old) < disk.failures (device_of new))
-        ⊎ ((is_stopped (disk.arms (device_of new)) ≡ true)
-        × (disk.failures (device_of new) ≡ disk.failures (device_of old)))
+    pub counted : FailsOrStops
+
+  -- nothing is told as answered 9: no device call failed, or none of a record
+  pub record TellsNone : Type 0 where
+    pub broken_is : broken new ≡ None
+    pub tried_is : tried_shown new ≡ tried_shown old
+    pub counted : (disk.failures (device_of new) ≡ disk.failures (device_of old)) ⊎ FailsOrStops
 
   -- where the archive of a machine that was up is halted now, a device call failed, unless the
   -- machine stopped
@@ -123,10 +139,6 @@ module _ {D : Type 0} {disk : Ghosts D} (old new : Coordinator D disk) where
       machine.journal.status ≡ Up → IsHalted (archive_of new) →
       (disk.failures (device_of old) < disk.failures (device_of new))
       ⊎ (is_stopped (disk.arms (device_of new)) ≡ true)
-
-  -- A call goes through the plan of its session. As long as it goes on nothing breaks
-  abbrev pub Breaks : {A E : Type 0} → Result A E → Type 0
-  Breaks result = MatchResult result (λ _. BreaksNothing) (λ _. BreaksNothing ⊎ BreaksOff)
 
 -- what a call answers of reports and of what was kept stays, and so does the session that runs
 pub record KeepsReadings {D : Type 0} {disk : Ghosts D} (old new : Coordinator D disk)

@@ -7,8 +7,8 @@ use Rattle.syn_disk.specs.declared.disk.Disk.{Ghosts}
 use Rattle.syn_headline.specs.Coordinator.{CoordinatorMachine, coordinator_kind, no_call}
 use Rattle.syn_headline.specs.Machine.{Down, unarmed}
 use Rattle.syn_headline.specs.MachineSteps.{OpensDown}
-use Rattle.syn_keep.specs.Tries.{Tries}
-use Rattle.syn_keep.specs.declared.tried.Tried.{Tried}
+use Rattle.syn_coordinator.specs.Tries.{Tries}
+use Rattle.syn_coordinator.specs.declared.tried.Tried.{Tried}
 use Rattle.syn_model.specs.Archive.{Kept}
 use Rattle.syn_model.specs.Path.{Bytes}
 use Rattle.syn_model.specs.Refusal.{Refusal}
@@ -27,7 +27,7 @@ pub record RestsWith {D : Type 0} (arms : D → DiskArms) (may_leave : D → Byt
   pub goes : is_stopped (arms device) ≡ false
   pub leaves : (bytes : Bytes) → may_leave device bytes →
       MayBeOf (of_archive pair) machine.journal bytes
-  pub tries : Tries pair tried machine.journal
+  pub tries : Tries tried machine.journal
 
 -- the coordinator is the machine that was opened, which gave this
 pub record OpensAs {D : Type 0} {disk : Ghosts D} (coordinator : Coordinator D disk) (pair : ℕ)

@@ -5,3 +5,4 @@ pub mod Carrying
 pub mod Taking
 pub mod Answered
 pub mod Advancing
+pub mod Recording

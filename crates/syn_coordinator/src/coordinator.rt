@@ -8,8 +8,8 @@ ghost use Rattle.syn_disk.specs.Arms.{is_stopped};
 ghost use Rattle.syn_headline.specs.Coordinator.{CoordinatorMachine, CoordinatorStarts};
 ghost use Rattle.syn_headline.specs.Coordinator.{CoordinatorTicks, Running, report_of};
 ghost use Rattle.syn_headline.specs.Machine.{Halted, Up};
-ghost use Rattle.syn_keep.specs.Machines.{IsMachine, Journal};
-ghost use Rattle.syn_keep.specs.Steps.{KeepsSo};
+ghost use Rattle.syn_coordinator.specs.Machines.{IsMachine, Journal};
+ghost use Rattle.syn_coordinator.specs.Steps.{KeepsSo};
 ghost use Rattle.syn_path.specs.Sides.{which_of};
 ghost use Rattle.syn_model.specs.Archive.{Archive as Keeping, Session as Begun};
 ghost use Rattle.syn_model.specs.Refusal.{Memory, first_cause};
@@ -20,14 +20,13 @@ ghost use Rattle.syn_session.specs.Sessions.{IsSession, Tells, begin_messages, b
 ghost use Rattle.syn_session.specs.declared.session.Session.{Session as Ran};
 ghost use Rattle.syn_image.specs.Archives.{kept_of};
 
+use crate::Tried;
 use crate::ended::Ended;
 use std::alloc::Global;
 use syn_archive::{Archive, ArchiveError};
 use syn_disk::Disk;
 use syn_image::Kept;
-use syn_keep::Tried;
 use syn_path::Side;
-use syn_recovery::device_laws;
 use syn_refusal::Refusal;
 use syn_session::{Report, Sending, Session, SessionError};
 
@@ -53,7 +52,7 @@ pub struct Coordinator<D: Disk> {
     broke: Broken,
 }
 
-/// The record whose writing was refused 9 in the last call that could write.
+/// The record that was sent to the disk and refused 9 in the last call that could write.
 #[derive(Drop)]
 pub(crate) enum Broken {
     /// Nothing was.
@@ -71,7 +70,7 @@ impl<D: Disk> Coordinator<D> {
     ghost use Rattle.syn_coordinator.specs.Coordinators.{is_waiting, report_shown, runs};
     ghost use Rattle.syn_coordinator.specs.Coordinators.{items_planned};
     ghost use Rattle.syn_coordinator.specs.Coordinators.{tried_shown, written};
-    ghost use Rattle.syn_keep.specs.Tries.{HoldsTried};
+    ghost use Rattle.syn_coordinator.specs.Tries.{HoldsTried};
 
     /// A coordinator over the archive, with no session. It takes no memory.
     pub fn new(alloc: Global, archive: Archive<D>) -> Coordinator<D>
@@ -165,8 +164,10 @@ impl<D: Disk> Coordinator<D> {
     }
 
     /// What the last start that was answered Ok or 9, or the last `on_reply`, whichever came later,
-    /// wrote into the archive, in order. With it comes what was answered 9 in that call. Another
-    /// opening of the archive changes neither.
+    /// wrote into the archive, in order. With it comes what was answered 9 in that call: the record
+    /// that was sent to the disk and not kept, which the archive may have when it is opened again.
+    /// Where the checkpoint before a record failed, none was sent. Another opening of the archive
+    /// changes neither.
     pub fn kept(&self) -> (&[Kept], Option<&Kept>)
         ensures written { map kept_of result.0.now ≡ written self.now }
         ensures broken { option_map (λ kept. kept_of kept.now) result.1 ≡ broken self.now }
@@ -317,10 +318,8 @@ impl<D: Disk> Coordinator<D> {
             → HoldsTried (archive_of self.new) (Begun (session_shown (archive_of self.old) + 1))
             (tried_shown self.new) }
     {
-        device_laws();
         match self.archive.next_session(alloc) {
             Ok(_) => {
-                self.archive.keeps_on_disk();
                 self.run(session, records);
                 Ok(())
             }

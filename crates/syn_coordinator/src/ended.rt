@@ -11,6 +11,8 @@ pub(crate) enum Ended {
     Settled,
     /// It ends early, for this.
     Early(Refusal),
+    /// It ends 9: a device call of the archive failed, or its machine was stopped.
+    Failed,
 }
 
 /// It ends early for what refuses it.

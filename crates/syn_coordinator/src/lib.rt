@@ -3,8 +3,7 @@
 //! # What it promises
 //!
 //! `Stands coordinator pair machine`: it is this machine of the model. Its archive is the machine's
-//! (`IsMachine` of `syn_keep`), and the session that runs is the machine's (`IsSession` of
-//! `syn_session`).
+//! (`IsMachine`), and the session that runs is the machine's (`IsSession` of `syn_session`).
 //!
 //! - A call does a step of the machine (`Does`): the coordinator is the machine after it, with what
 //!   was kept, sent and reported. Or the machine went down in it, with what was kept so far; the
@@ -24,9 +23,9 @@
 //!   `CoordinatorTakes`). It answers what is to be sent next, and `kept` and `report` have what it
 //!   wrote and how the session ended. The reply has to be one that can be sent (`lawful`), as the
 //!   decoder gives it.
-//! - Where a device call failed in `on_reply`, or the machine stopped after a checkpoint, `kept`
-//!   has what was answered 9, which is what `tried` has. Else it has none, and no call failed
-//!   (`breaks`).
+//! - Where a record was sent to the disk in `on_reply` and not kept, `kept` has it as what was
+//!   answered 9, which is what `tried` has. Else it has none: no call failed, or one of a
+//!   checkpoint before the record did (`breaks`).
 //! - Where the archive of a machine that was up is halted after `start`, `on_reply` or
 //!   `checkpoint`, a device call failed in it, unless the machine stopped (`halts`).
 //! - `tried` is the record that could not be kept, until an opening. `reopen` answers it where the
@@ -36,9 +35,35 @@
 //!   its archive's marks as they were.
 //! - `planned` answers how many items the plan of the running session has; none before it is made.
 //!   `waits_on` says whether a request of that session waits on a side.
+//!
+//! # What is due is kept
+//!
+//! `IsMachine archive pair machine`: the archive is that of this machine of the model. It has the
+//! same pair, marks and last session, and the same arms at its device. While it runs, the same room
+//! and generation stand in its journal. Whatever a stop may leave on its disk may be the machine's
+//! (`LeavesMachine`). How many device calls failed is not compared.
+//!
+//! - `keep_due` keeps the record of an item, with one checkpoint where it has no room (`settles`:
+//!   `Settles`). It is recorded; or its item is refused as the archive refuses it, or 7 where no
+//!   checkpoint can be made. Or the session ends: 10 where the archive is halted, 9 for the device,
+//!   8 where a checkpoint leaves no room, and 11 for memory. With 9 it says whether the record was
+//!   sent to the disk (`Tried`) or its checkpoint failed before that (`Unsent`).
+//! - An item that is refused leaves the archive just as it was, with its disk (`refused`).
+//! - The count of failed device calls grows exactly where the session ends for the device, but for
+//!   a stop right after the checkpoint (`failures`). The pair stays (`pair`).
+//! - `refusal_for` is why the archive refuses the record, but for its journal and its device.
+//! - `Tried` is a record that was being written as a device call failed, with the room and the
+//!   generation that the archive showed (`IsTriedBy`). `found` gives it where the archive, which
+//!   was opened again, has less room in the same generation (`found_in`).
+//! - `Tries tried machine`: what is remembered is what the machine's journal was writing, and
+//!   nothing is remembered where it was writing nothing.
 #![tactic(auto)]
 
 mod coordinator;
+mod due;
 mod ended;
+mod tried;
 
 pub use coordinator::Coordinator;
+pub use due::{Due, keep_due, refusal_for};
+pub use tried::{Tried, found};

@@ -13,6 +13,7 @@ use syn_disk::Disk;
 use syn_folder::{EditedFolder, FolderError, Glimpse, SystemFolder, take_glimpse};
 use syn_lock::Pass;
 use syn_path::Side;
+use syn_recon::Item;
 use syn_reconcile::{Outcome, ReconcileError, Report, WhenEmpty, reconcile_shared};
 use syn_refusal::Refusal;
 use syn_replica::Replica;
@@ -270,7 +271,10 @@ fn tell_report<H: Log>(
     for settled in &report.settled {
         let path = settled.path();
         match settled.outcome() {
-            Outcome::Done => info!(rt; "folder carried {path}"),
+            Outcome::Done => {
+                let side = side_of(&settled.item);
+                info!(rt; "folder carried into the {side}: {path}");
+            }
             Outcome::Marked => {}
             Outcome::Conflict => told.tell(rt, format!(in alloc; "folder conflict {path}")?)?,
             Outcome::Refused(why) => {
@@ -280,6 +284,14 @@ fn tell_report<H: Log>(
         }
     }
     Ok(())
+}
+
+/// Into which side an item that is carried out goes, in a word.
+fn side_of(item: &Item) -> &'static str {
+    match item {
+        Item::ToLeft(_) => "folder",
+        _ => "replica",
+    }
 }
 
 /// Why a look did not come to its end, as a line.

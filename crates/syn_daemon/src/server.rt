@@ -90,10 +90,10 @@ pub fn serve<H: Threads + Wait + Clock + Log + Sync, D: Disk + Send, G: Gates>(
 }
 
 /// The same, and keeps a folder the same as the replica meanwhile, by a thread of its own. It
-/// serves up to 61 connections at once. It logs `folder carried PATH` for what is carried, and
-/// once, as long as it stays so, `folder conflict PATH`, `folder refused NUMBER PATH`, `folder
-/// skipped TEXT` for what no replica can have, and `folder refused NUMBER NAME` where nothing is
-/// carried.
+/// serves up to 61 connections at once. It logs `folder carried into the replica: PATH` and
+/// `folder carried into the folder: PATH` for what is carried, and once, as long as it stays so,
+/// `folder conflict PATH`, `folder refused NUMBER PATH`, `folder skipped TEXT` for what no replica
+/// can have, and `folder refused NUMBER NAME` where nothing is carried.
 ///
 /// Refused as `serve` is, and 11 where the folder's thread cannot be made, too.
 pub fn serve_beside<H, D, G, F, A>(

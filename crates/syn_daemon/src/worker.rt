@@ -13,7 +13,7 @@ use std::sync::Wait;
 use syn_disk::Disk;
 use syn_lock::{NamedPass, Naming};
 use syn_replica::Replica;
-use syn_serve::{Connection, Gate, ServeError, Serving};
+use syn_serve::{Gate, ServeError, ServerConnection, Serving};
 use syn_shared::serve;
 
 /// Serves the connection to its end, where a pass is left, and closes it. The pass is back before
@@ -38,7 +38,7 @@ where
 }
 
 /// Serves what comes from the reader, with the pass that was drawn, and puts the pass back. It
-/// answers how that ended, as `Connection::serve` does; none where no pass was drawn.
+/// answers how that ended, as `ServerConnection::serve` does; none where no pass was drawn.
 fn serve_over<H, D, L, R, W, G>(
     server: &Server<'_, H, D, L>,
     drawn: Option<NamedPass<Replica<D>, L>>,
@@ -58,7 +58,7 @@ where
         (WasServedWhole D D.Disk (R.remaining reader) (W.contents writer))) }
 {
     let gate = Ringing::new(server.rt, &server.bell, gate);
-    let connection = Connection::new(server.alloc, reader, writer);
+    let connection = ServerConnection::new(server.alloc, reader, writer);
     let mut serving = Serving::new(server.alloc, connection, gate);
     // Where no memory is left for the pass to go back, it is lost, and the work was done.
     let _ = serve(server.rt, server.shared, &server.pool, drawn, &mut serving);

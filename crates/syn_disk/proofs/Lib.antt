@@ -6,3 +6,6 @@ pub mod Overwritten
 pub mod Padding
 mod Stopped
 mod Tracking
+mod Extents
+mod Written
+mod Zeros

@@ -13,4 +13,11 @@ pub mod PaddedLaws
 pub mod Stop
 pub mod Stops
 pub mod Written
+pub mod FileDisk
+pub mod Lock
+pub mod Locked
+pub mod Extent
+pub mod Mirror
+pub mod Mirrored
+pub mod OpenError
 pub mod inner

@@ -7,8 +7,8 @@
 //! changes nothing that a read gives. A count, which only clauses see, grows exactly when a call
 //! fails. No call takes memory.
 //!
-//! The disk of the product is in a file of the system, and stands in a crate above. The disks for
-//! tests and for simulated machines stand in `simulated`.
+//! The disk of the product is in a file of the system (`file`). The disks for tests and for
+//! simulated machines stand in `simulated`.
 //!
 //! # What it promises
 //!
@@ -33,15 +33,40 @@
 //! each call that it refuses.
 //!
 //! A disk that keeps its bytes in memory may use what these stand on: parts of bytes in memory
-//! (`syn_disk::bytes`), and what only clauses read of earlier calls (`History`, `Tally`).
+//! (`crate::bytes`), and what only clauses read of earlier calls (`History`, `Tally`).
+//!
+//! # A disk in a file
+//!
+//! The disk of the product is `FileDisk`, over any `DiskFile`. That trait says what each call on a
+//! file leaves of its bytes, and that no call may follow a write or a sync that failed. `FileDisk`
+//! keeps the contract of `Disk` over each such file. It syncs the file as it is opened (`settled`,
+//! of each way to open one), and fails each call once a write or a sync failed. `MirroredFile` is a
+//! `DiskFile` over a file of the system, with its bytes in memory.
+//!
+//! `LockedFile::open` opens a file and takes the system's lock on it, for the access that is named
+//! (`locked`). Nothing is read. `take_lock` takes the lock on a file that its caller opened
+//! (`held`). `into_disk` reads the file, and needs no `Files`, so that it may run in another
+//! thread. Where a disk is opened, that lock is held (`held`, of `into_disk` and of `of_file`). A
+//! read, a write and a sync of a `DiskFile` let no lock go (`lock` of each).
+//! `OsFile` says of a file which lock is held on it (`is_held`). An opening beside a writer is
+//! refused 12, and so is one to write beside readers. Two things are taken as given: what the
+//! system's lock keeps out, and that the system's file follows the memory. Which file a path opens
+//! no clause says, since the standard library's say nothing of it.
 #![tactic(auto)]
 
 pub mod bytes;
 mod disk;
+mod error;
+mod file;
 mod history;
 mod simulated;
 
 pub use disk::{DISK_SIZE, DeviceFailed, Disk, HALF_SIZE};
+pub use error::OpenError;
+pub use file::host::{Access, OsFile, take_lock};
+pub use file::locked::{LockedDisk, LockedFile};
+pub use file::mirror::MirroredFile;
+pub use file::{DiskFile, FileDisk};
 pub use history::{History, Tally};
 pub use simulated::cut::Cut;
 pub use simulated::leaves::Leaves;

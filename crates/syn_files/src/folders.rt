@@ -11,6 +11,7 @@ use std::fs::Files;
 use std::io::Write;
 use std::net::{Net, TcpStream};
 use std::thread::Threads;
+use syn_cli::{ExportLine, ImportLine, ReplicaPlace};
 use syn_command::{
     CommandError, EditsTold, export_part, import_folder, part_of, plan_import, send_edits,
 };
@@ -19,7 +20,6 @@ use syn_folder::{ExportedFolder, Folder, FolderError, SystemFolder};
 use syn_path::Path;
 use syn_tree::Tree;
 use syn_user::UserConnection;
-use syn_words::{ExportLine, ImportLine, ReplicaPlace};
 
 /// Writes what the directory at the line's path has into its folder, and answers the position of
 /// the replica.

@@ -9,11 +9,11 @@ use crate::network::{edit_served, show_path_served, show_tree_served};
 use std::alloc::Global;
 use std::io::{Read, Write};
 use std::net::{Net, TcpStream};
+use syn_cli::{EditLine, ReplicaPlace};
 use syn_command::{CommandError, check_image, make_edit, migrate_image, show_image, show_path};
-use syn_file::{Access, LockedDisk};
+use syn_disk::{Access, LockedDisk};
 use syn_path::Path;
 use syn_print::{read_log, show_log};
-use syn_words::{EditLine, ReplicaPlace};
 
 /// Prints the whole image.
 ///

@@ -8,6 +8,7 @@ use std::io::{self, ErrorKind, Write};
 use std::net::{Net, TcpListener, TcpStream};
 use std::thread;
 use std::time::{Clock, Duration};
+use syn_cli::KeepLine;
 use syn_command::{CommandError, Outcome};
 use syn_coordinator::Coordinator;
 use syn_daemon::{reach, sync};
@@ -20,7 +21,6 @@ use syn_refusal::Refusal;
 use syn_session::{End, Report, Sending};
 use syn_sync::{Progress, Watch, tell_unreached};
 use syn_user::SideConnection;
-use syn_words::KeepLine;
 
 /// Runs a session of the line's servers, and another one each time that a side has changed since.
 /// It looks every so many seconds, at least one, and an idle pair is written nothing. A report is

@@ -10,7 +10,7 @@
 //! - A text that names no path is refused 1, or 11, whatever the disk or the server is (`edit`,
 //!   `show`).
 //! - `NamedDisks` locks a disk by its name, to change it or only to read it (`locked`). That lock
-//!   is held once the disk is read (`LockedDisk` of `syn_file`: `held`). Nothing else is asked of
+//!   is held once the disk is read (`LockedDisk` of `syn_disk`: `held`). Nothing else is asked of
 //!   the disk but that it is one, so all here holds of any disks that have names.
 //! - That the disk of the line is the one that is opened is shown by tests alone.
 #![tactic(auto)]

@@ -4,8 +4,7 @@ ghost use Rattle.std.specs.Prelude.{IfOk};
 use std::alloc::Global;
 use syn_archive::Archive;
 use syn_command::{CommandError, Image, open_image};
-use syn_disk::Disk;
-use syn_file::{Access, LockedDisk, OpenError};
+use syn_disk::{Access, Disk, LockedDisk, OpenError};
 use syn_replica::Replica;
 
 /// Disks that have names.

@@ -11,6 +11,7 @@ use std::net::{Net, TcpListener, TcpStream};
 use std::sync::Wait;
 use std::thread::Threads;
 use std::time::Clock;
+use syn_cli::{EditLine, ServeLine};
 use syn_command::{CommandError, read_edit, show_path};
 use syn_daemon::{FolderSide, OpenGates, Plain, reach, serve, serve_beside};
 use syn_disk::Disk;
@@ -20,7 +21,6 @@ use syn_refusal::Refusal;
 use syn_shared::SharedReplica;
 use syn_tree::{Content, Edit, Tree};
 use syn_user::{SideConnection, UserConnection};
-use syn_words::{EditLine, ServeLine};
 
 /// Serves the line's replica at its address, `HOST:PORT`, until so many connections were opened and
 /// served; with none it serves on. Where the line has a folder, that is kept the same as the

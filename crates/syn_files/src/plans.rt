@@ -7,18 +7,16 @@ use std::io::Write;
 use std::net::{Net, TcpStream};
 use std::thread::Threads;
 use syn_archive::Archive;
+use syn_cli::{Between, Pairing};
 use syn_command::{CommandError, Outcome, outcome_planned};
 use syn_daemon::reach;
-use syn_disk::Disk;
-use syn_file::{Access, OpenError};
+use syn_disk::{Access, Disk, OpenError};
 use syn_mark::MarkTree;
 use syn_path::Side;
 use syn_print::{Planned, counts_of, plan_between, plan_of_replicas, show_plan};
 use syn_refusal::Refusal;
-use syn_replica::Replica;
-use syn_standing::ReplicaError;
+use syn_replica::{Replica, ReplicaError};
 use syn_user::SideConnection;
-use syn_words::{Between, Pairing};
 
 /// Prints what a session of the replicas and their archive would do, and answers what there is to
 /// do. Nothing is written, and no session begins.

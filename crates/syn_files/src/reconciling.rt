@@ -6,15 +6,14 @@ use std::alloc::{AllocError, Global};
 use std::fs::Files;
 use std::io::{self, ErrorKind, Write};
 use syn_archive::Archive;
+use syn_cli::ReconcileLine;
 use syn_command::{CommandError, Outcome, outcome_planned};
-use syn_disk::{Disk, MemDisk};
-use syn_file::{Access, OpenError};
+use syn_disk::{Access, Disk, MemDisk, OpenError};
 use syn_folder::{EditedFolder, SystemFolder};
 use syn_path::Side;
 use syn_print::{counts_of, show_plan};
 use syn_reconcile::{Outcome as Settlement, ReconcileError, Report, WhenEmpty, plan, reconcile};
 use syn_replica::Replica;
-use syn_words::ReconcileLine;
 
 /// Makes the line's folder and its replica the same, by what both last agreed on, prints a report,
 /// and answers what it came to. What no replica can have is told to `errors`, and left alone on

@@ -12,11 +12,11 @@ use std::sync::Wait;
 use std::thread::Threads;
 use std::time::Clock;
 use syn_archive::Archive;
+use syn_cli::{Between, Pairing};
 use syn_command::{CommandError, Outcome, outcome_of};
 use syn_coordinator::Coordinator;
 use syn_daemon::{OpenGates, run, sync};
-use syn_disk::Disk;
-use syn_file::Access;
+use syn_disk::{Access, Disk};
 use syn_path::Side;
 use syn_print::show_report;
 use syn_refusal::Refusal;
@@ -24,7 +24,6 @@ use syn_replica::Replica;
 use syn_session::Report;
 use syn_shared::SharedReplica;
 use syn_sync::{Progress, Unwatched, Watch};
-use syn_words::{Between, Pairing};
 
 /// How much is told of a session as it goes.
 #[derive(Clone, Copy, Debug, PartialEq, Eq)]

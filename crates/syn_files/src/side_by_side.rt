@@ -4,8 +4,7 @@ use std::alloc::Global;
 use std::thread::{Threads, join};
 use syn_archive::Archive;
 use syn_command::CommandError;
-use syn_disk::Disk;
-use syn_file::{Access, LockedDisk, OpenError};
+use syn_disk::{Access, Disk, LockedDisk, OpenError};
 use syn_replica::Replica;
 
 /// The images of a session, open.

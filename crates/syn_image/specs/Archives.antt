@@ -12,11 +12,11 @@ use Rattle.syn_wire.specs.Reads.{IsReading, NoneBeginsAnother}
 use Rattle.syn_image.specs.declared.kept.ArchiveImage.{ArchiveImage}
 use Rattle.syn_image.specs.declared.kept.Kept.{Kept}
 use Rattle.syn_image.specs.declared.kept.Kept.TheVariants as has
-use Rattle.syn_image.specs.declared.kept.KeptItem.{KeptItem}
-use Rattle.syn_image.specs.declared.kept.KeptItem.TheVariants as item
+use Rattle.syn_image.specs.declared.kept.ItemRecord.{ItemRecord}
+use Rattle.syn_image.specs.declared.kept.ItemRecord.TheVariants as item
 
 -- what is kept for an item, as the model has it
-abbrev pub kept_for : KeptItem → model.Kept
+abbrev pub kept_for : ItemRecord → model.Kept
 kept_for (item.Record path marks) = Recorded path (or_absent marks)
 kept_for (item.Dir path) = RecordedDir path
 

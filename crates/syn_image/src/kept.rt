@@ -34,22 +34,22 @@ pub enum Kept {
 
 /// What is kept for an item of a plan: all but the number of a session.
 #[derive(Debug, Drop)]
-pub enum KeptItem {
+pub enum ItemRecord {
     /// The marks at and below the path, or that nothing is there.
     Record(Path, Option<MarkTree>),
     /// A directory is at the path, with what the archive has below it.
     Dir(Path),
 }
 
-impl From<KeptItem> for Kept {
+impl From<ItemRecord> for Kept {
     ghost use Rattle.syn_image.specs.Archives.{kept_for, kept_of};
 
     ghost from_gives = { λ item kept. kept_of kept ≡ kept_for item };
 
-    fn from(item: KeptItem) -> Kept {
+    fn from(item: ItemRecord) -> Kept {
         match item {
-            KeptItem::Record(path, marks) => Kept::Record(path, marks),
-            KeptItem::Dir(path) => Kept::Dir(path),
+            ItemRecord::Record(path, marks) => Kept::Record(path, marks),
+            ItemRecord::Dir(path) => Kept::Dir(path),
         }
     }
 }

@@ -10,3 +10,15 @@ mod Parts
 mod Openings
 mod Records
 mod Whole
+pub mod AppendLemmas
+pub mod Endings
+pub mod Migrations
+pub mod Results
+pub mod Spent
+pub mod CallLemmas
+pub mod DiskLemmas
+pub mod ImageLemmas
+pub mod MachineLemmas
+pub mod OpeningLemmas
+pub mod ReadLemmas
+pub mod RecordLemmas

@@ -4,4 +4,13 @@ pub mod Batches
 pub mod Journal
 pub mod Places
 pub mod Refusals
+pub mod Calls
+pub mod Meaning
+pub mod Keepings
+pub mod Endings
+pub mod Openings
+pub mod Journaled
+pub mod Machines
+pub mod Appending
+pub mod Migrations
 pub mod inner

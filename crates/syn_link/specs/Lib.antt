@@ -1,3 +1,4 @@
+pub mod Connections
 pub mod Frames
 pub mod Refusals
 pub mod Streams

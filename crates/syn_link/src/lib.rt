@@ -20,16 +20,20 @@
 //!   body's frame, and the framer holds the rest (`body`). It answers none only at the reader's
 //!   end, before which no whole frame came (`end`), and a refusal 21 or 22 is that of the bytes
 //!   that came (`fault`).
+//! - A `Connection` is a reader and a writer, with what came from the reader: `receive` hands out
+//!   the next body as `read_body` does, and `send` writes one as `write_frame` does.
 //! - `stream_laws`: the same bytes are the same bodies, with the same rest, wherever they are cut.
 #![tactic(auto)]
 
 ghost use Rattle.syn_link.specs.Frames.{CutsDoNotMatter};
 
+mod connection;
 mod error;
 mod framer;
 mod frames;
 mod stream;
 
+pub use connection::Connection;
 pub use error::LinkError;
 pub use framer::Framer;
 pub use frames::{MAX_BODY, frame};

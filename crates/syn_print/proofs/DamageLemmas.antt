@@ -22,12 +22,12 @@ use Rattle.syn_print.proofs.KnownLemmas.{AddsUpTo}
 use Rattle.syn_print.specs.declared.log.Logged.{Logged}
 use Rattle.syn_print.specs.inner.Damages.{AreNoEvents, HasGreatest, IsReadRefusal}
 use Rattle.syn_replica.specs.Disks.{IsOpenRefusal, IsUnlawful}
-use Rattle.syn_standing.specs.Readings.{AllowedIsSpelled, GivesNothing, IsImageOf, OneIsGiven}
-use Rattle.syn_standing.specs.Readings.{IsEventOf, IsOfPayload, bytes_of_each}
-use Rattle.syn_standing.specs.declared.error.ReplicaError.{ReplicaError}
-use Rattle.syn_standing.specs.declared.error.ReplicaError.TheVariants.{Damaged, Journal, Memory}
-use Rattle.syn_standing.proofs.ReadingLemmas.{same_image}
-use Rattle.syn_standing.proofs.SoundLemmas.{before_greatest}
+use Rattle.syn_replica.specs.Readings.{AllowedIsSpelled, GivesNothing, IsImageOf, OneIsGiven}
+use Rattle.syn_replica.specs.Readings.{IsEventOf, IsOfPayload, bytes_of_each}
+use Rattle.syn_replica.specs.declared.error.ReplicaError.{ReplicaError}
+use Rattle.syn_replica.specs.declared.error.ReplicaError.TheVariants.{Damaged, Journal, Memory}
+use Rattle.syn_replica.proofs.ReadingLemmas.{same_image}
+use Rattle.syn_replica.proofs.SoundLemmas.{before_greatest}
 use Rattle.syn_wire.specs.Events.{IsSpelledEvent}
 
 -- what the journal refuses, as an opening refuses it

@@ -25,7 +25,7 @@
 //!   prints the last of them, so many at most, the newest first.
 //! - **What a session would do**: `plan_between` lists both sides as a session lists them: replicas
 //!   that are open, or connections (`ListedSide`). It answers the plan of the two scans and the
-//!   marks, by a session's own course (`items`). Nothing begins, nothing is carried, and nothing is
+//!   marks, by a session's own plan (`items`). Nothing begins, nothing is carried, and nothing is
 //!   recorded. Each scan is by what its side replied, one listing after another (`left`, `right`:
 //!   `IsScanned`). It is refused for lack of memory, or where a side was not scanned (`cause`:
 //!   `NotScanned`). Then a listing was refused, or the reply to it ends a session, or more were

@@ -21,7 +21,7 @@ use syn_recon::Item;
 use syn_refusal::Refusal;
 use syn_replica::Replica;
 use syn_scan::Scan;
-use syn_session::{Course, SideScan};
+use syn_session::{PlanProgress, SideScan};
 
 mod counts;
 mod lines;
@@ -95,7 +95,7 @@ pub fn plan_of_replicas<L: Disk, R: Disk>(
     plan_between(alloc, &mut left, &mut right, archive, preference)
 }
 
-/// The items of a session's course between two scans.
+/// The items of a session's plan between two scans.
 fn items_between(
     alloc: Global,
     left: &Scan,
@@ -108,8 +108,8 @@ fn items_between(
         archive.now) }
     ensures memory { IfErr result (λ why. cause_of why ≡ Memory) }
 {
-    let course = Course::new(alloc, left, right, archive, preference);
-    Ok(course.map_err(|error| error.refusal())?.items)
+    let progress = PlanProgress::new(alloc, left, right, archive, preference);
+    Ok(progress.map_err(|error| error.refusal())?.items)
 }
 
 /// What the side shows, once each of its directories was listed.

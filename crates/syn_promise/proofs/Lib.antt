@@ -1,4 +1,5 @@
 pub mod AskedLemmas
+pub mod RecordLemmas
 pub mod ReportLemmas
 pub mod StartedLemmas
 pub mod SessionLemmas

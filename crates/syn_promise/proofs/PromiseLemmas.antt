@@ -2,7 +2,7 @@
 use Rattle.std.proofs.Common.{◌≡◌, ◌≢◌, ◌⊎◌, ◌∙◌, ℕ, List, [], ◌∷◌, ◌++◌, Option, Some, None, refl}
 use Rattle.std.proofs.Common.{sym}
 use Rattle.std.proofs.Common.{ap, subst, inl, inr, append-nil}
-use Rattle.std.specs.Prelude.{All, Contains, IfSome, take, ◌↔◌}
+use Rattle.std.specs.Prelude.{All, Contains, IfSome, filter_map, take, ◌↔◌}
 use Rattle.std.specs.Prelude.{slice_index_or}
 use Rattle.syn_model.specs.Path.{Path, Name}
 use Rattle.syn_model.specs.Tree.{Tree, Content}
@@ -19,7 +19,8 @@ use Rattle.syn_headline.specs.Runs.{IsStart, picture_of, stores_of, OfEachRun, R
 use Rattle.syn_headline.specs.Runs.{RunsArePictured}
 use Rattle.syn_headline.specs.Picture as picture
 use Rattle.syn_headline.specs.Acknowledged.{Ack, Happened, Stores, history_of, stores_after, Grown}
-use Rattle.syn_headline.specs.Acknowledged.{ArchiveGrown, kept_in_session}
+use Rattle.syn_headline.specs.Acknowledged.{ArchiveGrown, kept_in, kept_in_session}
+use Rattle.syn_headline.specs.Planning.{Log}
 use Rattle.syn_headline.specs.Report.{Report}
 use Rattle.syn_headline.specs.Reported.{EachReportTells}
 use Rattle.syn_headline.specs.Headline.{EachReplacementIsLegal, RecoveredIsLegal, LeavesPair}
@@ -34,7 +35,8 @@ use Rattle.syn_headline.proofs.Invariant.{Plans, IsKept, IsTrueListing, IsTrueNo
 use Rattle.syn_headline.proofs.TokenLemmas.{token_once}
 use Rattle.syn_headline.proofs.EarlyLemmas.{entry_is}
 use Rattle.syn_promise.specs.Asked.{EditsAreAsked, PreferencesAreAsked, IsAskedEvent, IsAsked}
-use Rattle.syn_promise.specs.Sessions.{IsPlanned, IsLegal, HasPlan, Synchronizes, Tells}
+use Rattle.syn_promise.specs.Records.{IsDue, AllDue, RecordsAreDue}
+use Rattle.syn_promise.specs.Sessions.{IsPlanned, IsLegal, Synchronizes, Tells}
 use Rattle.syn_promise.specs.Promise.{Promised, Reports, Stand, IsWithOneMore, as_it_was}
 use Rattle.syn_promise.specs.Promise.{one_more}
 use Rattle.syn_promise.specs.Laws.{told_by, MayStand, RunsKeepPromise}
@@ -60,6 +62,7 @@ pub record Laws : Type 0 where
   pub tell : OfEachRun EachReportTells
   pub edits : EditsAreAsked
   pub preferences : PreferencesAreAsked
+  pub records : RecordsAreDue
 
 -- What stands
 
@@ -73,11 +76,12 @@ with_one_more steps side (Some event) old new asked (inl e) =
 with_one_more steps side (Some event) old new asked (inr (allowed, e)) =
     subst (IsWithOneMore steps side old) (sym e) (one_more event asked)
 
-archive_more : (writing : Option Kept) (old new : Archive) → ArchiveGrown writing old new →
-    (new ≡ old) ⊎ ((kept : Kept) × (new ≡ after_kept old kept))
-archive_more None old new e = inl e
-archive_more (Some kept) old new (inl e) = inl e
-archive_more (Some kept) old new (inr (can, e)) = inr (kept, e)
+archive_more : (sessions : Log) (steps : List Step) (writing : Option Kept) (old new : Archive) →
+    IfSome writing (IsDue sessions steps old) → ArchiveGrown writing old new →
+    (new ≡ old) ⊎ ((kept : Kept) × IsDue sessions steps old kept × (new ≡ after_kept old kept))
+archive_more sessions steps None old new due e = inl e
+archive_more sessions steps (Some kept) old new due (inl e) = inl e
+archive_more sessions steps (Some kept) old new due (inr (can, e)) = inr (kept, due, e)
 
 some_is : (preference : Option Which) → preference ≢ None →
     (side : Which) × (preference ≡ Some side)
@@ -115,11 +119,22 @@ module _ (laws : Laws) (old new : World) (steps : List Step) (now : Stores) (s :
   pair = laws.again old new steps s runs now.left now.right now.archive (may.side Left)
       (may.side Right) may.archive
 
-  stand : Stand steps after now
+  records_due : AllDue new.log steps before.archive (filter_map kept_in acks)
+      × IfSome new.coordinator.journal.writing (IsDue new.log steps after.archive)
+  records_due =
+      let due = laws.records before steps new.refusals (picture_of new)
+      (laws.pictured old new steps s runs) in (
+        due.0,
+        subst (λ a. IfSome new.coordinator.journal.writing (IsDue new.log steps a)) stands.archive
+            due.1,
+      )
+
+  stand : Stand new.log steps after now
   stand = record {
     side = λ which. with_one_more steps which (picture.side_of (picture_of new) which).writing
         (history_of after which) (history_of now which) (writing_asked which) (may.side which);
-    archive = archive_more new.coordinator.journal.writing after.archive now.archive may.archive;
+    archive = archive_more new.log steps new.coordinator.journal.writing after.archive now.archive
+        records_due.1 may.archive;
   }
 
   -- No answer of the run is false
@@ -195,7 +210,7 @@ module _ (laws : Laws) (old new : World) (steps : List Step) (now : Stores) (s :
 
   synchronized : (report : Report) (found left : Stores) →
       IsQuietSession before acks new.reports report found left →
-      (preference : Option Which) × HasPlan new.log report.session preference
+      (preference : Option Which) × PlansWith new.log report.session preference
       × Synchronizes preference report found left
   synchronized report found left quiet =
       let archive = laws.reconciled old new steps s runs report found left quiet in
@@ -204,12 +219,7 @@ module _ (laws : Laws) (old new : World) (steps : List Step) (now : Stores) (s :
       let conflicts = laws.conflicts old new steps s runs report found left quiet in
       let counts = laws.counts old new steps s runs report found left quiet in (
         archive.0,
-        record {
-          made = with.made;
-          logged = with.logged;
-          of_session = with.of_session;
-          prefers = with.prefers;
-        },
+        with,
         record {
           sides = λ apart.
               let sides = laws.synchronized old new steps s runs report found left quiet apart in
@@ -256,6 +266,7 @@ module _ (laws : Laws) (old new : World) (steps : List Step) (now : Stores) (s :
     asked = edits_asked;
     come = come.1;
     stand = stand;
+    recorded = records_due.0;
     held = pair.held;
     once = (laws.logged old new steps s runs).0;
     planned = planned;

@@ -4,6 +4,7 @@ use Rattle.std.proofs.Common.{[], ◌∷◌, Option, Some, None, refl, sym}
 use Rattle.std.proofs.Common.{ap, subst, arith, true≢false}
 use Rattle.std.specs.Prelude.{All, Contains, IfSome, IsSome, if◌then◌else◌}
 use Rattle.std.specs.Option.{option_map_or}
+use Rattle.std.proofs.lemmas.List.Elements.{All-nil, All-weaker}
 use Rattle.syn_model.specs.Refusal.{Refusal}
 use Rattle.syn_model.specs.Path.{Path}
 use Rattle.syn_model.specs.Archive.{Kept}
@@ -13,8 +14,10 @@ use Rattle.syn_headline.specs.Report.{Report, Complete, Incomplete}
 use Rattle.syn_headline.specs.Coordinator.{Running, report_of, plan_of, is_whole, is_unstable}
 use Rattle.syn_headline.specs.Reported.{IsReportOf, IsPlanned, EndsSo, IsSettledBy, through}
 use Rattle.syn_headline.specs.Reported.{with_answer, at_record, unanswered, out_of_memory}
+use Rattle.syn_headline.specs.Reported.{IsRefusedFor, by_side, by_archive, by_journal}
 use Rattle.syn_headline.proofs.HeardLemmas.{whole_parts}
-use Rattle.syn_promise.specs.Sessions.{Tells, TellsOf, IsStable, with_plan, without_plan}
+use Rattle.syn_promise.specs.Sessions.{Tells, TellsOf, IsOfPlan, IsStable, with_plan}
+use Rattle.syn_promise.specs.Sessions.{without_plan}
 
 -- a complete report is of a session that nothing ended, with no item refused and no path unstable
 
@@ -54,10 +57,34 @@ module _ (sent : Sent) (log : Log) (kept : List Kept) (running : Running)
   ends_through _ (unanswered resent) none = cc
   ends_through _ out_of_memory none = cc
 
+  -- a refusal is of an item of the plan
+  refused_of : (made : SessionPlan) (one : Refusal × Path) →
+      IsRefusedFor made running.taken running.kept one → IsOfPlan made.plan one.1
+  refused_of made _ (by_side item planned exchange why at taken is for) = (item, planned, at, refl)
+  refused_of made _ (by_archive item planned what before later why at record_is parts is) =
+      (item, planned, at, refl)
+  refused_of made _ (by_journal item planned exchange what at taken due) =
+      (item, planned, at, refl)
+
+  refused_so : (plan : Option (List Planned)) → running.plan ≡ plan →
+      IfSome plan (IsPlanned log running) →
+      All (λ one. IsOfPlan (plan_of running) one.1) running.refused
+  refused_so (Some plan) at planned =
+      let same : plan_of running ≡ planned.made.plan =
+      ap (λ o. option_map_or (λ p. p) o []) at ∙ sym planned.plan_is in
+      subst (λ p. All (λ one. IsOfPlan p one.1) running.refused) (sym same)
+      (All-weaker (IsRefusedFor planned.made running.taken running.kept)
+      (λ one. IsOfPlan planned.made.plan one.1) (refused_of planned.made) running.refused
+      planned.refused)
+  refused_so None at planned =
+      subst (All (λ one. IsOfPlan (plan_of running) one.1)) (sym (is.unplanned at))
+      (All-nil (λ one. IsOfPlan (plan_of running) one.1))
+
   tells_kept : TellsOf (plan_of running) running.kept report
   tells_kept = record {
     reached = running.cursor;
     settled = is.settled;
+    refused = refused_so running.plan refl is.planned;
     through = λ none. (ends_through ended is.ends none).1;
     conflicts = refl;
     done = refl;

@@ -4,4 +4,5 @@ pub mod Power
 pub mod Steps
 pub mod Sessions
 pub mod Promise
+pub mod Records
 pub mod Laws

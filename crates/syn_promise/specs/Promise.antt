@@ -1,6 +1,6 @@
 -- What is promised of a run, in one record.
 use Rattle.std.specs.Prelude.{ℕ, ◌≡◌, ◌≢◌, ◌⊎◌, List, [], ◌∷◌, ◌++◌, Option, take, All}
-use Rattle.std.specs.Prelude.{AllPairs, Contains}
+use Rattle.std.specs.Prelude.{AllPairs, Contains, filter_map}
 use Rattle.syn_model.specs.Path.{Path}
 use Rattle.syn_model.specs.Tree.{Tree}
 use Rattle.syn_model.specs.Event.{Token, Event, Replaced}
@@ -9,15 +9,16 @@ use Rattle.syn_model.specs.Archive.{Kept, Session, after_kept, BothHeld}
 use Rattle.syn_headline.specs.Network.{Which}
 use Rattle.syn_headline.specs.World.{Machine, Step}
 use Rattle.syn_headline.specs.Acknowledged.{Ack, Happened, Kept_by, Stores, history_of}
-use Rattle.syn_headline.specs.Acknowledged.{stores_after, kept_in_session}
+use Rattle.syn_headline.specs.Acknowledged.{stores_after, kept_in, kept_in_session}
 use Rattle.syn_headline.specs.Planning.{Log}
 use Rattle.syn_headline.specs.Report.{Report}
-use Rattle.syn_headline.specs.Headline.{IsQuietSession, IsOtherToken}
+use Rattle.syn_headline.specs.Headline.{IsQuietSession, IsOtherToken, PlansWith}
 use Rattle.syn_promise.specs.Asked.{IsAsked, IsAskedEvent}
 pub use Rattle.syn_promise.specs.Told.{Told}
 use Rattle.syn_promise.specs.Power.{Power}
 use Rattle.syn_promise.specs.Steps.{Come}
-use Rattle.syn_promise.specs.Sessions.{IsPlanned, IsLegal, HasPlan, Synchronizes, Tells}
+use Rattle.syn_promise.specs.Records.{IsDue, AllDue}
+use Rattle.syn_promise.specs.Sessions.{IsPlanned, IsLegal, Synchronizes, Tells}
 
 -- the history, or it and one event more, which is no edit that no step asks for
 pub data IsWithOneMore (steps : List Step) (side : Which) (old : History) : History → Type 0 where
@@ -26,12 +27,13 @@ pub data IsWithOneMore (steps : List Step) (side : Which) (old : History) : Hist
       IsWithOneMore steps side old (old ++ event ∷ [])
 
 -- What stands after a stop of all machines: what was acknowledged, in order, and on each side at
--- most the one event that it was writing; in the archive the records so
-pub record Stand (steps : List Step) (acknowledged now : Stores) : Type 0 where
+-- most the one event that it was writing; in the archive the records so, and one more that was due
+pub record Stand (sessions : Log) (steps : List Step) (acknowledged now : Stores) : Type 0 where
   pub side : (which : Which) →
       IsWithOneMore steps which (history_of acknowledged which) (history_of now which)
   pub archive : (now.archive ≡ acknowledged.archive)
-      ⊎ ((kept : Kept) × (now.archive ≡ after_kept acknowledged.archive kept))
+      ⊎ ((kept : Kept) × IsDue sessions steps acknowledged.archive kept
+      × (now.archive ≡ after_kept acknowledged.archive kept))
 
 -- a report, which came after so much was acknowledged
 pub record Reports (sessions : Log) (acknowledged : List Ack) (one : Report × ℕ) : Type 0 where
@@ -51,7 +53,10 @@ pub record Promised (before : Stores) (steps : List Step) (told : Told) (now : S
   -- no user's edit was made that no step asks for
   pub asked : All (IsAsked steps) told.acknowledged
   -- what was acknowledged stands, with at most one change more on each machine
-  pub stand : Stand steps (stores_after before told.acknowledged) now
+  pub stand : Stand sessions steps (stores_after before told.acknowledged) now
+  -- the archive recorded only what was due: the number of a session that a start asks for, and
+  -- items of the plan of the session that was started last
+  pub recorded : AllDue sessions steps before.archive (filter_map kept_in told.acknowledged)
   -- each entry of the archive was held by both sides
   pub held : BothHeld now.left now.right now.archive.marks
   -- a session plans once, from what both sides had as it looked, and from the archive
@@ -74,7 +79,7 @@ pub record Promised (before : Stores) (steps : List Step) (told : Told) (now : S
   -- a complete session with no edit since it began synchronizes what it found
   pub synchronized : (report : Report) (found after : Stores) →
       IsQuietSession before told.acknowledged told.reports report found after →
-      (preference : Option Which) × HasPlan sessions report.session preference
+      (preference : Option Which) × PlansWith sessions report.session preference
       × Synchronizes preference report found after
   -- each report is of a session that was started before it, and tells what that did
   pub reported : All (Reports sessions told.acknowledged) told.reports

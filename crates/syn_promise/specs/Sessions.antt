@@ -11,6 +11,7 @@ use Rattle.syn_model.specs.History.{History, tree_of, tree_at, last_session, is_
 use Rattle.syn_model.specs.Mark.{mark, AreApart}
 use Rattle.syn_model.specs.Archive.{Kept}
 use Rattle.syn_model.specs.Dirty.{IsScanBy}
+use Rattle.syn_model.specs.Decision.{path_of}
 use Rattle.syn_model.specs.Plan.{plan, IsSynchronized, IsReconciled, AreEqual, IsConflict}
 use Rattle.syn_headline.specs.Network.{Which, Left, Right, other}
 use Rattle.syn_headline.specs.World.{Step, Start}
@@ -84,13 +85,6 @@ pub record IsLegal (sessions : Log) (side : Which) (written : Stores) (token : T
 
 -- What it leaves, where it is complete and no user made an edit since it began
 
--- the session's plan is one of these
-pub record HasPlan (sessions : Log) (session : ℕ) (preference : Option Which) : Type 0 where
-  pub made : SessionPlan
-  pub logged : Contains sessions made
-  pub of_session : made.session ≡ session
-  pub prefers : made.preference ≡ preference
-
 -- a session put the part at the path of a side, what the other side had at some position, and
 -- nothing touched the path since
 pub record WasCarried (found : Stores) (side : Which) (path : Path) (part : Tree) : Type 0 where
@@ -128,12 +122,19 @@ pub record Synchronizes (preference : Option Which) (report : Report) (found aft
 abbrev pub IsStable : SessionPlan → Type 0
 IsStable made = (side : Which) → (made.scan side).unstable ≡ []
 
+-- the path is that of an item of the plan
+abbrev pub IsOfPlan : List Planned → Path → Type 0
+IsOfPlan plan path = (item : ℕ) × (planned : Planned) × (slice_get plan item ≡ Some planned)
+    × (path ≡ path_of planned.item)
+
 -- A report of a session with this plan that recorded so much: it came past these items, each of
--- which is a conflict, recorded or refused. It is of all items where nothing ended it early
+-- which is a conflict, recorded or refused. It is of all items where nothing ended it early. It
+-- tells of no item that the plan has not
 pub record TellsOf (plan : List Planned) (kept : List Kept) (report : Report) : Type 0 where
   pub reached : ℕ
   pub settled : All (IsSettledBy kept report.refused) (take reached plan)
   pub through : report.ended ≡ None → All (IsSettledBy kept report.refused) plan
+  pub refused : All (λ refused. IsOfPlan plan refused.1) report.refused
   pub conflicts : report.conflicts
       ≡ filter_map (λ planned. conflict_at planned.item) (take reached plan)
   pub done : report.done

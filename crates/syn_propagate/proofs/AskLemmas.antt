@@ -17,7 +17,7 @@ use Rattle.syn_propagate.specs.Carrying.{IsEarlier, WasFetched, piece, source_of
 use Rattle.syn_propagate.specs.Transfers.{Asks, FollowsAny, with_answer}
 use Rattle.syn_propagate.specs.inner.Progresses.{HasReached, HasStagedTo, WaitsForStage}
 use Rattle.syn_propagate.specs.inner.Progresses.{WaitsForReplacement}
-use Rattle.syn_propagate.specs.declared.carriage.Carriage.{Carriage}
+use Rattle.syn_propagate.specs.declared.transfer_spec.TransferSpec.{TransferSpec}
 use Rattle.syn_propagate.specs.Refusals.{refusal_of}
 use Rattle.syn_propagate.specs.declared.error.TransferError.{TransferError}
 use Rattle.syn_propagate.specs.declared.error.TransferError.TheVariants.{Memory}
@@ -28,10 +28,10 @@ use Rattle.syn_message.specs.Requests.{request_of}
 use Rattle.syn_propagate.specs.declared.transfer.Progress.TheVariants.{Fetching, Staging, Replacing}
 use Rattle.syn_propagate.specs.declared.transfer.Transfer.{Transfer}
 
-module _ (c : Carriage) (taken : Exchanges) where
+module _ (c : TransferSpec) (taken : Exchanges) where
   pub asks_fetch : (offset : ℕ) (known : Option ℕ) → HasReached c taken offset known
       → IsLawfulBody (Fetch c.path c.source_since offset)
-      → Asks (record { carriage = c; progress = Fetching offset known }) taken (source_of c)
+      → Asks (record { spec = c; progress = Fetching offset known }) taken (source_of c)
       (Fetch c.path c.source_since offset)
   asks_fetch offset known reached lawful =
       let come = has_come c taken known offset reached.come in
@@ -50,7 +50,7 @@ module _ (c : Carriage) (taken : Exchanges) where
 
   pub asks_replace : (total : ℕ) → IsWhole c taken total → IsUnreplaced c taken
       → IsLawfulBody (Replace c.item c.path c.target_since total)
-      → Asks (record { carriage = c; progress = Replacing }) taken (target_of c)
+      → Asks (record { spec = c; progress = Replacing }) taken (target_of c)
       (Replace c.item c.path c.target_since total)
   asks_replace total whole unreplaced lawful = record {
     may = (
@@ -72,7 +72,7 @@ module _ (c : Carriage) (taken : Exchanges) where
       → 1 ≤ length bytes
       → (length bytes ≤ 32768 → IsLawfulBody (Stage c.item offset bytes))
       → end ≡ offset + length bytes
-      → Asks (record { carriage = c; progress = Staging end total })
+      → Asks (record { spec = c; progress = Staging end total })
       (with_answer taken (source_of c) number (Fetch c.path c.source_since offset)
       (Piece total bytes)) (target_of c) (Stage c.item offset bytes)
   asks_stage number offset total end known bytes reached fits some lawful ends =

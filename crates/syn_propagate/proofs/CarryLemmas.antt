@@ -20,7 +20,7 @@ use Rattle.syn_propagate.specs.Carrying.{Exchanges, AreEarlier, IsEarlier, IsNew
 use Rattle.syn_propagate.specs.Carrying.{IsWhole, WasFetched, WasStaged, nothing, piece}
 use Rattle.syn_propagate.specs.Transfers.{with_answer}
 use Rattle.syn_propagate.specs.inner.Progresses.{HasCome, HasStaged}
-use Rattle.syn_propagate.specs.declared.carriage.Carriage.{Carriage}
+use Rattle.syn_propagate.specs.declared.transfer_spec.TransferSpec.{TransferSpec}
 
 -- a path is itself in path order
 path_itself : (path : Path) → eq_by_cmp path_cmp path path ≡ true
@@ -98,18 +98,18 @@ pub last : (taken : Exchanges) (to : Which) (number : ℕ) (request : Request) (
 last taken to number request reply =
     (number, Contains-append_right taken _ _ (0, omega arith, refl))
 
-pub staged_kept : (c : Carriage) (taken more : Exchanges) (total : ℕ) (bytes : Bytes)
+pub staged_kept : (c : TransferSpec) (taken more : Exchanges) (total : ℕ) (bytes : Bytes)
     → WasStaged c taken total bytes → WasStaged c (taken ++ more) total bytes
 staged_kept c taken more total [] nothing = nothing
 staged_kept c taken more total bytes (piece had next staged fetched said) =
     piece had next (staged_kept c taken more total had staged) (kept taken more _ _ _ fetched)
     (kept taken more _ _ _ said)
 
-pub fetched_kept : (c : Carriage) (taken more : Exchanges) (total offset : ℕ) (bytes : Bytes)
+pub fetched_kept : (c : TransferSpec) (taken more : Exchanges) (total offset : ℕ) (bytes : Bytes)
     → WasFetched c taken total offset bytes → WasFetched c (taken ++ more) total offset bytes
 fetched_kept c taken more total offset bytes was = kept taken more _ _ _ was
 
-pub whole_kept : (c : Carriage) (taken more : Exchanges) (total : ℕ) → IsWhole c taken total
+pub whole_kept : (c : TransferSpec) (taken more : Exchanges) (total : ℕ) → IsWhole c taken total
     → IsWhole c (taken ++ more) total
 whole_kept c taken more total whole = record {
   bytes = whole.bytes;
@@ -121,13 +121,13 @@ whole_kept c taken more total whole = record {
 }
 
 -- what was staged piece by piece is staged
-pub is_staged : (c : Carriage) (taken : Exchanges) (total : ℕ) (bytes : Bytes)
+pub is_staged : (c : TransferSpec) (taken : Exchanges) (total : ℕ) (bytes : Bytes)
     → WasStaged c taken total bytes → IsStagedTo c taken (length bytes)
 is_staged c taken total [] nothing = inl refl
 is_staged c taken total bytes (piece had next staged fetched said) =
     inr (length had, next, said, length-append had next)
 
-pub has_come : (c : Carriage) (taken : Exchanges) (known : Option ℕ) (offset : ℕ)
+pub has_come : (c : TransferSpec) (taken : Exchanges) (known : Option ℕ) (offset : ℕ)
     → HasCome c taken known offset → IsStagedTo c taken offset × (is_wanted offset known ≡ true)
 has_come c taken None offset none =
     (inl none, ap (λ n. n == 0) none)
@@ -137,7 +137,7 @@ has_come c taken (Some total) offset come = (
 )
 
 -- what has come of a whole of so many bytes
-pub so_far : (c : Carriage) (taken : Exchanges) (known : Option ℕ) (offset total : ℕ)
+pub so_far : (c : TransferSpec) (taken : Exchanges) (known : Option ℕ) (offset total : ℕ)
     → HasCome c taken known offset → ((was : ℕ) → known ≡ Some was → total ≡ was)
     → HasStaged c taken total offset
 so_far c taken None offset total none same =
@@ -153,7 +153,7 @@ only x y (k, small, is) = first k small is
     first zero small is = is
     first (suc k) small is = absurd (omega arith)
 
-later : (c : Carriage) (f s f' s' : ℕ) → f ≤ f' → s ≤ s' → (request : Request)
+later : (c : TransferSpec) (f s f' s' : ℕ) → f ≤ f' → s ≤ s' → (request : Request)
     → IsEarlier c f s request → IsEarlier c f' s' request
 later c f s f' s' up over (Begin pair) is = tt
 later c f s f' s' up over (ListAt path) is = tt
@@ -163,7 +163,7 @@ later c f s f' s' up over (Stage item offset bytes) is =
     λ same. let less = is same in omega (arith, less, over)
 later c f s f' s' up over (Replace item path since size) is = is
 
-pub earlier_more : (c : Carriage) (taken : Exchanges) (f s f' s' : ℕ) (to : Which) (number : ℕ)
+pub earlier_more : (c : TransferSpec) (taken : Exchanges) (f s f' s' : ℕ) (to : Which) (number : ℕ)
     (request : Request) (reply : Reply) → AreEarlier c taken f s → f ≤ f' → s ≤ s'
     → IsEarlier c f' s' request
     → AreEarlier c (with_answer taken to number request reply) f' s'
@@ -174,7 +174,7 @@ earlier_more c taken f s f' s' to number request reply were up over is exchange 
     ]
 
 -- so it is asked for the first time
-pub new_fetch : (c : Carriage) (taken : Exchanges) (offset staged : ℕ)
+pub new_fetch : (c : TransferSpec) (taken : Exchanges) (offset staged : ℕ)
     → AreEarlier c taken offset staged → IsNew taken (Fetch c.path c.source_since offset)
 new_fetch c taken offset staged were exchange within =
     by exchange.request (were exchange within)
@@ -188,7 +188,7 @@ new_fetch c taken offset staged were exchange within =
     by (Stage item at bytes) is again = again
     by (Replace item path since size) is again = again
 
-pub new_stage : (c : Carriage) (taken : Exchanges) (fetched offset : ℕ) (bytes : Bytes)
+pub new_stage : (c : TransferSpec) (taken : Exchanges) (fetched offset : ℕ) (bytes : Bytes)
     → AreEarlier c taken fetched offset → IsNew taken (Stage c.item offset bytes)
 new_stage c taken fetched offset bytes were exchange within =
     by exchange.request (were exchange within)
@@ -202,7 +202,7 @@ new_stage c taken fetched offset bytes were exchange within =
         let less = is again.0 in absurd (omega (arith, less, again.1))
     by (Replace item path since size) is again = again
 
-pub new_replace : (c : Carriage) (taken : Exchanges) (fetched staged size : ℕ)
+pub new_replace : (c : TransferSpec) (taken : Exchanges) (fetched staged size : ℕ)
     → AreEarlier c taken fetched staged → IsNew taken (Replace c.item c.path c.target_since size)
 new_replace c taken fetched staged size were exchange within =
     by exchange.request (were exchange within)

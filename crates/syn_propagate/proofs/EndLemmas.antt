@@ -6,13 +6,13 @@ use Rattle.syn_headline.specs.Side.{Request}
 use Rattle.syn_message.specs.Replies.{reply_of}
 use Rattle.syn_message.specs.declared.reply.Reply.{Reply}
 use Rattle.syn_propagate.specs.Transfers.{EndsBy, IsAsking}
-use Rattle.syn_propagate.specs.declared.carriage.Carriage.{Carriage}
+use Rattle.syn_propagate.specs.declared.transfer_spec.TransferSpec.{TransferSpec}
 use Rattle.syn_propagate.specs.declared.error.TransferError.{TransferError}
 use Rattle.syn_propagate.specs.declared.next.Next.{Next}
 use Rattle.syn_propagate.specs.declared.next.Next.TheVariants.{Ask, Done, Refused}
 
 -- where it asks for something, that is so
-pub goes_on_after : (c : Carriage) (request : Request) (answer : Reply)
+pub goes_on_after : (c : TransferSpec) (request : Request) (answer : Reply)
     (result : Result Next TransferError) → is_last (reply_of answer) ≡ false →
     IfOk result IsAsking → IfOk result (EndsBy c request (reply_of answer))
 goes_on_after c request answer (Ok (Ask side asked)) on asking = on

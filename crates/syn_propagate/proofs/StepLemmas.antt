@@ -15,7 +15,7 @@ use Rattle.syn_propagate.specs.Refusals.{refusal_of}
 use Rattle.syn_propagate.specs.Transfers.{Follows, FollowsAny, with_answer}
 use Rattle.syn_propagate.specs.inner.Progresses.{HasReached, HasStagedTo, WaitsForPiece}
 use Rattle.syn_propagate.specs.inner.Progresses.{WaitsForReplacement, WaitsForStage}
-use Rattle.syn_propagate.specs.declared.carriage.Carriage.{Carriage}
+use Rattle.syn_propagate.specs.declared.transfer_spec.TransferSpec.{TransferSpec}
 use Rattle.syn_propagate.specs.declared.error.TransferError.{TransferError}
 use Rattle.syn_propagate.specs.declared.error.TransferError.TheVariants.{Memory}
 use Rattle.syn_propagate.specs.declared.next.Next.{Next}
@@ -43,7 +43,7 @@ for_any : (transfer : Transfer) (taken : Exchanges) (fault : Option Refusal) (re
 for_any transfer taken fault reply (Ok next) is = (is.0, is.1 reply)
 for_any transfer taken fault reply (Err e) is = is
 
-module _ (c : Carriage) (transfer : Transfer) (taken : Exchanges) (to : Which) (number : ℕ)
+module _ (c : TransferSpec) (transfer : Transfer) (taken : Exchanges) (to : Which) (number : ℕ)
     (request : Request) (result : Result Next TransferError) where
   pub after_piece : (offset total : ℕ) (known : Option ℕ) (bytes : Bytes)
       → WaitsForPiece c taken offset known to request

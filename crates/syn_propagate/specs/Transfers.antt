@@ -10,20 +10,20 @@ use Rattle.syn_path.specs.Sides.{which_of}
 use Rattle.syn_message.specs.declared.reply.Reply.{Reply}
 use Rattle.syn_message.specs.declared.reply.Reply.TheVariants as has
 use Rattle.syn_propagate.specs.Carrying.{Exchanges, IsNew, MayAsk, WasCarried, source_of, target_of}
-use Rattle.syn_propagate.specs.declared.carriage.Carriage.{Carriage}
+use Rattle.syn_propagate.specs.declared.transfer_spec.TransferSpec.{TransferSpec}
 use Rattle.syn_propagate.specs.declared.error.TransferError.{TransferError}
 use Rattle.syn_propagate.specs.declared.error.TransferError.TheVariants.{BadMessage}
 use Rattle.syn_propagate.specs.declared.next.Next.{Next}
 use Rattle.syn_propagate.specs.declared.next.Next.TheVariants.{Ask, Done, Refused}
 use Rattle.syn_propagate.specs.declared.transfer.Transfer.{Transfer}
 pub use Rattle.syn_propagate.specs.inner.Progresses.{IsOver, IsReady, IsWaiting, WaitsFor}
-pub use Rattle.syn_propagate.specs.inner.Progresses.{carriage_of}
+pub use Rattle.syn_propagate.specs.inner.Progresses.{spec_of}
 use Rattle.syn_refusal.specs.Refusals.{cause_of}
 
 -- it asks for what may be asked, for the first time, and waits for the answer
 pub record Asks (transfer : Transfer) (taken : Exchanges) (to : Which) (request : Request)
     : Type 0 where
-  pub may : MayAsk (carriage_of transfer) taken to request
+  pub may : MayAsk (spec_of transfer) taken to request
   pub new : IsNew taken request
   pub lawful : IsLawfulBody request
   pub waits : WaitsFor transfer taken to request
@@ -32,7 +32,7 @@ pub record Asks (transfer : Transfer) (taken : Exchanges) (to : Which) (request 
 abbrev pub Follows : Transfer → Exchanges → model.Reply → Next → Type 0
 Follows transfer taken reply (Ask side request) =
     Asks transfer taken (which_of side) (request_of request)
-Follows transfer taken reply Done = WasCarried (carriage_of transfer) taken
+Follows transfer taken reply Done = WasCarried (spec_of transfer) taken
 Follows transfer taken reply (Refused why) = reply ≡ model.Refused (cause_of why)
 
 -- whatever was answered
@@ -46,7 +46,7 @@ IsOverUnlessAsking transfer Done = IsOver transfer
 IsOverUnlessAsking transfer (Refused why) = IsOver transfer
 
 -- the request is for what is carried
-abbrev pub IsForItem : Carriage → Which → Request → Type 0
+abbrev pub IsForItem : TransferSpec → Which → Request → Type 0
 IsForItem c to (Fetch path since offset) = (to ≡ source_of c) × (path ≡ c.path)
 IsForItem c to (Stage item offset bytes) = (to ≡ target_of c) × (item ≡ c.item)
 IsForItem c to (Replace item path since size) = (to ≡ target_of c) × (item ≡ c.item)
@@ -56,7 +56,7 @@ IsForItem c to _ = ⊥
 -- what a transfer waits for is for what it carries
 abbrev pub WaitsForItem : Type 0
 WaitsForItem = (transfer : Transfer) (taken : Exchanges) (to : Which) (request : Request)
-    → WaitsFor transfer taken to request → IsForItem (carriage_of transfer) to request
+    → WaitsFor transfer taken to request → IsForItem (spec_of transfer) to request
 
 -- it asks for something
 abbrev pub IsAsking : Next → Type 0
@@ -66,7 +66,7 @@ IsAsking (Refused why) = ⊥
 
 -- the last answer is that a side refused, or that the replacement is done: it goes on after no
 -- other
-abbrev pub EndsBy : Carriage → Request → model.Reply → Next → Type 0
+abbrev pub EndsBy : TransferSpec → Request → model.Reply → Next → Type 0
 EndsBy c request reply (Ask side asked) = is_last reply ≡ false
 EndsBy c request reply Done = (reply ≡ model.Done)
     × (size : ℕ) × (request ≡ Replace c.item c.path c.target_since size)

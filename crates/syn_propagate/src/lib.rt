@@ -3,7 +3,7 @@
 //!
 //! # What it promises
 //!
-//! A `Transfer` is made of a `Carriage`: the item, its path, its source, and the positions from
+//! A `Transfer` is made of a `TransferSpec`: the item, its path, its source, and the positions from
 //! which on no event may have touched the path on either side. Its contract speaks of any exchanges
 //! that a session took (`taken`).
 //!
@@ -29,12 +29,12 @@
 //!   without any.
 #![tactic(auto)]
 
-mod carriage;
 mod error;
 mod next;
 mod transfer;
+mod transfer_spec;
 
-pub use carriage::Carriage;
 pub use error::TransferError;
 pub use next::Next;
 pub use transfer::{Transfer, transfer_laws};
+pub use transfer_spec::TransferSpec;

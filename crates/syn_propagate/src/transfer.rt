@@ -13,9 +13,9 @@ ghost use Rattle.syn_propagate.specs.Carrying.{Exchanges, IsFresh, IsUnreplaced,
 ghost use Rattle.syn_propagate.specs.Carrying.{source_of};
 ghost use Rattle.syn_propagate.specs.Transfers.{WaitsForItem, or_refused};
 
-use crate::carriage::Carriage;
 use crate::error::TransferError;
 use crate::next::Next;
+use crate::transfer_spec::TransferSpec;
 use std::alloc::Global;
 use syn_message::{LONGEST_PIECE, Reply};
 
@@ -37,7 +37,7 @@ enum Progress {
 /// The transfer of one item of a session. It keeps no bytes: each piece is handed on.
 #[derive(Debug, Drop)]
 pub struct Transfer {
-    carriage: Carriage,
+    spec: TransferSpec,
     progress: Progress,
 }
 
@@ -45,17 +45,17 @@ impl Transfer {
     ghost use Rattle.syn_propagate.specs.Transfers.{EndsBy, Follows, FollowsAny, IsMisfit, IsOver};
     ghost use Rattle.syn_propagate.specs.Transfers.{IsAsking, IsOverUnlessAsking, IsReady};
     ghost use Rattle.syn_propagate.specs.inner.Progresses.{IsWaiting};
-    ghost use Rattle.syn_propagate.specs.Transfers.{TakesMemory, WaitsFor, carriage_of};
+    ghost use Rattle.syn_propagate.specs.Transfers.{TakesMemory, WaitsFor, spec_of};
     ghost use Rattle.syn_propagate.specs.Transfers.{with_answer};
     ghost use Rattle.syn_propagate.specs.inner.Progresses.{HasReached, HasStagedTo};
 
     /// A transfer that has asked for nothing yet.
-    pub fn new(carriage: Carriage) -> Transfer
-        ensures carriage { carriage_of result ≡ carriage }
+    pub fn new(spec: TransferSpec) -> Transfer
+        ensures spec { spec_of result ≡ spec }
         ensures ready { IsReady result }
     {
         Transfer {
-            carriage,
+            spec,
             progress: Progress::Ready,
         }
     }
@@ -68,11 +68,11 @@ impl Transfer {
     /// it is as it was, and takes the same answer again. After 23, or once it is done or a side
     /// refused it, it is over.
     pub fn step(&mut self, alloc: Global, reply: Option<Reply>) -> Result<Next, TransferError>
-        ensures carriage { carriage_of self.new ≡ carriage_of self.old }
+        ensures spec { spec_of self.new ≡ spec_of self.old }
 
         // At first it asks for the first piece.
         ensures starts { (taken : Exchanges) → reply ≡ None → IsReady self.old
-            → IsFresh (carriage_of self.old) taken
+            → IsFresh (spec_of self.old) taken
             → MatchResult result (FollowsAny self.new taken) (λ e. e ≡ TransferError.Memory) }
         ensures asks { reply ≡ None → IsReady self.old
             → MatchResult result IsAsking (λ e. e ≡ TransferError.Memory) }
@@ -92,7 +92,7 @@ impl Transfer {
         // It goes on after no last answer, and is done after that of its replacement alone.
         ensures ends { (taken : Exchanges) (to : Which) (request : Asked) (answer : Answer)
             → reply ≡ Some answer → WaitsFor self.old taken to request
-            → IfOk result (EndsBy (carriage_of self.old) request (reply_of answer)) }
+            → IfOk result (EndsBy (spec_of self.old) request (reply_of answer)) }
 
         // Memory is refused only where what comes next takes some.
         ensures memory { result ≡ Err TransferError.Memory → TakesMemory reply }
@@ -133,7 +133,7 @@ impl Transfer {
     fn end(&mut self, answer: Result<Next, TransferError>) -> Result<Next, TransferError>
         ensures answer { result ≡ answer }
         ensures over { IsOver self.new }
-        ensures carriage { carriage_of self.new ≡ carriage_of self.old }
+        ensures spec { spec_of self.new ≡ spec_of self.old }
     {
         self.progress = Progress::Over;
         answer
@@ -141,9 +141,9 @@ impl Transfer {
 
     /// Asks for the first piece, where nothing was asked yet.
     fn start(&mut self, alloc: Global) -> Result<Next, TransferError>
-        ensures carriage { carriage_of self.new ≡ carriage_of self.old }
+        ensures spec { spec_of self.new ≡ spec_of self.old }
         ensures starts { (taken : Exchanges) → IsReady self.old
-            → IsFresh (carriage_of self.old) taken
+            → IsFresh (spec_of self.old) taken
             → MatchResult result (FollowsAny self.new taken) (λ e. e ≡ TransferError.Memory) }
         ensures asks { IsReady self.old
             → MatchResult result IsAsking (λ e. e ≡ TransferError.Memory) }
@@ -168,11 +168,11 @@ impl Transfer {
         total: u32,
         bytes: Vec<u8>,
     ) -> Result<Next, TransferError>
-        ensures carriage { carriage_of self.new ≡ carriage_of self.old }
+        ensures spec { spec_of self.new ≡ spec_of self.old }
         ensures asking { IfOk result IsAsking }
         ensures goes_on { (taken : Exchanges) (number : ℕ)
-            → HasReached (carriage_of self.old) taken offset known
-            → let c = carriage_of self.old in
+            → HasReached (spec_of self.old) taken offset known
+            → let c = spec_of self.old in
             let request = Fetch c.path c.source_since offset in let answer = Piece total bytes.items
             in MatchResult result
             (λ next. (fault_of taken (source_of c) request answer ≡ None) × FollowsAny self.new
@@ -192,15 +192,15 @@ impl Transfer {
         }
         let end = offset + bytes.len() as u32;
         self.progress = Progress::Staging { end, total };
-        Ok(self.carriage.stage(offset, bytes))
+        Ok(self.spec.stage(offset, bytes))
     }
 
     /// Goes on after a piece that is staged.
     fn go_on(&mut self, alloc: Global, end: u32, total: u32) -> Result<Next, TransferError>
-        ensures carriage { carriage_of self.new ≡ carriage_of self.old }
+        ensures spec { spec_of self.new ≡ spec_of self.old }
         ensures asking { IfOk result IsAsking }
         ensures goes_on { (taken : Exchanges)
-            → HasStagedTo (carriage_of self.old) taken end total
+            → HasStagedTo (spec_of self.old) taken end total
             → MatchResult result (FollowsAny self.new taken) (λ e. e ≡ TransferError.Memory) }
         ensures over { IfOk result (IsOverUnlessAsking self.new) }
         ensures memory { IfErr result (λ e. e ≡ TransferError.Memory) }
@@ -220,31 +220,31 @@ impl Transfer {
         offset: u32,
         total: Option<u32>,
     ) -> Result<Next, TransferError>
-        ensures carriage { carriage_of self.new ≡ carriage_of self.old }
+        ensures spec { spec_of self.new ≡ spec_of self.old }
         ensures asking { IfOk result IsAsking }
-        ensures asks { (taken : Exchanges) → HasReached (carriage_of self.old) taken offset total
+        ensures asks { (taken : Exchanges) → HasReached (spec_of self.old) taken offset total
             → MatchResult result (FollowsAny self.new taken) (λ e. e ≡ TransferError.Memory) }
         ensures over { IfOk result (IsOverUnlessAsking self.new) }
         ensures memory { IfErr result (λ e. e ≡ TransferError.Memory) }
         ensures unchanged { OnErr result (self.new ≡ self.old) }
     {
-        let next = self.carriage.fetch(alloc, offset)?;
+        let next = self.spec.fetch(alloc, offset)?;
         self.progress = Progress::Fetching { offset, total };
         Ok(next)
     }
 
     /// Asks for the replacement by what is staged, which has so many bytes.
     fn replace(&mut self, alloc: Global, total: u32) -> Result<Next, TransferError>
-        ensures carriage { carriage_of self.new ≡ carriage_of self.old }
+        ensures spec { spec_of self.new ≡ spec_of self.old }
         ensures asking { IfOk result IsAsking }
-        ensures asks { (taken : Exchanges) → IsWhole (carriage_of self.old) taken total
-            → IsUnreplaced (carriage_of self.old) taken
+        ensures asks { (taken : Exchanges) → IsWhole (spec_of self.old) taken total
+            → IsUnreplaced (spec_of self.old) taken
             → MatchResult result (FollowsAny self.new taken) (λ e. e ≡ TransferError.Memory) }
         ensures over { IfOk result (IsOverUnlessAsking self.new) }
         ensures memory { IfErr result (λ e. e ≡ TransferError.Memory) }
         ensures unchanged { OnErr result (self.new ≡ self.old) }
     {
-        let next = self.carriage.replace(alloc, total)?;
+        let next = self.spec.replace(alloc, total)?;
         self.progress = Progress::Replacing;
         Ok(next)
     }

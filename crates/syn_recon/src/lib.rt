@@ -10,14 +10,19 @@
 //!   each and in that order (`ok`), and it is refused only 11 (`memory`). So each law of the plan
 //!   is one of what the code gives. It synchronizes; a directory is recorded before what is below
 //!   it; and nothing dirty on its own side is carried over, but where the other side is preferred.
+//! - `compare` gives that plan of two trees in memory, with the marks that both last agreed on
+//!   (`items`), and what a scan would find of each tree (`left`, `right`).
 #![tactic(auto)]
 
 mod decided;
 mod error;
 mod item;
 mod touched;
+mod tree_scan;
+mod trees;
 mod walk;
 
 pub use error::PlanError;
 pub use item::Item;
+pub use trees::{Compared, compare};
 pub use walk::plan;

@@ -6,3 +6,4 @@ mod CarryLemmas
 mod RunLemmas
 mod SharedLemmas
 mod PlannableLemmas
+mod AloneLemmas

@@ -34,7 +34,8 @@ use Rattle.syn_reconcile.specs.Settlings.{after_settled, items_in, trees_of}
 use Rattle.syn_reconcile.specs.Settlings as settlings
 use Rattle.syn_reconcile.specs.Stops.{HasEitherMarks, HasEitherTree, HasMarks, HasTree}
 use Rattle.syn_reconcile.specs.Strangers.{LeavesAlone}
-use Rattle.syn_reconcile.specs.UnderWay.{AreApart, IsReached, IsStopped, ReachesMarks, ReachesTree}
+use Rattle.syn_reconcile.specs.UnderWay.{AreApart, IsPartOf, IsReached, IsStopped}
+use Rattle.syn_reconcile.specs.UnderWay.{ReachesMarks, ReachesTree}
 use Rattle.syn_reconcile.specs.UnderWay as run
 use Rattle.syn_reconcile.specs.declared.report.Settled.{Settled}
 
@@ -78,6 +79,17 @@ more_edits pair user history edits tree bytes has =
       leaves = ap tree_of (sym same) ∙ has.leaves;
     }
 
+-- one item more was settled
+pub part_then : (items : List Item) (settled : List Settled) (one : Settled) (others : List Item)
+    → items ≡ items_in settled ++ item_of one.item ∷ others
+    → IsPartOf items (settled ++ one ∷ [])
+part_then items settled one others are = record {
+  others = others;
+  are = are ∙ sym (ap (λ xs. xs ++ others)
+      (map-append (λ (s : Settled). item_of s.item) settled (one ∷ []))
+      ∙ append_assoc (items_in settled) (item_of one.item ∷ []) others);
+}
+
 module _ (items : List Item) (found : Trees) (settled : List Settled) (item : Planned)
     (others : List Item) (are : items ≡ items_in settled ++ item_of item ∷ others) where
   abbrev pub now : Trees
@@ -96,12 +108,7 @@ module _ (items : List Item) (found : Trees) (settled : List Settled) (item : Pl
       let one : Settled = record { item = item; refused = refused } in
       record {
         settled = settled ++ one ∷ [];
-        part = record {
-          others = others;
-          are = are ∙ sym (ap (λ xs. xs ++ others)
-              (map-append (λ (s : Settled). item_of s.item) settled (one ∷ []))
-              ∙ append_assoc (items_in settled) (item_of item ∷ []) others);
-        };
+        part = part_then items settled one others are;
         leave = after_more found settled one;
       }
 

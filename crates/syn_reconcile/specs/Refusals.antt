@@ -3,7 +3,7 @@ use Rattle.syn_archive.specs.Refusals.{refusal_of as of_archive}
 use Rattle.syn_model.specs.Refusal.{Refusal}
 use Rattle.syn_model.specs.Refusal as why
 use Rattle.syn_refusal.specs.Refusals.{cause_of}
-use Rattle.syn_standing.specs.Refusals.{refusal_of as of_replica}
+use Rattle.syn_replica.specs.ErrorRefusals.{refusal_of as of_replica}
 use Rattle.syn_reconcile.specs.declared.error.ReconcileError.{ReconcileError}
 use Rattle.syn_reconcile.specs.declared.error.ReconcileError.TheVariants.{Empty, TooMany, OtherPair}
 use Rattle.syn_reconcile.specs.declared.error.ReconcileError.TheVariants.{Unplanned, Replica}

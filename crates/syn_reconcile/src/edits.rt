@@ -18,8 +18,7 @@ use syn_change::{changes, copy_part};
 use syn_disk::Disk;
 use syn_mark::MarkTree;
 use syn_path::Path;
-use syn_replica::Replica;
-use syn_standing::ReplicaError;
+use syn_replica::{Replica, ReplicaError};
 use syn_tree::{Edit, Tree, TreeError};
 
 /// More bytes than the records of all edits that make one tree of a replica another.

@@ -9,7 +9,7 @@ use std::fmt;
 use syn_archive::ArchiveError;
 use syn_path::Side;
 use syn_refusal::Refusal;
-use syn_standing::ReplicaError;
+use syn_replica::ReplicaError;
 use thiserror::Error;
 
 /// Why a folder and a replica are not reconciled, or not any further.

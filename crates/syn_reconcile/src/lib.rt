@@ -38,6 +38,19 @@
 //!   lock (`holds`).
 //! - The folder and the marks are what the items leave that were not refused (`leave`). So an item
 //!   is marked only where its hold answered that it is there, or the folder took it.
+//! - Where no item was refused, folder and marks are what the plan leaves, whatever others edit
+//!   meanwhile (`whole`).
+//! - The replica is that, too, by edits of the user, if it stood for a history as it was seen and
+//!   nobody else edited it from then to the last hold of the run (`alone`). That is, each hold of
+//!   another pass in between left the history that it found (`NobodyEdits`): one that reads, a
+//!   checkpoint, or an edit that is refused. So all three are then what the definition of a
+//!   synchronization asks (`synchronized`, `reconciled`).
+//! - Whenever the machine stops, the archive's disk has the marks that the first of the items
+//!   leave, and what of these is for the replica was put there before, in holds of its lock
+//!   (`any_mark`: `HasSharedMarks`). So each mark was held by both.
+//! - A call that ends early has carried out the items up to one of them. Of that one nothing is in
+//!   the folder or the marks, and in the replica what its hold left; or it is carried out, and only
+//!   its record may be missing (`stopped`: `IsSharedStop`).
 //!
 //! An archive has no position of the replica. That the replica is older than the marks, as a backup
 //! is, is seen only where it is empty or of another pair.

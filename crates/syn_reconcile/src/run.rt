@@ -23,11 +23,11 @@ use crate::items::carry_all;
 use crate::report::Report;
 use std::alloc::Global;
 use syn_archive::Archive;
-use syn_compare::{Compared, compare};
 use syn_disk::Disk;
 use syn_folder::EditedFolder;
 use syn_model::plan_laws;
 use syn_path::Side;
+use syn_recon::{Compared, compare};
 use syn_replica::Replica;
 use syn_tree::Tree;
 
@@ -180,7 +180,7 @@ pub fn reconcile<F: EditedFolder, R: Disk, A: Disk>(
         (trees_of (F.tree folder.old) replica archive.old) done.1.settled.items) }
 {
     plan_laws();
-    tell_types(folder, &replica, archive);
+    tell_types(folder, replica.tree(), archive);
     let compared = match plan(alloc, folder, &replica, archive, preference, when_empty) {
         Ok(compared) => compared,
         Err(error) => return Err((error, replica.into_disk())),
@@ -190,16 +190,12 @@ pub fn reconcile<F: EditedFolder, R: Disk, A: Disk>(
 }
 
 /// Does nothing. It says what the types of the three trees keep: a plan of them can be made.
-fn tell_types<F: EditedFolder, R: Disk, A: Disk>(
-    folder: &F,
-    replica: &Replica<R>,
-    archive: &Archive<A>,
-)
+pub(crate) fn tell_types<F: EditedFolder, A: Disk>(folder: &F, replica: &Tree, archive: &Archive<A>)
     ensures folder { CanBePlanned (F.tree folder.now) }
-    ensures replica { CanBePlanned (tree_shown replica.now) }
+    ensures replica { CanBePlanned replica.now }
     ensures archive { CanBePlanned (marks_shown archive.now) }
 {
     let _ = folder.tree().entries();
-    let _ = replica.tree().entries();
+    let _ = replica.entries();
     let _ = archive.tree().as_slice();
 }

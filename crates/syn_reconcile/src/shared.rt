@@ -1,16 +1,21 @@
 //! Makes a folder the same as a replica that others go on editing.
-ghost use Rattle.std.specs.Prelude.{IfNone, IfOk};
-ghost use Rattle.syn_archive.specs.Archive.{Stands as Keeps, marks_shown};
+ghost use Rattle.std.specs.Prelude.{◌≡◌, IfErr, IfNone, IfOk, None};
+ghost use Rattle.syn_archive.specs.Archive.{Stands as Keeps, disk_of as marks_disk};
+ghost use Rattle.syn_archive.specs.Archive.{marks_shown, pair_of as marks_pair};
+ghost use Rattle.syn_disk.specs.Stops.{LeavesOnly};
 ghost use Rattle.syn_model.specs.Archive.{Archive as Kept};
 ghost use Rattle.syn_model.specs.Decision.{ToRight};
+ghost use Rattle.syn_model.specs.Mark.{mark};
+ghost use Rattle.syn_model.specs.Plan.{after_item};
+ghost use Rattle.syn_model.specs.Tree.{Tree as Pairs, replace, subtree};
 ghost use Rattle.syn_recon.specs.Items.{item_of, items_of};
-ghost use Rattle.syn_model.specs.Tree.{Tree as Pairs};
 ghost use Rattle.syn_reconcile.specs.Settlings.{IsCarried, here, items_in};
-ghost use Rattle.syn_reconcile.specs.Shared.{HoldInTurn, HoldsFor, IsBeside, IsSharedRun};
-ghost use Rattle.syn_reconcile.specs.Shared.{LeaveAlone, after_all_seen};
+ghost use Rattle.syn_reconcile.specs.Shared.{HasEitherHeld, HasSeenMarks, HasSharedMarks};
+ghost use Rattle.syn_reconcile.specs.Shared.{HoldInTurn, HoldsFor, IsBeside, IsCutShort};
+ghost use Rattle.syn_reconcile.specs.Shared.{IsSharedRun, IsSharedStop, IsUnrecorded, LeaveAlone};
+ghost use Rattle.syn_reconcile.specs.Shared.{after_all_seen};
 ghost use Rattle.syn_reconcile.specs.Strangers.{LeavesAlone};
 ghost use Rattle.syn_shared.specs.Shared.{IsFor};
-ghost use Rattle.std.specs.Prelude.{◌≡◌};
 
 use crate::carry::{mark_dir, mark_same, to_folder};
 use crate::checks::WhenEmpty;
@@ -18,7 +23,7 @@ use crate::error::ReconcileError;
 use crate::items::note;
 use crate::marks::{MarkedPart, marked_part, record};
 use crate::report::{Report, Settled};
-use crate::run::plan_seen;
+use crate::run::{plan_seen, tell_types};
 use crate::strangers::leaves_alone;
 use std::alloc::Global;
 use std::sync::Wait;
@@ -26,6 +31,7 @@ use syn_archive::Archive;
 use syn_disk::Disk;
 use syn_folder::EditedFolder;
 use syn_lock::Pass;
+use syn_model::plan_laws;
 use syn_path::Path;
 use syn_recon::Item;
 use syn_refusal::Refusal;
@@ -58,8 +64,21 @@ pub fn reconcile_shared<H: Wait, F: EditedFolder, R: Disk, A: Disk>(
         (λ report. IsSharedRun shared.now user when_empty (F.strangers folder.old)
         (F.tree folder.old) archive.old pass.old pass.new (F.tree folder.new) archive.new
         report.settled.items) }
+
+    // A call that ends early leaves nothing recorded that is not carried out.
+    ensures stopped { (kept : Kept) → Keeps archive.old kept → IfErr result
+        (λ _. IsSharedStop shared.now user (F.tree folder.old) archive.old pass.old pass.new
+        (F.tree folder.new) archive.new) }
+
+    // Whenever the machine stops, the archive's disk has the marks that some of the items leave,
+    // and what of these is for the replica was put there before.
+    ensures any_mark { (kept : Kept) → Keeps archive.old kept
+        → LeavesOnly A.moment A.left_since (marks_disk archive.old) (marks_disk archive.new)
+        (HasSharedMarks shared.now user (F.tree folder.old) archive.old pass.old) }
 {
+    plan_laws();
     let seen = shared.snapshot(rt, alloc, pass)?;
+    tell_types(folder, &seen.tree, archive);
     let compared = plan_seen(
         alloc, folder, &seen.tree, seen.pair, archive, None, when_empty,
     )?;
@@ -77,7 +96,8 @@ pub fn reconcile_shared<H: Wait, F: EditedFolder, R: Disk, A: Disk>(
     Ok(Report { settled })
 }
 
-/// Carries out each of the items in turn, and answers what came of each.
+/// Carries out each of the items, which are the plan of what was seen, in turn, and answers what
+/// came of each.
 fn carry_each<H: Wait, F: EditedFolder, R: Disk, A: Disk>(
     rt: &H,
     alloc: Global,
@@ -92,6 +112,15 @@ fn carry_each<H: Wait, F: EditedFolder, R: Disk, A: Disk>(
     requires { IsFor shared.now pass.old }
     ensures of { IsFor shared.now pass.new }
     ensures items { IfOk result (λ settled. items_in settled.items ≡ items_of items.items) }
+    ensures stopped { (kept : Kept) → Keeps archive.old kept → IfErr result
+        (λ _. IsCutShort shared.now user seen.now.position (marks_pair archive.old)
+        (items_of items.items) (here (F.tree folder.old) seen.now.tree (marks_shown archive.old))
+        pass.old pass.new (F.tree folder.new) archive.new) }
+    ensures any_mark { (kept : Kept) → Keeps archive.old kept
+        → LeavesOnly A.moment A.left_since (marks_disk archive.old) (marks_disk archive.new)
+        (HasSeenMarks shared.now user seen.now.position (marks_pair archive.old)
+        (items_of items.items) (here (F.tree folder.old) seen.now.tree (marks_shown archive.old))
+        pass.old) }
     ensures carried { (kept : Kept) → Keeps archive.old kept → IfOk result
         (λ settled. IsBeside (after_all_seen (here (F.tree folder.old) seen.now.tree
         (marks_shown archive.old)) settled.items) (F.tree folder.new) archive.new) }
@@ -130,9 +159,21 @@ fn carry_one<H: Wait, F: EditedFolder, R: Disk, A: Disk>(
         (marks_shown archive.old)) (F.tree folder.new) archive.new) }
     ensures holds { IfOk result (λ refused. HoldsFor shared.now user seen.now.position
         (F.tree folder.old) (item_of item.now) refused pass.old pass.new) }
+    ensures stopped { IfErr result (λ _. IsUnrecorded (item_of item.now)
+        (here (F.tree folder.old) seen.now.tree (marks_shown archive.old)) (F.tree folder.new)
+        archive.old archive.new (λ refused. HoldsFor shared.now user seen.now.position
+        (F.tree folder.old) (item_of item.now) refused pass.old pass.new)) }
+    ensures any_mark { (kept : Kept) → Keeps archive.old kept
+        → LeavesOnly A.moment A.left_since (marks_disk archive.old) (marks_disk archive.new)
+        (HasEitherHeld (marks_pair archive.old) (marks_shown archive.old)
+        (after_item (here (F.tree folder.old) seen.now.tree (marks_shown archive.old))
+        (item_of item.now)).archive
+        (HoldsFor shared.now user seen.now.position (F.tree folder.old) (item_of item.now) None
+        pass.old pass.new)) }
     ensures apart { IfOk result (λ refused. IfNone refused
         (LeavesAlone (F.strangers folder.old) seen.now.tree (item_of item.now))) }
     ensures strangers { F.strangers folder.new ≡ F.strangers folder.old }
+    ensures marked { marks_pair archive.new ≡ marks_pair archive.old }
 {
     if !leaves_alone(alloc, folder.strangers(), &seen.tree, item)? {
         return Ok(Some(Refusal::Full));
@@ -172,6 +213,17 @@ fn to_shared<H: Wait, F: EditedFolder, R: Disk, A: Disk>(
         (marks_shown archive.old)) (F.tree folder.now) archive.new) }
     ensures holds { IfOk result (λ refused. HoldsFor shared.now user since (F.tree folder.now)
         (ToRight path.now) refused pass.old pass.new) }
+    ensures stopped { (right : Pairs) → IfErr result (λ _. IsUnrecorded (ToRight path.now)
+        (here (F.tree folder.now) right (marks_shown archive.old)) (F.tree folder.now)
+        archive.old archive.new (λ refused. HoldsFor shared.now user since (F.tree folder.now)
+        (ToRight path.now) refused pass.old pass.new)) }
+    ensures any_mark { (kept : Kept) → Keeps archive.old kept
+        → LeavesOnly A.moment A.left_since (marks_disk archive.old) (marks_disk archive.new)
+        (HasEitherHeld (marks_pair archive.old) (marks_shown archive.old)
+        (replace (marks_shown archive.old) path.now (mark (subtree (F.tree folder.now) path.now)))
+        (HoldsFor shared.now user since (F.tree folder.now) (ToRight path.now) None pass.old
+        pass.new)) }
+    ensures marked { marks_pair archive.new ≡ marks_pair archive.old }
 {
     let MarkedPart { node, marks } = match marked_part(alloc, folder.tree(), path) {
         Ok(part) => part,

@@ -1,4 +1,1 @@
-mod OpeningLemmas
 mod HeadlineLemmas
-pub mod CallLemmas
-pub mod DiskLemmas

@@ -14,7 +14,7 @@ use Rattle.syn_headline.specs.Headline.{CompleteSessionsSynchronize, CompleteSes
 use Rattle.syn_headline.specs.Headline.{ReportsItsConflicts, CountsItsItems, CarriedIsMarked}
 use Rattle.syn_headline.specs.Headline.{HeldIsMarked, PreferenceLeavesOne}
 use Rattle.syn_headline.specs.Reported.{EachReportTells}
-use Rattle.syn_recovery.specs.Meaning.{IsDiskOf, IsOf, MayBeOf}
+use Rattle.syn_journal.specs.Meaning.{IsDiskOf, IsOf, MayBeOf}
 use Rattle.syn_recovery.specs.Machines.{of_side, of_archive}
 
 -- what three disks hold

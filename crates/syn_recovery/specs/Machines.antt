@@ -1,22 +1,15 @@
--- How a side and a coordinator keep their values, and what follows for each of their disks.
+-- What follows for the disks of a side and of a coordinator from how they keep their values.
 use Rattle.std.specs.Prelude.{ℕ, ◌≤◌, length}
 use Rattle.syn_model.specs.Event.{Event}
-use Rattle.syn_model.specs.History.{History, IsHistory, IsAllowed}
-use Rattle.syn_model.specs.Image.{StandsFor}
-use Rattle.syn_model.specs.Archive.{Archive, Kept, CanKeep}
-use Rattle.syn_model.specs.ArchiveImage.{IsArchive, ArchiveStandsFor}
+use Rattle.syn_model.specs.History.{History, IsHistory}
+use Rattle.syn_model.specs.Archive.{Archive, Kept}
+use Rattle.syn_model.specs.ArchiveImage.{IsArchive}
 use Rattle.syn_journal.specs.Layout.{Value, longest_image}
 use Rattle.syn_headline.specs.Machine.{Journaled, Arms, Meets, Up}
 use Rattle.syn_headline.specs.SideMachine.{side_layout}
 use Rattle.syn_headline.specs.Coordinator.{archive_layout}
-use Rattle.syn_recovery.specs.Meaning.{Keeping, MayMean, OpensTo}
-
-abbrev pub of_side : ℕ → Keeping History Event
-of_side pair = record { layout = side_layout pair; CanAdd = IsAllowed; Stands = StandsFor pair }
-
-abbrev pub of_archive : ℕ → Keeping Archive Kept
-of_archive pair =
-    record { layout = archive_layout pair; CanAdd = CanKeep; Stands = ArchiveStandsFor pair }
+use Rattle.syn_journal.specs.Meaning.{MayMean, OpensTo}
+pub use Rattle.syn_journal.specs.Keepings.{of_side, of_archive}
 
 -- Whatever the disk of a side may mean, an opening whose device calls are all made gives it
 abbrev pub SidesOpen : Type 0

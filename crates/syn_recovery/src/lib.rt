@@ -1,11 +1,7 @@
-//! From the bytes of three disks to a run of the world, and back: what a disk may mean, and the
-//! headline.
+//! From the bytes of three disks to a run of the world, and back: the headline.
 //!
 //! # What it promises
 //!
-//! - `MayMean` says what a machine's disk may mean: what the machine keeps; that with the record
-//!   that was being written; or the image alone that an unfinished checkpoint leaves. Each case has
-//!   its room and its generation.
 //! - `opening_laws`: whatever the disk of a side or of an archive means, the world's opening allows
 //!   just that, and the machine then knows the journal's room and generation.
 //! - `image_laws`: the image of any history and of any archive within its limits fits a half, so a
@@ -21,8 +17,8 @@
 //!   archive say of any moment of a call: what is kept, the bytes that are left and the generation.
 #![tactic(auto)]
 
-ghost use Rattle.syn_recovery.specs.Calls.{MadeCallsMeet, StopsAfter, BrokenCallsMeet};
-ghost use Rattle.syn_recovery.specs.Calls.{MadeReadsMeet};
+ghost use Rattle.syn_journal.specs.Calls.{MadeCallsMeet, StopsAfter, BrokenCallsMeet};
+ghost use Rattle.syn_journal.specs.Calls.{MadeReadsMeet};
 ghost use Rattle.syn_recovery.specs.Machines.{SidesOpen, ArchivesOpen, SideImagesFit};
 ghost use Rattle.syn_recovery.specs.Machines.{ArchiveImagesFit};
 ghost use Rattle.syn_recovery.specs.Headline.{DisksAreStart, Headline};

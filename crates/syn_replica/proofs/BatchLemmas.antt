@@ -11,10 +11,10 @@ use Rattle.syn_disk.specs.declared.disk.Disk.{Ghosts}
 use Rattle.syn_disk.proofs.LeftLemmas.{leaves_weaker}
 use Rattle.syn_journal.specs.Batches.{LeftBehindPayloads, records_size, with_payloads}
 use Rattle.syn_journal.specs.Layout.{IsBeforeOrAfter, record_of, records_of}
-use Rattle.syn_journaled.specs.Batches.{AppendsAll, HasAll}
-use Rattle.syn_journaled.specs.Endings.{BreaksIf, Grows, Spends}
-use Rattle.syn_journaled.specs.Journaled.{IsOfWrite}
-use Rattle.syn_journaled.proofs.Spent.{not_device}
+use Rattle.syn_journal.specs.Appending.{AppendsAll, HasAll}
+use Rattle.syn_journal.specs.Endings.{BreaksIf, Grows, Spends}
+use Rattle.syn_journal.specs.Journaled.{IsOfWrite}
+use Rattle.syn_journal.proofs.Spent.{not_device}
 use Rattle.syn_model.specs.Event.{Chmod, Edit, Edited, Event, MakeDir, Put, Remove}
 use Rattle.syn_model.specs.History.{AllAllowed, History, standing_of}
 use Rattle.syn_model.specs.Image.{StandsFor}
@@ -37,8 +37,8 @@ use Rattle.syn_replica.specs.inner.Batches.{AddsAll, add_all_refusal_at}
 use Rattle.syn_replica.specs.Edits.{event_by}
 use Rattle.syn_replica.specs.Refusals.{IsOneOf, edit_refusals, outside_refusals}
 use Rattle.syn_replica.specs.Steps.{room_causes}
-use Rattle.syn_standing.specs.Refusals.{refusal_of}
-use Rattle.syn_standing.specs.declared.error.ReplicaError.{ReplicaError}
+use Rattle.syn_replica.specs.ErrorRefusals.{refusal_of}
+use Rattle.syn_replica.specs.declared.error.ReplicaError.{ReplicaError}
 use Rattle.syn_tree.specs.Edits.{edit_of}
 use Rattle.syn_tree.specs.declared.edit.Edit.{Edit as Planned}
 use Rattle.syn_replica.proofs.RefusalLemmas.{first_among, inner_refusals, is_among}

@@ -7,16 +7,16 @@ use Rattle.syn_disk.specs.Arms.{Arms}
 use Rattle.syn_disk.specs.Calls.{Makes}
 use Rattle.syn_disk.specs.declared.disk.Disk.{Ghosts}
 use Rattle.syn_journal.specs.declared.error.JournalError.TheVariants as journal
-use Rattle.syn_journaled.specs.Endings.{BreaksIf, Grows, ended}
-use Rattle.syn_journaled.specs.Journaled as machine
-use Rattle.syn_journaled.proofs.Spent.{not_device}
+use Rattle.syn_journal.specs.Endings.{BreaksIf, Grows, ended}
+use Rattle.syn_journal.specs.Journaled as machine
+use Rattle.syn_journal.proofs.Spent.{not_device}
 use Rattle.syn_model.specs.Event.{Event}
 use Rattle.syn_model.specs.History.{History}
 use Rattle.syn_model.specs.Image.{image_spelling}
 use Rattle.syn_model.specs.Refusal.{Refusal, Device, Halted}
-use Rattle.syn_standing.specs.Refusals.{refusal_of}
-use Rattle.syn_standing.specs.declared.error.ReplicaError.{ReplicaError}
-use Rattle.syn_standing.specs.declared.error.ReplicaError.TheVariants.{Journal}
+use Rattle.syn_replica.specs.ErrorRefusals.{refusal_of}
+use Rattle.syn_replica.specs.declared.error.ReplicaError.{ReplicaError}
+use Rattle.syn_replica.specs.declared.error.ReplicaError.TheVariants.{Journal}
 use Rattle.syn_replica.specs.Calls.{Compacts, KeepsWritten, Tries, Writes, calls_for}
 use Rattle.syn_replica.specs.Growing.{itself}
 use Rattle.syn_replica.specs.Growth.{IsGrown}

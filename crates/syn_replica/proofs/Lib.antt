@@ -5,6 +5,8 @@ pub mod MeaningLemmas
 mod VersionLemmas
 mod MigrateLemmas
 mod MigrateCauses
+mod KeepingLemmas
+mod MachineLemmas
 mod RememberedLemmas
 mod WriteLemmas
 pub mod CallLemmas
@@ -15,3 +17,9 @@ pub mod ReopenLemmas
 mod LawfulLemmas
 mod DigestLemmas
 pub mod BatchLemmas
+pub mod CauseLemmas
+pub mod StandingLemmas
+pub mod SinceLemmas
+pub mod AlikeLemmas
+pub mod SoundLemmas
+pub mod ReadingLemmas

@@ -5,16 +5,16 @@ use Rattle.syn_journal.proofs.Meanings.{no_value, one_value}
 use Rattle.syn_journal.specs.Refusals as journal
 use Rattle.syn_journal.specs.declared.error.JournalError.{JournalError}
 use Rattle.syn_journal.specs.declared.error.JournalError.TheVariants as refused
-use Rattle.syn_journaled.specs.Openings.{NotOpened}
+use Rattle.syn_journal.specs.Openings.{NotOpened}
 use Rattle.syn_model.specs.Image.{Gives, IsOldImage}
 use Rattle.syn_replica.specs.Disks.{IsOfOtherPair, IsOldDisk, IsOpenRefusal, IsReopenRefusal}
 use Rattle.syn_replica.specs.Refusals.{IsOneOf, hiding_refusals}
 use Rattle.syn_replica.specs.inner.Memories.{IsNoNext, IsUnread, IsUnreadAgain}
-use Rattle.syn_standing.specs.declared.error.ReplicaError.{ReplicaError}
-use Rattle.syn_standing.specs.declared.error.ReplicaError.TheVariants.{Tree, History, Journal}
-use Rattle.syn_standing.specs.declared.error.ReplicaError.TheVariants.{Memory, Touched, OldSession}
-use Rattle.syn_standing.specs.declared.error.ReplicaError.TheVariants.{Damaged, WrongPair}
-use Rattle.syn_standing.specs.declared.error.ReplicaError.TheVariants.{OldVersion}
+use Rattle.syn_replica.specs.declared.error.ReplicaError.{ReplicaError}
+use Rattle.syn_replica.specs.declared.error.ReplicaError.TheVariants.{Tree, History, Journal}
+use Rattle.syn_replica.specs.declared.error.ReplicaError.TheVariants.{Memory, Touched, OldSession}
+use Rattle.syn_replica.specs.declared.error.ReplicaError.TheVariants.{Damaged, WrongPair}
+use Rattle.syn_replica.specs.declared.error.ReplicaError.TheVariants.{OldVersion}
 use Rattle.syn_replica.specs.declared.remembered.Remembered.{Remembered}
 use Rattle.syn_replica.proofs.VersionLemmas.{not_old}
 

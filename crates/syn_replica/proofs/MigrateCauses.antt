@@ -6,11 +6,11 @@ use Rattle.syn_model.specs.History.{History, standing_of}
 use Rattle.syn_model.specs.Image.{GivesIn}
 use Rattle.syn_model.specs.Standing.{Standing}
 use Rattle.syn_model.specs.Version.{Version, One, Two}
-use Rattle.syn_standing.specs.declared.error.ReplicaError.{ReplicaError}
-use Rattle.syn_standing.specs.declared.error.ReplicaError.TheVariants.{Tree, History as OfHistory}
-use Rattle.syn_standing.specs.declared.error.ReplicaError.TheVariants.{Journal, Memory, Touched}
-use Rattle.syn_standing.specs.declared.error.ReplicaError.TheVariants.{OldSession, Damaged}
-use Rattle.syn_standing.specs.declared.error.ReplicaError.TheVariants.{WrongPair, OldVersion}
+use Rattle.syn_replica.specs.declared.error.ReplicaError.{ReplicaError}
+use Rattle.syn_replica.specs.declared.error.ReplicaError.TheVariants.{Tree, History as OfHistory}
+use Rattle.syn_replica.specs.declared.error.ReplicaError.TheVariants.{Journal, Memory, Touched}
+use Rattle.syn_replica.specs.declared.error.ReplicaError.TheVariants.{OldSession, Damaged}
+use Rattle.syn_replica.specs.declared.error.ReplicaError.TheVariants.{WrongPair, OldVersion}
 use Rattle.syn_replica.specs.Disks.{DiskStandsIn, IsOldDisk, IsUnlawful, MeansNothingIn}
 use Rattle.syn_replica.specs.Migrating.{IsMigrateRefusal, IsOldAndFull}
 use Rattle.syn_replica.specs.Refusals.{IsOneOf, greatest_refusals, lawful_refusals}

@@ -8,9 +8,9 @@ use Rattle.syn_journal.specs.Layout.{IsBeforeOrAfter, Value, image_alone, longes
 use Rattle.syn_journal.specs.Refusals as journal
 use Rattle.syn_journal.specs.declared.error.JournalError.{JournalError}
 use Rattle.syn_journal.specs.declared.error.JournalError.TheVariants as refused
-use Rattle.syn_journaled.specs.Migrations.{Holds, IsUnwritten, Migrated, Migrates, NotMigrated}
-use Rattle.syn_journaled.specs.Migrations.{NotWritten}
-use Rattle.syn_journaled.proofs.Migrations.{after_reads}
+use Rattle.syn_journal.specs.Migrations.{Holds, IsUnwritten, Migrated, Migrates, NotMigrated}
+use Rattle.syn_journal.specs.Migrations.{NotWritten}
+use Rattle.syn_journal.proofs.Migrations.{after_reads}
 use Rattle.syn_model.proofs.SoundStandings.{history-is_standing}
 use Rattle.syn_model.specs.History.{History, standing_of}
 use Rattle.syn_model.specs.Image.{StandsForIn, image_spelling}
@@ -18,15 +18,15 @@ use Rattle.syn_model.specs.Laws.{ImageStands, ImagesFit}
 use Rattle.syn_model.specs.Refusal.{Refusal}
 use Rattle.syn_model.specs.Standing.{Standing}
 use Rattle.syn_model.specs.Version.{One, Two, Version, current_version}
-use Rattle.syn_standing.specs.declared.error.ReplicaError.{ReplicaError}
-use Rattle.syn_standing.specs.declared.error.ReplicaError.TheVariants.{Tree, History as OfHistory}
-use Rattle.syn_standing.specs.declared.error.ReplicaError.TheVariants.{Journal, Memory, Touched}
-use Rattle.syn_standing.specs.declared.error.ReplicaError.TheVariants.{OldSession, Damaged}
-use Rattle.syn_standing.specs.declared.error.ReplicaError.TheVariants.{WrongPair, OldVersion}
+use Rattle.syn_replica.specs.declared.error.ReplicaError.{ReplicaError}
+use Rattle.syn_replica.specs.declared.error.ReplicaError.TheVariants.{Tree, History as OfHistory}
+use Rattle.syn_replica.specs.declared.error.ReplicaError.TheVariants.{Journal, Memory, Touched}
+use Rattle.syn_replica.specs.declared.error.ReplicaError.TheVariants.{OldSession, Damaged}
+use Rattle.syn_replica.specs.declared.error.ReplicaError.TheVariants.{WrongPair, OldVersion}
 use Rattle.syn_replica.specs.Disks.{DiskGives, DiskKeepsIn, DiskStandsIn, IsOldDisk, IsOpenRefusal}
 use Rattle.syn_replica.specs.Migrating.{IsAtGreatest, IsMigrateRefusal, KeepsOrMigrates}
-use Rattle.syn_journaled.specs.Endings.{Reads}
-use Rattle.syn_standing.specs.Refusals.{refusal_of}
+use Rattle.syn_journal.specs.Endings.{Reads}
+use Rattle.syn_replica.specs.ErrorRefusals.{refusal_of}
 use Rattle.syn_replica.specs.Replica.{Stands, disk_of, pair_of, standing_shown}
 use Rattle.syn_replica.specs.declared.remembered.Remembered.{Remembered}
 use Rattle.syn_replica.specs.declared.replica.Replica.{Replica}

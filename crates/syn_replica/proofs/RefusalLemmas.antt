@@ -21,11 +21,11 @@ use Rattle.syn_tree.specs.Refusals.{refusal_of as of_tree}
 use Rattle.syn_tree.specs.declared.error.TreeError.{TreeError}
 use Rattle.syn_tree.specs.declared.error.TreeError.TheVariants as tree_error
 use Rattle.syn_replica.specs.Refusals.{IsOneOf, edit_refusals, outside_refusals}
-use Rattle.syn_standing.proofs.StandingLemmas.{early_at}
-use Rattle.syn_standing.specs.Updates.{early_causes}
-use Rattle.syn_standing.specs.Refusals.{refusal_of}
-use Rattle.syn_standing.specs.declared.error.ReplicaError.{ReplicaError}
-use Rattle.syn_standing.specs.declared.error.ReplicaError.TheVariants as replica
+use Rattle.syn_replica.proofs.StandingLemmas.{early_at}
+use Rattle.syn_replica.specs.Updates.{early_causes}
+use Rattle.syn_replica.specs.ErrorRefusals.{refusal_of}
+use Rattle.syn_replica.specs.declared.error.ReplicaError.{ReplicaError}
+use Rattle.syn_replica.specs.declared.error.ReplicaError.TheVariants as replica
 
 abbrev pub is_among : List Refusal → Refusal → Bool
 is_among refusals refusal = list_any (λ why. number why == number refusal) refusals

@@ -7,14 +7,14 @@ use Rattle.syn_model.specs.Path.{Bytes}
 use Rattle.syn_model.specs.Refusal as why
 use Rattle.syn_model.specs.Standing.{Standing}
 use Rattle.syn_model.specs.Version.{One, current_version}
-use Rattle.syn_standing.specs.Readings.{GivesNothing, GivesNothingIn, GivesOtherPair}
-use Rattle.syn_standing.specs.Readings.{GivesOtherPairIn, IsOfMeaning, OneIsGiven}
-use Rattle.syn_standing.specs.Refusals.{refusal_of}
-use Rattle.syn_standing.specs.declared.error.ReplicaError.{ReplicaError}
-use Rattle.syn_standing.specs.declared.error.ReplicaError.TheVariants.{Tree, History, Journal}
-use Rattle.syn_standing.specs.declared.error.ReplicaError.TheVariants.{Memory, Touched, OldSession}
-use Rattle.syn_standing.specs.declared.error.ReplicaError.TheVariants.{Damaged, WrongPair}
-use Rattle.syn_standing.specs.declared.error.ReplicaError.TheVariants.{OldVersion}
+use Rattle.syn_replica.specs.Readings.{GivesNothing, GivesNothingIn, GivesOtherPair}
+use Rattle.syn_replica.specs.Readings.{GivesOtherPairIn, IsOfMeaning, OneIsGiven}
+use Rattle.syn_replica.specs.ErrorRefusals.{refusal_of}
+use Rattle.syn_replica.specs.declared.error.ReplicaError.{ReplicaError}
+use Rattle.syn_replica.specs.declared.error.ReplicaError.TheVariants.{Tree, History, Journal}
+use Rattle.syn_replica.specs.declared.error.ReplicaError.TheVariants.{Memory, Touched, OldSession}
+use Rattle.syn_replica.specs.declared.error.ReplicaError.TheVariants.{Damaged, WrongPair}
+use Rattle.syn_replica.specs.declared.error.ReplicaError.TheVariants.{OldVersion}
 use Rattle.syn_replica.specs.inner.Memories.{Gives, IsNoNext, IsUnread, IsUnreadOld}
 use Rattle.syn_replica.specs.declared.remembered.Remembered.{Remembered}
 

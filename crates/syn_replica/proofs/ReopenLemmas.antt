@@ -7,8 +7,8 @@ use Rattle.syn_journal.specs.Layout.{Value, meaning}
 use Rattle.syn_journal.specs.Refusals as journal
 use Rattle.syn_journal.specs.declared.error.JournalError.{JournalError}
 use Rattle.syn_journal.specs.declared.error.JournalError.TheVariants as refused
-use Rattle.syn_journaled.specs.Journaled.{state_of}
-use Rattle.syn_journaled.specs.Openings.{NotOpened}
+use Rattle.syn_journal.specs.Journaled.{state_of}
+use Rattle.syn_journal.specs.Openings.{NotOpened}
 use Rattle.syn_model.specs.Standing.{Standing}
 use Rattle.syn_model.specs.History.{History, standing_of}
 use Rattle.syn_model.specs.Version.{current_version}
@@ -19,14 +19,14 @@ use Rattle.syn_replica.specs.Refusals.{IsOneOf, outside_refusals}
 use Rattle.syn_replica.specs.Replica.{pair_of, position_shown, disk_of, tried_shown, Stands}
 use Rattle.syn_replica.specs.Growing.{remembered}
 use Rattle.syn_replica.specs.inner.Memories.{IsUnreadAgain}
-use Rattle.syn_standing.specs.Readings.{OneIsGiven}
+use Rattle.syn_replica.specs.Readings.{OneIsGiven}
 use Rattle.syn_replica.specs.declared.remembered.Remembered.{Remembered}
 use Rattle.syn_replica.specs.declared.replica.Replica.{Replica}
-use Rattle.syn_standing.specs.declared.error.ReplicaError.{ReplicaError}
-use Rattle.syn_standing.specs.declared.error.ReplicaError.TheVariants.{Tree, History as OfHistory}
-use Rattle.syn_standing.specs.declared.error.ReplicaError.TheVariants.{Journal, Memory, Touched}
-use Rattle.syn_standing.specs.declared.error.ReplicaError.TheVariants.{OldSession, Damaged}
-use Rattle.syn_standing.specs.declared.error.ReplicaError.TheVariants.{WrongPair, OldVersion}
+use Rattle.syn_replica.specs.declared.error.ReplicaError.{ReplicaError}
+use Rattle.syn_replica.specs.declared.error.ReplicaError.TheVariants.{Tree, History as OfHistory}
+use Rattle.syn_replica.specs.declared.error.ReplicaError.TheVariants.{Journal, Memory, Touched}
+use Rattle.syn_replica.specs.declared.error.ReplicaError.TheVariants.{OldSession, Damaged}
+use Rattle.syn_replica.specs.declared.error.ReplicaError.TheVariants.{WrongPair, OldVersion}
 use Rattle.syn_replica.proofs.GrowthLemmas.{disk_keeps}
 use Rattle.syn_journal.proofs.Meanings.{no_value, one_value}
 use Rattle.syn_replica.proofs.MeaningLemmas.{reopen_refusal}

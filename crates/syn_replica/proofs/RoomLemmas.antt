@@ -14,10 +14,10 @@ use Rattle.syn_model.specs.Refusal.{Refusal}
 use Rattle.syn_model.specs.Refusal as why
 use Rattle.syn_model.specs.Spelling.{event_spelling, spelling, token_spelling}
 use Rattle.syn_model.specs.Standing.{Standing, causes_at, refusal_at}
-use Rattle.syn_standing.proofs.CauseLemmas.{first_stays, first_skips}
-use Rattle.syn_standing.specs.Refusals.{refusal_of}
-use Rattle.syn_standing.specs.declared.error.ReplicaError.{ReplicaError}
-use Rattle.syn_standing.specs.declared.error.ReplicaError.TheVariants.{Journal}
+use Rattle.syn_replica.proofs.CauseLemmas.{first_stays, first_skips}
+use Rattle.syn_replica.specs.ErrorRefusals.{refusal_of}
+use Rattle.syn_replica.specs.declared.error.ReplicaError.{ReplicaError}
+use Rattle.syn_replica.specs.declared.error.ReplicaError.TheVariants.{Journal}
 use Rattle.syn_journal.specs.declared.error.JournalError.TheVariants.{JournalFull}
 use Rattle.syn_replica.proofs.RefusalLemmas.{is_among, first_among, outside_among}
 use Rattle.syn_replica.specs.Refusals.{IsOneOf, begin_refusals, edit_refusals, outside_refusals}

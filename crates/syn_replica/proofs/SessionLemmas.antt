@@ -19,12 +19,12 @@ use Rattle.syn_replica.specs.Refusals.{IsOneOf, outside_refusals}
 use Rattle.syn_replica.specs.Steps.{add_refusal, room_causes, replace_refusal, begin_refusal}
 use Rattle.syn_replica.specs.Steps.{is_done, replaced, begun}
 use Rattle.syn_replica.specs.inner.Additions.{MayReplace, add_refusal_at}
-use Rattle.syn_standing.specs.Causes.{since_causes}
-use Rattle.syn_standing.specs.Refusals.{refusal_of}
+use Rattle.syn_replica.specs.Causes.{since_causes}
+use Rattle.syn_replica.specs.ErrorRefusals.{refusal_of}
 use Rattle.syn_tree.specs.Lists.{replace_refusal as tree_refusal}
-use Rattle.syn_standing.specs.declared.error.ReplicaError.{ReplicaError}
-use Rattle.syn_standing.proofs.CauseLemmas.{first_skips, first_stays}
-use Rattle.syn_standing.proofs.SinceLemmas.{first_false}
+use Rattle.syn_replica.specs.declared.error.ReplicaError.{ReplicaError}
+use Rattle.syn_replica.proofs.CauseLemmas.{first_skips, first_stays}
+use Rattle.syn_replica.proofs.SinceLemmas.{first_false}
 
 -- what a clause says of a value that is there
 pub in_some : {X : Type 0} (P : X → Type 0) (o : Option X) (x : X) → IfSome o P → o ≡ Some x → P x

@@ -6,7 +6,7 @@ use Rattle.syn_journal.specs.Layout.{Value, half_size, HasJournal}
 use Rattle.syn_journal.specs.Layout.{LeftBehindPayload, meaning, with_payload, image_alone}
 use Rattle.syn_journal.specs.Layout.{record_size, bytes_left, IsBeforeOrAfter}
 use Rattle.syn_journal.specs.Journal as journal
-use Rattle.syn_journaled.specs.Journaled.{Opened}
+use Rattle.syn_journal.specs.Journaled.{Opened}
 use Rattle.syn_disk.specs.Stops.{LeavesOnly}
 use Rattle.syn_model.specs.Laws.{AllowedGoesOn, PayloadGoesOn, StandingSteps, ImageStands}
 use Rattle.syn_model.specs.Path.{Bytes}

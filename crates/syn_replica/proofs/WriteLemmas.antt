@@ -5,7 +5,7 @@ use Rattle.std.proofs.lemmas.Option.{none-some, same_Some}
 use Rattle.syn_disk.specs.Stops.{LeavesOnly}
 use Rattle.syn_disk.specs.declared.disk.Disk.{Ghosts}
 use Rattle.syn_journal.specs.Layout.{LeftBehindPayload, IsBeforeOrAfter, record_size, with_payload}
-use Rattle.syn_journaled.specs.Journaled.{Appends, state_of}
+use Rattle.syn_journal.specs.Journaled.{Appends, state_of}
 use Rattle.syn_model.specs.Event.{Event}
 use Rattle.syn_model.specs.History.{History, IsAllowed}
 use Rattle.syn_model.specs.Image.{StandsFor}
@@ -13,8 +13,8 @@ use Rattle.syn_model.specs.Laws.{AllowedGoesOn, PayloadGoesOn, StandingSteps}
 use Rattle.syn_model.specs.Path.{Bytes}
 use Rattle.syn_model.specs.Refusal.{Refusal, Device}
 use Rattle.syn_model.specs.Spelling.{event_spelling}
-use Rattle.syn_standing.specs.Updates.{IsOf}
-use Rattle.syn_standing.specs.declared.standing.Update.{Update}
+use Rattle.syn_replica.specs.Updates.{IsOf}
+use Rattle.syn_replica.specs.declared.standing.Update.{Update}
 use Rattle.syn_replica.specs.Calls.{Tries, Writes}
 use Rattle.syn_replica.specs.Growth.{IsGrown}
 use Rattle.syn_replica.specs.Replica.{KeepsBeforeOrAfter, Stands, disk_of}

@@ -9,10 +9,10 @@ use Rattle.syn_model.specs.History.{History}
 use Rattle.syn_model.specs.Spelling.{event_spelling}
 use Rattle.syn_model.specs.Version.{Version, current_version}
 use Rattle.syn_model.specs.Image.{GivesIn, StandsFor, StandsForIn, IsOldImage, image_spelling}
-use Rattle.syn_standing.specs.Readings.{GivesOtherPair, GivesNothing, GivesNothingIn}
-use Rattle.syn_standing.specs.declared.error.ReplicaError.{ReplicaError}
-use Rattle.syn_standing.specs.declared.error.ReplicaError.TheVariants.{Journal, Memory, Damaged}
-use Rattle.syn_standing.specs.declared.error.ReplicaError.TheVariants.{WrongPair, OldVersion}
+use Rattle.syn_replica.specs.Readings.{GivesOtherPair, GivesNothing, GivesNothingIn}
+use Rattle.syn_replica.specs.declared.error.ReplicaError.{ReplicaError}
+use Rattle.syn_replica.specs.declared.error.ReplicaError.TheVariants.{Journal, Memory, Damaged}
+use Rattle.syn_replica.specs.declared.error.ReplicaError.TheVariants.{WrongPair, OldVersion}
 
 -- in a version a replica disk of the pair stands for the history
 pub record DiskStandsIn (version : Version) (pair : ℕ) (bytes : List ℕ) (history : History)

@@ -3,8 +3,8 @@ use Rattle.std.specs.Prelude.{◌≡◌, ◌⊎◌, ◌<◌, ◌^◌, ℕ, List,
 use Rattle.syn_model.specs.History.{History}
 use Rattle.syn_model.specs.Refusal.{Device, Memory}
 use Rattle.syn_replica.specs.Disks.{DiskStands, IsOpenRefusal}
-use Rattle.syn_standing.specs.Refusals.{refusal_of}
-use Rattle.syn_standing.specs.declared.error.ReplicaError.{ReplicaError}
+use Rattle.syn_replica.specs.ErrorRefusals.{refusal_of}
+use Rattle.syn_replica.specs.declared.error.ReplicaError.{ReplicaError}
 
 -- An opening of a disk that stands for a history of the wanted pair is refused where a device call
 -- fails, or for lack of memory

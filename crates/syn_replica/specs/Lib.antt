@@ -5,8 +5,13 @@ pub mod Batches
 pub mod Replica
 pub mod Growth
 pub mod Calls
+pub mod Machines
 pub mod Lawful
 pub mod Migrating
 pub mod Growing
 pub mod Refusals
+pub mod ErrorRefusals
+pub mod Causes
+pub mod Updates
+pub mod Readings
 pub mod inner

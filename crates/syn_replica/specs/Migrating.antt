@@ -8,9 +8,9 @@ use Rattle.syn_model.specs.History.{History, standing_of}
 use Rattle.syn_model.specs.Image.{GivesIn, IsOldImage, image_spelling}
 use Rattle.syn_model.specs.Standing.{Standing}
 use Rattle.syn_model.specs.Version.{One}
-use Rattle.syn_standing.specs.declared.error.ReplicaError.{ReplicaError}
-use Rattle.syn_standing.specs.declared.error.ReplicaError.TheVariants.{Journal, Damaged, WrongPair}
-use Rattle.syn_standing.specs.declared.error.ReplicaError.TheVariants.{OldVersion}
+use Rattle.syn_replica.specs.declared.error.ReplicaError.{ReplicaError}
+use Rattle.syn_replica.specs.declared.error.ReplicaError.TheVariants.{Journal, Damaged, WrongPair}
+use Rattle.syn_replica.specs.declared.error.ReplicaError.TheVariants.{OldVersion}
 use Rattle.syn_replica.specs.Disks.{DiskGives, DiskGivesIn, DiskKeepsIn, DiskCompacted}
 use Rattle.syn_replica.specs.Disks.{MeansNothingIn, IsOldDisk, IsUnlawful, IsOpenRefusal}
 use Rattle.syn_replica.specs.Replica.{pair_of, standing_shown, journal_of, generation_shown}

@@ -3,8 +3,8 @@ use Rattle.std.specs.Prelude.{◌≡◌, ◌==◌, true, List, [], ◌∷◌}
 use Rattle.std.specs.List.{list_any}
 use Rattle.syn_model.specs.Refusal.{Refusal, number}
 use Rattle.syn_model.specs.Refusal as why
-use Rattle.syn_standing.specs.declared.error.ReplicaError.{ReplicaError}
-use Rattle.syn_standing.specs.Refusals.{refusal_of}
+use Rattle.syn_replica.specs.declared.error.ReplicaError.{ReplicaError}
+use Rattle.syn_replica.specs.ErrorRefusals.{refusal_of}
 
 -- the refusal is one of these
 abbrev pub IsOneOf : List Refusal → ReplicaError → Type 0

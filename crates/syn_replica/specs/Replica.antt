@@ -4,7 +4,7 @@ use Rattle.syn_disk.specs.declared.disk.Disk.{Ghosts}
 use Rattle.syn_journal.specs.Journal as journal
 use Rattle.syn_journal.specs.declared.journal.Journal.{Journal}
 use Rattle.syn_journal.specs.Layout.{Value, HasJournal, bytes_left}
-use Rattle.syn_journaled.specs.Journaled as machine
+use Rattle.syn_journal.specs.Journaled as machine
 use Rattle.syn_model.specs.Tree.{Tree}
 use Rattle.syn_model.specs.Standing.{Standing}
 use Rattle.syn_model.specs.History.{History, IsHistory, standing_of}

@@ -11,9 +11,9 @@ use Rattle.syn_model.specs.Standing.{Standing, place_causes, full_causes}
 use Rattle.syn_model.specs.History.{History, tree_of, event_causes, position_causes, is_old_token}
 use Rattle.syn_model.specs.History.{last_session, last_token}
 use Rattle.syn_model.specs.Spelling.{event_spelling, spelling}
-use Rattle.syn_standing.specs.Causes.{since_causes}
-use Rattle.syn_replica.specs.declared.replica.session.TokenStanding.{TokenStanding}
-use Rattle.syn_replica.specs.declared.replica.session.TokenStanding.TheVariants.{Done, Old, Open}
+use Rattle.syn_replica.specs.Causes.{since_causes}
+use Rattle.syn_replica.specs.declared.replica.session.TokenStatus.{TokenStatus}
+use Rattle.syn_replica.specs.declared.replica.session.TokenStatus.TheVariants.{Done, Old, Open}
 
 -- the journal has no room for the record of the event
 abbrev pub room_causes : ℕ → Event → List Cause
@@ -70,6 +70,6 @@ early_refusal history token path since =
     ++ place_causes (tree_of history) path)
 
 -- how a token stands
-abbrev pub how_stands : History → Token → TokenStanding
+abbrev pub how_stands : History → Token → TokenStatus
 how_stands history token =
     if is_done history token then Done else if is_old_token history token then Old else Open

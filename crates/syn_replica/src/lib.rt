@@ -22,12 +22,15 @@
 //! - At any moment of such a call the disk stands for the history, or for the history with the
 //!   event (`any_moment`: `KeepsBeforeOrAfter`). Both come with the generation and with the bytes
 //!   that are then left for records.
+//! - What `checkpoint` and `reopen` are to the model's machine that the replica is (`IsMachine`) is
+//!   one clause of each, `world` (`CompactsImage`, `ReadsDisk`), also where its device fails or
+//!   stops.
 //! - `checkpoint` leaves the same history standing, and its image alone in the journal
 //!   (`acknowledged`). At any moment of it the disk stands for that history, as it was kept or by
 //!   the image alone with the next generation (`any_moment`: `KeepsOrCompacts`).
 //! - What a call makes of the machine is one record of `specs/Calls.antt` (`machine`): `Writes`,
 //!   `Compacts` or `Reopens`. It says what the generation, the room and `tried` are after the call,
-//!   and what the device saw (`Spends`, `Reads` of `syn_journaled`). After 9 the replica is halted,
+//!   and what the device saw (`Spends`, `Reads` of `syn_journal`). After 9 the replica is halted,
 //!   and a halted one refuses 10.
 //! - `open` shows what the disk gives (`given`), stands for each history that the disk stands for
 //!   (`each`), and writes nothing. Each lawful image is opened, also one that comes from no
@@ -55,12 +58,42 @@
 //! - `format` gives a replica that stands for no events, of the given pair.
 //! - No clause says what the calls after an opening do of a lawful image that comes from no
 //!   history.
+//!
+//! # What stands in memory
+//!
+//! An event is checked and made in memory, with no disk.
+//!
+//! A `Standing` is what is kept of a history: its tree and its trail. Contracts see it as the
+//! model's standing.
+//!
+//! - `check` tells the first cause that is seen without memory: of a replacement the token alone,
+//!   and of each other event every cause.
+//! - `prepare` makes the event ready where `check` does not refuse it, and changes nothing. It is
+//!   refused for a cause that stands, or for lack of memory (`refused`). Where it succeeds, no
+//!   cause stands (`allowed`). `make` takes the standing one step on, and takes no memory.
+//! - `check_untouched` tells whether an event touched a path since a position, of each history that
+//!   the standing is of (`cause`).
+//! - `read_replica` reads in a version, and gives the pair and the standing that an image and the
+//!   payloads after it give in it (`gives`). No other could be given (`one`), and an image may
+//!   hold it (`sound`). It is refused 19 only where they give none (`damaged`), and 20 only where
+//!   they give another pair than the wanted one (`other`). The index of its trail is built once,
+//!   after the last payload (`build_index`).
+//! - `read_image` and `read_event` read the parts alone: the image that bytes are, and the event
+//!   that a payload is.
 #![tactic(auto)]
 
 mod digests;
+mod error;
 mod lawful;
+mod laws;
+mod reading;
 mod remembered;
 mod replica;
+mod standing;
 
+pub use error::ReplicaError;
 pub use lawful::disk_laws;
-pub use replica::{Listing, Piece, Replica, TokenStanding};
+pub use laws::opening_laws;
+pub use reading::{read_event, read_image, read_replica};
+pub use replica::{Listing, Piece, Replica, TokenStatus};
+pub use standing::{Standing, Update};

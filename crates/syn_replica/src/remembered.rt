@@ -1,18 +1,20 @@
 //! What a replica has in memory, and how its disk spells it.
 ghost use Rattle.std.specs.Prelude.{◌<◌, ◌^◌};
+ghost use Rattle.syn_model.specs.Event.{Event};
+ghost use Rattle.syn_model.specs.History.{History};
 ghost use Rattle.syn_model.specs.Image.{image_spelling};
-ghost use Rattle.syn_standing.specs.Refusals.{refusal_of};
-ghost use Rattle.syn_standing.specs.Updates.{IsReady};
-ghost use Rattle.syn_standing.specs.declared.error.ReplicaError.TheVariants.{Journal};
+ghost use Rattle.syn_replica.specs.ErrorRefusals.{refusal_of};
+ghost use Rattle.syn_replica.specs.Updates.{IsReady};
+ghost use Rattle.syn_replica.specs.declared.error.ReplicaError.TheVariants.{Journal};
 ghost use Rattle.syn_replica.specs.inner.Memories.{Gives, GivesOld, IsUnread, IsUnreadOld};
-ghost use Rattle.syn_replica.specs.inner.Memories.{IsUnreadAgain, MayFollow, StepsBy};
+ghost use Rattle.syn_replica.specs.inner.Memories.{IsUnreadAgain, MayFollow, StepsBy, kept_as};
 
+use crate::{ReplicaError, Standing, Update, opening_laws, read_replica};
 use std::alloc::Global;
 use syn_image::{encode_image, is_old_image};
-use syn_journal::JournalError;
-use syn_journaled::State;
+use syn_journal::{JournalError, State};
+use syn_model::history_laws;
 use syn_refusal::Refusal;
-use syn_standing::{ReplicaError, Standing, Update, opening_laws, read_replica};
 use syn_wire::Version;
 
 /// What a replica has in memory, for one pair.
@@ -49,9 +51,20 @@ impl State for Remembered {
 
     ghost unread_again = { IsUnreadAgain };
 
+    ghost Kept = { History };
+
+    ghost Added = { Event };
+
+    ghost kept_as = { kept_as };
+
     ghost ready = { λ memory update. IsReady memory.standing update };
 
     ghost makes = { StepsBy };
+
+    fn keeping_laws() {
+        history_laws();
+        opening_laws();
+    }
 
     fn refused(error: JournalError) -> ReplicaError {
         ReplicaError::from(error)

@@ -12,8 +12,8 @@ ghost use Rattle.syn_tree.specs.Lists.{listing};
 ghost use Rattle.syn_journal.specs.Journal.{Takes};
 ghost use Rattle.syn_disk.specs.Arms.{is_stopped};
 ghost use Rattle.syn_disk.specs.Stops.{LeavesOnly};
-ghost use Rattle.syn_journaled.specs.Endings.{Reads, Spends, ended};
-ghost use Rattle.syn_standing.specs.Refusals.{refusal_of};
+ghost use Rattle.syn_journal.specs.Endings.{Reads, Spends, ended};
+ghost use Rattle.syn_replica.specs.ErrorRefusals.{refusal_of};
 ghost use Rattle.syn_replica.specs.Refusals.{IsOneOf, format_refusals, reading_refusals};
 ghost use Rattle.syn_replica.specs.Refusals.{edit_refusals, outside_refusals, hiding_refusals};
 ghost use Rattle.syn_replica.specs.Refusals.{old_refusals};
@@ -21,20 +21,19 @@ ghost use Rattle.syn_replica.specs.Disks.{DiskGives, DiskStands, IsOfOtherPair, 
 ghost use Rattle.syn_replica.specs.Disks.{IsOldDisk};
 ghost use Rattle.syn_replica.specs.Edits.{event_by};
 ghost use Rattle.syn_replica.specs.Steps.{add_refusal};
-ghost use Rattle.syn_standing.specs.Updates.{IsReady};
+ghost use Rattle.syn_replica.specs.Updates.{IsReady};
 ghost use Rattle.syn_replica.specs.inner.Additions.{Adds};
 
 use crate::digests::Digests;
 use crate::remembered::Remembered;
+use crate::{ReplicaError, Standing, Update, opening_laws};
 use std::alloc::Global;
 use std::cell::Cell;
 use syn_disk::Disk;
 use syn_history::Event;
-use syn_journal::{JournalError, layout_laws};
-use syn_journaled::Journaled;
+use syn_journal::{JournalError, Journaled, layout_laws};
 use syn_model::{history_laws, worked_rows};
 use syn_path::{Name, Path};
-use syn_standing::{ReplicaError, Standing, Update, opening_laws};
 use syn_tree::{Content, Edit, Found, Tree, TreeError};
 use syn_wire::edit_length;
 
@@ -50,7 +49,7 @@ mod reopen;
 mod session;
 
 pub use listing::Listing;
-pub use session::{Piece, TokenStanding};
+pub use session::{Piece, TokenStatus};
 
 /// A replica of a file tree: a history of edits and of what sessions do, which outlives stops of
 /// its machine.

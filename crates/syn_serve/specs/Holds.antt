@@ -15,10 +15,10 @@ use Rattle.syn_model.specs.Event.{Edited}
 use Rattle.syn_model.specs.History.{History}
 use Rattle.syn_model.specs.Refusal.{Memory}
 use Rattle.syn_replica.specs.Growth.{IsGrown}
-use Rattle.syn_standing.specs.Refusals.{refusal_of}
+use Rattle.syn_replica.specs.ErrorRefusals.{refusal_of}
 use Rattle.syn_replica.specs.Replica.{IsHalted, Stands, disk_of, pair_of}
-use Rattle.syn_standing.specs.declared.error.ReplicaError.{ReplicaError}
-use Rattle.syn_standing.specs.declared.error.ReplicaError.TheVariants.{Tree}
+use Rattle.syn_replica.specs.declared.error.ReplicaError.{ReplicaError}
+use Rattle.syn_replica.specs.declared.error.ReplicaError.TheVariants.{Tree}
 use Rattle.syn_replica.specs.declared.replica.Replica.{Replica}
 use Rattle.syn_serve.specs.Messages.{Message, Asks, Wishes, Response, Answers, Tells}
 use Rattle.syn_shared.specs.Edits.{Edits}

@@ -2,11 +2,12 @@
 use Rattle.std.specs.Prelude.{◌≡◌, ◌≢◌, ◌⊎◌, Option, Some}
 use Rattle.std.specs.Io.KnownBytes.{Appends}
 use Rattle.syn_agent.specs.declared.agent.Agent.{Agent}
+use Rattle.syn_link.specs.Connections as link_of
 use Rattle.syn_link.specs.Frames.{AppendsSome, Bytes, frame_of}
 use Rattle.syn_link.specs.Streams.{Comes, ComesAtFault, EndsBefore}
 use Rattle.syn_link.specs.declared.error.LinkError.TheVariants as link
 use Rattle.syn_serve.specs.Messages.{IsLawfulMessage, Message, message_spelling}
-use Rattle.syn_serve.specs.declared.connection.Connection.{Connection}
+use Rattle.syn_serve.specs.declared.connection.ServerConnection.{ServerConnection}
 use Rattle.syn_serve.specs.declared.error.ServeError.{ServeError}
 use Rattle.syn_serve.specs.declared.error.ServeError.TheVariants.{BadFrame, BadMessage, Device}
 use Rattle.syn_serve.specs.declared.error.ServeError.TheVariants.{Memory, TooLarge}
@@ -20,25 +21,25 @@ pub record Line : Type 0 where
   pub written : Option Bytes
 
 module _ {R W : Type 0} where
-  abbrev pub reader_of : Connection R W → R
-  reader_of connection = connection.reader
+  abbrev pub reader_of : ServerConnection R W → R
+  reader_of server = link_of.reader_of server.connection
 
-  abbrev pub writer_of : Connection R W → W
-  writer_of connection = connection.writer
+  abbrev pub writer_of : ServerConnection R W → W
+  writer_of server = link_of.writer_of server.connection
 
   -- what came and was not handed out
-  abbrev pub held_by : Connection R W → Bytes
-  held_by connection = connection.framer
+  abbrev pub held_by : ServerConnection R W → Bytes
+  held_by server = link_of.held_by server.connection
 
-  abbrev pub agent_of : Connection R W → Agent
-  agent_of connection = connection.agent
+  abbrev pub agent_of : ServerConnection R W → Agent
+  agent_of server = server.agent
 
-  abbrev pub line_of : (R → Option Bytes) → (W → Option Bytes) → Connection R W → Line
-  line_of remaining contents connection = record {
-    given = remaining connection.reader;
-    held = connection.framer;
-    agent = connection.agent;
-    written = contents connection.writer;
+  abbrev pub line_of : (R → Option Bytes) → (W → Option Bytes) → ServerConnection R W → Line
+  line_of remaining contents server = record {
+    given = remaining (reader_of server);
+    held = held_by server;
+    agent = server.agent;
+    written = contents (writer_of server);
   }
 
 -- what is staged and what was written stay

@@ -6,14 +6,14 @@ use Rattle.syn_replica.specs.declared.replica.Replica.{Replica}
 use Rattle.syn_serve.specs.Exchanges.{moment}
 use Rattle.syn_serve.specs.Lines.{Line}
 use Rattle.syn_serve.specs.Runs.{Serves}
-use Rattle.syn_serve.specs.declared.connection.Connection.{Connection}
+use Rattle.syn_serve.specs.declared.connection.ServerConnection.{ServerConnection}
 use Rattle.syn_serve.specs.declared.error.ServeError.{ServeError}
 use Rattle.syn_serve.specs.declared.serving.Serving.{Serving}
 use Rattle.syn_shared.specs.Shared.{IsFor}
 use Rattle.syn_shared.specs.declared.shared.SharedReplica.{SharedReplica}
 
 module _ {R W G : Type 0} where
-  abbrev pub connection_in : Serving R W G → Connection R W
+  abbrev pub connection_in : Serving R W G → ServerConnection R W
   connection_in serving = serving.connection
 
   abbrev pub gate_in : Serving R W G → G

@@ -21,9 +21,8 @@ use syn_message::{
 };
 use syn_model::are_bytes;
 use syn_path::Path;
-use syn_replica::Replica;
+use syn_replica::{Replica, ReplicaError};
 use syn_shared::SharedReplica;
-use syn_standing::ReplicaError;
 use syn_tree::{Content, Edit, TreeError};
 
 /// Waits for the lock, and answers the request within one hold of it.

@@ -19,18 +19,15 @@ use std::io::{Read, Write};
 use std::sync::Wait;
 use syn_agent::Agent;
 use syn_disk::Disk;
-use syn_link::{Framer, read_body, write_frame};
+use syn_link::Connection;
 use syn_lock::Pass;
 use syn_replica::Replica;
 use syn_shared::SharedReplica;
 
-/// A connection to the worker: what it is read from, what it is written to, what came and was not
-/// answered yet, and what a session has staged.
+/// A connection to the worker, and what a session over it has staged.
 #[derive(Drop)]
-pub struct Connection<R, W> {
-    reader: R,
-    writer: W,
-    framer: Framer,
+pub struct ServerConnection<R, W> {
+    connection: Connection<R, W>,
     agent: Agent,
 }
 
@@ -43,18 +40,16 @@ pub enum Exchanged {
     Ended,
 }
 
-impl<R: Read, W: Write> Connection<R, W> {
+impl<R: Read, W: Write> ServerConnection<R, W> {
     /// A connection on which nothing came yet. It takes no memory.
-    pub fn new(alloc: Global, reader: R, writer: W) -> Connection<R, W>
+    pub fn new(alloc: Global, reader: R, writer: W) -> ServerConnection<R, W>
         ensures reader { reader_of result ≡ reader }
         ensures writer { writer_of result ≡ writer }
         ensures held { held_by result ≡ [] }
         ensures staged { staging_of (agent_of result) ≡ None }
     {
-        Connection {
-            reader,
-            writer,
-            framer: Framer::new(alloc),
+        ServerConnection {
+            connection: Connection::new(alloc, reader, writer),
             agent: Agent::new(),
         }
     }
@@ -63,7 +58,7 @@ impl<R: Read, W: Write> Connection<R, W> {
     pub fn into_parts(self) -> (R, W)
         ensures { result ≡ (reader_of self, writer_of self) }
     {
-        (self.reader, self.writer)
+        self.connection.into_parts()
     }
 
     /// Reads one request, answers it from the shared replica within one hold of its lock, and
@@ -139,7 +134,7 @@ impl<R: Read, W: Write> Connection<R, W> {
         ensures silent { IsSilent (line_of R.remaining W.contents self.old)
             (line_of R.remaining W.contents self.new) }
     {
-        let Some(body) = read_body(alloc, &mut self.reader, &mut self.framer)? else {
+        let Some(body) = self.connection.receive(alloc)? else {
             return Ok(None);
         };
         match decode_any_request(alloc, &body)? {
@@ -159,6 +154,6 @@ impl<R: Read, W: Write> Connection<R, W> {
             (line_of R.remaining W.contents self.new) }
     {
         let body = encode_any_reply(alloc, reply)?;
-        Ok(write_frame(&mut self.writer, &body)?)
+        Ok(self.connection.send(&body)?)
     }
 }

@@ -51,7 +51,7 @@ mod message;
 mod serving;
 mod upkeep;
 
-pub use connection::{Connection, Exchanged};
+pub use connection::{Exchanged, ServerConnection};
 pub use error::ServeError;
 pub use gate::{Gate, Point};
 pub use message::{AnyReply, AnyRequest, decode_any_request, encode_any_reply};

@@ -2,7 +2,7 @@
 ghost use Rattle.std.specs.Prelude.{◌≡◌, None};
 ghost use Rattle.syn_serve.specs.Servings.{connection_in, ended_in, gate_in};
 
-use crate::connection::Connection;
+use crate::connection::ServerConnection;
 use crate::error::ServeError;
 use crate::gate::Gate;
 use std::alloc::Global;
@@ -17,14 +17,14 @@ use syn_shared::{SharedReplica, Work};
 #[derive(Drop)]
 pub struct Serving<R, W, G> {
     alloc: Global,
-    connection: Connection<R, W>,
+    connection: ServerConnection<R, W>,
     gate: G,
     ended: Option<Result<(), ServeError>>,
 }
 
 impl<R, W, G> Serving<R, W, G> {
     /// The connection was not served yet.
-    pub fn new(alloc: Global, connection: Connection<R, W>, gate: G) -> Serving<R, W, G>
+    pub fn new(alloc: Global, connection: ServerConnection<R, W>, gate: G) -> Serving<R, W, G>
         ensures connection { connection_in result ≡ connection }
         ensures gate { gate_in result ≡ gate }
         ensures ended { ended_in result ≡ None }
@@ -37,7 +37,7 @@ impl<R, W, G> Serving<R, W, G> {
         }
     }
 
-    /// How the serving ended, as `Connection::serve` answers; none while no worker took it.
+    /// How the serving ended, as `ServerConnection::serve` answers; none while no worker took it.
     pub fn ended(&self) -> Option<Result<(), ServeError>>
         ensures { result ≡ ended_in self.now }
     {
@@ -45,7 +45,7 @@ impl<R, W, G> Serving<R, W, G> {
     }
 
     /// The connection and the gate.
-    pub fn into_parts(self) -> (Connection<R, W>, G)
+    pub fn into_parts(self) -> (ServerConnection<R, W>, G)
         ensures { result ≡ (connection_in self, gate_in self) }
     {
         (self.connection, self.gate)

@@ -18,8 +18,8 @@ use Rattle.syn_model.specs.Archive.{Kept, Recorded}
 use Rattle.syn_model.specs.Refusal.{Memory, Refusal as Why}
 use Rattle.syn_propagate.specs.Carrying.{source_of, target_of}
 use Rattle.syn_propagate.specs.Transfers.{Asks as TransferAsks, EndsBy, IsForItem, WaitsFor}
-use Rattle.syn_propagate.specs.Transfers.{WaitsForItem, carriage_of}
-use Rattle.syn_propagate.specs.declared.carriage.Carriage.{Carriage}
+use Rattle.syn_propagate.specs.Transfers.{WaitsForItem, spec_of}
+use Rattle.syn_propagate.specs.declared.transfer_spec.TransferSpec.{TransferSpec}
 use Rattle.syn_propagate.specs.Refusals.{refusal_of}
 use Rattle.syn_propagate.specs.declared.error.TransferError.{TransferError}
 use Rattle.syn_propagate.specs.declared.error.TransferError.TheVariants as error_is
@@ -28,8 +28,8 @@ use Rattle.syn_refusal.specs.Refusals.{cause_of}
 use Rattle.syn_refusal.specs.declared.refusal.Refusal.{Refusal}
 use Rattle.syn_scan.specs.Found.{Found}
 use Rattle.syn_session.specs.declared.answering.Carrying.TheVariants as carrying
-use Rattle.syn_session.specs.declared.course.Carried.{Carried}
-use Rattle.syn_session.specs.declared.course.Course.{Course}
+use Rattle.syn_session.specs.declared.plan_progress.Carried.{Carried}
+use Rattle.syn_session.specs.declared.plan_progress.PlanProgress.{PlanProgress}
 use Rattle.syn_session.specs.declared.session.Asks.TheVariants.{One}
 use Rattle.syn_session.specs.Answering.{exchange_of}
 use Rattle.syn_session.specs.Carrying.{IsCarriedOut, TakesAnswer}
@@ -44,7 +44,7 @@ use Rattle.syn_image.specs.Archives.{kept_for}
 -- ---- a request for what is carried is one for the item
 
 module _ (plan : Plan) (cursor : ℕ) (planned : Planned) (at : slice_get plan cursor ≡ Some planned)
-    (c : Carriage) (is : IsCarriageOf c planned cursor) (to : Which) where
+    (c : TransferSpec) (is : IsCarriageOf c planned cursor) (to : Which) where
   asked_for : (request : Request) → IsForItem c to request → IsAskedBefore plan (suc cursor) request
   asked_for (Begin pair) it = tt
   asked_for (ListAt path) it = tt
@@ -75,53 +75,58 @@ module _ (plan : Plan) (cursor : ℕ) (planned : Planned) (at : slice_get plan c
 
 -- ---- what an answer comes to
 
-module _ (archive : kept_in.Archive) (course : Course) (left right : Found) (all : List Exchange)
+module _ (archive : kept_in.Archive) (progress : PlanProgress) (left right : Found)
+    (all : List Exchange)
     (before : Reached) (to : Which) (number : ℕ) (request : Request) (reply : model.Reply)
-    (carries :
-    Carries archive course left right all before (λ transfer. WaitsFor transfer all to request))
-    (was : Carried) (same : course.carried ≡ Some was) where
+    (carries : Carries archive progress left right all before
+    (λ transfer. WaitsFor transfer all to request))
+    (was : Carried) (same : progress.carried ≡ Some was) where
   abbrev taken : Exchange
   taken = exchange_of to number request reply
 
   was_is : carries.carried ≡ was
   was_is = ap (λ o. unwrap_or o was) (sym carries.is_carried ∙ same)
 
-  for_it : IsCarriedFor archive was carries.planned course.cursor
-  for_it = subst (λ c. IsCarriedFor archive c carries.planned course.cursor) was_is carries.carries
+  for_it : IsCarriedFor archive was carries.planned progress.cursor
+  for_it = subst (λ c. IsCarriedFor archive c carries.planned progress.cursor) was_is
+      carries.carries
 
   pub waits_for : WaitsFor was.transfer all to request
   waits_for = subst (λ (c : Carried). WaitsFor c.transfer all to request) was_is carries.is
 
   module _ (law : WaitsForItem) (fault : fault_of all to request reply ≡ None) where
-    for_item : IsForItem (carriage_of was.transfer) to request
+    for_item : IsForItem (spec_of was.transfer) to request
     for_item = law was.transfer all to request waits_for
 
-    asked_all : AreAskedBefore (plan_in course left right) (suc course.cursor) (all ++ taken ∷ [])
+    asked_all : AreAskedBefore (plan_in progress left right) (suc progress.cursor)
+        (all ++ taken ∷ [])
     asked_all =
-        asked_then (plan_in course left right) (suc course.cursor) all taken carries.asked
-        (asked_for (plan_in course left right) course.cursor carries.planned carries.at
-        (carriage_of was.transfer) for_it.carriage to request for_item)
+        asked_then (plan_in progress left right) (suc progress.cursor) all taken carries.asked
+        (asked_for (plan_in progress left right) progress.cursor carries.planned carries.at
+        (spec_of was.transfer) for_it.spec to request for_item)
 
-    carried_out : (now : Option Carried) → IsCarriedOut (record course { carried = now }) left right
+    carried_out : (now : Option Carried) → IsCarriedOut (record progress { carried = now }) left
+        right
         (all ++ taken ∷ []) before carries.planned
     carried_out now = record {
-      course_is = carrying_more course now left right before carries.course_is;
+      course_is = carrying_more progress now left right before carries.course_is;
       at = carries.at;
-      carries = is_carried carries.planned (carriage_of was.transfer) course.cursor for_it.carriage;
+      carries = is_carried carries.planned (spec_of was.transfer) progress.cursor for_it.spec;
       apart = no_conflict carries.planned carries.planned.item (kept_for was.kept) for_it.record_is;
       asked = asked_all;
     }
 
-    pub takes_on : (later : Carried) → carriage_of later.transfer ≡ carriage_of was.transfer →
+    pub takes_on : (later : Carried) → spec_of later.transfer ≡ spec_of was.transfer →
         later.kept ≡ was.kept → (side : Side) (asks : Asked) → is_last reply ≡ false →
         TransferAsks later.transfer (all ++ taken ∷ []) (which_of side) (request_of asks) →
-        TakesAnswer archive left right all before taken (record course { carried = Some later })
+        TakesAnswer archive left right all before taken (record progress { carried = Some later })
         (Ok (carrying.Asks (One side asks)))
     takes_on later same_carriage same_record side asks goes asks_it = (
       fault,
       (
         goes,
-        carries_on archive course left right before carries.course_is carries.planned carries.at was
+        carries_on archive progress left right before carries.course_is carries.planned carries.at
+            was
             later same_carriage same_record for_it (all ++ taken ∷ []) asked_all
             (λ transfer. TransferAsks transfer (all ++ taken ∷ []) (which_of side)
             (request_of asks)) asks_it,
@@ -129,38 +134,42 @@ module _ (archive : kept_in.Archive) (course : Course) (left right : Found) (all
     )
 
     pub takes_done : (now : Option Carried) →
-        EndsBy (carriage_of was.transfer) request reply next.Done → TakesAnswer archive left right
-        all before taken (record course { carried = now }) (Ok (carrying.Done was.kept))
+        EndsBy (spec_of was.transfer) request reply next.Done → TakesAnswer archive left right
+        all before taken (record progress { carried = now }) (Ok (carrying.Done was.kept))
     takes_done now ends = (
       fault,
       (
         carries.planned,
         carried_out now,
-        is_due (plan_in course left right) course.cursor carries.planned carries.at
-            (carriage_of was.transfer) for_it.carriage to number request reply (kept_for was.kept)
-            (marks_of carries.planned (carriage_of was.transfer) course.cursor
-            (kept_for was.kept) for_it.carriage for_it.record_is) for_item ends.0 ends.1 ends.2,
+        is_due (plan_in progress left right) progress.cursor carries.planned carries.at
+            (spec_of was.transfer) for_it.spec to number request reply (kept_for was.kept)
+            (marks_of carries.planned (spec_of was.transfer) progress.cursor
+            (kept_for was.kept) for_it.spec for_it.record_is) for_item ends.0 ends.1 ends.2,
       ),
     )
 
     pub takes_refused : (now : Option Carried) (why : Refusal) →
         reply ≡ model.Refused (cause_of why) → TakesAnswer archive left right all before taken
-        (record course { carried = now }) (Ok (carrying.Refused why))
+        (record progress { carried = now }) (Ok (carrying.Refused why))
     takes_refused now why said = (
       fault,
       (
         carries.planned,
         carried_out now,
         said,
-        is_for (plan_in course left right) course.cursor carries.planned carries.at
-            (carriage_of was.transfer) for_it.carriage to request for_item,
+        is_for (plan_in progress left right) progress.cursor carries.planned carries.at
+            (spec_of was.transfer) for_it.spec to request for_item,
       ),
     )
 
   pub takes_fault : (now : Option Carried) (why : Refusal) →
       (fault_of all to request reply ≡ Some (cause_of why)) ⊎ (cause_of why ≡ Memory) →
-      TakesAnswer archive left right all before taken (record course { carried = now }) (Err why)
-  takes_fault now why fault = (fault, carrying_more course now left right before carries.course_is)
+      TakesAnswer archive left right all before taken (record progress { carried = now }) (Err why)
+  takes_fault now why fault = (
+    fault,
+    carrying_more progress now left right before
+        carries.course_is,
+  )
 
 -- what ended the transfer ends the session
 pub ended_with : (fault : Option Why) (error : TransferError) (why : Refusal) →

@@ -11,19 +11,19 @@ use Rattle.syn_model.specs.Archive as model
 use Rattle.syn_model.specs.Archive.{Kept, Recorded, kept_refusal}
 use Rattle.syn_model.specs.Decision.{ToLeft, ToRight, MarkSame, MarkDir, Conflict, Item}
 use Rattle.syn_propagate.specs.Carrying.{source_of, target_of}
-use Rattle.syn_propagate.specs.Transfers.{carriage_of}
-use Rattle.syn_propagate.specs.declared.carriage.Carriage.{Carriage}
-use Rattle.syn_session.specs.declared.course.Carried.{Carried}
-use Rattle.syn_session.specs.declared.course.Course.{Course}
+use Rattle.syn_propagate.specs.Transfers.{spec_of}
+use Rattle.syn_propagate.specs.declared.transfer_spec.TransferSpec.{TransferSpec}
+use Rattle.syn_session.specs.declared.plan_progress.Carried.{Carried}
+use Rattle.syn_session.specs.declared.plan_progress.PlanProgress.{PlanProgress}
 use Rattle.syn_image.specs.Archives.{kept_for}
-use Rattle.syn_session.specs.Stages.{Carries, IsCarriageOf, IsCarriedFor, IsCourse, Reached}
+use Rattle.syn_session.specs.Stages.{Carries, IsCarriageOf, IsCarriedFor, IsPlanProgress, Reached}
 use Rattle.syn_session.specs.Stages.{plan_in, AreAskedBefore, IsAskedBefore}
 use Rattle.syn_headline.specs.Report.{is_carrying}
 use Rattle.syn_scan.specs.Found.{Found}
 use Rattle.syn_session.specs.Plans.{Plan}
 use Rattle.syn_propagate.specs.declared.transfer.Transfer.{Transfer}
 
-pub source_other : (c : Carriage) → other (target_of c) ≡ source_of c
+pub source_other : (c : TransferSpec) → other (target_of c) ≡ source_of c
 source_other c = by (source_of c)
   where
     by : (w : Which) → other (other w) ≡ w
@@ -31,7 +31,7 @@ source_other c = by (source_of c)
     by Right = refl
 
 -- the record of an item that is carried has the marks of its source
-pub marks_of : (planned : Planned) (c : Carriage) (item : ℕ) (kept : Kept) →
+pub marks_of : (planned : Planned) (c : TransferSpec) (item : ℕ) (kept : Kept) →
     IsCarriageOf c planned item → record_for planned planned.item ≡ Some kept →
     kept ≡ Recorded c.path (seen_on planned (source_of c)).marks
 marks_of planned c item kept is recorded = by planned.item (source_of c) is.writes recorded
@@ -53,11 +53,11 @@ marks_of planned c item kept is recorded = by planned.item (source_of c) is.writ
     by (Conflict at) Right writes e = absurd writes
 
 -- what is carried is of an item that carries
-pub is_carried : (planned : Planned) (carriage : Carriage) (item : ℕ) →
-    IsCarriageOf carriage planned item → is_carrying planned.item ≡ true
-is_carried planned carriage item is = by planned.item (target_of carriage) is.writes
+pub is_carried : (planned : Planned) (spec : TransferSpec) (item : ℕ) →
+    IsCarriageOf spec planned item → is_carrying planned.item ≡ true
+is_carried planned spec item is = by planned.item (target_of spec) is.writes
   where
-    by : (item : Item) (side : Which) → WritesTo item side carriage.path → is_carrying item ≡ true
+    by : (item : Item) (side : Which) → WritesTo item side spec.path → is_carrying item ≡ true
     by (ToLeft at) side writes = refl
     by (ToRight at) side writes = refl
     by (MarkSame at) Left writes = absurd writes
@@ -78,11 +78,11 @@ asked_then plan cursor taken one before mine exchange has =
       | inr is ↦ subst (λ e. IsAskedBefore plan cursor e.request) is mine
     ]
 
--- whatever is carried, the course is the same
-pub carrying_more : (course : Course) (carried : Option Carried) (left right : Found)
-    (reached : Reached) → IsCourse course left right reached →
-    IsCourse (record course { carried = carried }) left right reached
-carrying_more course carried left right reached is = record {
+-- whatever is carried, the progress is the same
+pub carrying_more : (progress : PlanProgress) (carried : Option Carried) (left right : Found)
+    (reached : Reached) → IsPlanProgress progress left right reached →
+    IsPlanProgress (record progress { carried = carried }) left right reached
+carrying_more progress carried left right reached is = record {
   plan = is.plan;
   made = is.made;
   short = is.short;
@@ -95,25 +95,26 @@ carrying_more course carried left right reached is = record {
 }
 
 -- it asks for what is carried
-pub carries_on : (archive : model.Archive) (course : Course) (left right : Found)
-    (reached : Reached) → IsCourse course left right reached → (planned : Planned) →
-    slice_get (plan_in course left right) course.cursor ≡ Some planned → (carried later : Carried) →
-    carriage_of later.transfer ≡ carriage_of carried.transfer → later.kept ≡ carried.kept →
-    IsCarriedFor archive carried planned course.cursor → (all : List Exchange) →
-    AreAskedBefore (plan_in course left right) (suc course.cursor) all →
+pub carries_on : (archive : model.Archive) (progress : PlanProgress) (left right : Found)
+    (reached : Reached) → IsPlanProgress progress left right reached → (planned : Planned) →
+    slice_get (plan_in progress left right) progress.cursor ≡ Some planned →
+    (carried later : Carried) →
+    spec_of later.transfer ≡ spec_of carried.transfer → later.kept ≡ carried.kept →
+    IsCarriedFor archive carried planned progress.cursor → (all : List Exchange) →
+    AreAskedBefore (plan_in progress left right) (suc progress.cursor) all →
     (Is : Transfer → Type 0) → Is later.transfer →
-    Carries archive (record course { carried = Some later }) left right all reached Is
-carries_on archive course left right reached is planned at carried later same_carriage same_record
+    Carries archive (record progress { carried = Some later }) left right all reached Is
+carries_on archive progress left right reached is planned at carried later same_carriage same_record
     carries all asked Is asks =
     record {
-      course_is = carrying_more course (Some later) left right reached is;
+      course_is = carrying_more progress (Some later) left right reached is;
       carried = later;
       is_carried = refl;
       planned = planned;
       at = at;
       carries = record {
-        carriage =
-            subst (λ c. IsCarriageOf c planned course.cursor) (sym same_carriage) carries.carriage;
+        spec =
+            subst (λ c. IsCarriageOf c planned progress.cursor) (sym same_carriage) carries.spec;
         record_is =
             subst (λ k. record_for planned planned.item ≡ Some (kept_for k))
             (sym same_record) carries.record_is;

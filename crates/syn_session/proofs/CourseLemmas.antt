@@ -1,4 +1,4 @@
--- What a course tells after an item.
+-- What a progress tells after an item.
 use Rattle.std.proofs.Common.{◌≡◌, ◌<◌, ◌^◌, ◌+◌, ℕ, suc, true, false, if◌then◌else◌, List, [], ◌∷◌}
 use Rattle.std.proofs.Common.{◌++◌, Some, None, length, map, not, Bool, refl, sym, ap, ap₂, ◌∙◌}
 use Rattle.std.proofs.Common.{subst, arith, Option}
@@ -16,10 +16,10 @@ use Rattle.syn_recon.specs.Items.{item_of, items_of}
 use Rattle.syn_refusal.specs.Refusals.{cause_of}
 use Rattle.syn_refusal.specs.declared.refusal.Refusal.{Refusal}
 use Rattle.syn_scan.specs.Found.{Found}
-use Rattle.syn_session.specs.declared.course.Course.{Course}
+use Rattle.syn_session.specs.declared.plan_progress.PlanProgress.{PlanProgress}
 use Rattle.syn_session.specs.Passing.{kept_at, past_at, refused_at}
 use Rattle.syn_session.specs.Plans.{AreRecordedBefore, planned_all, planned_by, recorded_count}
-use Rattle.syn_session.specs.Stages.{IsCourse, Reached, plan_in}
+use Rattle.syn_session.specs.Stages.{IsPlanProgress, Reached, plan_in}
 use Rattle.syn_session.proofs.PlanLemmas.{named_once}
 use Rattle.syn_session.proofs.TallyLemmas.{conflicts_to, conflict_past, counted_within, other_past}
 use Rattle.syn_session.proofs.TallyLemmas.{record_counts, recorded_more, recorded_past}
@@ -28,8 +28,8 @@ use Rattle.syn_model.proofs.PathLemmas.{path_itself}
 after_one : (n : ℕ) → suc n ≡ n + 1
 after_one n = omega arith
 
-module _ (old new : Course) (left right : Found) (reached : Reached)
-    (is : IsCourse old left right reached) (planned : Planned)
+module _ (old new : PlanProgress) (left right : Found) (reached : Reached)
+    (is : IsPlanProgress old left right reached) (planned : Planned)
     (at : slice_get (plan_in old left right) old.cursor ≡ Some planned)
     (items : new.items ≡ old.items) (cursor : new.cursor ≡ old.cursor + 1) where
   same_plan : plan_in new left right ≡ plan_in old left right
@@ -67,7 +67,7 @@ module _ (old new : Course) (left right : Found) (reached : Reached)
       new.done ≡ old.done + (if is_carrying planned.item then 1 else 0) →
       new.marked ≡ old.marked + (if is_marking planned.item then 1 else 0) →
       new.conflicts ≡ old.conflicts → new.refused ≡ old.refused →
-      IsCourse new left right (kept_at reached what)
+      IsPlanProgress new left right (kept_at reached what)
   course_recorded orderly what of none done marked conflicts refused =
       let once = named_once is.made.0 left right is.made.1 (items_of old.items.items) is.made.2
       orderly in
@@ -100,7 +100,7 @@ module _ (old new : Course) (left right : Found) (reached : Reached)
     pub course_refused : (why : Refusal) → conflict_at planned.item ≡ None →
         new.conflicts ≡ old.conflicts →
         new.refused.items ≡ old.refused.items ++ (why, path_of planned.item) ∷ [] →
-        IsCourse new left right (refused_at reached (cause_of why) planned)
+        IsPlanProgress new left right (refused_at reached (cause_of why) planned)
     course_refused why none conflicts refused = record {
       plan = plan_is;
       made = (is.made.0, is.made.1, ap (λ v. items_of v.items) items ∙ is.made.2);
@@ -123,7 +123,7 @@ module _ (old new : Course) (left right : Found) (reached : Reached)
     -- it is a conflict
     pub course_conflict : (path : Path) → planned.item ≡ Conflict path →
         new.conflicts.items ≡ old.conflicts.items ++ path ∷ [] → new.refused ≡ old.refused →
-        IsCourse new left right (past_at reached)
+        IsPlanProgress new left right (past_at reached)
     course_conflict path conflict conflicts refused = record {
       plan = plan_is;
       made = (is.made.0, is.made.1, ap (λ v. items_of v.items) items ∙ is.made.2);
@@ -177,42 +177,42 @@ record_is planned item kept e = by item e
 
 -- ---- what fits
 
-module _ (course : Course) (left right : Found) (reached : Reached)
-    (is : IsCourse course left right reached) (planned : Planned)
-    (at : slice_get (plan_in course left right) course.cursor ≡ Some planned) where
-  plan_is_short : length (plan_in course left right) < 2 ^ 32
+module _ (progress : PlanProgress) (left right : Found) (reached : Reached)
+    (is : IsPlanProgress progress left right reached) (planned : Planned)
+    (at : slice_get (plan_in progress left right) progress.cursor ≡ Some planned) where
+  plan_is_short : length (plan_in progress left right) < 2 ^ 32
   plan_is_short =
       omega (
         arith,
         is.short,
-        length-map (items_of course.items.items) (planned_by left right),
-        length-map course.items.items item_of,
+        length-map (items_of progress.items.items) (planned_by left right),
+        length-map progress.items.items item_of,
       )
 
-  pub cursor_fits : course.cursor + 1 < 2 ^ 32
+  pub cursor_fits : progress.cursor + 1 < 2 ^ 32
   cursor_fits =
       omega (
         arith,
         plan_is_short,
-        slice_get_within (plan_in course left right) course.cursor planned at,
+        slice_get_within (plan_in progress left right) progress.cursor planned at,
       )
 
   -- one more of its kind, where its record is kept
   pub count_fits : PlanIsOrderly → (what : Kept) →
       is_record_of planned.item what ≡ true → (is_of : Item → Bool) (count : ℕ) →
-      recorded_count is_of (plan_in course left right) reached.kept ≡ count →
+      recorded_count is_of (plan_in progress left right) reached.kept ≡ count →
       is_of planned.item ≡ true → count + 1 < 2 ^ 32
   count_fits orderly what of is_of count counted mine =
-      let once = named_once is.made.0 left right is.made.1 (items_of course.items.items) is.made.2
+      let once = named_once is.made.0 left right is.made.1 (items_of progress.items.items) is.made.2
       orderly in
-      let more = record_counts (plan_in course left right) once course.cursor reached.kept
+      let more = record_counts (plan_in progress left right) once progress.cursor reached.kept
       is.recorded planned at what of is_of in
-      let one = ap (λ b. recorded_count is_of (plan_in course left right) reached.kept
+      let one = ap (λ b. recorded_count is_of (plan_in progress left right) reached.kept
       + (if b then 1 else 0)) mine in
       omega (
         arith,
         plan_is_short,
-        counted_within is_of (plan_in course left right)
+        counted_within is_of (plan_in progress left right)
             (reached.kept ++ what ∷ []),
         more,
         one,

@@ -1,4 +1,4 @@
--- What is to be done for an item is so in the plan of its course.
+-- What is to be done for an item is so in the plan of its progress.
 use Rattle.std.proofs.Common.{◌≡◌, ℕ, Option, Some, None, refl, sym, ap, ◌∙◌, subst, inl, inr}
 use Rattle.std.specs.Prelude.{option_map, slice_get, IfOk, Result, Ok, Err}
 use Rattle.std.proofs.lemmas.Option.{slice_get-map}
@@ -13,62 +13,63 @@ use Rattle.syn_model.specs.Decision as model
 use Rattle.syn_model.specs.Path.{Path, parent}
 use Rattle.syn_model.specs.Plan.{PlanIsDecided}
 use Rattle.syn_model.specs.Tree.{subtree}
-use Rattle.syn_propagate.specs.Transfers.{carriage_of}
-use Rattle.syn_propagate.specs.declared.carriage.Carriage.{Carriage}
+use Rattle.syn_propagate.specs.Transfers.{spec_of}
+use Rattle.syn_propagate.specs.declared.transfer_spec.TransferSpec.{TransferSpec}
 use Rattle.syn_recon.specs.Items.{items_of}
 use Rattle.syn_scan.specs.Found.{Found, position_of}
-use Rattle.syn_session.specs.declared.course.Course.{Course}
+use Rattle.syn_session.specs.declared.plan_progress.PlanProgress.{PlanProgress}
 use Rattle.syn_session.specs.declared.doing.Doing.{Doing}
 use Rattle.syn_session.specs.declared.doing.Doing.TheVariants as has
 use Rattle.syn_session.specs.inner.Items.{IsDoingFor}
 use Rattle.syn_session.specs.Doings.{IsDoing}
 use Rattle.syn_session.specs.Plans.{planned_by}
-use Rattle.syn_session.specs.Stages.{IsCarriageOf, IsCourse, Reached, plan_in}
+use Rattle.syn_session.specs.Stages.{IsCarriageOf, IsPlanProgress, Reached, plan_in}
 use Rattle.syn_image.specs.Archives.{kept_for}
 use Rattle.syn_session.specs.declared.error.SessionError.{SessionError}
 use Rattle.syn_session.proofs.PlanLemmas.{same_marks}
 
-module _ (course : Course) (left right : Found) (reached : Reached)
-    (is : IsCourse course left right reached) where
+module _ (progress : PlanProgress) (left right : Found) (reached : Reached)
+    (is : IsPlanProgress progress left right reached) where
   planned_at : (item : Option model.Item) →
-      slice_get (items_of course.items.items) course.cursor ≡ item →
-      slice_get (plan_in course left right) course.cursor ≡ option_map (planned_by left right) item
+      slice_get (items_of progress.items.items) progress.cursor ≡ item →
+      slice_get (plan_in progress left right) progress.cursor ≡ option_map (planned_by left right)
+      item
   planned_at item e =
-      slice_get-map (planned_by left right) (items_of course.items.items) course.cursor
+      slice_get-map (planned_by left right) (items_of progress.items.items) progress.cursor
       ∙ ap (option_map (planned_by left right)) e
 
-  pub nothing_left : slice_get (items_of course.items.items) course.cursor ≡ None →
-      slice_get (plan_in course left right) course.cursor ≡ None
+  pub nothing_left : slice_get (items_of progress.items.items) progress.cursor ≡ None →
+      slice_get (plan_in progress left right) progress.cursor ≡ None
   nothing_left e = planned_at None e
 
   module _ (decided : PlanIsDecided) (item : model.Item)
-      (there : slice_get (items_of course.items.items) course.cursor ≡ Some item) where
+      (there : slice_get (items_of progress.items.items) progress.cursor ≡ Some item) where
     abbrev planned : Planned
     planned = planned_by left right item
 
-    at : slice_get (plan_in course left right) course.cursor ≡ Some planned
+    at : slice_get (plan_in progress left right) progress.cursor ≡ Some planned
     at = planned_at (Some item) there
 
-    carried_to_left : (path : Path) (c : Carriage) → item ≡ ToLeft path →
+    carried_to_left : (path : Path) (c : TransferSpec) → item ≡ ToLeft path →
         c ≡ record {
           source = side.Right;
-          item = course.cursor;
+          item = progress.cursor;
           path = path;
           source_since =
               position_of right (parent path);
           target_since = position_of left (parent path);
         } →
-        IsCarriageOf c planned course.cursor
+        IsCarriageOf c planned progress.cursor
     carried_to_left path c e same_c =
-        subst (λ x. IsCarriageOf x planned course.cursor) (sym same_c)
+        subst (λ x. IsCarriageOf x planned progress.cursor) (sym same_c)
         (subst (λ i. IsCarriageOf (record {
           source = side.Right;
-          item = course.cursor;
+          item = progress.cursor;
           path = path;
           source_since = position_of right (parent path);
           target_since =
               position_of left (parent path);
-        }) (planned_by left right i) course.cursor) (sym e)
+        }) (planned_by left right i) progress.cursor) (sym e)
         (record {
           item_is = refl;
           path_is = refl;
@@ -77,26 +78,26 @@ module _ (course : Course) (left right : Found) (reached : Reached)
           target_since = refl;
         }))
 
-    carried_to_right : (path : Path) (c : Carriage) → item ≡ ToRight path →
+    carried_to_right : (path : Path) (c : TransferSpec) → item ≡ ToRight path →
         c ≡ record {
           source = side.Left;
-          item = course.cursor;
+          item = progress.cursor;
           path = path;
           source_since =
               position_of left (parent path);
           target_since = position_of right (parent path);
         } →
-        IsCarriageOf c planned course.cursor
+        IsCarriageOf c planned progress.cursor
     carried_to_right path c e same_c =
-        subst (λ x. IsCarriageOf x planned course.cursor) (sym same_c)
+        subst (λ x. IsCarriageOf x planned progress.cursor) (sym same_c)
         (subst (λ i. IsCarriageOf (record {
           source = side.Left;
-          item = course.cursor;
+          item = progress.cursor;
           path = path;
           source_since = position_of left (parent path);
           target_since =
               position_of right (parent path);
-        }) (planned_by left right i) course.cursor) (sym e)
+        }) (planned_by left right i) progress.cursor) (sym e)
         (record {
           item_is = refl;
           path_is = refl;
@@ -105,47 +106,47 @@ module _ (course : Course) (left right : Found) (reached : Reached)
           target_since = refl;
         }))
 
-    pub doing_so : (doing : Doing) → IsDoingFor item course.cursor left right doing →
-        IsDoing course left right doing
+    pub doing_so : (doing : Doing) → IsDoingFor item progress.cursor left right doing →
+        IsDoing progress left right doing
     doing_so has.Nothing never = absurd never
     doing_so (has.Conflict path) e = (planned, at, e)
     doing_so (has.Mark kept) (inl (path, e, recorded)) = (
       planned,
       at,
       ap is_carrying e,
-      λ taken. subst (λ k. IsDue course.cursor planned taken k)
+      λ taken. subst (λ k. IsDue progress.cursor planned taken k)
           (ap (λ p. Recorded path (subtree left.marks p)) (ap path_of e) ∙ sym recorded)
           (same path e (same_marks is.made.0 left right is.made.1
-          (items_of course.items.items) is.made.2 decided course.cursor planned path at e)),
+          (items_of progress.items.items) is.made.2 decided progress.cursor planned path at e)),
     )
     doing_so (has.Mark kept) (inr (path, e, recorded)) = (
       planned,
       at,
       ap is_carrying e,
-      λ taken. subst (λ k. IsDue course.cursor planned taken k) (sym recorded) (directory path e),
+      λ taken. subst (λ k. IsDue progress.cursor planned taken k) (sym recorded) (directory path e),
     )
     doing_so (has.Carry carried) (inl (path, e, from)) = (
       planned,
       at,
-      carried_to_left path (carriage_of carried.transfer) e from.carriage,
+      carried_to_left path (spec_of carried.transfer) e from.spec,
       subst (λ i. record_for (planned_by left right i) i ≡ Some (kept_for carried.kept)) (sym e)
           (ap (λ k. Some k) (sym from.record_is)),
     )
     doing_so (has.Carry carried) (inr (path, e, from)) = (
       planned,
       at,
-      carried_to_right path (carriage_of carried.transfer) e from.carriage,
+      carried_to_right path (spec_of carried.transfer) e from.spec,
       subst (λ i. record_for (planned_by left right i) i ≡ Some (kept_for carried.kept)) (sym e)
           (ap (λ k. Some k) (sym from.record_is)),
     )
 
 -- whatever is answered
-pub if_doing : (course : Course) (left right : Found) (reached : Reached) →
-    IsCourse course left right reached → PlanIsDecided → (item : model.Item) →
-    slice_get (items_of course.items.items) course.cursor ≡ Some item → (number : ℕ) →
-    number ≡ course.cursor → (result : Result Doing SessionError) →
-    IfOk result (IsDoingFor item number left right) → IfOk result (IsDoing course left right)
-if_doing course left right reached is decided item there number same_number (Ok doing) so =
-    doing_so course left right reached is decided item there doing
+pub if_doing : (progress : PlanProgress) (left right : Found) (reached : Reached) →
+    IsPlanProgress progress left right reached → PlanIsDecided → (item : model.Item) →
+    slice_get (items_of progress.items.items) progress.cursor ≡ Some item → (number : ℕ) →
+    number ≡ progress.cursor → (result : Result Doing SessionError) →
+    IfOk result (IsDoingFor item number left right) → IfOk result (IsDoing progress left right)
+if_doing progress left right reached is decided item there number same_number (Ok doing) so =
+    doing_so progress left right reached is decided item there doing
     (subst (λ n. IsDoingFor item n left right doing) same_number so)
-if_doing course left right reached is decided item there number same_number (Err e) so = tt
+if_doing progress left right reached is decided item there number same_number (Err e) so = tt

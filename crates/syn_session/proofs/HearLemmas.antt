@@ -129,7 +129,7 @@ module _ (session new : Session) (heard : Running) (h : HasHeard session heard)
           once = h.heard_is.once;
         };
     unstable = h.unstable ∙ sym keeps.unstable;
-    scans = keeps.course ∙ h.scans;
+    scans = keeps.progress ∙ h.scans;
     reached = h.reached;
     of_scan = h.of_scan;
   }
@@ -266,7 +266,7 @@ module _ (session new : Session) (heard : Running) (h : HasHeard session heard)
       some = on.some;
       stage =
           λ later asking. subst (λ c. IsStage archive later c heard.taken (reached_by heard))
-          (sym (asking.course ∙ (keeps.course ∙ h.scans))) (record {
+          (sym (asking.progress ∙ (keeps.progress ∙ h.scans))) (record {
             nothing = h.reached;
             of_scan = h.of_scan;
             found =

@@ -54,7 +54,7 @@ not_true true e = absurd (true≢false (sym e))
 
 module _ (kept : archive.Archive) (before now : Session) (running : Running) (side : Which)
     (number : ℕ) (request : Request) (reply : model.Reply) (is : IsSession kept before running)
-    (answers : IsAnswering before now side number request) (scans : before.course ≡ None) where
+    (answers : IsAnswering before now side number request) (scans : before.progress ≡ None) where
   abbrev exchange : Exchange
   exchange = exchange_of side number request reply
 
@@ -82,12 +82,13 @@ module _ (kept : archive.Archive) (before now : Session) (running : Running) (si
         | inr is_now ↦ subst (λ (e : Exchange). IsOfScan e.request) is_now this
       ]
 
-  still_scans : now.course ≡ None
-  still_scans = answers.course ∙ scans
+  still_scans : now.progress ≡ None
+  still_scans = answers.progress ∙ scans
 
   -- what it told before
   pub tells_before : (session : Session) → session.number ≡ now.number →
-      session.is_unstable ≡ now.is_unstable → session.course ≡ now.course → Tells session running
+      session.is_unstable ≡ now.is_unstable → session.progress ≡ now.progress →
+      Tells session running
   tells_before session n u c =
       tells_nothing session running (is.number ∙ sym (n ∙ answers.number_is))
       (is.unstable ∙ sym (u ∙ answers.unstable)) (c ∙ still_scans) scanning.nothing
@@ -287,7 +288,7 @@ module _ (kept : archive.Archive) (before now : Session) (running : Running) (si
         some = (other side, omega (arith, waits));
         stage =
             λ later asking. subst (λ c. IsStage archive later c heard.taken (reached_by heard))
-            (sym (asking.course ∙ still_scans)) (record {
+            (sym (asking.progress ∙ still_scans)) (record {
               nothing = scanning.nothing;
               of_scan = of_scan_then (subst IsOfScan (sym begin) tt);
               found =
@@ -335,7 +336,8 @@ module _ (kept : archive.Archive) (before now : Session) (running : Running) (si
         (counted : after.is_unstable ≡ (taken.is_unstable || is_not_dir reply))
         (left : after.left ≡ taken.left) (right : after.right ≡ taken.right)
         (numbered_so : after.number ≡ taken.number)
-        (preferred_so : after.preference ≡ taken.preference) (course : after.course ≡ taken.course)
+        (preferred_so : after.preference ≡ taken.preference) (progress : after.progress ≡
+        taken.progress)
         (found : IsFoundIn (found_on taken side) side heard.taken)
         (out : out_of (line_of taken side).scan
         ≡ without_path (out_of (line_of now side).scan) path) where
@@ -386,7 +388,7 @@ module _ (kept : archive.Archive) (before now : Session) (running : Running) (si
             unstable =
                 unstable_then kept before now running number request reply is side ∙ (ap
                 (λ b. b || is_not_dir reply) (sym (unstable ∙ answers.unstable)) ∙ sym counted);
-            scans = course ∙ (keeps.course ∙ still_scans);
+            scans = progress ∙ (keeps.progress ∙ still_scans);
             reached = scanning.nothing;
             of_scan = of_scan_then (subst IsOfScan (sym listing) tt);
           }
@@ -491,7 +493,7 @@ module _ (kept : archive.Archive) (before now : Session) (running : Running) (si
 
 pub none_other : (kept : archive.Archive) (before now : Session) (running : Running) (side : Which)
     (number : ℕ) (asked : Asked) (reply : model.Reply) → IsSession kept before running →
-    IsAnswering before now side number (request_of asked) → before.course ≡ None →
+    IsAnswering before now side number (request_of asked) → before.progress ≡ None →
     ((x : ℕ) → asked ≡ has.Begin x → ⊥) → ((x : Path) → asked ≡ has.List x → ⊥) → ⊥
 none_other kept before now running side number asked reply is answers scans no_begin no_list =
     neither kept before now running side number (request_of asked) reply is answers scans

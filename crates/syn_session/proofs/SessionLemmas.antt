@@ -15,7 +15,7 @@ use Rattle.syn_headline.proofs.Rising.{may_wait_again, once_more-rising}
 use Rattle.syn_model.specs.Archive as model
 use Rattle.syn_scan.specs.Asked.{is_out}
 use Rattle.syn_session.specs.Scanning.{IsFoundIn, WaitsFor, found_of, out_of}
-use Rattle.syn_session.specs.declared.course.Course.{Course}
+use Rattle.syn_session.specs.declared.plan_progress.PlanProgress.{PlanProgress}
 use Rattle.syn_session.specs.declared.line.Line.{Line}
 use Rattle.syn_session.specs.declared.session.Session.{Session}
 use Rattle.syn_session.specs.Sessions.{IsLine, IsSession, IsStage, asks, begin_of, begun}
@@ -87,7 +87,7 @@ only_begin preference number pair Right n a (inr (resent, has)) = by
 module _ (archive : model.Archive) (session : Session) (preference : Option Which) (number pair : ℕ)
     (numbered : session.number ≡ number)
     (preferred : option_map which_of session.preference ≡ preference) (lawful : number < 2 ^ 64)
-    (stable : session.is_unstable ≡ false) (scans : session.course ≡ None)
+    (stable : session.is_unstable ≡ false) (scans : session.progress ≡ None)
     (waits : (side : Which) → waiting_of (line_of session side) ≡ begin_of pair)
     (asked : (side : Which) → (line_of session side).asked ≡ 1)
     (found : (side : Which) → IsFoundIn (found_of (line_of session side).scan) side [])
@@ -104,7 +104,7 @@ module _ (archive : model.Archive) (session : Session) (preference : Option Whic
         ∙ sym (only_begin preference number pair side n b was_n);
     unstable = sym stable;
     stage =
-        subst (λ course. IsStage archive session course
+        subst (λ progress. IsStage archive session progress
         [] (record { plan = None; cursor = 0; kept = []; refused = [] })) (sym scans) (record {
           nothing = refl;
           of_scan = λ exchange has. absurd (none_taken _ has);
@@ -140,8 +140,8 @@ module _ (archive : model.Archive) (old new : Session) (taken : List Exchange) (
   at_still (begins each) = begins (λ side. begins_still side (each side))
   at_still (lists begun each) = lists begun (λ side. lists_still side (each side))
 
-  stage_still : (course : Option Course) → IsStage archive old course taken reached →
-      IsStage archive new course taken reached
+  stage_still : (progress : Option PlanProgress) → IsStage archive old progress taken reached →
+      IsStage archive new progress taken reached
   stage_still None is = record {
     nothing = is.nothing;
     of_scan = is.of_scan;
@@ -152,24 +152,25 @@ module _ (archive : model.Archive) (old new : Session) (taken : List Exchange) (
         λ side path waits. subst (λ l. Contains l (ListAt path)) (sym (same side))
         (is.out side path (subst (λ s. WaitsFor s path) (scan side) waits));
   }
-  stage_still (Some course) is = record {
+  stage_still (Some progress) is = record {
     to = is.to;
     request = is.request;
     waits = same is.to ∙ is.waits;
     alone = same (other is.to) ∙ is.alone;
     carries =
-        subst (λ r. Rattle.syn_session.specs.Stages.Carries archive course (found_of new.left.scan)
+        subst (λ r. Rattle.syn_session.specs.Stages.Carries archive progress (found_of
+        new.left.scan)
         (found_of r) taken reached (λ transfer. Rattle.syn_propagate.specs.Transfers.WaitsFor
         transfer taken is.to is.request)) (sym (scan Right))
-        (subst (λ l. Rattle.syn_session.specs.Stages.Carries archive course (found_of l) (found_of
+        (subst (λ l. Rattle.syn_session.specs.Stages.Carries archive progress (found_of l) (found_of
         old.right.scan) taken reached (λ transfer. Rattle.syn_propagate.specs.Transfers.WaitsFor
         transfer taken is.to is.request)) (sym (scan Left)) is.carries);
   }
 
-  pub stage_goes_on : new.course ≡ old.course → IsStage archive old old.course taken reached →
-      IsStage archive new new.course taken reached
-  stage_goes_on course is =
-      subst (λ c. IsStage archive new c taken reached) (sym course) (stage_still old.course is)
+  pub stage_goes_on : new.progress ≡ old.progress → IsStage archive old old.progress taken reached →
+      IsStage archive new new.progress taken reached
+  stage_goes_on progress is =
+      subst (λ c. IsStage archive new c taken reached) (sym progress) (stage_still old.progress is)
 
 -- a line whose requests were sent once more
 pub record SentAgain (old new : Line) : Type 0 where
@@ -199,7 +200,7 @@ was_once waiting n a k has =
 module _ (archive : model.Archive) (old new : Session) (running : Running)
     (is : IsSession archive old running) (number : new.number ≡ old.number)
     (preferred : new.preference ≡ old.preference)
-    (unstable : new.is_unstable ≡ old.is_unstable) (course : new.course ≡ old.course)
+    (unstable : new.is_unstable ≡ old.is_unstable) (progress : new.progress ≡ old.progress)
     (again : (side : Which) → SentAgain (line_of old side) (line_of new side)) where
   waits_again : (side : Which) →
       outstanding (resent_once running) side ≡ waiting_of (line_of new side)
@@ -258,5 +259,5 @@ module _ (archive : model.Archive) (old new : Session) (running : Running)
         stage_goes_on archive old new running.taken (reached_by running) (λ side.
         ap (map (λ (one : Outstanding). one.request)) (again side).waits
         ∙ same_requests (waiting_of (line_of old side)))
-        (λ side. (again side).scan) course is.stage;
+        (λ side. (again side).scan) progress is.stage;
   }

@@ -42,7 +42,7 @@ other_side Right e = false≢true (sym (ap (is_side Right) e))
 
 -- what a session tells that has no plan
 pub tells_nothing : (session : Session) (running : Running) → running.session ≡ session.number →
-    is_unstable running ≡ session.is_unstable → session.course ≡ None →
+    is_unstable running ≡ session.is_unstable → session.progress ≡ None →
     reached_by running ≡ nothing_reached → Tells session running
 tells_nothing session running number unstable scans nothing =
     record {

@@ -26,7 +26,7 @@ pub record IsAnswering (old new : Session) (side : Which) (number : ℕ) (reques
   pub number_is : new.number ≡ old.number
   pub preference_is : new.preference ≡ old.preference
   pub unstable : new.is_unstable ≡ old.is_unstable
-  pub course : new.course ≡ old.course
+  pub progress : new.progress ≡ old.progress
 
 -- a session with these exchanges, whatever it is at
 pub record IsHeard (session : Session) (running : Running) : Type 0 where

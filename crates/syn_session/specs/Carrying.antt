@@ -14,22 +14,22 @@ use Rattle.syn_propagate.specs.declared.transfer.Transfer.{Transfer}
 use Rattle.syn_refusal.specs.Refusals.{cause_of}
 use Rattle.syn_refusal.specs.declared.refusal.Refusal.{Refusal}
 use Rattle.syn_scan.specs.Found.{Found}
-use Rattle.syn_session.specs.Stages.{AreAskedBefore, Carries, IsCourse, Reached, plan_in}
+use Rattle.syn_session.specs.Stages.{AreAskedBefore, Carries, IsPlanProgress, Reached, plan_in}
 use Rattle.syn_session.specs.declared.answering.Carrying.{Carrying}
 use Rattle.syn_session.specs.declared.answering.Carrying.TheVariants as has
-use Rattle.syn_session.specs.declared.course.Course.{Course}
+use Rattle.syn_session.specs.declared.plan_progress.PlanProgress.{PlanProgress}
 use Rattle.syn_session.specs.declared.session.Asks.{Asks}
 use Rattle.syn_session.specs.declared.session.Asks.TheVariants.{Listings, One}
 use Rattle.syn_image.specs.Archives.{kept_for}
 
 -- the item at the cursor is carried no further, and no request is out for a later one
-pub record IsCarriedOut (course : Course) (left right : Found) (all : List Exchange)
+pub record IsCarriedOut (progress : PlanProgress) (left right : Found) (all : List Exchange)
     (before : Reached) (planned : Planned) : Type 0 where
-  pub course_is : IsCourse course left right before
-  pub at : slice_get (plan_in course left right) course.cursor ≡ Some planned
+  pub course_is : IsPlanProgress progress left right before
+  pub at : slice_get (plan_in progress left right) progress.cursor ≡ Some planned
   pub carries : is_carrying planned.item ≡ true
   pub apart : conflict_at planned.item ≡ None
-  pub asked : AreAskedBefore (plan_in course left right) (suc course.cursor) all
+  pub asked : AreAskedBefore (plan_in progress left right) (suc progress.cursor) all
 
 -- the transfer asks for this, and for no listing
 abbrev pub AsksOne : Transfer → List Exchange → Asks → Type 0
@@ -38,19 +38,19 @@ AsksOne transfer taken (One side request) =
     TransferAsks transfer taken (which_of side) (request_of request)
 
 module _ (archive : Archive) (left right : Found) (all : List Exchange) (before : Reached)
-    (taken : Exchange) (course : Course) where
+    (taken : Exchange) (progress : PlanProgress) where
   -- what the answer comes to
   abbrev pub ComesTo : Carrying → Type 0
   ComesTo (has.Asks asks) = (is_last taken.reply ≡ false)
-      × Carries archive course left right (all ++ taken ∷ []) before
+      × Carries archive progress left right (all ++ taken ∷ []) before
       (λ transfer. AsksOne transfer (all ++ taken ∷ []) asks)
   ComesTo (has.Done kept) = (planned : Planned)
-      × IsCarriedOut course left right (all ++ taken ∷ []) before planned
-      × IsDue course.cursor planned taken (kept_for kept)
+      × IsCarriedOut progress left right (all ++ taken ∷ []) before planned
+      × IsDue progress.cursor planned taken (kept_for kept)
   ComesTo (has.Refused why) = (planned : Planned)
-      × IsCarriedOut course left right (all ++ taken ∷ []) before planned
+      × IsCarriedOut progress left right (all ++ taken ∷ []) before planned
       × (taken.reply ≡ model.Refused (cause_of why))
-      × IsFor course.cursor planned taken.request
+      × IsFor progress.cursor planned taken.request
 
   -- it ends the session, or what it comes to follows
   abbrev pub TakesAnswer : Result Carrying Refusal → Type 0
@@ -58,4 +58,4 @@ module _ (archive : Archive) (left right : Found) (all : List Exchange) (before 
       (fault_of all taken.side taken.request taken.reply ≡ None) × ComesTo next
   TakesAnswer (Err why) =
       ((fault_of all taken.side taken.request taken.reply ≡ Some (cause_of why))
-      ⊎ (cause_of why ≡ Memory)) × IsCourse course left right before
+      ⊎ (cause_of why ≡ Memory)) × IsPlanProgress progress left right before

@@ -5,27 +5,28 @@ use Rattle.syn_headline.specs.Planning.{Planned}
 use Rattle.syn_headline.specs.Report.{is_carrying}
 use Rattle.syn_headline.specs.Session.{record_for}
 use Rattle.syn_model.specs.Decision.{Conflict}
-use Rattle.syn_propagate.specs.Transfers.{IsReady, carriage_of}
+use Rattle.syn_propagate.specs.Transfers.{IsReady, spec_of}
 use Rattle.syn_scan.specs.Found.{Found}
 use Rattle.syn_session.specs.Stages.{IsCarriageOf, plan_in}
-use Rattle.syn_session.specs.declared.course.Course.{Course}
+use Rattle.syn_session.specs.declared.plan_progress.PlanProgress.{PlanProgress}
 use Rattle.syn_session.specs.declared.doing.Doing.{Doing}
 use Rattle.syn_session.specs.declared.doing.Doing.TheVariants as has
 use Rattle.syn_image.specs.Archives.{kept_for}
 
--- what is to be done in the plan of a course
-abbrev pub IsDoing : Course → Found → Found → Doing → Type 0
-IsDoing course left right has.Nothing = slice_get (plan_in course left right) course.cursor ≡ None
-IsDoing course left right (has.Conflict path) = (planned : Planned)
-    × (slice_get (plan_in course left right) course.cursor ≡ Some planned)
+-- what is to be done in the plan of a progress
+abbrev pub IsDoing : PlanProgress → Found → Found → Doing → Type 0
+IsDoing progress left right has.Nothing = slice_get (plan_in progress left right) progress.cursor ≡
+    None
+IsDoing progress left right (has.Conflict path) = (planned : Planned)
+    × (slice_get (plan_in progress left right) progress.cursor ≡ Some planned)
     × (planned.item ≡ Conflict path)
-IsDoing course left right (has.Mark kept) = (planned : Planned)
-    × (slice_get (plan_in course left right) course.cursor ≡ Some planned)
+IsDoing progress left right (has.Mark kept) = (planned : Planned)
+    × (slice_get (plan_in progress left right) progress.cursor ≡ Some planned)
     × (is_carrying planned.item ≡ false)
-    × ((taken : Exchange) → IsDue course.cursor planned taken (kept_for kept))
-IsDoing course left right (has.Carry carried) = (planned : Planned)
-    × (slice_get (plan_in course left right) course.cursor ≡ Some planned)
-    × IsCarriageOf (carriage_of carried.transfer) planned course.cursor
+    × ((taken : Exchange) → IsDue progress.cursor planned taken (kept_for kept))
+IsDoing progress left right (has.Carry carried) = (planned : Planned)
+    × (slice_get (plan_in progress left right) progress.cursor ≡ Some planned)
+    × IsCarriageOf (spec_of carried.transfer) planned progress.cursor
     × (record_for planned planned.item ≡ Some (kept_for carried.kept))
 
 -- what is to be carried has asked for nothing yet

@@ -27,7 +27,7 @@ IsFresh heard side request = (n : ℕ) (before : Request) → WasAsked heard sid
 -- it asks for this on both lines
 pub record IsAsking (old new : Session) (asks : Asks) : Type 0 where
   pub line : (side : Which) → IsAskedOn (line_of old side) (line_of new side) (asks_of asks side)
-  pub course : new.course ≡ old.course
+  pub progress : new.progress ≡ old.progress
 
 -- what is asked next may be, for the first time, beside what waits; and something waits then
 pub record MayGoOn (archive : model.Archive) (session : Session) (heard : Running) (asks : Asks)
@@ -42,7 +42,7 @@ pub record MayGoOn (archive : model.Archive) (session : Session) (heard : Runnin
   pub some : (side : Which)
       × (1 ≤ length (waiting_of (line_of session side)) + length (asks_of asks side))
   pub stage : (next : Session) → IsAsking session next asks
-      → IsStage archive next next.course heard.taken (reached_by heard)
+      → IsStage archive next next.progress heard.taken (reached_by heard)
 
 -- it has taken the answer, and goes on to scan; or each directory of both sides was answered
 pub record IsScanned (session : Session) (heard : Running) : Type 0 where
@@ -59,7 +59,7 @@ ScansOn session heard (Some asks) = (archive : model.Archive)
 pub record HasHeard (session : Session) (heard : Running) : Type 0 where
   pub heard_is : IsHeard session heard
   pub unstable : is_unstable heard ≡ session.is_unstable
-  pub scans : session.course ≡ None
+  pub scans : session.progress ≡ None
   pub reached : reached_by heard ≡ nothing_reached
   pub of_scan : AreOfScan heard.taken
 

@@ -12,9 +12,9 @@ use Rattle.syn_headline.specs.Side.{Request, Begin}
 use Rattle.syn_model.specs.Archive as model
 use Rattle.syn_model.specs.Refusal.{Refusal}
 use Rattle.syn_scan.specs.Found.{Found}
-use Rattle.syn_session.specs.Stages.{IsCarrying, IsCourse, IsScanning, Reached, line_of}
+use Rattle.syn_session.specs.Stages.{IsCarrying, IsPlanProgress, IsScanning, Reached, line_of}
 use Rattle.syn_session.specs.Stages.{nothing_reached, reached_by, waiting_of}
-use Rattle.syn_session.specs.declared.course.Course.{Course}
+use Rattle.syn_session.specs.declared.plan_progress.PlanProgress.{PlanProgress}
 use Rattle.syn_session.specs.declared.line.Line.{Line}
 use Rattle.syn_session.specs.declared.session.Session.{Session}
 use Rattle.std.specs.Prelude.{option_map}
@@ -42,10 +42,11 @@ pub record IsLine (line : Line) (running : Running) (side : Which) : Type 0 wher
   pub may : MayWait (waiting_of line)
 
 -- it scans both sides, or it goes through its plan
-abbrev pub IsStage : model.Archive → Session → Option Course → List Exchange → Reached → Type 0
+abbrev pub IsStage : model.Archive → Session → Option PlanProgress → List Exchange → Reached →
+    Type 0
 IsStage archive session None taken reached = IsScanning session taken reached
-IsStage archive session (Some course) taken reached =
-    IsCarrying archive session course taken reached
+IsStage archive session (Some progress) taken reached =
+    IsCarrying archive session progress taken reached
 
 -- The session is the running one of a machine that has this archive
 pub record IsSession (archive : model.Archive) (session : Session) (running : Running)
@@ -56,7 +57,7 @@ pub record IsSession (archive : model.Archive) (session : Session) (running : Ru
   pub line : (side : Which) → IsLine (line_of session side) running side
   pub once : AsksOnce running
   pub unstable : is_unstable running ≡ session.is_unstable
-  pub stage : IsStage archive session session.course running.taken (reached_by running)
+  pub stage : IsStage archive session session.progress running.taken (reached_by running)
 
 -- both run no session, or the same one
 abbrev pub IsRunning : model.Archive → Option Session → Option Running → Type 0
@@ -65,15 +66,15 @@ IsRunning archive (Some session) (Some running) = IsSession archive session runn
 IsRunning archive _ _ = ⊥
 
 -- what it tells of how far it came: nothing without a plan
-abbrev pub TellsOf : Option Course → Reached → Type 0
+abbrev pub TellsOf : Option PlanProgress → Reached → Type 0
 TellsOf None reached = reached ≡ nothing_reached
-TellsOf (Some course) reached =
-    (left : Found) × (right : Found) × IsCourse course left right reached
+TellsOf (Some progress) reached =
+    (left : Found) × (right : Found) × IsPlanProgress progress left right reached
 
 pub record Tells (session : Session) (running : Running) : Type 0 where
   pub number : running.session ≡ session.number
   pub unstable : is_unstable running ≡ session.is_unstable
-  pub told : TellsOf session.course (reached_by running)
+  pub told : TellsOf session.progress (reached_by running)
 
 -- how a session ends, by what ended it early, how many items were refused, and whether a path was
 -- unstable

@@ -16,16 +16,16 @@ use Rattle.syn_model.specs.Plan.{plan as planned_items}
 use Rattle.syn_model.specs.Refusal.{Refusal}
 use Rattle.syn_model.specs.Tree.{Tree}
 use Rattle.syn_propagate.specs.Carrying.{source_of, target_of}
-use Rattle.syn_propagate.specs.Transfers.{WaitsFor as TransferWaitsFor, carriage_of}
-use Rattle.syn_propagate.specs.declared.carriage.Carriage.{Carriage}
+use Rattle.syn_propagate.specs.Transfers.{WaitsFor as TransferWaitsFor, spec_of}
+use Rattle.syn_propagate.specs.declared.transfer_spec.TransferSpec.{TransferSpec}
 use Rattle.syn_propagate.specs.declared.transfer.Transfer.{Transfer}
 use Rattle.syn_recon.specs.Items.{items_of}
 use Rattle.syn_refusal.specs.Refusals.{cause_of}
 use Rattle.syn_scan.specs.Found.{Found, scan_of}
 use Rattle.syn_session.specs.Plans.{AreRecordedBefore, Plan, planned_all, recorded_count}
 use Rattle.syn_session.specs.Scanning.{IsFoundIn, WaitsFor, found_of}
-use Rattle.syn_session.specs.declared.course.Carried.{Carried}
-use Rattle.syn_session.specs.declared.course.Course.{Course}
+use Rattle.syn_session.specs.declared.plan_progress.Carried.{Carried}
+use Rattle.syn_session.specs.declared.plan_progress.PlanProgress.{PlanProgress}
 use Rattle.syn_session.specs.declared.line.Line.{Line}
 use Rattle.syn_session.specs.declared.requests.Waiting.{Waiting}
 use Rattle.syn_session.specs.declared.session.Session.{Session}
@@ -119,23 +119,25 @@ pub record IsScanning (session : Session) (taken : List Exchange) (reached : Rea
 -- While it carries out its plan
 
 -- the plan, with what the scans of both sides have at each path
-abbrev pub plan_in : Course → Found → Found → Plan
-plan_in course left right = planned_all left right (items_of course.items.items)
+abbrev pub plan_in : PlanProgress → Found → Found → Plan
+plan_in progress left right = planned_all left right (items_of progress.items.items)
 
 -- what it has come to, and what it tells of the items before
-pub record IsCourse (course : Course) (left right : Found) (reached : Reached) : Type 0 where
-  pub plan : reached.plan ≡ Some (plan_in course left right)
+pub record IsPlanProgress (progress : PlanProgress) (left right : Found) (reached : Reached)
+    : Type 0 where
+  pub plan : reached.plan ≡ Some (plan_in progress left right)
   pub made : (preference : Option Which) × (archive : Tree)
-      × (items_of course.items.items
+      × (items_of progress.items.items
       ≡ planned_items preference (scan_of left) (scan_of right) archive)
-  pub short : length course.items.items < 2 ^ 32
-  pub cursor : reached.cursor ≡ course.cursor
-  pub recorded : AreRecordedBefore (plan_in course left right) course.cursor reached.kept
-  pub done : recorded_count is_carrying (plan_in course left right) reached.kept ≡ course.done
-  pub marked : recorded_count is_marking (plan_in course left right) reached.kept ≡ course.marked
+  pub short : length progress.items.items < 2 ^ 32
+  pub cursor : reached.cursor ≡ progress.cursor
+  pub recorded : AreRecordedBefore (plan_in progress left right) progress.cursor reached.kept
+  pub done : recorded_count is_carrying (plan_in progress left right) reached.kept ≡ progress.done
+  pub marked : recorded_count is_marking (plan_in progress left right) reached.kept ≡
+      progress.marked
   pub conflicts : filter_map (λ planned. conflict_at planned.item)
-      (take course.cursor (plan_in course left right)) ≡ course.conflicts.items
-  pub refused : reached.refused ≡ map (λ one. (cause_of one.0, one.1)) course.refused.items
+      (take progress.cursor (plan_in progress left right)) ≡ progress.conflicts.items
+  pub refused : reached.refused ≡ map (λ one. (cause_of one.0, one.1)) progress.refused.items
 
 -- the request is for an item before that one, or for none
 abbrev pub IsAskedBefore : Plan → ℕ → Request → Type 0
@@ -150,39 +152,39 @@ abbrev pub AreAskedBefore : Plan → ℕ → List Exchange → Type 0
 AreAskedBefore plan cursor taken = (exchange : Exchange) → Contains taken exchange
     → IsAskedBefore plan cursor exchange.request
 
--- the carriage is that of the item with the number
-pub record IsCarriageOf (carriage : Carriage) (planned : Planned) (item : ℕ) : Type 0 where
-  pub item_is : carriage.item ≡ item
-  pub path_is : carriage.path ≡ path_of planned.item
-  pub writes : WritesTo planned.item (target_of carriage) carriage.path
-  pub source_since : carriage.source_since ≡ (seen_on planned (source_of carriage)).since
-  pub target_since : carriage.target_since ≡ (seen_on planned (target_of carriage)).since
+-- the spec is that of the item with the number
+pub record IsCarriageOf (spec : TransferSpec) (planned : Planned) (item : ℕ) : Type 0 where
+  pub item_is : spec.item ≡ item
+  pub path_is : spec.path ≡ path_of planned.item
+  pub writes : WritesTo planned.item (target_of spec) spec.path
+  pub source_since : spec.source_since ≡ (seen_on planned (source_of spec)).since
+  pub target_since : spec.target_since ≡ (seen_on planned (target_of spec)).since
 
 -- it is carried for the item, and the archive does not refuse its record
 pub record IsCarriedFor (archive : model.Archive) (carried : Carried) (planned : Planned)
     (item : ℕ) : Type 0 where
-  pub carriage : IsCarriageOf (carriage_of carried.transfer) planned item
+  pub spec : IsCarriageOf (spec_of carried.transfer) planned item
   pub record_is : record_for planned planned.item ≡ Some (kept_for carried.kept)
   pub can : kept_refusal archive (kept_for carried.kept) ≡ None
 
 -- the item at the cursor is carried, by a transfer of which this holds
-pub record Carries (archive : model.Archive) (course : Course) (left right : Found)
+pub record Carries (archive : model.Archive) (progress : PlanProgress) (left right : Found)
     (taken : List Exchange) (reached : Reached) (Is : Transfer → Type 0) : Type 0 where
-  pub course_is : IsCourse course left right reached
+  pub course_is : IsPlanProgress progress left right reached
   pub carried : Carried
-  pub is_carried : course.carried ≡ Some carried
+  pub is_carried : progress.carried ≡ Some carried
   pub planned : Planned
-  pub at : slice_get (plan_in course left right) course.cursor ≡ Some planned
-  pub carries : IsCarriedFor archive carried planned course.cursor
-  pub asked : AreAskedBefore (plan_in course left right) (suc course.cursor) taken
+  pub at : slice_get (plan_in progress left right) progress.cursor ≡ Some planned
+  pub carries : IsCarriedFor archive carried planned progress.cursor
+  pub asked : AreAskedBefore (plan_in progress left right) (suc progress.cursor) taken
   pub is : Is carried.transfer
 
 -- and waits for the answer to one request
-pub record IsCarrying (archive : model.Archive) (session : Session) (course : Course)
+pub record IsCarrying (archive : model.Archive) (session : Session) (progress : PlanProgress)
     (taken : List Exchange) (reached : Reached) : Type 0 where
   pub to : Which
   pub request : Request
   pub waits : requests_on (line_of session to) ≡ request ∷ []
   pub alone : requests_on (line_of session (other to)) ≡ []
-  pub carries : Carries archive course (found_on session Left) (found_on session Right) taken
+  pub carries : Carries archive progress (found_on session Left) (found_on session Right) taken
       reached (λ transfer. TransferWaitsFor transfer taken to request)

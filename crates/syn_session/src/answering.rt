@@ -9,10 +9,10 @@ ghost use Rattle.syn_propagate.specs.Transfers.{WaitsFor};
 ghost use Rattle.syn_scan.specs.Found.{Found};
 ghost use Rattle.syn_session.specs.Answering.{exchange_of};
 
-use crate::course::{Carried, Course};
+use crate::plan_progress::{Carried, PlanProgress};
 use crate::session::Asks;
 use std::alloc::Global;
-use syn_image::KeptItem;
+use syn_image::ItemRecord;
 use syn_message::Reply;
 use syn_propagate::{Next, transfer_laws};
 use syn_refusal::Refusal;
@@ -23,12 +23,12 @@ pub enum Carrying {
     /// This is to be asked next.
     Asks(Asks),
     /// The item is in its place on the other side, and the archive is to have this.
-    Done(KeptItem),
+    Done(ItemRecord),
     /// A side refused what it was asked.
     Refused(Refusal),
 }
 
-impl Course {
+impl PlanProgress {
     ghost use Rattle.syn_session.specs.Carrying.{TakesAnswer};
     ghost use Rattle.syn_session.specs.Stages.{Carries, Reached};
 

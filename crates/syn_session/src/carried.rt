@@ -3,16 +3,16 @@ ghost use Rattle.std.specs.Prelude.{◌≡◌, IfErr, IfOk};
 ghost use Rattle.syn_model.specs.Archive.{Recorded};
 ghost use Rattle.syn_model.specs.Path.{parent};
 ghost use Rattle.syn_model.specs.Tree.{subtree};
-ghost use Rattle.syn_propagate.specs.Transfers.{IsReady, carriage_of};
+ghost use Rattle.syn_propagate.specs.Transfers.{IsReady, spec_of};
 ghost use Rattle.syn_scan.specs.Found.{position_of};
 ghost use Rattle.syn_image.specs.Archives.{kept_for};
 
-use crate::course::Carried;
 use crate::error::SessionError;
+use crate::plan_progress::Carried;
 use std::alloc::Global;
-use syn_image::KeptItem;
+use syn_image::ItemRecord;
 use syn_path::{Path, Side};
-use syn_propagate::{Carriage, Transfer};
+use syn_propagate::{Transfer, TransferSpec};
 use syn_scan::Scan;
 
 impl Carried {
@@ -26,20 +26,20 @@ impl Carried {
         from: &Scan,
         to: &Scan,
     ) -> Result<Carried, SessionError>
-        ensures item { IfOk result (λ carried. (carriage_of carried.transfer).item ≡ item) }
-        ensures source { IfOk result (λ carried. (carriage_of carried.transfer).source ≡ source) }
-        ensures path { IfOk result (λ carried. (carriage_of carried.transfer).path ≡ path.now) }
+        ensures item { IfOk result (λ carried. (spec_of carried.transfer).item ≡ item) }
+        ensures source { IfOk result (λ carried. (spec_of carried.transfer).source ≡ source) }
+        ensures path { IfOk result (λ carried. (spec_of carried.transfer).path ≡ path.now) }
         ensures source_since { IfOk result (λ carried.
-            (carriage_of carried.transfer).source_since ≡ position_of from.now (parent path.now)) }
+            (spec_of carried.transfer).source_since ≡ position_of from.now (parent path.now)) }
         ensures target_since { IfOk result (λ carried.
-            (carriage_of carried.transfer).target_since ≡ position_of to.now (parent path.now)) }
+            (spec_of carried.transfer).target_since ≡ position_of to.now (parent path.now)) }
         ensures record { IfOk result (λ carried. kept_for carried.kept
             ≡ Recorded path.now (subtree from.now.marks path.now)) }
         ensures ready { IfOk result (λ carried. IsReady carried.transfer) }
         ensures memory { IfErr result (λ e. e ≡ SessionError.Memory) }
     {
         let marks = from.tree().copy_at(alloc, path)?;
-        let carriage = Carriage {
+        let spec = TransferSpec {
             source,
             item,
             path: path.copy(alloc)?,
@@ -47,8 +47,8 @@ impl Carried {
             target_since: to.position(path),
         };
         Ok(Carried {
-            transfer: Transfer::new(carriage),
-            kept: KeptItem::Record(path.copy(alloc)?, marks),
+            transfer: Transfer::new(spec),
+            kept: ItemRecord::Record(path.copy(alloc)?, marks),
         })
     }
 }

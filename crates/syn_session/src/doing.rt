@@ -4,10 +4,10 @@ ghost use Rattle.syn_recon.specs.Items.{item_of};
 ghost use Rattle.syn_session.specs.Doings.{BeginsAnew};
 ghost use Rattle.syn_session.specs.inner.Items.{IsDoingFor, IsMarked};
 
-use crate::course::{Carried, Course};
 use crate::error::SessionError;
+use crate::plan_progress::{Carried, PlanProgress};
 use std::alloc::Global;
-use syn_image::KeptItem;
+use syn_image::ItemRecord;
 use syn_model::plan_laws;
 use syn_path::{Path, Side};
 use syn_recon::Item;
@@ -21,18 +21,18 @@ pub enum Doing {
     /// Both sides changed there: nothing is done.
     Conflict(Path),
     /// The archive is to have what both sides have.
-    Mark(KeptItem),
+    Mark(ItemRecord),
     /// A side is to have what the other has.
     Carry(Carried),
 }
 
-impl Course {
+impl PlanProgress {
     ghost use Rattle.syn_session.specs.Doings.{BeginsAnew, IsDoing};
-    ghost use Rattle.syn_session.specs.Stages.{IsCourse, Reached};
+    ghost use Rattle.syn_session.specs.Stages.{IsPlanProgress, Reached};
 
     /// What is to be done for the item at the cursor. Refused 11 where memory is refused.
     pub fn doing(&self, alloc: Global, left: &Scan, right: &Scan) -> Result<Doing, SessionError>
-        ensures ok { (reached : Reached) → IsCourse self.now left.now right.now reached
+        ensures ok { (reached : Reached) → IsPlanProgress self.now left.now right.now reached
             → IfOk result (IsDoing self.now left.now right.now) }
         ensures ready { IfOk result BeginsAnew }
         ensures memory { IfErr result (λ e. e ≡ SessionError.Memory) }
@@ -60,7 +60,7 @@ pub(crate) fn doing_for(
     match item {
         Item::Conflict(path) => Ok(Doing::Conflict(path.copy(alloc)?)),
         Item::MarkSame(path) => mark(alloc, path, left),
-        Item::MarkDir(path) => Ok(Doing::Mark(KeptItem::Dir(path.copy(alloc)?))),
+        Item::MarkDir(path) => Ok(Doing::Mark(ItemRecord::Dir(path.copy(alloc)?))),
         Item::ToLeft(path) => {
             let carried = Carried::new(alloc, Side::Right, number, path, right, left)?;
             Ok(Doing::Carry(carried))
@@ -79,5 +79,5 @@ fn mark(alloc: Global, path: &Path, left: &Scan) -> Result<Doing, SessionError>
     ensures memory { IfErr result (λ e. e ≡ SessionError.Memory) }
 {
     let marks = left.tree().copy_at(alloc, path)?;
-    Ok(Doing::Mark(KeptItem::Record(path.copy(alloc)?, marks)))
+    Ok(Doing::Mark(ItemRecord::Record(path.copy(alloc)?, marks)))
 }

@@ -63,7 +63,7 @@ impl Session {
         ensures step { (archive : Keeping) (before : Ran) (running : Running) (number pair : ℕ)
             → IsSession archive before running
             → IsAnswering before self.old (which_of from) number (Begin pair)
-            → before.course ≡ None
+            → before.progress ≡ None
             → Hears self.new running (which_of from) number (Begin pair) (reply_of reply) result }
     {
         check_begun(reply)?;
@@ -88,7 +88,7 @@ impl Session {
         ensures step { (archive : Keeping) (before : Ran) (running : Running) (number : ℕ)
             → IsSession archive before running
             → IsAnswering before self.old (which_of from) number (ListAt path.now)
-            → before.course ≡ None
+            → before.progress ≡ None
             → Hears self.new running (which_of from) number (ListAt path.now) (reply_of reply)
             result }
     {
@@ -124,7 +124,7 @@ impl Session {
         ensures step { (archive : Keeping) (before : Ran) (running : Running) (number : ℕ)
             → IsSession archive before running
             → IsAnswering before self.old (which_of from) number (request_of request)
-            → before.course ≡ None
+            → before.progress ≡ None
             → Hears self.new running (which_of from) number (request_of request) (reply_of reply)
             result }
     {

@@ -21,10 +21,10 @@
 //!   carried. Each may be asked, for the first time, and may wait beside what waits (`MayGoOn`).
 //! - `ask` asks the sides for what comes next (`left`, `right`), and gives just these messages
 //!   (`sends`). `into_report` is what the session reports (`report_of`).
-//! - `Course::new` is the plan of both scans and the archive's marks (`items`), at its first item
-//!   (`begun`). `doing` is what is to be done for the item at the cursor (`ok`).
+//! - `PlanProgress::new` is the plan of both scans and the archive's marks (`items`), at its first
+//!   item (`begun`). `doing` is what is to be done for the item at the cursor (`ok`).
 //! - `pass_conflict`, `refuse` and `pass_kept` go past that item (`passes`). Where memory is
-//!   refused the course stays where it is (`stays`).
+//!   refused the progress stays where it is (`stays`).
 //! - `take_answer` takes the answer for the item that is carried (`step`: `TakesAnswer`). A side is
 //!   asked on, or the item's record is due, or a side refused what it was asked. Or the session
 //!   ends with the answer, or 11.
@@ -41,12 +41,12 @@
 
 mod answering;
 mod carried;
-mod course;
 mod doing;
 mod error;
 mod hearing;
 mod line;
 mod passing;
+mod plan_progress;
 mod report;
 mod requests;
 mod sending;
@@ -54,10 +54,10 @@ mod session;
 mod side_scan;
 
 pub use answering::Carrying;
-pub use course::{Carried, Course};
 pub use doing::Doing;
 pub use error::SessionError;
 pub use line::Line;
+pub use plan_progress::{Carried, PlanProgress};
 pub use report::{End, Report};
 pub use requests::Waiting;
 pub use sending::Sending;

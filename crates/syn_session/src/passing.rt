@@ -9,28 +9,28 @@ ghost use Rattle.syn_model.specs.Decision.{Conflict, path_of};
 ghost use Rattle.syn_refusal.specs.Refusals.{cause_of};
 ghost use Rattle.syn_scan.specs.Found.{Found};
 
-use crate::course::Course;
 use crate::error::SessionError;
+use crate::plan_progress::PlanProgress;
 use std::alloc::Global;
 use syn_model::plan_laws;
 use syn_path::Path;
 use syn_refusal::Refusal;
 
-impl Course {
+impl PlanProgress {
     ghost use Rattle.std.specs.Prelude.{None};
     ghost use Rattle.syn_session.specs.Passing.{kept_at, past_at, refused_at};
-    ghost use Rattle.syn_session.specs.Stages.{IsCourse, Reached, plan_in};
+    ghost use Rattle.syn_session.specs.Stages.{IsPlanProgress, Reached, plan_in};
 
     /// Past an item that is a conflict. Refused 11 where memory is refused.
     pub fn pass_conflict(&mut self, path: Path) -> Result<(), SessionError>
         ensures passes { (left right : Found) (reached : Reached) (planned : Planned)
-            → IsCourse self.old left right reached
+            → IsPlanProgress self.old left right reached
             → slice_get (plan_in self.old left right) self.old.cursor ≡ Some planned
             → planned.item ≡ Conflict path
-            → OnOk result (IsCourse self.new left right (past_at reached)) }
+            → OnOk result (IsPlanProgress self.new left right (past_at reached)) }
         ensures stays { (left right : Found) (reached : Reached)
-            → IsCourse self.old left right reached
-            → OnErr result (IsCourse self.new left right reached) }
+            → IsPlanProgress self.old left right reached
+            → OnErr result (IsPlanProgress self.new left right reached) }
         ensures memory { IfErr result (λ e. e ≡ SessionError.Memory) }
     {
         self.conflicts.push(path)?;
@@ -41,14 +41,14 @@ impl Course {
     /// Past an item that is refused so. Refused 11 where memory is refused.
     pub(crate) fn pass_refused(&mut self, why: Refusal, path: Path) -> Result<(), SessionError>
         ensures passes { (left right : Found) (reached : Reached) (planned : Planned)
-            → IsCourse self.old left right reached
+            → IsPlanProgress self.old left right reached
             → slice_get (plan_in self.old left right) self.old.cursor ≡ Some planned
             → path_of planned.item ≡ path → conflict_at planned.item ≡ None
-            → OnOk result (IsCourse self.new left right
+            → OnOk result (IsPlanProgress self.new left right
             (refused_at reached (cause_of why) planned)) }
         ensures stays { (left right : Found) (reached : Reached)
-            → IsCourse self.old left right reached
-            → OnErr result (IsCourse self.new left right reached) }
+            → IsPlanProgress self.old left right reached
+            → OnErr result (IsPlanProgress self.new left right reached) }
         ensures memory { IfErr result (λ e. e ≡ SessionError.Memory) }
     {
         self.refused.push((why, path))?;
@@ -60,13 +60,13 @@ impl Course {
     /// memory is refused.
     pub fn refuse(&mut self, alloc: Global, why: Refusal) -> Result<(), SessionError>
         ensures passes { (left right : Found) (reached : Reached) (planned : Planned)
-            → IsCourse self.old left right reached
+            → IsPlanProgress self.old left right reached
             → slice_get (plan_in self.old left right) self.old.cursor ≡ Some planned
-            → conflict_at planned.item ≡ None → OnOk result (IsCourse self.new left right
+            → conflict_at planned.item ≡ None → OnOk result (IsPlanProgress self.new left right
             (refused_at reached (cause_of why) planned)) }
         ensures stays { (left right : Found) (reached : Reached)
-            → IsCourse self.old left right reached
-            → OnErr result (IsCourse self.new left right reached) }
+            → IsPlanProgress self.old left right reached
+            → OnErr result (IsPlanProgress self.new left right reached) }
         ensures memory { IfErr result (λ e. e ≡ SessionError.Memory) }
         ensures none { (left right : Found)
             → slice_get (plan_in self.old left right) self.old.cursor ≡ None
@@ -82,11 +82,11 @@ impl Course {
     /// Past an item whose record is kept, and that was carried, or only marked.
     pub fn pass_kept(&mut self, was_carried: bool)
         ensures passes { (left right : Found) (reached : Reached) (planned : Planned) (what : Kept)
-            → IsCourse self.old left right reached
+            → IsPlanProgress self.old left right reached
             → slice_get (plan_in self.old left right) self.old.cursor ≡ Some planned
             → record_for planned planned.item ≡ Some what
             → is_carrying planned.item ≡ was_carried
-            → IsCourse self.new left right (kept_at reached what) }
+            → IsPlanProgress self.new left right (kept_at reached what) }
     {
         if was_carried {
             self.pass_carried();
@@ -98,10 +98,10 @@ impl Course {
     /// Past an item that was carried, and whose record is kept.
     pub(crate) fn pass_carried(&mut self)
         ensures passes { (left right : Found) (reached : Reached) (planned : Planned) (what : Kept)
-            → IsCourse self.old left right reached
+            → IsPlanProgress self.old left right reached
             → slice_get (plan_in self.old left right) self.old.cursor ≡ Some planned
             → record_for planned planned.item ≡ Some what → is_carrying planned.item ≡ true
-            → IsCourse self.new left right (kept_at reached what) }
+            → IsPlanProgress self.new left right (kept_at reached what) }
     {
         plan_laws();
         self.done = one_more(self.done);
@@ -111,10 +111,10 @@ impl Course {
     /// Past an item that both sides agreed on, and whose record is kept.
     pub(crate) fn pass_marked(&mut self)
         ensures passes { (left right : Found) (reached : Reached) (planned : Planned) (what : Kept)
-            → IsCourse self.old left right reached
+            → IsPlanProgress self.old left right reached
             → slice_get (plan_in self.old left right) self.old.cursor ≡ Some planned
             → record_for planned planned.item ≡ Some what → is_carrying planned.item ≡ false
-            → IsCourse self.new left right (kept_at reached what) }
+            → IsPlanProgress self.new left right (kept_at reached what) }
     {
         plan_laws();
         self.marked = one_more(self.marked);

@@ -18,9 +18,9 @@ ghost use Rattle.syn_session.specs.Reports.{end_of, report_model};
 ghost use Rattle.syn_session.specs.Sendings.{messages_of};
 ghost use Rattle.syn_session.specs.Sessions.{end_by};
 
-use crate::course::Course;
 use crate::error::SessionError;
 use crate::line::Line;
+use crate::plan_progress::PlanProgress;
 use crate::report::{End, Report};
 use crate::sending::Sending;
 use std::alloc::Global;
@@ -39,7 +39,7 @@ pub struct Session {
     /// A path changed its kind under the scan: it was answered as no directory.
     pub is_unstable: bool,
     /// Its plan, once both scans are whole.
-    pub course: Option<Course>,
+    pub progress: Option<PlanProgress>,
 }
 
 /// What is asked of the sides next.
@@ -86,16 +86,16 @@ impl Session {
             left,
             right,
             is_unstable: false,
-            course: None,
+            progress: None,
         })
     }
 
     /// How many items its plan has, once that is made.
     pub fn planned(&self) -> Option<usize>
-        ensures { result ≡ option_map (λ course. length course.items.items) self.now.course }
+        ensures { result ≡ option_map (λ progress. length progress.items.items) self.now.progress }
     {
-        let course = self.course.as_ref()?;
-        Some(course.items.len())
+        let progress = self.progress.as_ref()?;
+        Some(progress.items.len())
     }
 
     /// The requests that wait, for the left and then for the right. Refused 11 where memory is
@@ -181,7 +181,7 @@ impl Session {
         ensures right { self.new.right ≡ self.old.right }
         ensures number { self.new.number ≡ self.old.number }
         ensures preference { self.new.preference ≡ self.old.preference }
-        ensures course { self.new.course ≡ self.old.course }
+        ensures progress { self.new.progress ≡ self.old.progress }
     {
         self.is_unstable = self.is_unstable || is_no_directory;
     }
@@ -204,7 +204,7 @@ impl Session {
         ensures number { self.new.number ≡ self.old.number }
         ensures preference { self.new.preference ≡ self.old.preference }
         ensures unstable { self.new.is_unstable ≡ self.old.is_unstable }
-        ensures course { self.new.course ≡ self.old.course }
+        ensures progress { self.new.progress ≡ self.old.progress }
         ensures sends { IfOk result (λ sends. messages_of sends.items
             ≡ messages_asked self.old asks) }
         ensures memory { IfErr result (λ e. e ≡ SessionError.Memory) }
@@ -228,7 +228,7 @@ impl Session {
         ensures number { self.new.number ≡ self.old.number }
         ensures preference { self.new.preference ≡ self.old.preference }
         ensures unstable { self.new.is_unstable ≡ self.old.is_unstable }
-        ensures course { self.new.course ≡ self.old.course }
+        ensures progress { self.new.progress ≡ self.old.progress }
         ensures sends { IfOk result (λ sends. messages_of sends.items
             ≡ messages_to self.old.number Left
             (numbered self.old.left.asked (map ListAt left.items))
@@ -258,7 +258,7 @@ impl Session {
         ensures number { self.new.number ≡ self.old.number }
         ensures preference { self.new.preference ≡ self.old.preference }
         ensures unstable { self.new.is_unstable ≡ self.old.is_unstable }
-        ensures course { self.new.course ≡ self.old.course }
+        ensures progress { self.new.progress ≡ self.old.progress }
         ensures sends { IfOk result (λ sends. messages_of sends.items
             ≡ messages_to self.old.number (which_of side)
             (numbered (line_of self.old (which_of side)).asked (request_of request ∷ []))) }
@@ -282,12 +282,12 @@ impl Session {
         ensures { (running : Running) → Tells self running
             → report_model result ≡ report_of running (option_map cause_of ended) }
     {
-        let course = self.course;
+        let progress = self.progress;
         // Nothing of the scans is reported.
         drop(self.left);
         drop(self.right);
-        match course {
-            Some(course) => planned_report(self.number, self.is_unstable, course, ended),
+        match progress {
+            Some(progress) => planned_report(self.number, self.is_unstable, progress, ended),
             None => Report {
                 session: self.number,
                 end: end_for(ended, 0, self.is_unstable),
@@ -302,26 +302,31 @@ impl Session {
 }
 
 /// What a session reports that came so far through its plan.
-fn planned_report(number: u64, is_unstable: bool, course: Course, ended: Option<Refusal>) -> Report
+fn planned_report(
+    number: u64,
+    is_unstable: bool,
+    progress: PlanProgress,
+    ended: Option<Refusal>,
+) -> Report
     ensures session { result.session ≡ number }
     ensures end { end_of result.end
-        ≡ end_by (option_map cause_of ended) (length course.refused.items) is_unstable }
+        ≡ end_by (option_map cause_of ended) (length progress.refused.items) is_unstable }
     ensures ended { result.ended ≡ ended }
-    ensures done { result.done ≡ course.done }
-    ensures marked { result.marked ≡ course.marked }
-    ensures conflicts { result.conflicts ≡ course.conflicts }
-    ensures refused { result.refused ≡ course.refused }
+    ensures done { result.done ≡ progress.done }
+    ensures marked { result.marked ≡ progress.marked }
+    ensures conflicts { result.conflicts ≡ progress.conflicts }
+    ensures refused { result.refused ≡ progress.refused }
 {
-    drop(course.items);
-    drop(course.carried);
+    drop(progress.items);
+    drop(progress.carried);
     Report {
         session: number,
-        end: end_for(ended, course.refused.len(), is_unstable),
+        end: end_for(ended, progress.refused.len(), is_unstable),
         ended,
-        done: course.done,
-        marked: course.marked,
-        conflicts: course.conflicts,
-        refused: course.refused,
+        done: progress.done,
+        marked: progress.marked,
+        conflicts: progress.conflicts,
+        refused: progress.refused,
     }
 }
 

@@ -4,16 +4,16 @@ use Rattle.std.proofs.lemmas.Option.{none-some, same_Some}
 use Rattle.std.specs.Prelude.{IfErr}
 use Rattle.syn_disk.specs.declared.disk.Disk.{Ghosts}
 use Rattle.syn_journal.specs.declared.error.JournalError.TheVariants as journal_error
-use Rattle.syn_journaled.specs.Endings.{ended}
+use Rattle.syn_journal.specs.Endings.{ended}
 use Rattle.syn_model.specs.Event.{Event}
 use Rattle.syn_model.specs.Refusal as why
 use Rattle.syn_replica.proofs.RefusalLemmas.{halted_is}
 use Rattle.syn_replica.specs.Calls.{Writes}
 use Rattle.syn_replica.specs.Replica.{KeepsReadings, journal_of}
 use Rattle.syn_replica.specs.declared.replica.Replica.{Replica}
-use Rattle.syn_standing.specs.Refusals.{refusal_of}
-use Rattle.syn_standing.specs.declared.error.ReplicaError.{ReplicaError}
-use Rattle.syn_standing.specs.declared.error.ReplicaError.TheVariants.{Journal}
+use Rattle.syn_replica.specs.ErrorRefusals.{refusal_of}
+use Rattle.syn_replica.specs.declared.error.ReplicaError.{ReplicaError}
+use Rattle.syn_replica.specs.declared.error.ReplicaError.TheVariants.{Journal}
 
 -- which error is answered where it was halted
 pub halted_answer : {X : Type 0} (answer : Result X ReplicaError) →

@@ -11,7 +11,7 @@ use Rattle.syn_model.specs.Refusal as why
 use Rattle.syn_model.specs.Standing.{place_causes, full_causes}
 use Rattle.syn_model.specs.Spelling.{event_spelling}
 use Rattle.syn_replica.specs.Steps.{add_refusal, replace_refusal, room_causes}
-use Rattle.syn_standing.specs.Causes.{since_causes}
+use Rattle.syn_replica.specs.Causes.{since_causes}
 use Rattle.syn_agent.proofs.CauseLemmas.{never_first, none_is_no, rooms}
 use Rattle.syn_replica.proofs.RoomLemmas.{spelled_long}
 

@@ -22,14 +22,14 @@ use Rattle.syn_recovery.specs.Calls as calls
 use Rattle.syn_recovery.specs.Machines.{of_side}
 use Rattle.syn_recovery.specs.Meaning.{MayBeOf}
 use Rattle.syn_replica.specs.Disks.{DiskKeeps, event_size}
-use Rattle.syn_standing.specs.Refusals.{refusal_of}
-use Rattle.syn_journaled.specs.Endings.{ended}
-use Rattle.syn_journaled.proofs.Spent.{broke_off}
+use Rattle.syn_replica.specs.ErrorRefusals.{refusal_of}
+use Rattle.syn_journal.specs.Endings.{ended}
+use Rattle.syn_journal.proofs.Spent.{broke_off}
 use Rattle.syn_replica.specs.Calls.{Writes}
 use Rattle.syn_replica.specs.Replica.{IsHalted, Stands, Remembers, SameMemory, KeepsReadings}
 use Rattle.syn_replica.specs.Replica.{HasRecord, KeepsBeforeOrAfter, disk_of, journal_of}
 use Rattle.syn_replica.specs.Replica.{left_shown, generation_shown}
-use Rattle.syn_standing.specs.declared.error.ReplicaError.{ReplicaError}
+use Rattle.syn_replica.specs.declared.error.ReplicaError.{ReplicaError}
 use Rattle.syn_replica.specs.declared.replica.Replica.{Replica}
 use Rattle.syn_shared.specs.Machines.{Says, WritesEvent, writes, refuses}
 use Rattle.syn_replica.proofs.GrowthLemmas.{stands_still}

@@ -13,7 +13,7 @@ use Rattle.syn_lock.specs.declared.view.Hold.{Hold}
 use Rattle.syn_lock.specs.declared.view.View.{View}
 use Rattle.syn_replica.specs.Growing.{itself, grown_twice}
 use Rattle.syn_replica.specs.Growth.{IsGrown}
-use Rattle.syn_standing.specs.declared.error.ReplicaError.{ReplicaError}
+use Rattle.syn_replica.specs.declared.error.ReplicaError.{ReplicaError}
 use Rattle.syn_replica.specs.declared.replica.Replica.{Replica}
 use Rattle.syn_shared.specs.Refusals.{answer_in}
 use Rattle.syn_shared.specs.Shared.{own_of, FoundBusy, IsLater}

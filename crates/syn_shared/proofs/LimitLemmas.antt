@@ -14,7 +14,7 @@ use Rattle.syn_model.specs.Limits.{children, fits_content, fits_part, fits_paths
 use Rattle.syn_model.specs.Limits.{greatest_spelling, tree_spelling_length}
 use Rattle.syn_model.specs.Path.{Path, path_cmp}
 use Rattle.syn_model.specs.Tree.{Content, Pair, Tree}
-use Rattle.syn_standing.specs.declared.error.ReplicaError.{ReplicaError}
+use Rattle.syn_replica.specs.declared.error.ReplicaError.{ReplicaError}
 use Rattle.syn_shared.specs.Reads.{EachFits}
 use Rattle.syn_tree.specs.Contents.{content_of}
 use Rattle.syn_tree.specs.declared.content.Content.{Content as Found}

@@ -14,9 +14,9 @@ use Rattle.syn_model.specs.Tree.{Tree, replace}
 use Rattle.syn_replica.specs.Edits.{event_by}
 use Rattle.syn_replica.specs.Replica.{Stands, tree_shown}
 use Rattle.syn_replica.specs.declared.replica.Replica.{Replica}
-use Rattle.syn_standing.specs.Causes.{since_causes}
-use Rattle.syn_standing.specs.Refusals.{refusal_of}
-use Rattle.syn_standing.specs.declared.error.ReplicaError.{ReplicaError}
+use Rattle.syn_replica.specs.Causes.{since_causes}
+use Rattle.syn_replica.specs.ErrorRefusals.{refusal_of}
+use Rattle.syn_replica.specs.declared.error.ReplicaError.{ReplicaError}
 use Rattle.syn_tree.specs.Edits.{edit_of}
 use Rattle.syn_tree.specs.declared.edit.Edit.{Edit as Planned}
 use Rattle.syn_shared.specs.Parts.{AddsInTurn, EndsWith, HasPart, Puts, PutsOrKeeps}

@@ -5,8 +5,8 @@ use Rattle.std.proofs.Common.{Result, Ok, Err}
 use Rattle.std.specs.Prelude.{IfOk, IfErr}
 use Rattle.std.proofs.lemmas.List.{length-append}
 use Rattle.syn_disk.specs.declared.disk.Disk.{Ghosts}
-use Rattle.syn_journaled.specs.Endings.{ended}
-use Rattle.syn_journaled.proofs.Spent.{broke_off, nothing_spent}
+use Rattle.syn_journal.specs.Endings.{ended}
+use Rattle.syn_journal.proofs.Spent.{broke_off, nothing_spent}
 use Rattle.syn_model.specs.Event.{Token, Event, Replaced}
 use Rattle.syn_model.specs.Path.{Path}
 use Rattle.syn_model.specs.Tree.{Tree as Model}
@@ -15,14 +15,14 @@ use Rattle.syn_model.specs.Spelling.{event_spelling}
 use Rattle.syn_model.specs.Refusal.{Refusal}
 use Rattle.syn_model.specs.Refusal as why
 use Rattle.syn_replica.specs.Growth.{IsCutOff, StandsOrTried}
-use Rattle.syn_standing.specs.Refusals.{refusal_of}
+use Rattle.syn_replica.specs.ErrorRefusals.{refusal_of}
 use Rattle.syn_replica.specs.Calls.{Writes, unless}
 use Rattle.syn_replica.specs.Refusals.{IsOneOf, outside_refusals}
 use Rattle.syn_replica.specs.Replica.{room_shown, pair_of, disk_of, journal_of, standing_shown}
 use Rattle.syn_replica.specs.Replica.{tried_shown, IsHalted, Stands, KeepsReadings}
 use Rattle.syn_replica.specs.Replica.{KeepsBeforeOrAfter}
 use Rattle.syn_replica.specs.Steps.{is_done, is_done_at, replaced, replace_refusal}
-use Rattle.syn_standing.specs.declared.error.ReplicaError.{ReplicaError}
+use Rattle.syn_replica.specs.declared.error.ReplicaError.{ReplicaError}
 use Rattle.syn_replica.specs.declared.replica.Replica.{Replica}
 use Rattle.syn_shared.specs.Steps.{StepsBy, adds, breaks, refuses}
 use Rattle.syn_shared.proofs.AnswerLemmas.{readings_of, unchanged_of}

@@ -7,7 +7,7 @@ use Rattle.std.specs.Result.{MatchResult}
 use Rattle.std.proofs.lemmas.List.{length-append}
 use Rattle.syn_agent.specs.Machines.{IsOf, StandsAs, UpIsOf, WrittenIsOf}
 use Rattle.syn_agent.specs.declared.agent.Agent.{Agent}
-use Rattle.syn_journaled.specs.Endings.{ended}
+use Rattle.syn_journal.specs.Endings.{ended}
 use Rattle.syn_disk.specs.Stops.{LeavesOnly}
 use Rattle.syn_disk.specs.declared.disk.Disk.{Ghosts}
 use Rattle.syn_headline.specs.Machine.{Status, Up, Halted, Down}
@@ -20,21 +20,21 @@ use Rattle.syn_model.specs.Path.{Path}
 use Rattle.syn_model.specs.Refusal.{Refusal, Cause, first_cause}
 use Rattle.syn_model.specs.Refusal as why
 use Rattle.syn_recovery.specs.Calls.{BrokenCallsMeet, MadeCallsMeet}
-use Rattle.syn_standing.specs.Refusals.{refusal_of}
+use Rattle.syn_replica.specs.ErrorRefusals.{refusal_of}
 use Rattle.syn_replica.specs.Calls.{Writes, unless}
 use Rattle.syn_replica.specs.Refusals.{IsOneOf, outside_refusals}
 use Rattle.syn_replica.specs.Replica.{Stands, KeepsBeforeOrAfter, disk_of, room_shown, left_shown}
 use Rattle.syn_replica.specs.Replica.{standing_shown}
 use Rattle.syn_replica.specs.Steps.{add_refusal, replace_refusal, replaced, is_done, is_done_at}
 use Rattle.syn_shared.proofs.AnswerLemmas.{halted_answer}
-use Rattle.syn_standing.specs.declared.error.ReplicaError.{ReplicaError}
-use Rattle.syn_standing.specs.declared.error.ReplicaError.TheVariants.{Journal}
+use Rattle.syn_replica.specs.declared.error.ReplicaError.{ReplicaError}
+use Rattle.syn_replica.specs.declared.error.ReplicaError.TheVariants.{Journal}
 use Rattle.syn_replica.specs.declared.replica.Replica.{Replica}
 use Rattle.syn_shared.proofs.CauseLemmas.{memory_last, replace_never, same_causes}
 use Rattle.syn_shared.proofs.EventLemmas.{event_up, event_halted}
 use Rattle.syn_shared.specs.Machines.{EditsSide, IsMade, IsRefused, IsRefusedEarly, WritesEvent}
 use Rattle.syn_agent.proofs.CauseLemmas.{edit_never, outside as memory_or_device}
-use Rattle.syn_standing.proofs.CauseLemmas.{first_stays}
+use Rattle.syn_replica.proofs.CauseLemmas.{first_stays}
 use Rattle.syn_model.specs.Tree.{Tree as Model}
 
 -- where no history causes the answer there is no cause

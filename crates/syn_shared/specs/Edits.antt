@@ -6,16 +6,16 @@ use Rattle.syn_agent.specs.declared.agent.Agent.{Agent}
 use Rattle.syn_disk.specs.Stops.{LeavesOnly}
 use Rattle.syn_disk.specs.declared.disk.Disk.{Ghosts}
 use Rattle.syn_headline.specs.SideMachine.{SideMachine}
-use Rattle.syn_journaled.specs.Endings.{ended}
+use Rattle.syn_journal.specs.Endings.{ended}
 use Rattle.syn_model.specs.Event.{Event}
 use Rattle.syn_model.specs.History.{History}
 use Rattle.syn_model.specs.Refusal.{Refusal, Device}
 use Rattle.syn_replica.specs.Calls.{Writes}
-use Rattle.syn_standing.specs.Refusals.{refusal_of}
+use Rattle.syn_replica.specs.ErrorRefusals.{refusal_of}
 use Rattle.syn_replica.specs.Refusals.{IsOneOf, edit_refusals, outside_refusals}
 use Rattle.syn_replica.specs.Replica.{disk_of, room_shown, Stands, KeepsBeforeOrAfter}
 use Rattle.syn_replica.specs.Steps.{add_refusal}
-use Rattle.syn_standing.specs.declared.error.ReplicaError.{ReplicaError}
+use Rattle.syn_replica.specs.declared.error.ReplicaError.{ReplicaError}
 use Rattle.syn_replica.specs.declared.replica.Replica.{Replica}
 use Rattle.syn_shared.specs.Machines.{EditsSide}
 use Rattle.syn_shared.specs.Steps.{StepsBy}

@@ -12,8 +12,8 @@ use Rattle.syn_model.specs.Event.{Event}
 use Rattle.syn_model.specs.History.{History, IsAllowed}
 use Rattle.syn_model.specs.Refusal.{Device, Memory, Cause, first_cause}
 use Rattle.syn_model.specs.Refusal as why
-use Rattle.syn_standing.specs.Refusals.{refusal_of}
-use Rattle.syn_standing.specs.declared.error.ReplicaError.{ReplicaError}
+use Rattle.syn_replica.specs.ErrorRefusals.{refusal_of}
+use Rattle.syn_replica.specs.declared.error.ReplicaError.{ReplicaError}
 use Rattle.syn_replica.specs.declared.replica.Replica.{Replica}
 
 -- why the world refuses a call on the journal of a side, before lack of memory

@@ -11,8 +11,8 @@ use Rattle.syn_model.specs.Path.{Name, Path}
 use Rattle.syn_model.specs.Tree.{Content, Tree as Pairs, is_directory}
 use Rattle.syn_replica.specs.Refusals.{IsOneOf, reading_refusals}
 use Rattle.syn_replica.specs.Replica.{IsHalted, tree_shown, position_shown}
-use Rattle.syn_standing.specs.declared.error.ReplicaError.{ReplicaError}
-use Rattle.syn_standing.specs.declared.error.ReplicaError.TheVariants.{Journal, Tree}
+use Rattle.syn_replica.specs.declared.error.ReplicaError.{ReplicaError}
+use Rattle.syn_replica.specs.declared.error.ReplicaError.TheVariants.{Journal, Tree}
 use Rattle.syn_replica.specs.declared.replica.Replica.{Replica}
 use Rattle.syn_replica.specs.declared.replica.listing.Listing.{Listing}
 use Rattle.syn_tree.specs.Contents.{content_of}

@@ -2,8 +2,8 @@
 use Rattle.std.specs.Prelude.{Option, Some, None, Result, Ok, Err}
 use Rattle.syn_model.specs.Refusal.{Refusal}
 use Rattle.syn_model.specs.Refusal as why
-use Rattle.syn_standing.specs.Refusals.{refusal_of as of_replica}
-use Rattle.syn_standing.specs.declared.error.ReplicaError.{ReplicaError}
+use Rattle.syn_replica.specs.ErrorRefusals.{refusal_of as of_replica}
+use Rattle.syn_replica.specs.declared.error.ReplicaError.{ReplicaError}
 use Rattle.syn_shared.specs.declared.error.SharedError.{SharedError}
 use Rattle.syn_shared.specs.declared.error.SharedError.TheVariants.{Busy, Replica}
 

@@ -6,19 +6,19 @@ use Rattle.syn_agent.specs.declared.agent.Agent.{Agent}
 use Rattle.syn_disk.specs.Stops.{LeavesOnly}
 use Rattle.syn_disk.specs.declared.disk.Disk.{Ghosts}
 use Rattle.syn_headline.specs.SideMachine.{SideMachine}
-use Rattle.syn_journaled.specs.Endings.{ended}
+use Rattle.syn_journal.specs.Endings.{ended}
 use Rattle.syn_model.specs.Event.{Token, Replaced}
 use Rattle.syn_model.specs.History.{History}
 use Rattle.syn_model.specs.Path.{Path}
 use Rattle.syn_model.specs.Refusal.{Refusal, Memory}
 use Rattle.syn_model.specs.Tree.{Tree}
 use Rattle.syn_replica.specs.Calls.{Writes, unless}
-use Rattle.syn_standing.specs.Refusals.{refusal_of}
+use Rattle.syn_replica.specs.ErrorRefusals.{refusal_of}
 use Rattle.syn_replica.specs.Refusals.{IsOneOf, replace_refusals, outside_refusals}
 use Rattle.syn_replica.specs.Replica.{disk_of, room_shown, standing_shown, Stands}
 use Rattle.syn_replica.specs.Replica.{KeepsBeforeOrAfter}
 use Rattle.syn_replica.specs.Steps.{early_refusal, is_done, is_done_at, replaced, replace_refusal}
-use Rattle.syn_standing.specs.declared.error.ReplicaError.{ReplicaError}
+use Rattle.syn_replica.specs.declared.error.ReplicaError.{ReplicaError}
 use Rattle.syn_replica.specs.declared.replica.Replica.{Replica}
 use Rattle.syn_shared.specs.Machines.{WritesEvent, IsRefusedEarly}
 use Rattle.syn_shared.specs.Steps.{StepsBy}

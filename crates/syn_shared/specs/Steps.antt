@@ -8,9 +8,9 @@ use Rattle.syn_model.specs.Event.{Event}
 use Rattle.syn_model.specs.History.{History}
 use Rattle.syn_model.specs.Refusal.{Refusal, Device, Memory}
 use Rattle.syn_replica.specs.Growth.{IsCutOff}
-use Rattle.syn_standing.specs.Refusals.{refusal_of}
+use Rattle.syn_replica.specs.ErrorRefusals.{refusal_of}
 use Rattle.syn_replica.specs.Replica.{disk_of, Stands, KeepsReadings, HasRecord}
-use Rattle.syn_standing.specs.declared.error.ReplicaError.{ReplicaError}
+use Rattle.syn_replica.specs.declared.error.ReplicaError.{ReplicaError}
 use Rattle.syn_replica.specs.declared.replica.Replica.{Replica}
 
 -- The event is added by four device calls, and stands; or one of them failed as it was written, and

@@ -8,7 +8,7 @@ use Rattle.syn_disk.specs.declared.disk.Disk.{Ghosts}
 use Rattle.syn_headline.specs.SideMachine.{SideMachine}
 use Rattle.syn_journal.specs.Layout.{longest_image}
 use Rattle.syn_journal.specs.declared.error.JournalError.TheVariants as journal_error
-use Rattle.syn_journaled.specs.Endings.{ended}
+use Rattle.syn_journal.specs.Endings.{ended}
 use Rattle.syn_model.specs.Event.{Event}
 use Rattle.syn_model.specs.History.{History}
 use Rattle.syn_model.specs.Image.{image_spelling}
@@ -17,13 +17,13 @@ use Rattle.syn_replica.specs.Calls as replica
 use Rattle.syn_replica.specs.Calls.{Compacts}
 use Rattle.syn_replica.specs.Disks.{DiskGives, DiskStands, IsReopenRefusal}
 use Rattle.syn_replica.specs.Growth.{KeepsUp, WithTried}
-use Rattle.syn_standing.specs.Refusals.{refusal_of}
+use Rattle.syn_replica.specs.ErrorRefusals.{refusal_of}
 use Rattle.syn_replica.specs.Refusals.{IsOneOf, checkpoint_refusals, outside_refusals}
 use Rattle.syn_replica.specs.Replica.{pair_of, standing_shown, position_shown, disk_of}
 use Rattle.syn_replica.specs.Replica.{generation_shown, tried_shown, IsHalted, Stands}
 use Rattle.syn_replica.specs.Replica.{KeepsBeforeOrAfter, KeepsOrCompacts}
-use Rattle.syn_standing.specs.declared.error.ReplicaError.{ReplicaError}
-use Rattle.syn_standing.specs.declared.error.ReplicaError.TheVariants.{Journal}
+use Rattle.syn_replica.specs.declared.error.ReplicaError.{ReplicaError}
+use Rattle.syn_replica.specs.declared.error.ReplicaError.TheVariants.{Journal}
 use Rattle.syn_replica.specs.declared.replica.Replica.{Replica}
 use Rattle.syn_shared.specs.Machines.{CompactsSide, ReopensSide}
 

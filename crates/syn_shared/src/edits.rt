@@ -11,8 +11,7 @@ use std::alloc::Global;
 use std::sync::Wait;
 use syn_disk::Disk;
 use syn_lock::Pass;
-use syn_replica::Replica;
-use syn_standing::ReplicaError;
+use syn_replica::{Replica, ReplicaError};
 use syn_tree::Edit;
 
 impl<D: Disk> SharedReplica<D> {

@@ -6,7 +6,7 @@ ghost use Rattle.syn_shared.specs.Refusals.{refusal_of, answer_in};
 
 use std::fmt;
 use syn_refusal::Refusal;
-use syn_standing::ReplicaError;
+use syn_replica::ReplicaError;
 use thiserror::Error;
 
 /// Why a call of a shared replica is refused.

@@ -7,8 +7,8 @@ ghost use Rattle.syn_model.specs.Tree.{replace};
 ghost use Rattle.syn_replica.specs.Edits.{event_by};
 ghost use Rattle.syn_replica.specs.Growth.{IsGrown};
 ghost use Rattle.syn_replica.specs.Replica.{Stands, tree_shown};
-ghost use Rattle.syn_standing.specs.Causes.{since_causes};
-ghost use Rattle.syn_standing.specs.Refusals.{refusal_of};
+ghost use Rattle.syn_replica.specs.Causes.{since_causes};
+ghost use Rattle.syn_replica.specs.ErrorRefusals.{refusal_of};
 ghost use Rattle.syn_tree.specs.Edits.{edit_of};
 ghost use Rattle.syn_tree.specs.Nodes.{part_of};
 ghost use Rattle.syn_shared.specs.Edits.{Edits};
@@ -23,8 +23,7 @@ use syn_disk::Disk;
 use syn_journal::JournalError;
 use syn_lock::Pass;
 use syn_path::Path;
-use syn_replica::Replica;
-use syn_standing::ReplicaError;
+use syn_replica::{Replica, ReplicaError};
 use syn_tree::{Edit, Node, Tree, TreeError};
 
 /// What a replica has at one moment.

@@ -11,8 +11,7 @@ use std::sync::Wait;
 use syn_disk::Disk;
 use syn_lock::Pass;
 use syn_path::{Name, Path};
-use syn_replica::{Listing, Replica};
-use syn_standing::ReplicaError;
+use syn_replica::{Listing, Replica, ReplicaError};
 use syn_tree::Content;
 
 impl<D: Disk> SharedReplica<D> {

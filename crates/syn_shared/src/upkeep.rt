@@ -4,7 +4,6 @@ ghost use Rattle.syn_shared.specs.Refusals.{answer_in};
 ghost use Rattle.syn_shared.specs.Upkeep.{Checkpoints, Reopens};
 
 use crate::error::{SharedError, answered};
-use crate::laws::step_laws;
 use crate::shared::SharedReplica;
 use std::alloc::Global;
 use syn_disk::Disk;
@@ -34,7 +33,6 @@ impl<D: Disk> SharedReplica<D> {
         let Ok(mut guard) = pass.try_enter(own) else {
             return Err(SharedError::Busy);
         };
-        step_laws(&guard);
         is_long(guard.generation());
         let answer = guard.checkpoint(alloc);
         own.leave(guard);
@@ -57,7 +55,6 @@ impl<D: Disk> SharedReplica<D> {
         let Ok(mut guard) = pass.try_enter(own) else {
             return Err(SharedError::Busy);
         };
-        step_laws(&guard);
         let answer = guard.reopen(alloc);
         own.leave(guard);
         answered(answer)

@@ -4,3 +4,6 @@ mod PlayerLemmas
 mod LoopLemmas
 mod StartLemmas
 mod RunLemmas
+pub mod WordLemmas
+pub mod VerbLemmas
+pub mod ScriptLemmas

@@ -5,7 +5,7 @@ use Rattle.syn_headline.specs.World.{Step}
 use Rattle.syn_simulate.specs.Lines.{Begins, Plays, PlaysAll, PlaysLine, Said, Says, ToDrain, said}
 use Rattle.syn_simulate.specs.States.{Moves, State}
 use Rattle.syn_simulate.proofs.MoveLemmas.{lowest_moves, moves_on}
-use Rattle.syn_script.specs.declared.line.Line.{Line}
+use Rattle.syn_simulate.specs.declared.line.Line.{Line}
 
 pub plays_moves : (what : Said) (old new : State) (steps : List Step) → Plays what old steps new
     → Moves old steps new

@@ -21,7 +21,7 @@ use Rattle.syn_simulate.proofs.LineLemmas.{all_moves, all_on, begins_moves}
 use Rattle.syn_simulate.proofs.MoveLemmas.{idle_all, lowest_on, lowest_same, moves_on, moves_run}
 use Rattle.syn_simulate.proofs.MoveLemmas.{one_goes, range_parts}
 use Rattle.syn_simulate.proofs.PlayerLemmas.{has_begun, has_played, sent_count}
-use Rattle.syn_script.specs.declared.line.Line.{Line}
+use Rattle.syn_simulate.specs.declared.line.Line.{Line}
 use Rattle.syn_world.specs.Worlds.{sent_in}
 use Rattle.syn_world.specs.declared.world.Disks.{Disks}
 

@@ -9,11 +9,11 @@ use Rattle.syn_recovery.specs.Headline.{Disks as Shown, IsOpenedFrom}
 use Rattle.syn_simulate.specs.Players.{HasPlayedAll, world_of}
 use Rattle.syn_simulate.specs.States.{fresh}
 use Rattle.syn_simulate.specs.declared.player.Player.{Player}
-use Rattle.syn_script.specs.Scripts.{IsFirstFault, SaySteps, lines_of}
-use Rattle.syn_script.specs.Words.{Text}
-use Rattle.syn_script.specs.declared.line.Line.{Line}
-use Rattle.syn_script.specs.declared.error.ScriptError.{ScriptError}
-use Rattle.syn_script.specs.declared.error.ScriptError.TheVariants as script
+use Rattle.syn_simulate.specs.Scripts.{IsFirstFault, SaySteps, lines_of}
+use Rattle.syn_simulate.specs.Words.{Text}
+use Rattle.syn_simulate.specs.declared.line.Line.{Line}
+use Rattle.syn_simulate.specs.declared.parse_error.ScriptError.{ScriptError}
+use Rattle.syn_simulate.specs.declared.parse_error.ScriptError.TheVariants as script
 use Rattle.syn_simulate.specs.Faults.{error_of}
 use Rattle.syn_simulate.specs.Simulations.{IsNoRun, RunsScript}
 use Rattle.syn_simulate.specs.Starts.{IsOutside, StartsFormatted}

@@ -14,7 +14,7 @@ use Rattle.syn_disk.specs.declared.disk.Disk.{Ghosts}
 use Rattle.syn_headline.specs.Acknowledged.{history_of}
 use Rattle.syn_headline.specs.Headline.{IsPair, formatted}
 use Rattle.syn_headline.specs.Network.{Which, Left, Right}
-use Rattle.syn_host.specs.Starts.{CanStart, IsFree, IsFromOutside}
+use Rattle.syn_world.specs.Starts.{CanStart, IsFree, IsFromOutside}
 use Rattle.syn_model.specs.Archive.{new_archive}
 use Rattle.syn_model.specs.ArchiveImage.{ArchiveStandsFor}
 use Rattle.syn_model.specs.Image.{StandsFor}
@@ -26,9 +26,9 @@ use Rattle.syn_recovery.specs.Meaning.{IsDiskOf}
 use Rattle.syn_refusal.specs.Refusals.{cause_of}
 use Rattle.syn_refusal.specs.declared.refusal.Refusal as refusals
 use Rattle.syn_replica.specs.Refusals.{IsOneOf, format_refusals}
-use Rattle.syn_standing.specs.Refusals.{refusal_of}
+use Rattle.syn_replica.specs.ErrorRefusals.{refusal_of}
 use Rattle.syn_replica.specs.Replica as replicas
-use Rattle.syn_standing.specs.declared.error.ReplicaError.{ReplicaError}
+use Rattle.syn_replica.specs.declared.error.ReplicaError.{ReplicaError}
 use Rattle.syn_replica.specs.declared.replica.Replica.{Replica}
 use Rattle.syn_world.specs.Openings.{StandFor, shown_on}
 use Rattle.syn_world.specs.declared.world.Disks.{Disks}

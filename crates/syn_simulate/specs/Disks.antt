@@ -5,10 +5,10 @@ use Rattle.std.specs.Prelude.{if◌then◌else◌}
 use Rattle.syn_disk.specs.declared.simulated.leaves.Leaves.{Leaves}
 use Rattle.syn_path.specs.declared.side.Side.{Side}
 use Rattle.syn_path.specs.declared.side.Side.TheVariants.{Left, Right}
-use Rattle.syn_script.specs.declared.line.Line.{Line}
-use Rattle.syn_script.specs.declared.line.Line.TheVariants.{Stop}
-use Rattle.syn_script.specs.declared.line.Machine.{Machine}
-use Rattle.syn_script.specs.declared.line.Machine.TheVariants as machine
+use Rattle.syn_simulate.specs.declared.line.Line.{Line}
+use Rattle.syn_simulate.specs.declared.line.Line.TheVariants.{Stop}
+use Rattle.syn_world.specs.declared.machine.Machine.{Machine}
+use Rattle.syn_world.specs.declared.machine.Machine.TheVariants as machine
 use Rattle.syn_world.specs.declared.world.Disks.{Disks}
 
 abbrev pub is_same_side : Side → Side → Bool

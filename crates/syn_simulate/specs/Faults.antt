@@ -1,6 +1,6 @@
 -- What refuses a simulation of a script that is not read.
-use Rattle.syn_script.specs.declared.error.ScriptError.{ScriptError}
-use Rattle.syn_script.specs.declared.error.ScriptError.TheVariants as script
+use Rattle.syn_simulate.specs.declared.parse_error.ScriptError.{ScriptError}
+use Rattle.syn_simulate.specs.declared.parse_error.ScriptError.TheVariants as script
 use Rattle.syn_simulate.specs.declared.error.SimulateError.{SimulateError}
 use Rattle.syn_simulate.specs.declared.error.SimulateError.TheVariants as why
 

@@ -8,3 +8,6 @@ pub mod Faults
 pub mod Shown
 pub mod Starts
 pub mod Simulations
+pub mod Words
+pub mod Scripts
+pub mod inner

@@ -6,9 +6,9 @@ use Rattle.syn_path.specs.Sides.{which_of}
 use Rattle.syn_simulate.specs.Drains.{DeliversLowest, Drains}
 use Rattle.syn_simulate.specs.States.{Moves, State}
 use Rattle.syn_simulate.specs.declared.player.TheConstants.{MOST_DRAINED}
-use Rattle.syn_script.specs.declared.line.Line.{Line}
-use Rattle.syn_script.specs.declared.line.Line.TheVariants.{Edit, Start, Tick, Deliver, Drain}
-use Rattle.syn_script.specs.declared.line.Line.TheVariants.{Checkpoint, Fail, Stop, Open, Reopen}
+use Rattle.syn_simulate.specs.declared.line.Line.{Line}
+use Rattle.syn_simulate.specs.declared.line.Line.TheVariants.{Edit, Start, Tick, Deliver, Drain}
+use Rattle.syn_simulate.specs.declared.line.Line.TheVariants.{Checkpoint, Fail, Stop, Open, Reopen}
 use Rattle.syn_tree.specs.Edits.{edit_of}
 use Rattle.syn_world.specs.Steps.{machine_of}
 

@@ -7,7 +7,7 @@ use Rattle.syn_headline.specs.World.{Runs, Step}
 use Rattle.syn_simulate.specs.Lines.{Begins, Plays, PlaysAll, Said, said}
 use Rattle.syn_simulate.specs.States.{State}
 use Rattle.syn_simulate.specs.declared.player.Player.{Player}
-use Rattle.syn_script.specs.declared.line.Line.{Line}
+use Rattle.syn_simulate.specs.declared.line.Line.{Line}
 use Rattle.syn_world.specs.Worlds.{AreLeft, IsWorld}
 use Rattle.syn_world.specs.declared.world.Disks.{Disks}
 use Rattle.syn_world.specs.declared.world.World.{World}

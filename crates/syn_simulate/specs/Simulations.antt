@@ -5,9 +5,9 @@ use Rattle.syn_headline.specs.Headline.{formatted}
 use Rattle.syn_headline.specs.World.{Runs, Step}
 use Rattle.syn_simulate.specs.Lines.{PlaysAll}
 use Rattle.syn_simulate.specs.States.{State, fresh}
-use Rattle.syn_script.specs.Scripts.{IsFirstFault, SaySteps, lines_of}
-use Rattle.syn_script.specs.Words.{Text}
-use Rattle.syn_script.specs.declared.line.Line.{Line}
+use Rattle.syn_simulate.specs.Scripts.{IsFirstFault, SaySteps, lines_of}
+use Rattle.syn_simulate.specs.Words.{Text}
+use Rattle.syn_simulate.specs.declared.line.Line.{Line}
 use Rattle.syn_simulate.specs.Starts.{IsOutside, StartsFormatted}
 use Rattle.syn_simulate.specs.declared.error.SimulateError.{SimulateError}
 use Rattle.syn_simulate.specs.declared.error.SimulateError.TheVariants.{Script as Fault}

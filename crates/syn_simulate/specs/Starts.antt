@@ -2,7 +2,7 @@
 use Rattle.std.specs.Prelude.{ℕ}
 use Rattle.syn_disk.specs.declared.disk.Disk.{Ghosts}
 use Rattle.syn_headline.specs.Headline.{formatted}
-use Rattle.syn_host.specs.Starts.{IsFromOutside}
+use Rattle.syn_world.specs.Starts.{IsFromOutside}
 use Rattle.syn_simulate.specs.declared.error.SimulateError.{SimulateError}
 use Rattle.syn_simulate.specs.declared.error.SimulateError.TheVariants.{Memory, Refused, Script}
 use Rattle.syn_world.specs.Openings.{OpensFrom, StandFor, shown_on}

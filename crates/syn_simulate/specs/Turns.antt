@@ -2,8 +2,8 @@
 use Rattle.std.specs.Prelude.{ℕ, Bool, List, Option, Some, None, is_some, length}
 use Rattle.syn_disk.specs.declared.disk.Disk.{Ghosts}
 use Rattle.syn_path.specs.declared.side.Side.TheVariants.{Left, Right}
-use Rattle.syn_script.specs.declared.line.Machine.{Machine}
-use Rattle.syn_script.specs.declared.line.Machine.TheVariants as place
+use Rattle.syn_world.specs.declared.machine.Machine.{Machine}
+use Rattle.syn_world.specs.declared.machine.Machine.TheVariants as place
 use Rattle.syn_simulate.specs.declared.player.Player.{Player}
 use Rattle.syn_simulate.specs.declared.turn.Moment.{Moment}
 use Rattle.syn_simulate.specs.declared.turn.Turn.{Turn}

@@ -2,11 +2,11 @@
 ghost use Rattle.std.specs.Prelude.{◌≡◌, IfOk};
 ghost use Rattle.syn_simulate.specs.Disks.{IsStops, leaves_in, leaves_of, stops_at};
 
+use crate::Line;
 use std::alloc::{AllocError, Global};
 use syn_disk::Leaves;
 use syn_path::Side;
-use syn_script::{Line, Machine};
-use syn_world::Disks;
+use syn_world::{Disks, Machine};
 
 /// What the disk of each machine leaves at its stops, one after another: the modes of the machine's
 /// stop lines, in their order.

@@ -1,7 +1,7 @@
 //! Why a world is not simulated.
+use crate::ScriptError;
 use std::alloc::AllocError;
 use syn_refusal::Refusal;
-use syn_script::ScriptError;
 use thiserror::Error;
 
 /// Why a world is not simulated.

@@ -1,5 +1,25 @@
 //! Scripts that are played on a world of three machines in memory, and what is printed of them.
 //!
+//! # Scripts
+//!
+//! A script is a text with one step a line. The words of a line are parted by one space. SIDE is
+//! `left` or `right`, M is a SIDE or `coordinator`, and numbers are decimal digits alone. An empty
+//! line, or one that begins with `#`, says nothing.
+//!
+//! - `edit SIDE USER put PATH TEXT`, where TEXT is the rest of the line, and may be missing
+//! - `edit SIDE USER mkdir PATH`, `edit SIDE USER rm PATH`
+//! - `edit SIDE USER chmod PATH MODE`, where MODE is three octal digits
+//! - `start`, `start prefer SIDE`, `tick`, `drain`
+//! - `deliver A`, `deliver A B`
+//! - `checkpoint M`, `open M`, `reopen M`
+//! - `fail M J`: the J-th device call of M from now on fails; with 0 none does
+//! - `stop M J MODE`: M makes J device calls more, and is then down. What it had not synced is lost
+//!   on its disk (`lose`), is there (`keep`), or is bytes of no meaning (`noise`)
+//!
+//! - `Script::parse` answers the steps that the lines of a text say, in their order (`ok`). A line
+//!   is a step by `Say`, a table of its words.
+//! - Else it answers the number of the first line that is none, from 1 (`bad`), or 11 (`memory`).
+//!
 //! # What it promises
 //!
 //! - `formatted_world` formats three disks in memory and opens the world of pair 1 from them. The
@@ -46,17 +66,26 @@
 mod chart;
 mod disks;
 mod error;
+mod line;
 mod notes;
+mod parse_error;
 mod player;
+mod rows;
 mod runs;
+mod script;
 mod show;
 mod start;
 mod turn;
+mod verb;
+mod words;
 
 pub use chart::draw_chart;
 pub use error::SimulateError;
+pub use line::Line;
+pub use parse_error::ScriptError;
 pub use player::{MOST_DRAINED, Player};
 pub use runs::{play, simulate};
+pub use script::Script;
 pub use show::show_world;
 pub use start::formatted_world;
 pub use turn::{Moment, Turn};

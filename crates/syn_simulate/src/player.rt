@@ -9,13 +9,12 @@ ghost use Rattle.syn_simulate.specs.Turns.{turn_of, turns_of};
 ghost use Rattle.syn_world.specs.Steps.{step_of};
 ghost use Rattle.syn_world.specs.Worlds.{IsWorld, sent_in};
 
+use crate::Line;
 use crate::notes::{lowest_unset, note_step};
 use crate::turn::{Turn, add_turn};
 use std::alloc::Global;
 use syn_disk::Disk;
-use syn_host::SimulatedDisk;
-use syn_script::Line;
-use syn_world::{Disks, Step, World};
+use syn_world::{Disks, SimulatedDisk, Step, World};
 
 /// A draining delivers at most so many messages, so that it ends whatever the machines say.
 pub const MOST_DRAINED: usize = 100_000;

@@ -3,13 +3,13 @@ ghost use Rattle.std.specs.Prelude.{IfOk, IfErr};
 ghost use Rattle.syn_simulate.specs.Players.{world_of};
 ghost use Rattle.syn_simulate.specs.Simulations.{IsNoRun, RunsScript};
 
+use crate::Script;
 use crate::disks::stops_of;
 use crate::error::SimulateError;
 use crate::player::Player;
 use crate::start::formatted_world;
 use std::alloc::Global;
 use syn_disk::{Cut, MemDisk};
-use syn_script::Script;
 use syn_world::World;
 
 /// The player after the steps of the script. Its world starts with three machines that are up: two

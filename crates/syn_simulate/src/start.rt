@@ -3,7 +3,7 @@ ghost use Rattle.std.specs.Prelude.{◌≡◌, [], IfErr, IfOk};
 ghost use Rattle.syn_disk.specs.Arms.{no_arms};
 ghost use Rattle.syn_disk.specs.Cut.{arms_of};
 ghost use Rattle.syn_headline.specs.Headline.{formatted};
-ghost use Rattle.syn_host.specs.Starts.{CanStart};
+ghost use Rattle.syn_world.specs.Starts.{CanStart};
 ghost use Rattle.syn_model.specs.Archive.{new_archive};
 ghost use Rattle.syn_recovery.specs.Machines.{of_archive, of_side};
 ghost use Rattle.syn_simulate.specs.Starts.{IsOutside, StartsFormatted};

@@ -8,9 +8,9 @@ use Rattle.syn_archive.specs.declared.error.ArchiveError.TheVariants as archive
 use Rattle.syn_disk.specs.declared.disk.Disk.{Ghosts}
 use Rattle.syn_headline.specs.Coordinator.{Call, CoordinatorMachine, coordinator_kind}
 use Rattle.syn_headline.specs.MachineSteps.{Checkpoints}
-use Rattle.syn_journaled.specs.Endings as endings
-use Rattle.syn_journaled.proofs.Spent.{counted as grew}
-use Rattle.syn_keep.proofs.DueLemmas.{device_or_other}
+use Rattle.syn_journal.specs.Endings as endings
+use Rattle.syn_journal.proofs.Spent.{counted as grew}
+use Rattle.syn_coordinator.proofs.DueLemmas.{device_or_other}
 use Rattle.syn_model.specs.Refusal as why
 use Rattle.syn_model.specs.Refusal.{first_cause}
 use Rattle.syn_refusal.specs.Refusals.{cause_of}

@@ -1,5 +1,6 @@
 -- What is read from a side, as its contracts see it.
 use Rattle.std.specs.Prelude.{◌≡◌, Bool, List, [], ◌∷◌, Option, Some}
+use Rattle.syn_link.specs.Connections as link
 use Rattle.syn_link.specs.Frames.{Bytes}
 use Rattle.syn_link.specs.Streams.{Comes}
 use Rattle.syn_message.specs.Replies.{Answering, IsLawfulAnswering, answering_spelling}
@@ -12,21 +13,21 @@ pub record Line : Type 0 where
 
 module _ {R W : Type 0} where
   abbrev pub reader_of : Link R W → R
-  reader_of link = link.reader
+  reader_of side = link.reader_of side.connection
 
   abbrev pub writer_of : Link R W → W
-  writer_of link = link.writer
+  writer_of side = link.writer_of side.connection
 
   -- what came and was not handed out
   abbrev pub held_by : Link R W → Bytes
-  held_by link = link.framer
+  held_by side = link.held_by side.connection
 
   -- it goes on
   abbrev pub is_open : Link R W → Bool
-  is_open link = link.open
+  is_open side = side.open
 
   abbrev pub line_of : (R → Option Bytes) → Link R W → Line
-  line_of remaining link = record { given = remaining link.reader; held = link.framer }
+  line_of remaining side = record { given = remaining (reader_of side); held = held_by side }
 
 -- the reply came in the first frame
 pub record Hears (old new : Line) (answering : Answering) : Type 0 where

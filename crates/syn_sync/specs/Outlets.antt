@@ -2,6 +2,7 @@
 use Rattle.std.specs.Prelude.{◌≡◌, Bool, true, false, Option}
 use Rattle.std.specs.Io.KnownBytes.{Appends}
 use Rattle.syn_link.specs.Frames.{AppendsSome, Bytes}
+use Rattle.syn_sync.specs.Lines.{writer_of}
 use Rattle.syn_sync.specs.declared.link.Link.{Link}
 
 -- what was written, and whether the connection goes on
@@ -10,7 +11,7 @@ pub record Outlet : Type 0 where
   pub goes : Bool
 
 abbrev pub outlet_of : {R W : Type 0} → (W → Option Bytes) → Link R W → Outlet
-outlet_of contents link = record { written = contents link.writer; goes = link.open }
+outlet_of contents side = record { written = contents (writer_of side); goes = side.open }
 
 -- all of the bytes were written, or a beginning of them
 abbrev pub Adds : Bool → Option Bytes → Option Bytes → Bytes → Type 0

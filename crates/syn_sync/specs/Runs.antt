@@ -13,8 +13,8 @@ use Rattle.syn_link.specs.Frames.{Bytes, frame_of}
 use Rattle.syn_message.specs.Replies.{Answering}
 use Rattle.syn_message.specs.Requests.{asking_spelling}
 use Rattle.syn_coordinator.specs.Coordinators.{Stands, device_of, tried_shown}
-use Rattle.syn_keep.specs.Machines.{LeavesMachine}
-use Rattle.syn_keep.specs.Tries.{Tries}
+use Rattle.syn_coordinator.specs.Machines.{LeavesMachine}
+use Rattle.syn_coordinator.specs.Tries.{Tries}
 use Rattle.syn_coordinator.specs.declared.coordinator.Coordinator.{Coordinator}
 use Rattle.syn_sync.specs.Drivers.{Lines, Outlets}
 use Rattle.syn_sync.specs.Lines.{HearsAll}
@@ -101,7 +101,7 @@ module _ {D : Type 0} {disk : Ghosts D} (new : Coordinator D disk) (pair : ℕ) 
     pub stopped : is_stopped (disk.arms (device_of new)) ≡ true
     pub down : machine.journal.status ≡ status.Down
     pub leaves : LeavesMachine disk (device_of new) pair machine.journal
-    pub tries : Tries pair (tried_shown new) machine.journal
+    pub tries : Tries (tried_shown new) machine.journal
 
   -- The acts lead to the coordinator's machine, or it went down in the last of them. Each reply
   -- that it was given came from its side, in order. The frames of what it sent were written to

@@ -9,16 +9,14 @@ ghost use Rattle.syn_sync.specs.Outlets.{Adds, Writes, outlet_of};
 use crate::lawful::has_body;
 use std::alloc::Global;
 use std::io::{Read, Write};
-use syn_link::{Framer, read_body, write_frame};
+use syn_link::Connection;
 use syn_message::{Answered, Asked, decode_reply, encode_request};
 
-/// A connection to a side: what its replies are read from, what requests are written to, and what
-/// came and was not handed out yet.
+/// A connection to a side, from which replies are read and to which requests are written, and
+/// whether it goes on.
 #[derive(Drop)]
 pub struct Link<R, W> {
-    reader: R,
-    writer: W,
-    framer: Framer,
+    connection: Connection<R, W>,
     open: bool,
 }
 
@@ -31,9 +29,7 @@ impl<R: Read, W: Write> Link<R, W> {
         ensures open { is_open result ≡ true }
     {
         Link {
-            reader,
-            writer,
-            framer: Framer::new(alloc),
+            connection: Connection::new(alloc, reader, writer),
             open: true,
         }
     }
@@ -42,7 +38,7 @@ impl<R: Read, W: Write> Link<R, W> {
     pub fn into_parts(self) -> (R, W)
         ensures { result ≡ (reader_of self, writer_of self) }
     {
-        (self.reader, self.writer)
+        self.connection.into_parts()
     }
 
     /// Whether the connection goes on. It is closed by its end, by a read or a write that fails, by
@@ -58,7 +54,7 @@ impl<R: Read, W: Write> Link<R, W> {
     pub(crate) fn holds_reply(&self) -> bool
         ensures { (result ≡ false) ↔ IsFront (held_by self.now) None (held_by self.now) }
     {
-        self.framer.is_ready()
+        self.connection.holds_frame()
     }
 
     /// Writes the request as a frame, and flushes. Where that fails, or memory is refused, the
@@ -83,7 +79,7 @@ impl<R: Read, W: Write> Link<R, W> {
             return false;
         }
         match encode_request(alloc, asked) {
-            Ok(body) => write_frame(&mut self.writer, &body).is_ok(),
+            Ok(body) => self.connection.send(&body).is_ok(),
             Err(_) => false,
         }
     }
@@ -110,7 +106,7 @@ impl<R: Read, W: Write> Link<R, W> {
             (line_of R.remaining self.new) (answering_of answered)) }
         ensures written { writer_of self.new ≡ writer_of self.old }
     {
-        match read_body(alloc, &mut self.reader, &mut self.framer) {
+        match self.connection.receive(alloc) {
             Ok(Some(body)) => match decode_reply(alloc, &body) {
                 Ok(read) => read,
                 Err(_) => None,

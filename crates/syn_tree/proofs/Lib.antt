@@ -13,3 +13,4 @@ pub mod StripLemmas
 pub mod LawfulLemmas
 pub mod ModeLemmas
 pub mod RootedLemmas
+mod TurnLemmas

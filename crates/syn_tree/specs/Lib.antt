@@ -6,4 +6,5 @@ pub mod Edits
 pub mod Change
 pub mod Lists
 pub mod Refusals
+pub mod Turns
 pub mod inner

@@ -29,6 +29,21 @@
 //!   is refused, of a form that is `Limited`: it finds what stands at a path, judges a place, and
 //!   says whether a part fits. `measures` counts the bytes of a spelling, `placing` gives the
 //!   entries of a part at a path, and `parts` takes a part out and names what is in a directory.
+//!
+//! # Two forms
+//!
+//! A tree may be kept in any form. What each form does is stated once, and a run of edits is proved
+//! once for each. The program uses `Tree` alone; the other form shows that the statement does not
+//! lean on how a `Tree` keeps its entries.
+//!
+//! - `TreeForm` says what a form of a tree does, over the set of paths that it stands for: `get`,
+//!   `list`, `subtree`, `check`, `apply`, `replace`, each by the definitions of `syn_model`, and
+//!   `keeps`, that the limits of a replica are kept.
+//! - `Tree` is one form, and `PlainTree`, a list of paths in path order, is the other.
+//! - `run` makes edits and replacements one after the other, of any form (`goes`): each is answered
+//!   none where it is made, and else the definition's refusal or 11 with nothing changed.
+//! - Two forms that stand for equal trees, and meet no lack of memory, answer alike and stand for
+//!   equal trees after it (`turn_laws`).
 #![tactic(auto)]
 
 mod change;
@@ -39,14 +54,18 @@ mod edit;
 mod entries;
 mod entry;
 mod error;
+mod form;
 mod lawful;
+mod listed;
 pub mod measures;
 mod mode;
 mod node;
 mod pair;
 pub mod parts;
 pub mod placing;
+mod plain;
 mod tree;
+mod turn;
 
 pub use change::Change;
 pub use content::{Content, Found};
@@ -55,8 +74,11 @@ pub use edit::Edit;
 pub use entries::Entries;
 pub use entry::Entry;
 pub use error::TreeError;
+pub use form::TreeForm;
 pub use measures::{LONGEST_FILE, LONGEST_SPELLING, MOST_CHILDREN};
 pub use mode::{Mode, is_mode};
 pub use node::Node;
 pub use pair::Pair;
+pub use plain::PlainTree;
 pub use tree::Tree;
+pub use turn::{Turn, run, turn_laws};

@@ -1,6 +1,6 @@
 -- What pieces are the first of a spelling.
 use Rattle.std.proofs.Common.{◌≡◌, ◌+◌, ◌*◌, ◌-◌, ◌≤◌, ◌≢◌, ◌++◌, ◌∷◌, ℕ, [], length, true, Option}
-use Rattle.std.proofs.Common.{None, Some, refl, sym, ap, ap₂, ◌∙◌, add-zero, zero-add, add_assoc}
+use Rattle.std.proofs.Common.{None, Some, sym, ap, ap₂, ◌∙◌, add-zero, zero-add, add_assoc}
 use Rattle.std.proofs.Common.{inl, inr, length-append, arith, subst}
 use Rattle.std.proofs.Math.Seq.{take-add}
 use Rattle.std.proofs.lemmas.Bool.{and_parts, cases_lt, leb-true}

@@ -24,14 +24,24 @@ use Rattle.syn_user.specs.Sides.{rootless, unheard}
 use Rattle.syn_user.specs.declared.error.UserError.{UserError}
 use Rattle.syn_user.specs.declared.error.UserError.TheVariants as has
 
--- the line once a request was written
-abbrev pub sent_line : SideLine → Option Bytes → SideLine
-sent_line line written = record {
-  given = line.given;
-  held = line.held;
+-- the line with all of it but the next number
+abbrev pub line_with : SideLine → Option Bytes → Bytes → Option Bytes → SideLine
+line_with line given held written = record {
+  given = given;
+  held = held;
   written = written;
   next = line.next;
 }
+
+-- the line once a request was written
+abbrev pub sent_line : SideLine → Option Bytes → SideLine
+sent_line line = line_with line line.given line.held
+
+-- nothing was read as it was written
+pub sent_from : (old : SideLine) (given : Option Bytes) (held : Bytes) (written : Option Bytes)
+    → given ≡ old.given → held ≡ old.held
+    → line_with old given held written ≡ sent_line old written
+sent_from old given held written = ap₂ (λ g h. line_with old g h written)
 
 -- a request that was written is replied to by what is heard then
 pub replied_so : (old new : SideLine) (request : Request) (written : Option Bytes)

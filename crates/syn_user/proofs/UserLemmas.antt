@@ -1,5 +1,5 @@
 -- One request of a user and its reply.
-use Rattle.std.proofs.Common.{◌≡◌, ℕ, Bool, true, false, refl, sym, ap, ◌∙◌, Option, subst}
+use Rattle.std.proofs.Common.{◌≡◌, ℕ, Bool, true, false, refl, sym, ap, ap₂, ◌∙◌, Option, subst}
 use Rattle.std.specs.Io.KnownBytes.{Appends}
 use Rattle.std.specs.Prelude.{Result, Ok, Err, IfErr, IfOk}
 use Rattle.syn_link.specs.Frames.{frame_of}
@@ -38,15 +38,25 @@ if_err : {A E : Type 0} → (P Q : E → Type 0) (r : Result A E) → ((e : E) �
 if_err P Q (Ok a) to holds = holds
 if_err P Q (Err e) to holds = to e holds
 
--- the line after a request that was written
-abbrev pub sent_line : Line → Option Bytes → ℕ → Line
-sent_line line written next = record {
-  given = line.given;
-  held = line.held;
+-- the line with all of it but whether it goes on
+abbrev pub line_with : Line → Option Bytes → Bytes → Option Bytes → ℕ → Line
+line_with line given held written next = record {
+  given = given;
+  held = held;
   written = written;
   goes = line.goes;
   next = next;
 }
+
+-- the line after a request that was written
+abbrev pub sent_line : Line → Option Bytes → ℕ → Line
+sent_line line = line_with line line.given line.held
+
+-- nothing was read as it was written
+pub sent_from : (old : Line) (given : Option Bytes) (held : Bytes) (written : Option Bytes)
+    (next : ℕ) → given ≡ old.given → held ≡ old.held
+    → line_with old given held written next ≡ sent_line old written next
+sent_from old given held written next = ap₂ (λ g h. line_with old g h written next)
 
 module _ (old new : Line) (wished : Wished) (written : Option Bytes) (next : ℕ)
     (lawful : IsLawfulWished wished)

@@ -1,5 +1,6 @@
 -- A user's connection as its contracts see it.
 use Rattle.std.specs.Prelude.{◌≡◌, ℕ, Bool, Option, Some}
+use Rattle.syn_link.specs.Connections as link
 use Rattle.syn_link.specs.Frames.{Bytes}
 use Rattle.syn_link.specs.Streams.{Comes}
 use Rattle.syn_user.specs.declared.connection.UserConnection.{UserConnection}
@@ -15,30 +16,30 @@ pub record Line : Type 0 where
 
 module _ {R W : Type 0} where
   abbrev pub reader_of : UserConnection R W → R
-  reader_of connection = connection.reader
+  reader_of user = link.reader_of user.connection
 
   abbrev pub writer_of : UserConnection R W → W
-  writer_of connection = connection.writer
+  writer_of user = link.writer_of user.connection
 
   -- what came and was not handed out
   abbrev pub held_by : UserConnection R W → Bytes
-  held_by connection = connection.framer
+  held_by user = link.held_by user.connection
 
   -- it goes on
   abbrev pub is_open : UserConnection R W → Bool
-  is_open connection = connection.open
+  is_open user = user.open
 
   -- the number of the next request
   abbrev pub next_of : UserConnection R W → ℕ
-  next_of connection = connection.next
+  next_of user = user.next
 
   abbrev pub line_of : (R → Option Bytes) → (W → Option Bytes) → UserConnection R W → Line
-  line_of remaining contents connection = record {
-    given = remaining connection.reader;
-    held = connection.framer;
-    written = contents connection.writer;
-    goes = connection.open;
-    next = connection.next;
+  line_of remaining contents user = record {
+    given = remaining (reader_of user);
+    held = held_by user;
+    written = contents (writer_of user);
+    goes = user.open;
+    next = user.next;
   }
 
 -- the body came in a frame, first of what came

@@ -3,6 +3,7 @@ use Rattle.std.specs.Prelude.{◌≡◌, ◌≢◌, ◌⊎◌, ◌≤◌, ◌+�
 use Rattle.std.specs.Prelude.{drop, flat_map, take}
 use Rattle.std.specs.Io.KnownBytes.{Appends}
 use Rattle.syn_headline.specs.Side.{Fetch, ListAt, Listed, NotDir, Piece, Refused, Reply, Request}
+use Rattle.syn_link.specs.Connections.{held_by, reader_of, writer_of}
 use Rattle.syn_link.specs.Frames.{AppendsSome, Bytes, frame_of}
 use Rattle.syn_link.specs.Streams.{Comes, ComesAtFault, EndsBefore}
 use Rattle.syn_link.specs.declared.error.LinkError.TheVariants as link
@@ -34,11 +35,11 @@ pub record SideLine : Type 0 where
 
 abbrev pub side_line : {R W : Type 0} → (R → Option Bytes) → (W → Option Bytes)
     → SideConnection R W → SideLine
-side_line remaining contents connection = record {
-  given = remaining connection.reader;
-  held = connection.framer;
-  written = contents connection.writer;
-  next = connection.next;
+side_line remaining contents side = record {
+  given = remaining (reader_of side.connection);
+  held = held_by side.connection;
+  written = contents (writer_of side.connection);
+  next = side.next;
 }
 
 -- nothing was asked yet

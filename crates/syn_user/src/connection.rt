@@ -14,18 +14,15 @@ use crate::lawful::body_of;
 use crate::reply::reply_to;
 use std::alloc::Global;
 use std::io::{Read, Write};
-use syn_link::{Framer, read_body, write_frame};
+use syn_link::Connection;
 use syn_message::{AskedByUser, UserReply, UserRequest, decode_user_reply, message_laws};
 use syn_path::Path;
 use syn_tree::{Content, Edit};
 
-/// A user's connection to a served replica: what replies are read from, what requests are written
-/// to, and what came and was not handed out yet. Requests are numbered from 0.
+/// A user's connection to a served replica. Requests are numbered from 0.
 #[derive(Drop)]
 pub struct UserConnection<R, W> {
-    reader: R,
-    writer: W,
-    framer: Framer,
+    connection: Connection<R, W>,
     open: bool,
     next: u32,
 }
@@ -40,9 +37,7 @@ impl<R: Read, W: Write> UserConnection<R, W> {
         ensures next { next_of result ≡ 0 }
     {
         UserConnection {
-            reader,
-            writer,
-            framer: Framer::new(alloc),
+            connection: Connection::new(alloc, reader, writer),
             open: true,
             next: 0,
         }
@@ -52,7 +47,7 @@ impl<R: Read, W: Write> UserConnection<R, W> {
     pub fn into_parts(self) -> (R, W)
         ensures { result ≡ (reader_of self, writer_of self) }
     {
-        (self.reader, self.writer)
+        self.connection.into_parts()
     }
 
     /// Whether the connection goes on. It is closed by each refusal but the replica's own.
@@ -161,7 +156,7 @@ impl<R: Read, W: Write> UserConnection<R, W> {
         ensures open { is_open self.new ≡ is_open self.old }
     {
         let body = body_of(alloc, asked)?;
-        match write_frame(&mut self.writer, &body) {
+        match self.connection.send(&body) {
             Ok(()) => {}
             Err(_) => return Err(UserError::Device),
         }
@@ -182,7 +177,7 @@ impl<R: Read, W: Write> UserConnection<R, W> {
             (line_of R.remaining W.contents self.new) }
     {
         message_laws();
-        let Some(body) = read_body(alloc, &mut self.reader, &mut self.framer)? else {
+        let Some(body) = self.connection.receive(alloc)? else {
             return Err(UserError::Device);
         };
         let Some(answered) = decode_user_reply(alloc, &body)? else {

@@ -10,14 +10,14 @@ ghost use Rattle.syn_user.specs.Sides.{IsTouchedSince, IsUnanswered, IsUnheard, 
 ghost use Rattle.syn_user.specs.Sides.{NoPiece, NoPieces, NoPosition, NoTree, ShowsTree};
 ghost use Rattle.syn_user.specs.Sides.{TellsPosition, asking_with, first_line};
 ghost use Rattle.syn_user.specs.Sides.{root_from, side_line};
-ghost use Rattle.syn_user.specs.inner.Parts.{is_refusal};
+ghost use Rattle.syn_user.specs.inner.Parts.{is_refusal, side_writer};
 
 use crate::connection::number_after;
 use crate::error::UserError;
 use crate::gathered::Gathered;
 use std::alloc::Global;
 use std::io::{Read, Write};
-use syn_link::{Framer, read_body, write_frame};
+use syn_link::Connection;
 use syn_message::{Asked, Reply, Request, decode_reply, encode_request, message_laws};
 use syn_path::Path;
 use syn_refusal::Refusal;
@@ -32,14 +32,11 @@ const MOST_PIECES: u32 = 17;
 /// How often the whole tree is begun anew, where somebody edits meanwhile.
 pub(crate) const MOST_TRIES: u32 = 100;
 
-/// A connection to a served replica: what replies are read from, what requests are written to, and
-/// what came and was not handed out yet. Requests are numbered from 0. No session begins by them,
-/// and they change nothing.
+/// A connection to a served replica. Requests are numbered from 0. No session begins by them, and
+/// they change nothing.
 #[derive(Drop)]
 pub struct SideConnection<R, W> {
-    reader: R,
-    writer: W,
-    framer: Framer,
+    connection: Connection<R, W>,
     next: u32,
 }
 
@@ -50,9 +47,7 @@ impl<R: Read, W: Write> SideConnection<R, W> {
             ≡ first_line (R.remaining reader) (W.contents writer) }
     {
         SideConnection {
-            reader,
-            writer,
-            framer: Framer::new(alloc),
+            connection: Connection::new(alloc, reader, writer),
             next: 0,
         }
     }
@@ -194,7 +189,7 @@ impl<R: Read, W: Write> SideConnection<R, W> {
         ensures refused { IfErr result (λ error. is_refusal error ≡ false) }
     {
         let body = body_of(alloc, self.next, request)?;
-        match write_frame(&mut self.writer, &body) {
+        match self.connection.send(&body) {
             Ok(()) => {}
             Err(_) => return Err(UserError::Device),
         }
@@ -206,7 +201,7 @@ impl<R: Read, W: Write> SideConnection<R, W> {
         ensures heard { IfOk result (λ reply.
             IsHeard (side_line R.remaining W.contents self.old)
             (side_line R.remaining W.contents self.new) (reply_of reply)) }
-        ensures silent { self.new.writer ≡ self.old.writer }
+        ensures silent { side_writer self.new ≡ side_writer self.old }
         ensures unheard { IfErr result (IsUnheard (side_line R.remaining W.contents self.old)
             (side_line R.remaining W.contents self.new)) }
         ensures refused { IfErr result (λ error. is_refusal error ≡ false) }
@@ -215,7 +210,7 @@ impl<R: Read, W: Write> SideConnection<R, W> {
         let number = self.next;
         is_lawful_number(number);
         self.next = number_after(number);
-        let Some(body) = read_body(alloc, &mut self.reader, &mut self.framer)? else {
+        let Some(body) = self.connection.receive(alloc)? else {
             return Err(UserError::Device);
         };
         match decode_reply(alloc, &body)? {

@@ -3,8 +3,8 @@ use Rattle.std.proofs.Common.{[], subst}
 use Rattle.syn_disk.specs.declared.disk.Disk.{Ghosts}
 use Rattle.syn_headline.specs.Coordinator.{CoordinatorMachine, no_call}
 use Rattle.syn_headline.specs.World.{World as ModelWorld, CoordinatorDoes}
-use Rattle.syn_host.specs.Coordinators.{CoordinatorStep, IsCoordinator}
-use Rattle.syn_host.specs.declared.coordinator.CoordinatorHost.{CoordinatorHost}
+use Rattle.syn_world.specs.Coordinators.{CoordinatorStep, IsCoordinator}
+use Rattle.syn_world.specs.declared.coordinator.CoordinatorHost.{CoordinatorHost}
 use Rattle.syn_world.specs.Worlds.{IsRunning}
 use Rattle.syn_world.specs.declared.running.Running.{Running}
 use Rattle.syn_world.proofs.SessionLemmas.{eq_same, lift_coordinator}

@@ -10,13 +10,13 @@ use Rattle.syn_headline.specs.Runs.{picture_of, stores_of}
 use Rattle.syn_headline.specs.Network.{Left, Right, Which}
 use Rattle.syn_headline.specs.SideMachine.{SideMachine}
 use Rattle.syn_headline.specs.World.{World as ModelWorld, At, Coordinator, Runs, Step, side_of}
-use Rattle.syn_host.specs.Coordinators.{IsCoordinator, archive_disk}
-use Rattle.syn_host.specs.Sides.{IsHost, side_disk}
-use Rattle.syn_host.specs.Starts.{CountsFailure, IsFree, IsFromOutside}
-use Rattle.syn_host.specs.declared.coordinator.CoordinatorHost.{CoordinatorHost}
-use Rattle.syn_host.specs.declared.coordinator.CoordinatorHost.TheVariants as machine
-use Rattle.syn_host.specs.declared.side.SideHost.{SideHost}
-use Rattle.syn_host.specs.declared.side.SideHost.TheVariants as host
+use Rattle.syn_world.specs.Coordinators.{IsCoordinator, archive_disk}
+use Rattle.syn_world.specs.Sides.{IsHost, side_disk}
+use Rattle.syn_world.specs.Starts.{CountsFailure, IsFree, IsFromOutside}
+use Rattle.syn_world.specs.declared.coordinator.CoordinatorHost.{CoordinatorHost}
+use Rattle.syn_world.specs.declared.coordinator.CoordinatorHost.TheVariants as machine
+use Rattle.syn_world.specs.declared.side.SideHost.{SideHost}
+use Rattle.syn_world.specs.declared.side.SideHost.TheVariants as host
 use Rattle.syn_model.specs.Path.{Bytes}
 use Rattle.syn_model.specs.Refusal as why
 use Rattle.syn_refusal.specs.Refusals.{cause_of}

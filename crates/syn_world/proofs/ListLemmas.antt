@@ -10,9 +10,9 @@ use Rattle.syn_headline.specs.Coordinator.{Call}
 use Rattle.syn_headline.specs.Network.{Answers, Message, Which}
 use Rattle.syn_headline.specs.Report.{Report}
 use Rattle.syn_headline.specs.World.{World as ModelWorld, says}
-use Rattle.syn_host.specs.Outcomes.{Acknowledges, Tells, refused_in}
-use Rattle.syn_host.specs.declared.outcome.CoordinatorOutcome.{CoordinatorOutcome}
-use Rattle.syn_host.specs.declared.outcome.Outcome.{Outcome}
+use Rattle.syn_world.specs.Outcomes.{Acknowledges, Tells, refused_in}
+use Rattle.syn_world.specs.declared.outcome.CoordinatorOutcome.{CoordinatorOutcome}
+use Rattle.syn_world.specs.declared.outcome.Outcome.{Outcome}
 use Rattle.syn_message.specs.Replies.{IsLawfulReply, reply_of}
 use Rattle.syn_path.specs.Sides.{which_of}
 use Rattle.syn_message.specs.declared.reply.Reply.{Reply}

@@ -4,11 +4,11 @@ use Rattle.std.specs.Prelude.{Result}
 use Rattle.syn_disk.specs.declared.disk.Disk.{Ghosts}
 use Rattle.syn_headline.specs.Coordinator.{Call, CoordinatorMachine}
 use Rattle.syn_headline.specs.World.{World as ModelWorld, Step, Steps}
-use Rattle.syn_host.specs.CoordinatorOpenings.{gives_found}
-use Rattle.syn_host.specs.Coordinators.{IsCoordinator, archive_disk}
-use Rattle.syn_host.specs.Outcomes.{Tells, causes_in}
-use Rattle.syn_host.specs.declared.coordinator.open.CoordinatorOpening.{CoordinatorOpening}
-use Rattle.syn_host.specs.declared.outcome.CoordinatorOutcome.{CoordinatorOutcome}
+use Rattle.syn_world.specs.CoordinatorOpenings.{gives_found}
+use Rattle.syn_world.specs.Coordinators.{IsCoordinator, archive_disk}
+use Rattle.syn_world.specs.Outcomes.{Tells, causes_in}
+use Rattle.syn_world.specs.declared.coordinator.open.CoordinatorOpening.{CoordinatorOpening}
+use Rattle.syn_world.specs.declared.outcome.CoordinatorOutcome.{CoordinatorOutcome}
 use Rattle.syn_model.specs.Refusal.{Refusal}
 use Rattle.std.proofs.Common.{List}
 use Rattle.syn_refusal.specs.declared.refusal.Refusal.{Refusal as Code}

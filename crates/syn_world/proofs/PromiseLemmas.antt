@@ -12,12 +12,12 @@ use Rattle.syn_headline.specs.Machine.{Up, Down}
 use Rattle.syn_headline.specs.Runs.{stores_of, picture_of}
 use Rattle.syn_headline.specs.SideMachine.{SideMachine}
 use Rattle.syn_headline.specs.World.{World as ModelWorld, Runs, Step}
-use Rattle.syn_host.specs.Coordinators.{IsCoordinator}
-use Rattle.syn_host.specs.Sides.{IsHost, replica_of}
-use Rattle.syn_host.specs.declared.coordinator.CoordinatorHost.{CoordinatorHost}
-use Rattle.syn_host.specs.declared.coordinator.CoordinatorHost.TheVariants as machine
-use Rattle.syn_host.specs.declared.side.SideHost.{SideHost}
-use Rattle.syn_host.specs.declared.side.SideHost.TheVariants as host
+use Rattle.syn_world.specs.Coordinators.{IsCoordinator}
+use Rattle.syn_world.specs.Sides.{IsHost, replica_of}
+use Rattle.syn_world.specs.declared.coordinator.CoordinatorHost.{CoordinatorHost}
+use Rattle.syn_world.specs.declared.coordinator.CoordinatorHost.TheVariants as machine
+use Rattle.syn_world.specs.declared.side.SideHost.{SideHost}
+use Rattle.syn_world.specs.declared.side.SideHost.TheVariants as host
 use Rattle.syn_model.specs.History.{tree_of}
 use Rattle.syn_path.specs.Sides.{which_of}
 use Rattle.syn_path.specs.declared.side.Side.{Side}

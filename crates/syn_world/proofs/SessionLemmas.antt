@@ -11,10 +11,10 @@ use Rattle.syn_headline.specs.World.{World as ModelWorld, CoordinatorDoes, Deliv
 use Rattle.syn_headline.specs.World.{Tick, Ticks, coordinator_does, coordinator_goes, ticks}
 use Rattle.syn_headline.specs.World.{to_coordinator}
 use Rattle.syn_headline.specs.World as model
-use Rattle.syn_host.specs.CoordinatorSteps.{CallIsStep, Unrefused}
-use Rattle.syn_host.specs.Coordinators.{CoordinatorStep, IsCoordinator, archive_disk}
-use Rattle.syn_host.specs.Outcomes.{Tells}
-use Rattle.syn_host.specs.declared.coordinator.CoordinatorCall.{CoordinatorCall}
+use Rattle.syn_world.specs.CoordinatorSteps.{CallIsStep, Unrefused}
+use Rattle.syn_world.specs.Coordinators.{CoordinatorStep, IsCoordinator, archive_disk}
+use Rattle.syn_world.specs.Outcomes.{Tells}
+use Rattle.syn_world.specs.declared.coordinator.CoordinatorCall.{CoordinatorCall}
 use Rattle.syn_model.specs.Refusal.{Refusal}
 use Rattle.syn_recovery.specs.Calls.{CountsNoMore}
 use Rattle.syn_world.specs.Failures.{disks_in, failures_in, last_of}

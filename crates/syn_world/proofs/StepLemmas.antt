@@ -7,7 +7,7 @@ use Rattle.syn_headline.specs.Side.{Reply, Request}
 use Rattle.syn_headline.specs.SideMachine.{SideMachine}
 use Rattle.syn_headline.specs.World.{World, Steps, Delivers, Deliver, SideDoes, says, set_side}
 use Rattle.syn_headline.specs.World.{side_does, side_goes, side_of, to_no_side, to_side}
-use Rattle.syn_host.specs.SideSteps.{Answers, SideStep, no_side, takes}
+use Rattle.syn_world.specs.SideSteps.{Answers, SideStep, no_side, takes}
 use Rattle.syn_model.specs.Event.{Event}
 use Rattle.syn_model.specs.Refusal.{Refusal}
 

@@ -5,10 +5,10 @@ use Rattle.syn_disk.specs.declared.disk.Disk.{Ghosts}
 use Rattle.syn_headline.specs.Network.{Left, Message, Right}
 use Rattle.syn_headline.specs.SideMachine.{SideMachine}
 use Rattle.syn_headline.specs.World.{World as ModelWorld, set_side}
-use Rattle.syn_host.specs.Outcomes.{Acknowledges, refused_in}
-use Rattle.syn_host.specs.Sides.{IsHost}
-use Rattle.syn_host.specs.declared.side.SideCall.{SideCall}
-use Rattle.syn_host.specs.declared.side.SideHost.{SideHost}
+use Rattle.syn_world.specs.Outcomes.{Acknowledges, refused_in}
+use Rattle.syn_world.specs.Sides.{IsHost}
+use Rattle.syn_world.specs.declared.side.SideCall.{SideCall}
+use Rattle.syn_world.specs.declared.side.SideHost.{SideHost}
 use Rattle.syn_model.specs.Event.{Event}
 use Rattle.syn_world.specs.Worlds.{EndsSo, Grows, GrowsBy, IsListed, IsRunning, RunsMachines}
 use Rattle.syn_world.specs.declared.running.Running.{Running}

@@ -8,10 +8,10 @@ use Rattle.syn_headline.specs.Headline.{IsPair}
 use Rattle.syn_headline.specs.Network.{Which, Left, Right}
 use Rattle.syn_headline.specs.World.{World as ModelWorld, At, side_of}
 use Rattle.syn_headline.specs.World as worlds
-use Rattle.syn_host.specs.Starts.{CanStart, StartsCoordinator, StartsSide}
-use Rattle.syn_host.specs.declared.coordinator.CoordinatorHost.TheVariants as machine
-use Rattle.syn_host.specs.declared.side.SideHost.TheVariants as host
-use Rattle.syn_host.specs.declared.side.UpSide.{UpSide}
+use Rattle.syn_world.specs.Starts.{CanStart, StartsCoordinator, StartsSide}
+use Rattle.syn_world.specs.declared.coordinator.CoordinatorHost.TheVariants as machine
+use Rattle.syn_world.specs.declared.side.SideHost.TheVariants as host
+use Rattle.syn_world.specs.declared.side.UpSide.{UpSide}
 use Rattle.syn_model.specs.Archive.{Archive}
 use Rattle.syn_model.specs.History.{History}
 use Rattle.syn_refusal.specs.Refusals.{cause_of}

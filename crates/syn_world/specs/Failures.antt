@@ -3,8 +3,8 @@ use Rattle.std.specs.Prelude.{◌≡◌, ◌+◌, ◌≤◌, ℕ, Err, Ok, Resul
 use Rattle.syn_disk.specs.declared.disk.Disk.{Ghosts}
 use Rattle.syn_headline.specs.Network.{Left, Right}
 use Rattle.syn_headline.specs.World.{World as ModelWorld, At, Coordinator, Machine, failures_of}
-use Rattle.syn_host.specs.Coordinators.{archive_disk}
-use Rattle.syn_host.specs.Sides.{side_disk}
+use Rattle.syn_world.specs.Coordinators.{archive_disk}
+use Rattle.syn_world.specs.Sides.{side_disk}
 use Rattle.syn_world.specs.declared.running.Running.{Running}
 use Rattle.syn_world.specs.declared.world.Disks.{Disks}
 

@@ -5,7 +5,7 @@ use Rattle.syn_disk.specs.declared.disk.Disk.{Ghosts}
 use Rattle.syn_headline.specs.Acknowledged.{Stores}
 use Rattle.syn_headline.specs.Runs.{picture_of, stores_of}
 use Rattle.syn_headline.specs.World.{World as ModelWorld, Step, Runs}
-use Rattle.syn_host.specs.Starts.{CountsFailure, IsFromOutside}
+use Rattle.syn_world.specs.Starts.{CountsFailure, IsFromOutside}
 use Rattle.syn_model.specs.Path.{Bytes}
 use Rattle.syn_model.specs.Refusal as why
 use Rattle.syn_recovery.specs.Headline.{Disks as Shown, IsCrashSafe, IsOpenedFrom}

@@ -5,3 +5,10 @@ pub mod Runs
 pub mod Openings
 pub mod Headlines
 pub mod Promises
+pub mod Outcomes
+pub mod SideSteps
+pub mod Sides
+pub mod Coordinators
+pub mod CoordinatorSteps
+pub mod CoordinatorOpenings
+pub mod Starts

@@ -2,8 +2,8 @@
 use Rattle.std.specs.Prelude.{option_map}
 use Rattle.syn_headline.specs.World as model
 use Rattle.syn_path.specs.Sides.{which_of}
-use Rattle.syn_script.specs.declared.line.Machine.{Machine}
-use Rattle.syn_script.specs.declared.line.Machine.TheVariants as machine
+use Rattle.syn_world.specs.declared.machine.Machine.{Machine}
+use Rattle.syn_world.specs.declared.machine.Machine.TheVariants as machine
 use Rattle.syn_tree.specs.Edits.{edit_of}
 use Rattle.syn_world.specs.declared.step.Step.{Step}
 use Rattle.syn_world.specs.declared.step.Step.TheVariants.{Edit, Start, Deliver, Tick, Checkpoint}

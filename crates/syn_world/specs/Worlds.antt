@@ -9,13 +9,13 @@ use Rattle.syn_headline.specs.Coordinator.{Call}
 use Rattle.syn_headline.specs.Network.{Which, Answers, Asks, Message as Sent}
 use Rattle.syn_headline.specs.Report.{Report as Reported}
 use Rattle.syn_headline.specs.World.{World as ModelWorld, Step, Steps, says}
-use Rattle.syn_host.specs.Coordinators.{IsCoordinator}
-use Rattle.syn_host.specs.Outcomes.{Acknowledges, causes_in, refused_in}
-use Rattle.syn_host.specs.Sides.{IsHost, replica_of}
-use Rattle.syn_host.specs.declared.coordinator.CoordinatorHost.{CoordinatorHost}
-use Rattle.syn_host.specs.declared.coordinator.CoordinatorHost.TheVariants as host
-use Rattle.syn_host.specs.declared.outcome.CoordinatorOutcome.{CoordinatorOutcome}
-use Rattle.syn_host.specs.declared.outcome.Outcome.{Outcome}
+use Rattle.syn_world.specs.Coordinators.{IsCoordinator}
+use Rattle.syn_world.specs.Outcomes.{Acknowledges, causes_in, refused_in}
+use Rattle.syn_world.specs.Sides.{IsHost, replica_of}
+use Rattle.syn_world.specs.declared.coordinator.CoordinatorHost.{CoordinatorHost}
+use Rattle.syn_world.specs.declared.coordinator.CoordinatorHost.TheVariants as host
+use Rattle.syn_world.specs.declared.outcome.CoordinatorOutcome.{CoordinatorOutcome}
+use Rattle.syn_world.specs.declared.outcome.Outcome.{Outcome}
 use Rattle.syn_message.specs.Replies.{IsLawfulReply, reply_of}
 use Rattle.syn_path.specs.Sides.{which_of}
 use Rattle.syn_message.specs.declared.reply.Reply.{Reply}
@@ -34,7 +34,7 @@ use Rattle.syn_replica.specs.declared.replica.Replica.{Replica}
 use Rattle.syn_coordinator.specs.Coordinators.{archive_of, in_report}
 use Rattle.syn_session.specs.Reports.{report_model}
 use Rattle.syn_session.specs.Sendings as sendings
-use Rattle.syn_keep.specs.Tries.{listed}
+use Rattle.syn_coordinator.specs.Tries.{listed}
 use Rattle.syn_session.specs.declared.report.Report.{Report}
 use Rattle.syn_image.specs.Archives.{kept_of}
 use Rattle.syn_image.specs.declared.kept.Kept.{Kept as KeptBy}

@@ -3,7 +3,7 @@ ghost use Rattle.std.specs.Prelude.{◌≡◌, ◌≢◌, ◌⊎◌, ◌<◌, �
 ghost use Rattle.std.specs.Prelude.{map};
 ghost use Rattle.syn_headline.specs.Acknowledged.{Stores};
 ghost use Rattle.syn_headline.specs.World.{World as ModelWorld, Step as ModelStep};
-ghost use Rattle.syn_host.specs.Starts.{CountsFailure, IsFromOutside};
+ghost use Rattle.syn_world.specs.Starts.{CountsFailure, IsFromOutside};
 ghost use Rattle.syn_model.specs.Refusal as why;
 ghost use Rattle.syn_refusal.specs.Refusals.{cause_of};
 ghost use Rattle.syn_world.specs.Headlines.{AreSafe, FindsCause, FindsPair, Recovers, RunsSafely};
@@ -14,10 +14,10 @@ ghost use Rattle.syn_world.specs.Promises.{HoldsAsPromised, KeepsPromise};
 ghost use Rattle.syn_world.specs.Steps.{step_of};
 ghost use Rattle.syn_world.specs.Worlds.{pair_in};
 
+use crate::SimulatedDisk;
 use crate::step::Step;
 use crate::world::{Disks, World};
 use std::alloc::Global;
-use syn_host::SimulatedDisk;
 use syn_recovery::headline;
 use syn_refusal::Refusal;
 

@@ -1,13 +1,13 @@
 //! What a world has heard so far.
 ghost use Rattle.std.specs.Prelude.{◌≡◌, ◌++◌, map, option_map, true};
-ghost use Rattle.syn_host.specs.Outcomes.{causes_in};
+ghost use Rattle.syn_world.specs.Outcomes.{causes_in};
 ghost use Rattle.syn_refusal.specs.Refusals.{cause_of};
 ghost use Rattle.syn_coordinator.specs.Coordinators.{in_report};
 ghost use Rattle.syn_session.specs.Reports.{report_model};
 ghost use Rattle.syn_session.specs.Sendings.{messages_of};
 ghost use Rattle.syn_world.specs.Worlds.{message_of, report_in, told_in, told_kept};
 
-use syn_host::{CoordinatorOutcome, Outcome};
+use crate::{CoordinatorOutcome, Outcome};
 use syn_image::Kept;
 use syn_message::{Answered, Reply};
 use syn_path::Side;

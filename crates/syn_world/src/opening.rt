@@ -1,7 +1,7 @@
 //! A world is opened from its three disks.
 ghost use Rattle.std.specs.Prelude.{◌≡◌, ℕ, [], IfErr, IfOk, MatchResult};
 ghost use Rattle.syn_headline.specs.Acknowledged.{Stores};
-ghost use Rattle.syn_host.specs.Starts.{CountsFailure, IsFromOutside};
+ghost use Rattle.syn_world.specs.Starts.{CountsFailure, IsFromOutside};
 ghost use Rattle.syn_world.specs.Openings.{AreOfPair, ComeBack, CountsAsOpened, OpensFrom};
 ghost use Rattle.syn_world.specs.Openings.{RefusesDisks, StandFor, failed_calls, shown_on};
 ghost use Rattle.syn_world.specs.Worlds.{pair_in};
@@ -9,8 +9,8 @@ ghost use Rattle.syn_world.specs.Worlds.{pair_in};
 use crate::lists::Lists;
 use crate::running::Running;
 use crate::world::{Disks, World};
+use crate::{CoordinatorHost, SideHost, SimulatedDisk, start_coordinator, start_side};
 use std::alloc::Global;
-use syn_host::{CoordinatorHost, SideHost, SimulatedDisk, start_coordinator, start_side};
 use syn_refusal::Refusal;
 
 impl<D: SimulatedDisk> World<D> {

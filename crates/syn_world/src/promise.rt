@@ -5,8 +5,8 @@ ghost use Rattle.syn_headline.specs.Runs.{stores_of};
 ghost use Rattle.syn_headline.specs.World.{World as ModelWorld, Runs, Step as ModelStep};
 ghost use Rattle.syn_recovery.specs.Headline.{Disks as Shown, IsOpenedFrom};
 
+use crate::SimulatedDisk;
 use crate::world::World;
-use syn_host::SimulatedDisk;
 
 impl<D: SimulatedDisk> World<D> {
     ghost use Rattle.syn_world.specs.Promises.{KeepsPromise};

@@ -8,8 +8,8 @@ ghost use Rattle.syn_model.specs.Event.{Event};
 ghost use Rattle.syn_model.specs.Refusal.{Refusal as Cause};
 
 use crate::lists::Lists;
+use crate::{CoordinatorHost, CoordinatorOutcome, Outcome, SideHost, SimulatedDisk};
 use syn_disk::Disk;
-use syn_host::{CoordinatorHost, CoordinatorOutcome, Outcome, SideHost, SimulatedDisk};
 use syn_message::Reply;
 use syn_path::Side;
 
@@ -34,7 +34,7 @@ pub struct Running<D: Disk> {
 }
 
 impl<D: SimulatedDisk> Running<D> {
-    ghost use Rattle.syn_host.specs.Outcomes.{Acknowledges, Tells, refused_in};
+    ghost use Rattle.syn_world.specs.Outcomes.{Acknowledges, Tells, refused_in};
     ghost use Rattle.syn_world.specs.Failures.{disks_in, last_of};
     ghost use Rattle.syn_world.specs.Worlds.{EndsSo, Goes, Grows, GrowsBy, IsListed};
     ghost use Rattle.syn_world.specs.Worlds.{RunsMachines};

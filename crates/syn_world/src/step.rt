@@ -1,7 +1,7 @@
 //! The steps of a world.
 
+use crate::machine::Machine;
 use syn_path::Side;
-use syn_script::Machine;
 use syn_tree::Edit;
 
 /// A step of the world. On a machine that is down it does nothing, unless it opens it.

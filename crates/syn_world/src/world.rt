@@ -1,11 +1,11 @@
 //! A world of two sides and a coordinator: what it shows, and its steps.
 ghost use Rattle.std.specs.Prelude.{◌≡◌, Some, false, is_some, option_map, true};
 
+use crate::CoordinatorHost;
 use crate::lists::{Ack, Message};
 use crate::running::Running;
 use syn_archive::Archive;
 use syn_disk::Disk;
-use syn_host::CoordinatorHost;
 use syn_path::Side;
 use syn_refusal::Refusal;
 use syn_replica::Replica;

@@ -1,11 +1,13 @@
 -- What an archive has in memory, and what a record makes of it.
-use Rattle.std.specs.Prelude.{ℕ, List, Option}
+use Rattle.std.specs.Prelude.{◌≡◌, ℕ, List, Option}
 use Rattle.syn_model.specs.Path.{Bytes}
 use Rattle.syn_model.specs.Tree.{Tree}
-use Rattle.syn_model.specs.Archive.{Archive}
+use Rattle.syn_model.specs.Archive.{Archive, Kept}
 use Rattle.syn_model.specs.ArchiveImage.{ArchiveStandsFor, ArchiveStandsForIn}
 use Rattle.syn_model.specs.MarkSpelling.{IsOldArchiveImage}
 use Rattle.syn_model.specs.Version.{One}
+use Rattle.syn_journal.specs.Keepings.{of_archive}
+use Rattle.syn_journal.specs.Machines.{KeptAs}
 use Rattle.syn_mark.specs.Changes.{IsPreparedFor, after_change}
 use Rattle.syn_image.specs.declared.kept.ArchiveImage.{ArchiveImage}
 use Rattle.syn_archive.specs.Disks.{StandsForNone, StandsForNoneIn, StandsForOther}
@@ -42,6 +44,14 @@ after_update agreed update = record {
   last_session = session_after agreed.last_session update;
   marks = marks_after agreed.marks update;
 }
+
+-- it is what the coordinator's machine keeps for the pair
+pub record RemembersAs (pair : ℕ) (agreed : Agreed) (kept : Archive) : Type 0 where
+  pub pair_is : agreed.pair ≡ pair
+  pub archive_is : agreed_archive agreed ≡ kept
+
+abbrev pub kept_as : ℕ → KeptAs Agreed Archive Kept
+kept_as pair = record { keeping = of_archive pair; Remembers = RemembersAs pair }
 
 -- the update may be made
 abbrev pub IsReady : Agreed → Update → Type 0

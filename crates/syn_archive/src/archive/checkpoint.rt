@@ -1,9 +1,9 @@
 //! A checkpoint: all that an archive keeps is written as one image.
-ghost use Rattle.std.specs.Prelude.{◌≡◌, ◌⊎◌, ◌↔◌, ◌+◌, ◌<◌, ◌^◌, length, OnOk, IfErr};
+ghost use Rattle.std.specs.Prelude.{◌≡◌, ◌⊎◌, ◌↔◌, ◌+◌, ◌<◌, ◌^◌, ℕ, length, OnOk, IfErr};
 ghost use Rattle.std.specs.Prelude.{Err};
 ghost use Rattle.syn_disk.specs.Stops.{LeavesOnly};
 ghost use Rattle.syn_journal.specs.Layout.{longest_image};
-ghost use Rattle.syn_journaled.specs.Endings.{ended};
+ghost use Rattle.syn_journal.specs.Endings.{ended};
 ghost use Rattle.syn_model.specs.Archive.{Archive as KeptArchive};
 ghost use Rattle.syn_model.specs.MarkSpelling.{archive_spelling};
 ghost use Rattle.syn_archive.specs.Refusals.{IsOfCheckpoint, refusal_of};
@@ -18,6 +18,7 @@ impl<D: Disk> Archive<D> {
     ghost use Rattle.syn_archive.specs.Archive.{pair_of, shown, disk_of, generation_shown};
     ghost use Rattle.syn_archive.specs.Archive.{Stands, KeepsOrCompacts};
     ghost use Rattle.syn_archive.specs.Calls.{Compacts};
+    ghost use Rattle.syn_archive.specs.Machines.{CompactsImage, IsMachine, Journal};
 
     /// Writes the marks and the last session as one image, so that the journal has room again.
     ///
@@ -41,6 +42,10 @@ impl<D: Disk> Archive<D> {
 
         // Six device calls where it succeeds. After 9 the last that was made failed.
         ensures machine { Compacts self.old self.new (ended refusal_of result) }
+
+        // What it is to the model's machine, also where its device fails or stops.
+        ensures world { (number : ℕ) (machine : Journal) → IsMachine self.old number machine
+            → CompactsImage self.new number machine (ended refusal_of result) }
     {
         archive_laws();
         self.machine.checkpoint(alloc)

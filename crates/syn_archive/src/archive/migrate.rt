@@ -8,7 +8,7 @@ ghost use Rattle.syn_disk.specs.Calls.{MakesAtLeast};
 ghost use Rattle.syn_disk.specs.Stops.{LeavesOnly, Untouched};
 ghost use Rattle.syn_journal.specs.Journal as journal;
 ghost use Rattle.syn_journal.specs.Layout.{image_alone};
-ghost use Rattle.syn_journaled.specs.Endings.{CountsFailures, ReadsOrBreaks};
+ghost use Rattle.syn_journal.specs.Endings.{CountsFailures, ReadsOrBreaks};
 ghost use Rattle.syn_model.specs.Archive.{Archive as KeptArchive};
 ghost use Rattle.syn_model.specs.MarkSpelling.{archive_spelling};
 ghost use Rattle.syn_model.specs.Version.{One, Version};
@@ -18,7 +18,7 @@ use crate::error::ArchiveError;
 use crate::laws::opening_laws;
 use std::alloc::Global;
 use syn_disk::Disk;
-use syn_journaled::Journaled;
+use syn_journal::Journaled;
 use syn_model::archive_laws;
 
 impl<D: Disk> Archive<D> {

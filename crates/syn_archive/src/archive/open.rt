@@ -1,7 +1,7 @@
 //! An opening: an archive finds out what a disk, or its own, stands for.
 ghost use Rattle.std.specs.Prelude.{◌≡◌, ◌⊎◌, ◌<◌, ◌^◌, ℕ, None, Some, IfOk, IfErr, IsErrAnd, OnOk};
 ghost use Rattle.std.specs.Prelude.{MatchResult};
-ghost use Rattle.syn_journaled.specs.Endings.{Reads, ended};
+ghost use Rattle.syn_journal.specs.Endings.{Reads, ended};
 ghost use Rattle.syn_model.specs.Archive.{Archive as KeptArchive, Kept, after_kept};
 ghost use Rattle.syn_archive.specs.Disks.{DiskStands, IsOldDisk, IsOpenRefusal, IsReopenRefusal};
 ghost use Rattle.syn_archive.specs.Disks.{IsWanted};
@@ -12,12 +12,13 @@ use crate::error::ArchiveError;
 use crate::laws::opening_laws;
 use std::alloc::Global;
 use syn_disk::Disk;
-use syn_journaled::Journaled;
+use syn_journal::Journaled;
 
 impl<D: Disk> Archive<D> {
     ghost use Rattle.syn_archive.specs.Archive.{pair_of, shown, disk_of, Stands};
     ghost use Rattle.syn_archive.specs.Archive.{KeepsBeforeOrAfter};
     ghost use Rattle.syn_archive.specs.Calls.{Reopens};
+    ghost use Rattle.syn_archive.specs.Machines.{IsMachine, Journal, ReadsDisk};
 
     /// Opens what the disk holds.
     ///
@@ -87,6 +88,10 @@ impl<D: Disk> Archive<D> {
 
         // A sync and then reads, whose number is not fixed; after 9 the last of them failed.
         ensures machine { Reopens self.old self.new (ended refusal_of result) }
+
+        // What it is to the model's machine, also where its device fails or stops.
+        ensures world { (number : ℕ) (machine : Journal) → IsMachine self.old number machine
+            → ReadsDisk self.new number machine (ended refusal_of result) }
     {
         opening_laws();
         self.machine.reopen(alloc)

@@ -1,42 +1,74 @@
 -- What a record that is due does to the walk of a session through its plan.
-use Rattle.std.specs.Prelude.{◌≡◌, ℕ, true, List, [], ◌∷◌, Option, Some, is_some}
+use Rattle.std.specs.Prelude.{◌≡◌, ◌⊎◌, ℕ, true, List, [], ◌∷◌, MatchResult, Option, Result, Some}
+use Rattle.std.specs.Prelude.{None}
 use Rattle.syn_archive.specs.Archive.{disk_of}
 use Rattle.syn_archive.specs.declared.archive.Archive.{Archive}
-use Rattle.syn_coordinator.specs.Coordinators.{BreaksNothing, BreaksOff}
+use Rattle.syn_coordinator.specs.Coordinators.{BreaksNothing, BreaksOff, BreaksUnsent}
 use Rattle.syn_coordinator.specs.declared.coordinator.Coordinator.{Coordinator}
+use Rattle.syn_coordinator.specs.declared.ended.Ended.{Ended}
+use Rattle.syn_coordinator.specs.declared.ended.Ended.TheVariants.{Early, Failed, Settled}
 use Rattle.syn_disk.specs.Arms.{is_stopped}
 use Rattle.syn_disk.specs.declared.disk.Disk.{Ghosts}
 use Rattle.syn_headline.specs.Coordinator.{Advances, EndsFor, Exchange, Running, Walk, past}
 use Rattle.syn_headline.specs.Coordinator.{plan_of, refusing}
 use Rattle.syn_headline.specs.Machine.{Down, Halted, Status, Up}
 use Rattle.syn_headline.specs.Planning.{Planned}
-use Rattle.syn_keep.specs.Machines.{IsMachine, Journal, LeavesMachine}
-use Rattle.syn_keep.specs.Tries.{Tries}
-use Rattle.syn_keep.specs.declared.due.Due.{Due}
-use Rattle.syn_keep.specs.declared.due.Due.TheVariants.{Recorded, Refused, Ends}
-use Rattle.syn_keep.specs.declared.tried.Tried.{Tried}
+use Rattle.syn_coordinator.specs.Machines.{IsMachine, Journal, LeavesMachine}
+use Rattle.syn_coordinator.specs.Tries.{Tries}
+use Rattle.syn_coordinator.specs.declared.due.Due.{Due}
+use Rattle.syn_coordinator.specs.declared.due.Due.TheVariants.{Recorded, Refused, Ends, Unsent}
+use Rattle.syn_coordinator.specs.declared.due.Due.TheVariants as due
+use Rattle.syn_coordinator.specs.declared.tried.Tried.{Tried}
 use Rattle.syn_model.specs.Archive.{Kept}
+use Rattle.syn_model.specs.Refusal.{Refusal as Why, Device}
 use Rattle.syn_refusal.specs.Refusals.{cause_of}
 use Rattle.syn_refusal.specs.declared.refusal.Refusal.{Refusal}
-use Rattle.syn_refusal.specs.declared.refusal.Refusal.TheVariants as refusal
 
--- it remembers what could not be kept, and so it does where it was up before and is halted
-pub record Remembers (pair : ℕ) (before : Status) (tried : Option Tried) (journal : Journal)
+-- What ended a session early, if anything did
+abbrev pub ended_by : Ended → Option Why
+ended_by Settled = None
+ended_by (Early why) = Some (cause_of why)
+ended_by Failed = Some Device
+
+-- it ends so where what was due ends so
+abbrev pub EndsAs : Due → Ended → Type 0
+EndsAs (Ends why) how = how ≡ Early why
+EndsAs Unsent how = how ≡ Failed
+EndsAs due.Tried how = how ≡ Failed
+EndsAs _ how = ⊥
+
+-- it remembers what was sent and not kept; and where it was up before and is halted, its session
+-- ended for that
+pub record Remembers (before : Status) (tried : Option Tried) (journal : Journal) (how : Ended)
     : Type 0 where
-  pub tries : Tries pair tried journal
-  pub some : before ≡ Up → journal.status ≡ Halted → is_some tried ≡ true
+  pub tries : Tries tried journal
+  pub fails : before ≡ Up → journal.status ≡ Halted → how ≡ Failed
 
 -- what was kept then
 abbrev pub kept_by : Kept → Due → List Kept
 kept_by what Recorded = what ∷ []
 kept_by what (Refused why) = []
 kept_by what (Ends why) = []
+kept_by what Unsent = []
+kept_by what due.Tried = []
 
 -- what was due breaks off only where it ends for the device
 abbrev pub BreaksBy : {D : Type 0} → {disk : Ghosts D} → Coordinator D disk → Coordinator D disk →
     Due → Type 0
-BreaksBy old new (Ends refusal.Device) = BreaksOff old new
+BreaksBy old new Unsent = BreaksUnsent old new
+BreaksBy old new due.Tried = BreaksOff old new
 BreaksBy old new _ = BreaksNothing old new
+
+-- and so does a session that ends
+abbrev pub BreaksAs : {D : Type 0} → {disk : Ghosts D} → Coordinator D disk → Coordinator D disk →
+    Ended → Type 0
+BreaksAs old new Failed = BreaksUnsent old new ⊎ BreaksOff old new
+BreaksAs old new _ = BreaksNothing old new
+
+-- a call goes through the plan of its session: as long as it goes on nothing breaks
+abbrev pub Breaks : {D : Type 0} → {disk : Ghosts D} → {A : Type 0} → Coordinator D disk →
+    Coordinator D disk → Result A Ended → Type 0
+Breaks old new result = MatchResult result (λ _. BreaksNothing old new) (BreaksAs old new)
 
 -- It goes past the item, whose record is kept or refused; or the session ends at it; or the machine
 -- was stopped there
@@ -50,15 +82,16 @@ pub data Advanced {D : Type 0} {disk : Ghosts D} (new : Archive D disk) (tried :
       Advances pair plan taken walk [] (refusing walk (cause_of why) planned) →
       IsMachine new pair walk.journal →
       Advanced new tried pair plan taken walk planned what (Refused why)
-  ended : (why : Refusal) (later : Walk) → Advances pair plan taken walk [] later →
+  ended : (due : Due) (how : Ended) (later : Walk) → EndsAs due how →
+      Advances pair plan taken walk [] later →
       later.cursor ≡ walk.cursor → later.refused ≡ walk.refused →
       ((running : Running) → plan_of running ≡ plan →
-      EndsFor pair running taken walk.journal.status later (Some (cause_of why))) →
+      EndsFor pair running taken walk.journal.status later (ended_by how)) →
       IsMachine new pair later.journal →
-      Remembers pair walk.journal.status tried later.journal →
-      Advanced new tried pair plan taken walk planned what (Ends why)
+      Remembers walk.journal.status tried later.journal how →
+      Advanced new tried pair plan taken walk planned what due
   stopped : (due : Due) (later : Walk) →
       Advances pair plan taken walk (kept_by what due) later → later.journal.status ≡ Down →
       is_stopped (disk.arms (disk_of new)) ≡ true →
-      LeavesMachine disk (disk_of new) pair later.journal → Tries pair tried later.journal →
+      LeavesMachine disk (disk_of new) pair later.journal → Tries tried later.journal →
       Advanced new tried pair plan taken walk planned what due

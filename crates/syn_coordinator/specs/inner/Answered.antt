@@ -9,8 +9,8 @@ use Rattle.syn_headline.specs.Coordinator.{Call, CoordinatorMachine, Exchange, R
 use Rattle.syn_headline.specs.Machine.{Down}
 use Rattle.syn_headline.specs.Network.{Message}
 use Rattle.syn_headline.specs.Report.{Report}
-use Rattle.syn_keep.specs.Machines.{LeavesMachine}
-use Rattle.syn_keep.specs.Tries.{Tries}
+use Rattle.syn_coordinator.specs.Machines.{LeavesMachine}
+use Rattle.syn_coordinator.specs.Tries.{Tries}
 use Rattle.syn_model.specs.Archive.{Kept}
 
 -- what a session reported that is over
@@ -29,5 +29,5 @@ pub data Answered {D : Type 0} {disk : Ghosts D} (new : Coordinator D disk) (pai
       Takes pair machine running taken now call →
       is_stopped (disk.arms (device_of new)) ≡ true → now.journal.status ≡ Down →
       LeavesMachine disk (device_of new) pair now.journal → call.kept ≡ kept →
-      Tries pair (tried_shown new) now.journal →
+      Tries (tried_shown new) now.journal →
       Answered new pair machine running taken kept messages

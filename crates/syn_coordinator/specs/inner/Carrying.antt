@@ -7,27 +7,27 @@ use Rattle.syn_coordinator.specs.declared.ended.Ended.TheVariants.{Early}
 use Rattle.syn_coordinator.specs.inner.Settling.{AsksSo, EndsSo, IsQuiet}
 use Rattle.syn_disk.specs.declared.disk.Disk.{Ghosts}
 use Rattle.syn_headline.specs.Coordinator.{Exchange, fault_of, is_last}
-use Rattle.syn_keep.specs.Machines.{IsMachine, Journal}
+use Rattle.syn_coordinator.specs.Machines.{IsMachine, Journal}
 use Rattle.syn_model.specs.Refusal.{Memory}
 use Rattle.syn_refusal.specs.Refusals.{cause_of}
 use Rattle.syn_refusal.specs.declared.refusal.Refusal.{Refusal}
 use Rattle.syn_scan.specs.Found.{Found}
-use Rattle.syn_session.specs.Stages.{IsCourse, Reached}
-use Rattle.syn_session.specs.declared.course.Course.{Course}
+use Rattle.syn_session.specs.Stages.{IsPlanProgress, Reached}
+use Rattle.syn_session.specs.declared.plan_progress.PlanProgress.{PlanProgress}
 use Rattle.syn_session.specs.declared.session.Asks.{Asks}
 
 module _ {D : Type 0} {disk : Ghosts D} (old new : Coordinator D disk) (pair : ℕ)
-    (taken : Exchange) (journal : Journal) (before : Reached) (course : Course)
+    (taken : Exchange) (journal : Journal) (before : Reached) (progress : PlanProgress)
     (left right : Found) (all : List Exchange) where
   -- it asks for a later item
   pub record AsksLater (asks : Asks) : Type 0 where
-    pub asks_so : AsksSo old new pair taken journal before course left right all asks
+    pub asks_so : AsksSo old new pair taken journal before progress left right all asks
     pub later : suc before.cursor ≤ asks_so.2.after.cursor
 
   -- the answer does not end the session, and it asks for this; after a last one, for a later item
   pub record CarriesOn (asks : Asks) : Type 0 where
     pub fault : fault_of all taken.side taken.request taken.reply ≡ None
-    pub asks_so : AsksSo old new pair taken journal before course left right
+    pub asks_so : AsksSo old new pair taken journal before progress left right
         (all ++ taken ∷ []) asks
     pub last : is_last taken.reply ≡ true → asks_so.2.after.cursor ≢ before.cursor
 
@@ -37,6 +37,6 @@ module _ {D : Type 0} {disk : Ghosts D} (old new : Coordinator D disk) (pair : �
         (fault_of all taken.side taken.request taken.reply ≡ Some (cause_of why))
         ⊎ (cause_of why ≡ Memory) →
         written new ≡ written old → IsMachine (archive_of new) pair journal →
-        IsQuiet new journal → IsCourse course left right before → EndsCarrying (Early why)
+        IsQuiet new journal → IsPlanProgress progress left right before → EndsCarrying (Early why)
     afterwards : (ended : Ended) → fault_of all taken.side taken.request taken.reply ≡ None →
-        EndsSo old new pair taken journal before course left right ended → EndsCarrying ended
+        EndsSo old new pair taken journal before progress left right ended → EndsCarrying ended

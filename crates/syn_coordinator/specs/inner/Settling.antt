@@ -6,11 +6,11 @@ use Rattle.syn_coordinator.specs.declared.ended.Ended.{Ended}
 use Rattle.syn_coordinator.specs.inner.Walking.{Comes, ComesToAsk, Ends}
 use Rattle.syn_disk.specs.declared.disk.Disk.{Ghosts}
 use Rattle.syn_headline.specs.Coordinator.{Exchange}
-use Rattle.syn_keep.specs.Machines.{Journal}
+use Rattle.syn_coordinator.specs.Machines.{Journal}
 use Rattle.syn_model.specs.Archive.{Kept}
 use Rattle.syn_scan.specs.Found.{Found}
 use Rattle.syn_session.specs.Stages.{AreAskedBefore, Reached, plan_in}
-use Rattle.syn_session.specs.declared.course.Course.{Course}
+use Rattle.syn_session.specs.declared.plan_progress.PlanProgress.{PlanProgress}
 use Rattle.syn_session.specs.declared.session.Asks.{Asks}
 
 -- nothing is being written, and nothing is remembered that was
@@ -18,35 +18,35 @@ abbrev pub IsQuiet : {D : Type 0} → {disk : Ghosts D} → Coordinator D disk �
 IsQuiet coordinator journal = (tried_shown coordinator ≡ None) × (journal.writing ≡ None)
 
 module _ {D : Type 0} {disk : Ghosts D} (old new : Coordinator D disk) (pair : ℕ)
-    (taken : Exchange) (journal : Journal) (before : Reached) (course : Course)
+    (taken : Exchange) (journal : Journal) (before : Reached) (progress : PlanProgress)
     (left right : Found) where
   -- it is past this item
   abbrev pub IsPast : Type 0
   IsPast = (kept : List Kept) × (written new ≡ written old ++ kept)
-      × (suc before.cursor ≡ course.cursor)
-      × Comes (archive_of new) pair taken journal before kept course left right
+      × (suc before.cursor ≡ progress.cursor)
+      × Comes (archive_of new) pair taken journal before kept progress left right
       × (tried_shown new ≡ None)
 
   -- the session ends so
   abbrev pub EndsSo : Ended → Type 0
   EndsSo ended = (kept : List Kept) × (written new ≡ written old ++ kept)
-      × Ends (archive_of new) (tried_shown new) pair taken journal before kept course left right
+      × Ends (archive_of new) (tried_shown new) pair taken journal before kept progress left right
       ended
 
   -- it asks for this
   abbrev pub AsksSo : List Exchange → Asks → Type 0
   AsksSo all asks = (kept : List Kept) × (written new ≡ written old ++ kept)
-      × ComesToAsk (archive_of new) pair taken journal before kept course left right all asks
+      × ComesToAsk (archive_of new) pair taken journal before kept progress left right all asks
       × (tried_shown new ≡ None)
 
   -- it is past this item, and nothing was asked for the next
   abbrev pub PassesOn : List Exchange → Type 0
-  PassesOn all = IsPast × AreAskedBefore (plan_in course left right) course.cursor all
+  PassesOn all = IsPast × AreAskedBefore (plan_in progress left right) progress.cursor all
 
   -- it is past some items, and nothing was asked for the next
   abbrev pub HasCome : List Exchange → Type 0
   HasCome all = (kept : List Kept) × (written new ≡ written old ++ kept)
-      × Comes (archive_of new) pair taken journal before kept course left right
-      × (before.cursor ≤ course.cursor)
-      × AreAskedBefore (plan_in course left right) course.cursor all
+      × Comes (archive_of new) pair taken journal before kept progress left right
+      × (before.cursor ≤ progress.cursor)
+      × AreAskedBefore (plan_in progress left right) progress.cursor all
       × (tried_shown new ≡ None)

@@ -14,9 +14,9 @@ use Rattle.syn_headline.specs.Coordinator.{Advances, EndsFor, Exchange, HasPlan,
 use Rattle.syn_headline.specs.Coordinator.{fault_of, hearing, is_last}
 use Rattle.syn_headline.specs.Machine.{Down}
 use Rattle.syn_headline.specs.Planning.{Log}
-use Rattle.syn_keep.specs.Machines.{IsMachine, Journal, LeavesMachine}
-use Rattle.syn_keep.specs.Tries.{Tries}
-use Rattle.syn_keep.specs.declared.tried.Tried.{Tried}
+use Rattle.syn_coordinator.specs.Machines.{IsMachine, Journal, LeavesMachine}
+use Rattle.syn_coordinator.specs.Tries.{Tries}
+use Rattle.syn_coordinator.specs.declared.tried.Tried.{Tried}
 use Rattle.syn_model.specs.Archive.{Kept}
 use Rattle.syn_model.specs.Refusal.{Memory}
 use Rattle.syn_refusal.specs.Refusals.{cause_of}
@@ -71,19 +71,19 @@ pub data TakesEnd {D : Type 0} {disk : Ghosts D} (new : Archive D disk) (tried :
       (fault_of running.taken taken.side taken.request taken.reply ≡ Some (cause_of why))
       ⊎ (cause_of why ≡ Memory) →
       Tells session running → IsMachine new pair journal → kept ≡ [] →
-      Tries pair tried journal →
+      Tries tried journal →
       TakesEnd new tried pair journal running taken session kept (Early why)
   ends : (ended : Ended) (walk : Walk) (after : Reached) →
       Walks pair journal running taken after kept walk →
       walk.cursor ≡ after.cursor → walk.refused ≡ after.refused →
       EndsFor pair (reaching running taken after) taken journal.status walk (ended_by ended) →
       IsMachine new pair walk.journal → Tells session (reaching running taken after) →
-      Remembers pair journal.status tried walk.journal →
+      Remembers journal.status tried walk.journal ended →
       TakesEnd new tried pair journal running taken session kept ended
   goes_down : (ended : Ended) (walk : Walk) (after : Reached) →
       Walks pair journal running taken after kept walk →
       is_stopped (disk.arms (disk_of new)) ≡ true → walk.journal.status ≡ Down →
-      LeavesMachine disk (disk_of new) pair walk.journal → Tries pair tried walk.journal →
+      LeavesMachine disk (disk_of new) pair walk.journal → Tries tried walk.journal →
       TakesEnd new tried pair journal running taken session kept ended
 
 abbrev pub TakesSo : {D : Type 0} → {disk : Ghosts D} → Archive D disk → Option Tried → ℕ →

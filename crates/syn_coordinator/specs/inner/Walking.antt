@@ -4,23 +4,23 @@ use Rattle.std.specs.Prelude.{◌≡◌, ◌≤◌, ℕ, true, false, List, [], 
 use Rattle.syn_archive.specs.Archive.{disk_of}
 use Rattle.syn_archive.specs.declared.archive.Archive.{Archive}
 use Rattle.syn_coordinator.specs.declared.ended.Ended.{Ended}
-use Rattle.syn_coordinator.specs.declared.ended.Ended.TheVariants.{Early, Settled}
 use Rattle.syn_coordinator.specs.inner.Advancing.{Remembers}
+pub use Rattle.syn_coordinator.specs.inner.Advancing.{ended_by}
 use Rattle.syn_disk.specs.Arms.{is_stopped}
 use Rattle.syn_disk.specs.declared.disk.Disk.{Ghosts}
 use Rattle.syn_headline.specs.Coordinator.{Advances, EndsFor, Exchange, Running, Walk}
 use Rattle.syn_headline.specs.Machine.{Down}
-use Rattle.syn_keep.specs.Machines.{IsMachine, Journal, LeavesMachine}
-use Rattle.syn_keep.specs.Tries.{Tries}
-use Rattle.syn_keep.specs.declared.tried.Tried.{Tried}
+use Rattle.syn_coordinator.specs.Machines.{IsMachine, Journal, LeavesMachine}
+use Rattle.syn_coordinator.specs.Tries.{Tries}
+use Rattle.syn_coordinator.specs.declared.tried.Tried.{Tried}
 use Rattle.syn_model.specs.Archive.{Kept}
 use Rattle.syn_model.specs.Refusal.{Refusal}
 use Rattle.syn_refusal.specs.Refusals.{cause_of}
 use Rattle.syn_scan.specs.Found.{Found}
 use Rattle.syn_session.specs.Carrying.{AsksOne}
 use Rattle.syn_session.specs.Plans.{Plan}
-use Rattle.syn_session.specs.Stages.{AreAskedBefore, Carries, IsCourse, Reached, plan_in}
-use Rattle.syn_session.specs.declared.course.Course.{Course}
+use Rattle.syn_session.specs.Stages.{AreAskedBefore, Carries, IsPlanProgress, Reached, plan_in}
+use Rattle.syn_session.specs.declared.plan_progress.PlanProgress.{PlanProgress}
 use Rattle.syn_session.specs.declared.session.Asks.{Asks}
 
 abbrev pub plan_at : Reached → Plan
@@ -33,11 +33,6 @@ walk_at journal reached = record {
   refused = reached.refused;
   made_room = false;
 }
-
--- What ended a session early, if anything did
-abbrev pub ended_by : Ended → Option Refusal
-ended_by Settled = None
-ended_by (Early why) = Some (cause_of why)
 
 -- it has kept this since, with the same plan
 pub record HasKept (before after : Reached) (kept : List Kept) : Type 0 where
@@ -56,46 +51,48 @@ pub record Passes (pair : ℕ) (taken : Exchange) (old : Journal) (before : Reac
 
 -- the call has come so far, and the machine goes on
 pub record Comes {D : Type 0} {disk : Ghosts D} (new : Archive D disk) (pair : ℕ)
-    (taken : Exchange) (old : Journal) (before : Reached) (kept : List Kept) (course : Course)
+    (taken : Exchange) (old : Journal) (before : Reached) (kept : List Kept)
+    (progress : PlanProgress)
     (left right : Found) : Type 0 where
   pub journal : Journal
   pub after : Reached
   pub passes : Passes pair taken old before journal after kept
   pub is : IsMachine new pair journal
-  pub course_is : IsCourse course left right after
+  pub course_is : IsPlanProgress progress left right after
 
 -- The session ends so; or the machine is down. It remembers what could not be kept
 pub data Ends {D : Type 0} {disk : Ghosts D} (new : Archive D disk) (tried : Option Tried)
     (pair : ℕ) (taken : Exchange) (old : Journal) (before : Reached) (kept : List Kept)
-    (course : Course) (left right : Found) (ended : Ended) : Type 0 where
+    (progress : PlanProgress) (left right : Found) (ended : Ended) : Type 0 where
   ends : (walk : Walk) (after : Reached) →
       Advances pair (plan_at before) taken (walk_at old before) kept walk →
       walk.cursor ≡ after.cursor → walk.refused ≡ after.refused → HasKept before after kept →
       ((running : Running) → running.plan ≡ before.plan →
       EndsFor pair running taken old.status walk (ended_by ended)) →
-      IsMachine new pair walk.journal → IsCourse course left right after →
-      Remembers pair old.status tried walk.journal →
-      Ends new tried pair taken old before kept course left right ended
+      IsMachine new pair walk.journal → IsPlanProgress progress left right after →
+      Remembers old.status tried walk.journal ended →
+      Ends new tried pair taken old before kept progress left right ended
   goes_down : (walk : Walk) →
       Advances pair (plan_at before) taken (walk_at old before) kept walk →
       is_stopped (disk.arms (disk_of new)) ≡ true → walk.journal.status ≡ Down →
-      LeavesMachine disk (disk_of new) pair walk.journal → Tries pair tried walk.journal →
-      Ends new tried pair taken old before kept course left right ended
+      LeavesMachine disk (disk_of new) pair walk.journal → Tries tried walk.journal →
+      Ends new tried pair taken old before kept progress left right ended
 
 -- no request is out for the item that it has come to, or for a later one
-pub record IsAtItem (course : Course) (left right : Found) (taken : List Exchange)
+pub record IsAtItem (progress : PlanProgress) (left right : Found) (taken : List Exchange)
     (reached : Reached) : Type 0 where
-  pub course_is : IsCourse course left right reached
-  pub asked : AreAskedBefore (plan_in course left right) course.cursor taken
+  pub course_is : IsPlanProgress progress left right reached
+  pub asked : AreAskedBefore (plan_in progress left right) progress.cursor taken
 
 -- it has come to an item that is carried, and asks a side for this
 pub record ComesToAsk {D : Type 0} {disk : Ghosts D} (new : Archive D disk) (pair : ℕ)
-    (taken : Exchange) (old : Journal) (before : Reached) (kept : List Kept) (course : Course)
+    (taken : Exchange) (old : Journal) (before : Reached) (kept : List Kept)
+    (progress : PlanProgress)
     (left right : Found) (all : List Exchange) (asks : Asks) : Type 0 where
   pub journal : Journal
   pub after : Reached
   pub passes : Passes pair taken old before journal after kept
   pub onward : before.cursor ≤ after.cursor
   pub is : IsMachine new pair journal
-  pub carries : Carries journal.value course left right all after
+  pub carries : Carries journal.value progress left right all after
       (λ transfer. AsksOne transfer all asks)

@@ -6,7 +6,7 @@ ghost use Rattle.syn_coordinator.specs.inner.Walking.{ended_by};
 ghost use Rattle.syn_headline.specs.Coordinator.{CoordinatorMachine, CoordinatorTakes, Running};
 ghost use Rattle.syn_headline.specs.Coordinator.{Exchange, asked_in, hearing, report_of};
 ghost use Rattle.syn_headline.specs.Session.{fault_of};
-ghost use Rattle.syn_keep.specs.Machines.{IsMachine, Journal};
+ghost use Rattle.syn_coordinator.specs.Machines.{IsMachine, Journal};
 ghost use Rattle.syn_message.specs.Replies.{IsLawfulReply, reply_of};
 ghost use Rattle.syn_message.specs.Requests.{request_of};
 ghost use Rattle.syn_path.specs.Sides.{which_of};
@@ -26,13 +26,14 @@ use syn_message::{Reply, Request};
 use syn_path::Side;
 use syn_propagate::transfer_laws;
 use syn_refusal::Refusal;
-use syn_session::{Asks, Course, Sending, Session};
+use syn_session::{Asks, PlanProgress, Sending, Session};
 
 impl<D: Disk> Coordinator<D> {
-    ghost use Rattle.syn_coordinator.specs.Coordinators.{Breaks, BreaksOff, Does};
+    ghost use Rattle.syn_coordinator.specs.Coordinators.{BreaksOff, Does, TellsNone};
     ghost use Rattle.syn_coordinator.specs.Coordinators.{HaltsByFailure};
     ghost use Rattle.syn_coordinator.specs.Coordinators.{Stands, archive_of, broken, device_of};
     ghost use Rattle.syn_coordinator.specs.Coordinators.{report_shown, runs, tried_shown, written};
+    ghost use Rattle.syn_coordinator.specs.inner.Advancing.{Breaks};
     ghost use Rattle.syn_coordinator.specs.inner.Settling.{IsQuiet};
 
     /// Takes an answer of a side, under the session and the number of its request. It goes on
@@ -61,11 +62,9 @@ impl<D: Disk> Coordinator<D> {
         // An answer that ends no session leaves the last report.
         ensures report { (runs self.new ≡ true) ⊎ (runs self.old ≡ false)
             → report_shown self.new ≡ report_shown self.old }
-        // `kept` tells what was answered 9 in it, which is what was tried and not kept, and then a
-        // device call failed or the machine stopped. Else none failed, and it tells nothing.
-        ensures breaks { ((broken self.new ≡ None) × (tried_shown self.new ≡ tried_shown self.old)
-            × (D.Disk.failures (device_of self.new) ≡ D.Disk.failures (device_of self.old)))
-            ⊎ BreaksOff self.old self.new }
+        // What `kept` tells to have been answered 9 was tried in it, and is what the machine's
+        // journal was writing (`tries` of `Stands`); it tells nothing where none was sent.
+        ensures breaks { TellsNone self.old self.new ⊎ BreaksOff self.old self.new }
         ensures halts { HaltsByFailure self.old self.new }
     {
         self.written = Vec::new(alloc);
@@ -126,7 +125,7 @@ impl<D: Disk> Coordinator<D> {
         ensures report { self.new.report ≡ self.old.report }
         ensures breaks { Breaks self.old self.new result }
     {
-        let Some(course) = &mut session.course else {
+        let Some(progress) = &mut session.progress else {
             return match session.hear(alloc, from, request, reply)? {
                 Some(asks) => Ok(asks),
                 None => self.begin_course(alloc, session),
@@ -137,7 +136,7 @@ impl<D: Disk> Coordinator<D> {
         drop(request);
         let left = session.left.scan.found();
         let right = session.right.scan.found();
-        self.on_carried(alloc, course, left, right, reply)
+        self.on_carried(alloc, progress, left, right, reply)
     }
 
     /// Makes the plan of the session, both sides of which are scanned, and goes through it.
@@ -156,9 +155,9 @@ impl<D: Disk> Coordinator<D> {
         let right = session.right.scan.found();
         let archive = self.archive.tree();
         let preference = session.preference;
-        let mut course = Course::new(alloc, left, right, archive, preference)?;
-        let asks = self.walk(alloc, &mut course, left, right);
-        drop(session.course.replace(course));
+        let mut progress = PlanProgress::new(alloc, left, right, archive, preference)?;
+        let asks = self.walk(alloc, &mut progress, left, right);
+        drop(session.progress.replace(progress));
         asks
     }
 }
@@ -214,5 +213,6 @@ fn refusal_in(ended: Ended) -> Option<Refusal>
     match ended {
         Ended::Settled => None,
         Ended::Early(why) => Some(why),
+        Ended::Failed => Some(Refusal::Device),
     }
 }

@@ -4,7 +4,7 @@ ghost use Rattle.syn_headline.specs.Coordinator.{Exchange, IsDue, IsFor};
 ghost use Rattle.syn_headline.specs.Network.{Which};
 ghost use Rattle.syn_headline.specs.Planning.{Planned};
 ghost use Rattle.syn_headline.specs.Side.{Request as Asked, Refused};
-ghost use Rattle.syn_keep.specs.Machines.{IsMachine, Journal};
+ghost use Rattle.syn_coordinator.specs.Machines.{IsMachine, Journal};
 ghost use Rattle.syn_message.specs.Replies.{reply_of};
 ghost use Rattle.syn_propagate.specs.Transfers.{WaitsFor};
 ghost use Rattle.syn_refusal.specs.Refusals.{cause_of};
@@ -17,14 +17,15 @@ use super::Coordinator;
 use crate::ended::Ended;
 use std::alloc::Global;
 use syn_disk::Disk;
-use syn_image::KeptItem;
+use syn_image::ItemRecord;
 use syn_message::Reply;
 use syn_refusal::Refusal;
 use syn_scan::Scan;
-use syn_session::{Asks, Carrying, Course};
+use syn_session::{Asks, Carrying, PlanProgress};
 
 impl<D: Disk> Coordinator<D> {
-    ghost use Rattle.syn_coordinator.specs.Coordinators.{Breaks, archive_of};
+    ghost use Rattle.syn_coordinator.specs.Coordinators.{archive_of};
+    ghost use Rattle.syn_coordinator.specs.inner.Advancing.{Breaks};
     ghost use Rattle.syn_coordinator.specs.inner.Carrying.{AsksLater, CarriesOn, EndsCarrying};
     ghost use Rattle.syn_coordinator.specs.inner.Settling.{EndsSo, IsQuiet};
 
@@ -36,7 +37,7 @@ impl<D: Disk> Coordinator<D> {
     pub(super) fn on_carried(
         &mut self,
         alloc: Global,
-        course: &mut Course,
+        progress: &mut PlanProgress,
         left: &Scan,
         right: &Scan,
         reply: Reply,
@@ -44,21 +45,21 @@ impl<D: Disk> Coordinator<D> {
         ensures step { (pair : ℕ) (journal : Journal) (all : List Exchange) (before : Reached)
             (to : Which) (number : ℕ) (request : Asked)
             → IsMachine (archive_of self.old) pair journal → IsQuiet self.old journal
-            → Carries journal.value course.old left.now right.now all before
+            → Carries journal.value progress.old left.now right.now all before
             (λ transfer. WaitsFor transfer all to request)
             → let taken = exchange_of to number request (reply_of reply) in MatchResult result
-            (CarriesOn self.old self.new pair taken journal before course.new left.now right.now
+            (CarriesOn self.old self.new pair taken journal before progress.new left.now right.now
             all)
-            (EndsCarrying self.old self.new pair taken journal before course.new left.now
+            (EndsCarrying self.old self.new pair taken journal before progress.new left.now
             right.now all) }
         ensures running { self.new.running ≡ self.old.running }
         ensures report { self.new.report ≡ self.old.report }
         ensures breaks { Breaks self.old self.new result }
     {
-        match course.take_answer(alloc, reply)? {
+        match progress.take_answer(alloc, reply)? {
             Carrying::Asks(asks) => Ok(asks),
-            Carrying::Done(kept) => self.walk_after(alloc, course, left, right, kept),
-            Carrying::Refused(why) => self.walk_past(alloc, course, left, right, why),
+            Carrying::Done(kept) => self.walk_after(alloc, progress, left, right, kept),
+            Carrying::Refused(why) => self.walk_past(alloc, progress, left, right, why),
         }
     }
 
@@ -67,33 +68,33 @@ impl<D: Disk> Coordinator<D> {
     fn walk_after(
         &mut self,
         alloc: Global,
-        course: &mut Course,
+        progress: &mut PlanProgress,
         left: &Scan,
         right: &Scan,
-        kept: KeptItem,
+        kept: ItemRecord,
     ) -> Result<Asks, Ended>
         ensures step { (pair : ℕ) (journal : Journal) (taken : Exchange) (all : List Exchange)
             (before : Reached) (planned : Planned) → IsMachine (archive_of self.old) pair journal
             → IsQuiet self.old journal
-            → IsCarriedOut course.old left.now right.now all before planned
-            → IsDue course.old.cursor planned taken (kept_for kept)
+            → IsCarriedOut progress.old left.now right.now all before planned
+            → IsDue progress.old.cursor planned taken (kept_for kept)
             → MatchResult result
-            (AsksLater self.old self.new pair taken journal before course.new left.now right.now
+            (AsksLater self.old self.new pair taken journal before progress.new left.now right.now
             all)
-            (EndsSo self.old self.new pair taken journal before course.new left.now right.now) }
+            (EndsSo self.old self.new pair taken journal before progress.new left.now right.now) }
         ensures running { self.new.running ≡ self.old.running }
         ensures report { self.new.report ≡ self.old.report }
         ensures breaks { Breaks self.old self.new result }
     {
-        self.settle(alloc, course, kept, true)?;
-        self.walk(alloc, course, left, right)
+        self.settle(alloc, progress, kept, true)?;
+        self.walk(alloc, progress, left, right)
     }
 
     /// Gives up an item for which a side refused what it was asked, and goes on through the plan.
     fn walk_past(
         &mut self,
         alloc: Global,
-        course: &mut Course,
+        progress: &mut PlanProgress,
         left: &Scan,
         right: &Scan,
         why: Refusal,
@@ -101,18 +102,18 @@ impl<D: Disk> Coordinator<D> {
         ensures step { (pair : ℕ) (journal : Journal) (taken : Exchange) (all : List Exchange)
             (before : Reached) (planned : Planned) → IsMachine (archive_of self.old) pair journal
             → IsQuiet self.old journal
-            → IsCarriedOut course.old left.now right.now all before planned
+            → IsCarriedOut progress.old left.now right.now all before planned
             → taken.reply ≡ Refused (cause_of why)
-            → IsFor course.old.cursor planned taken.request
+            → IsFor progress.old.cursor planned taken.request
             → MatchResult result
-            (AsksLater self.old self.new pair taken journal before course.new left.now right.now
+            (AsksLater self.old self.new pair taken journal before progress.new left.now right.now
             all)
-            (EndsSo self.old self.new pair taken journal before course.new left.now right.now) }
+            (EndsSo self.old self.new pair taken journal before progress.new left.now right.now) }
         ensures running { self.new.running ≡ self.old.running }
         ensures report { self.new.report ≡ self.old.report }
         ensures breaks { Breaks self.old self.new result }
     {
-        self.give_up(alloc, course, why)?;
-        self.walk(alloc, course, left, right)
+        self.give_up(alloc, progress, why)?;
+        self.walk(alloc, progress, left, right)
     }
 }

@@ -7,35 +7,35 @@ ghost use Rattle.syn_headline.specs.Coordinator.{Exchange, IsDue};
 ghost use Rattle.syn_headline.specs.Planning.{Planned};
 ghost use Rattle.syn_headline.specs.Report.{conflict_at, is_carrying};
 ghost use Rattle.syn_headline.specs.Session.{record_for};
-ghost use Rattle.syn_keep.specs.Due.{Settles, TriesBy};
+ghost use Rattle.syn_coordinator.specs.Due.{Settles, TriesBy};
 ghost use Rattle.syn_model.specs.Archive.{Archive as Keeping};
-ghost use Rattle.syn_keep.specs.Machines.{IsMachine, Journal};
+ghost use Rattle.syn_coordinator.specs.Machines.{IsMachine, Journal};
 ghost use Rattle.syn_model.specs.Decision.{Conflict};
-ghost use Rattle.syn_propagate.specs.Transfers.{IsReady, carriage_of};
+ghost use Rattle.syn_propagate.specs.Transfers.{IsReady, spec_of};
 ghost use Rattle.syn_refusal.specs.Refusals.{cause_of};
 ghost use Rattle.syn_scan.specs.Found.{Found};
 ghost use Rattle.syn_session.specs.Carrying.{AsksOne};
 ghost use Rattle.syn_session.specs.Passing.{refused_at};
 ghost use Rattle.syn_session.specs.Stages.{AreAskedBefore, Carries, IsCarriedFor, IsCarriageOf};
-ghost use Rattle.syn_session.specs.Stages.{IsCourse, Reached, plan_in};
+ghost use Rattle.syn_session.specs.Stages.{IsPlanProgress, Reached, plan_in};
 ghost use Rattle.syn_image.specs.Archives.{kept_for};
 
 use super::{Broken, Coordinator};
 use crate::ended::Ended;
+use crate::{Due, Tried, keep_due, refusal_for};
 use std::alloc::Global;
 use syn_disk::Disk;
-use syn_image::{Kept, KeptItem};
-use syn_keep::{Due, Tried, keep_due, refusal_for};
+use syn_image::{ItemRecord, Kept};
 use syn_model::plan_laws;
 use syn_path::Path;
 use syn_propagate::Next;
 use syn_refusal::Refusal;
 use syn_scan::Scan;
-use syn_session::{Asks, Carried, Course, Doing};
+use syn_session::{Asks, Carried, Doing, PlanProgress};
 
 impl<D: Disk> Coordinator<D> {
-    ghost use Rattle.syn_coordinator.specs.Coordinators.{Breaks, archive_of, tried_shown, written};
-    ghost use Rattle.syn_coordinator.specs.inner.Advancing.{BreaksBy};
+    ghost use Rattle.syn_coordinator.specs.Coordinators.{archive_of, tried_shown, written};
+    ghost use Rattle.syn_coordinator.specs.inner.Advancing.{Breaks, BreaksBy};
     ghost use Rattle.syn_coordinator.specs.inner.Settling.{AsksSo, EndsSo, IsPast, IsQuiet};
     ghost use Rattle.syn_coordinator.specs.inner.Settling.{PassesOn};
 
@@ -44,40 +44,42 @@ impl<D: Disk> Coordinator<D> {
     pub(super) fn settle(
         &mut self,
         alloc: Global,
-        course: &mut Course,
-        kept: KeptItem,
+        progress: &mut PlanProgress,
+        kept: ItemRecord,
         was_carried: bool,
     ) -> Result<(), Ended>
         ensures step { (pair : ℕ) (journal : Journal) (left right : Found) (taken : Exchange)
             (before : Reached) (planned : Planned) → IsMachine (archive_of self.old) pair journal
-            → IsQuiet self.old journal → IsCourse course.old left right before
-            → slice_get (plan_in course.old left right) course.old.cursor ≡ Some planned
-            → IsDue course.old.cursor planned taken (kept_for kept)
+            → IsQuiet self.old journal → IsPlanProgress progress.old left right before
+            → slice_get (plan_in progress.old left right) progress.old.cursor ≡ Some planned
+            → IsDue progress.old.cursor planned taken (kept_for kept)
             → is_carrying planned.item ≡ was_carried
             → MatchResult result
-            (λ _. IsPast self.old self.new pair taken journal before course.new left right)
-            (EndsSo self.old self.new pair taken journal before course.new left right) }
+            (λ _. IsPast self.old self.new pair taken journal before progress.new left right)
+            (EndsSo self.old self.new pair taken journal before progress.new left right) }
         ensures running { self.new.running ≡ self.old.running }
         ensures report { self.new.report ≡ self.old.report }
         ensures breaks { Breaks self.old self.new result }
     {
         let due = self.keep(alloc, kept);
         if self.archive.is_cut() {
-            return Err(Ended::Early(Refusal::Device));
+            return Err(Ended::Failed);
         }
         match due {
             Due::Recorded => {
-                course.pass_kept(was_carried);
+                progress.pass_kept(was_carried);
                 Ok(())
             }
-            Due::Refused(why) => Ok(course.refuse(alloc, why)?),
+            Due::Refused(why) => Ok(progress.refuse(alloc, why)?),
             Due::Ends(why) => Err(Ended::Early(why)),
+            Due::Unsent => Err(Ended::Failed),
+            Due::Tried => Err(Ended::Failed),
         }
     }
 
-    /// Keeps what is due in the archive, and tells it among what was written. The session ends 11
-    /// where memory is refused.
-    fn keep(&mut self, alloc: Global, kept: KeptItem) -> Due
+    /// Keeps what is due in the archive, and tells it among what was written, or as answered 9
+    /// where it was sent to the disk and not kept. The session ends 11 where memory is refused.
+    fn keep(&mut self, alloc: Global, kept: ItemRecord) -> Due
         ensures settles { (pair : ℕ) (journal : Journal)
             → IsMachine (archive_of self.old) pair journal
             → Settles (archive_of self.new) pair journal (kept_for kept) result }
@@ -96,28 +98,30 @@ impl<D: Disk> Coordinator<D> {
         match due {
             Due::Recorded => self.written.push_reserved(Kept::from(kept)),
             Due::Refused(_) => drop(kept),
-            Due::Ends(Refusal::Device) => {
+            Due::Tried => {
                 self.tried = Some(Tried::new(Kept::from(kept), &self.archive));
                 self.broke = Broken::AsTried;
             }
             Due::Ends(_) => drop(kept),
+            Due::Unsent => drop(kept),
         }
         due
     }
 
     /// Goes past the item that the session has come to, which is a conflict. The session ends 11
     /// where memory is refused.
-    fn pass_conflict(&self, course: &mut Course, path: Path) -> Result<(), Ended>
+    fn pass_conflict(&self, progress: &mut PlanProgress, path: Path) -> Result<(), Ended>
         ensures step { (pair : ℕ) (journal : Journal) (left right : Found) (taken : Exchange)
             (before : Reached) (planned : Planned) → IsMachine (archive_of self.now) pair journal
-            → IsQuiet self.now journal → IsCourse course.old left right before
-            → slice_get (plan_in course.old left right) course.old.cursor ≡ Some planned
+            → IsQuiet self.now journal → IsPlanProgress progress.old left right before
+            → slice_get (plan_in progress.old left right) progress.old.cursor ≡ Some planned
             → planned.item ≡ Conflict path
             → MatchResult result
-            (λ _. IsPast self.now self.now pair taken journal before course.new left right)
-            (EndsSo self.now self.now pair taken journal before course.new left right) }
+            (λ _. IsPast self.now self.now pair taken journal before progress.new left right)
+            (EndsSo self.now self.now pair taken journal before progress.new left right) }
+        ensures memory { IfErr result (λ ended. ended ≡ Ended.Early Refusal.Memory) }
     {
-        Ok(course.pass_conflict(path)?)
+        Ok(progress.pass_conflict(path)?)
     }
 
     /// Goes past the item that the session has come to, which is refused so. The session ends 11
@@ -125,20 +129,21 @@ impl<D: Disk> Coordinator<D> {
     pub(super) fn give_up(
         &self,
         alloc: Global,
-        course: &mut Course,
+        progress: &mut PlanProgress,
         why: Refusal,
     ) -> Result<(), Ended>
         ensures step { (pair : ℕ) (journal : Journal) (left right : Found) (taken : Exchange)
             (before : Reached) (planned : Planned) → IsMachine (archive_of self.now) pair journal
-            → IsQuiet self.now journal → IsCourse course.old left right before
-            → slice_get (plan_in course.old left right) course.old.cursor ≡ Some planned
+            → IsQuiet self.now journal → IsPlanProgress progress.old left right before
+            → slice_get (plan_in progress.old left right) progress.old.cursor ≡ Some planned
             → conflict_at planned.item ≡ None → Passes pair taken journal before journal
             (refused_at before (cause_of why) planned) []
             → MatchResult result
-            (λ _. IsPast self.now self.now pair taken journal before course.new left right)
-            (EndsSo self.now self.now pair taken journal before course.new left right) }
+            (λ _. IsPast self.now self.now pair taken journal before progress.new left right)
+            (EndsSo self.now self.now pair taken journal before progress.new left right) }
+        ensures memory { IfErr result (λ ended. ended ≡ Ended.Early Refusal.Memory) }
     {
-        Ok(course.refuse(alloc, why)?)
+        Ok(progress.refuse(alloc, why)?)
     }
 
     /// Asks for the first piece of the item that the session has come to, which is carried; or goes
@@ -147,27 +152,28 @@ impl<D: Disk> Coordinator<D> {
     fn carry(
         &self,
         alloc: Global,
-        course: &mut Course,
+        progress: &mut PlanProgress,
         carried: Carried,
     ) -> Result<Option<Asks>, Ended>
         requires { IsReady carried.transfer }
         ensures step { (pair : ℕ) (journal : Journal) (left right : Found) (taken : Exchange)
             (all : List Exchange) (before : Reached) (planned : Planned)
             → IsMachine (archive_of self.now) pair journal → IsQuiet self.now journal
-            → IsAtItem course.old left right all before
-            → slice_get (plan_in course.old left right) course.old.cursor ≡ Some planned
-            → IsCarriageOf (carriage_of carried.transfer) planned course.old.cursor
+            → IsAtItem progress.old left right all before
+            → slice_get (plan_in progress.old left right) progress.old.cursor ≡ Some planned
+            → IsCarriageOf (spec_of carried.transfer) planned progress.old.cursor
             → record_for planned planned.item ≡ Some (kept_for carried.kept)
             → MatchResult result (λ next. MatchOption next
-            (IsPast self.now self.now pair taken journal before course.new left right)
-            (AsksSo self.now self.now pair taken journal before course.new left right all))
-            (EndsSo self.now self.now pair taken journal before course.new left right) }
+            (IsPast self.now self.now pair taken journal before progress.new left right)
+            (AsksSo self.now self.now pair taken journal before progress.new left right all))
+            (EndsSo self.now self.now pair taken journal before progress.new left right) }
+        ensures memory { IfErr result (λ ended. ended ≡ Ended.Early Refusal.Memory) }
     {
         if let Some(why) = refusal_for(&self.archive, &carried.kept) {
-            self.give_up(alloc, course, why)?;
+            self.give_up(alloc, progress, why)?;
             return Ok(None);
         }
-        Ok(Some(ask_first(alloc, course, carried)?))
+        Ok(Some(ask_first(alloc, progress, carried)?))
     }
 
     /// Goes on through the plan, until it asks for the first piece of an item, or the session ends.
@@ -176,22 +182,22 @@ impl<D: Disk> Coordinator<D> {
     pub(super) fn walk(
         &mut self,
         alloc: Global,
-        course: &mut Course,
+        progress: &mut PlanProgress,
         left: &Scan,
         right: &Scan,
     ) -> Result<Asks, Ended>
         ensures step { (pair : ℕ) (journal : Journal) (taken : Exchange) (all : List Exchange)
             (before : Reached) → IsMachine (archive_of self.old) pair journal
-            → IsQuiet self.old journal → IsAtItem course.old left.now right.now all before
+            → IsQuiet self.old journal → IsAtItem progress.old left.now right.now all before
             → MatchResult result
-            (AsksSo self.old self.new pair taken journal before course.new left.now right.now all)
-            (EndsSo self.old self.new pair taken journal before course.new left.now right.now) }
+            (AsksSo self.old self.new pair taken journal before progress.new left.now right.now all)
+            (EndsSo self.old self.new pair taken journal before progress.new left.now right.now) }
         ensures running { self.new.running ≡ self.old.running }
         ensures report { self.new.report ≡ self.old.report }
         ensures breaks { Breaks self.old self.new result }
     {
         for _ in 0..u64::MAX {
-            if let Some(asks) = self.pass(alloc, course, left, right)? {
+            if let Some(asks) = self.pass(alloc, progress, left, right)? {
                 return Ok(asks);
             }
         }
@@ -204,55 +210,57 @@ impl<D: Disk> Coordinator<D> {
     fn pass(
         &mut self,
         alloc: Global,
-        course: &mut Course,
+        progress: &mut PlanProgress,
         left: &Scan,
         right: &Scan,
     ) -> Result<Option<Asks>, Ended>
         ensures step { (pair : ℕ) (journal : Journal) (taken : Exchange) (all : List Exchange)
             (before : Reached) → IsMachine (archive_of self.old) pair journal
-            → IsQuiet self.old journal → IsAtItem course.old left.now right.now all before
+            → IsQuiet self.old journal → IsAtItem progress.old left.now right.now all before
             → MatchResult result (λ next. MatchOption next
-            (PassesOn self.old self.new pair taken journal before course.new left.now right.now all)
-            (AsksSo self.old self.new pair taken journal before course.new left.now right.now all))
-            (EndsSo self.old self.new pair taken journal before course.new left.now right.now) }
+            (PassesOn self.old self.new pair taken journal before progress.new left.now right.now
+            all)
+            (AsksSo self.old self.new pair taken journal before progress.new left.now right.now
+            all))
+            (EndsSo self.old self.new pair taken journal before progress.new left.now right.now) }
         ensures running { self.new.running ≡ self.old.running }
         ensures report { self.new.report ≡ self.old.report }
         ensures breaks { Breaks self.old self.new result }
     {
-        match course.doing(alloc, left, right)? {
+        match progress.doing(alloc, left, right)? {
             Doing::Nothing => Err(Ended::Settled),
             Doing::Conflict(path) => {
-                self.pass_conflict(course, path)?;
+                self.pass_conflict(progress, path)?;
                 Ok(None)
             }
             Doing::Mark(kept) => {
-                self.settle(alloc, course, kept, false)?;
+                self.settle(alloc, progress, kept, false)?;
                 Ok(None)
             }
-            Doing::Carry(carried) => self.carry(alloc, course, carried),
+            Doing::Carry(carried) => self.carry(alloc, progress, carried),
         }
     }
 }
 
 /// Asks for the first piece of the item that the session has come to, which is carried. The session
 /// ends 11 where memory is refused.
-fn ask_first(alloc: Global, course: &mut Course, carried: Carried) -> Result<Asks, Ended>
+fn ask_first(alloc: Global, progress: &mut PlanProgress, carried: Carried) -> Result<Asks, Ended>
     requires { IsReady carried.transfer }
     ensures step { (archive : Keeping) (left right : Found) (all : List Exchange)
-        (before : Reached) (planned : Planned) → IsCourse course.old left right before
-        → slice_get (plan_in course.old left right) course.old.cursor ≡ Some planned
-        → IsCarriedFor archive carried planned course.old.cursor
-        → AreAskedBefore (plan_in course.old left right) course.old.cursor all
-        → IfOk result (λ asks. Carries archive course.new left right all before
+        (before : Reached) (planned : Planned) → IsPlanProgress progress.old left right before
+        → slice_get (plan_in progress.old left right) progress.old.cursor ≡ Some planned
+        → IsCarriedFor archive carried planned progress.old.cursor
+        → AreAskedBefore (plan_in progress.old left right) progress.old.cursor all
+        → IfOk result (λ asks. Carries archive progress.new left right all before
         (λ transfer. AsksOne transfer all asks)) }
     ensures memory { IfErr result (λ ended. ended ≡ Ended.Early Refusal.Memory) }
-    ensures stays { OnErr result (course.new ≡ course.old) }
+    ensures stays { OnErr result (progress.new ≡ progress.old) }
 {
     plan_laws();
     let mut carried = carried;
     match carried.transfer.step(alloc, None) {
         Ok(Next::Ask(side, request)) => {
-            drop(course.carried.replace(carried));
+            drop(progress.carried.replace(carried));
             Ok(Asks::One(side, request))
         }
         Ok(_) => unreachable!(),

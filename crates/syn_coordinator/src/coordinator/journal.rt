@@ -8,19 +8,18 @@ ghost use Rattle.syn_disk.specs.Arms.{is_stopped};
 ghost use Rattle.syn_disk.specs.Disk.{SameOutcomes};
 ghost use Rattle.syn_headline.specs.Coordinator.{CoordinatorMachine, coordinator_kind};
 ghost use Rattle.syn_headline.specs.MachineSteps.{Checkpoints, Reopens};
-ghost use Rattle.syn_journaled.specs.Endings.{CountsFailures, ended};
-ghost use Rattle.syn_keep.specs.declared.tried.Tried.{Tried};
+ghost use Rattle.syn_journal.specs.Endings.{CountsFailures, ended};
+ghost use Rattle.syn_coordinator.specs.declared.tried.Tried.{Tried};
 ghost use Rattle.syn_model.specs.Refusal.{first_cause};
 ghost use Rattle.syn_recovery.specs.Calls.{armed_at};
 
 use super::{Broken, Coordinator};
+use crate::found;
 use std::alloc::{AllocError, Global};
 use syn_archive::ArchiveError;
 use syn_disk::{Arm, Disk, Limit};
 use syn_image::Kept;
-use syn_keep::found;
 use syn_model::{archive_laws, is_long};
-use syn_recovery::{device_laws, opening_laws};
 
 impl<D: Disk> Coordinator<D> {
     ghost use Rattle.syn_coordinator.specs.Coordinators.{Does, KeepsReadings, Stands, device_of};
@@ -56,15 +55,11 @@ impl<D: Disk> Coordinator<D> {
             (D.failures (device_of self.old)) (D.failures (device_of self.new)) }
         ensures halts { HaltsByFailure self.old self.new }
     {
-        device_laws();
         archive_laws();
         let generation = self.archive.generation();
         is_long(generation);
         match self.archive.checkpoint(alloc) {
-            Ok(()) => {
-                self.archive.keeps_on_disk();
-                Ok(())
-            }
+            Ok(()) => Ok(()),
             Err(error) => Err(error),
         }
     }
@@ -74,7 +69,7 @@ impl<D: Disk> Coordinator<D> {
     ghost use Rattle.syn_coordinator.specs.Coordinators.{Does, KeepsReadings, ReopensNot, Stands};
     ghost use Rattle.syn_coordinator.specs.Coordinators.{archive_of, device_of, broken, broken_by};
     ghost use Rattle.syn_coordinator.specs.Coordinators.{report_shown, runs, tried_shown, written};
-    ghost use Rattle.syn_keep.specs.Tries.{found_in, listed};
+    ghost use Rattle.syn_coordinator.specs.Tries.{found_in, listed};
     ghost use Rattle.syn_image.specs.Archives.{kept_of};
 
     /// Opens the archive's own disk again. A session that runs goes on; an archive that was halted
@@ -108,17 +103,10 @@ impl<D: Disk> Coordinator<D> {
             (D.Disk.failures (device_of self.old)) (D.Disk.failures (device_of self.new)) }
     {
         let broke = self.copied_broken(alloc)?;
-        device_laws();
-        opening_laws();
-        self.archive.keeps_on_disk();
         match self.archive.reopen(alloc) {
-            Ok(()) => {
-                self.archive.keeps_on_disk();
-                Ok(self.recovered(broke))
-            }
+            Ok(()) => Ok(self.recovered(broke)),
             Err(error) => {
                 drop(broke);
-                self.archive.keeps_on_disk();
                 Err(error)
             }
         }

@@ -4,16 +4,16 @@ ghost use Rattle.syn_archive.specs.Refusals.{refusal_of};
 ghost use Rattle.syn_coordinator.specs.Coordinators.{device_of};
 ghost use Rattle.syn_coordinator.specs.Openings.{OpensAs, RestsStill, RestsWith};
 ghost use Rattle.syn_headline.specs.Coordinator.{CoordinatorMachine};
-ghost use Rattle.syn_journaled.specs.Endings.{CountsFailures};
-ghost use Rattle.syn_keep.specs.Tries.{listed};
+ghost use Rattle.syn_journal.specs.Endings.{CountsFailures};
+ghost use Rattle.syn_coordinator.specs.Tries.{listed};
 ghost use Rattle.syn_image.specs.Archives.{kept_of};
 
 use super::Coordinator;
+use crate::{Tried, found};
 use std::alloc::Global;
 use syn_archive::{Archive, ArchiveError};
 use syn_disk::Disk;
 use syn_image::Kept;
-use syn_keep::{Tried, found};
 use syn_recovery::{device_laws, opening_laws};
 
 impl<D: Disk> Coordinator<D> {

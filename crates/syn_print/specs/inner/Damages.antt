@@ -6,8 +6,8 @@ use Rattle.syn_model.specs.Limits.{greatest}
 use Rattle.syn_model.specs.Path.{Bytes}
 use Rattle.syn_model.specs.Spelling.{event_spelling}
 use Rattle.syn_model.specs.Standing.{Touch}
-use Rattle.syn_standing.specs.declared.error.ReplicaError.{ReplicaError}
-use Rattle.syn_standing.specs.declared.error.ReplicaError.TheVariants.{Damaged, Memory}
+use Rattle.syn_replica.specs.declared.error.ReplicaError.{ReplicaError}
+use Rattle.syn_replica.specs.declared.error.ReplicaError.TheVariants.{Damaged, Memory}
 use Rattle.syn_wire.specs.Events.{IsSpelledEvent}
 
 -- memory is refused, or what was read is damaged, of which this is the cause

@@ -4,7 +4,7 @@ ghost use Rattle.syn_model.specs.Limits.{greatest};
 ghost use Rattle.syn_print.specs.Known.{AddsEvents, TellsLast, entries_of, touched};
 ghost use Rattle.syn_print.specs.inner.Damages.{AreNoEvents, HasGreatest, IsReadRefusal};
 ghost use Rattle.syn_replica.specs.Disks.{IsOpenRefusal};
-ghost use Rattle.syn_standing.specs.Readings.{bytes_of_each};
+ghost use Rattle.syn_replica.specs.Readings.{bytes_of_each};
 
 use crate::log::{Logged, What};
 use std::alloc::Global;
@@ -12,7 +12,7 @@ use syn_disk::Disk;
 use syn_history::Touch;
 use syn_image::is_old_image;
 use syn_journal::Journal;
-use syn_standing::{ReplicaError, opening_laws, read_event, read_image};
+use syn_replica::{ReplicaError, opening_laws, read_event, read_image};
 use syn_wire::Version;
 
 /// What the disk of a replica has of its last events, the oldest first.

@@ -19,5 +19,6 @@ returns c = record {
     tell = c.run_laws.ensures.reports;
     edits = c.asked.ensures.edits;
     preferences = c.asked.ensures.preferences;
+    records = c.asked.ensures.records;
   });
 }

@@ -6,14 +6,14 @@ use Rattle.syn_headline.specs.Side.{Request, Fetch, Stage, Replace}
 use Rattle.syn_model.specs.Path.{Bytes}
 use Rattle.syn_propagate.specs.Carrying.{Exchanges, AreEarlier, IsWhole}
 use Rattle.syn_propagate.specs.Carrying.{WasFetched, WasStaged, source_of, target_of}
-use Rattle.syn_propagate.specs.declared.carriage.Carriage.{Carriage}
+use Rattle.syn_propagate.specs.declared.transfer_spec.TransferSpec.{TransferSpec}
 use Rattle.syn_propagate.specs.declared.transfer.Progress.{Progress}
 use Rattle.syn_propagate.specs.declared.transfer.Progress.TheVariants.{Ready, Fetching, Staging}
 use Rattle.syn_propagate.specs.declared.transfer.Progress.TheVariants.{Replacing, Over}
 use Rattle.syn_propagate.specs.declared.transfer.Transfer.{Transfer}
 
-abbrev pub carriage_of : Transfer → Carriage
-carriage_of transfer = transfer.carriage
+abbrev pub spec_of : Transfer → TransferSpec
+spec_of transfer = transfer.spec
 
 -- nothing is asked yet
 abbrev pub IsReady : Transfer → Type 0
@@ -35,32 +35,32 @@ abbrev pub IsWaiting : Transfer → Type 0
 IsWaiting transfer = IsWaitingAt transfer.progress
 
 -- so many bytes of it were staged
-pub record HasStaged (c : Carriage) (taken : Exchanges) (total offset : ℕ) : Type 0 where
+pub record HasStaged (c : TransferSpec) (taken : Exchanges) (total offset : ℕ) : Type 0 where
   pub bytes : Bytes
   pub staged : WasStaged c taken total bytes
   pub count : length bytes ≡ offset
 
 -- once a piece told the length of the whole, there is more to fetch
-abbrev pub HasCome : Carriage → Exchanges → Option ℕ → ℕ → Type 0
+abbrev pub HasCome : TransferSpec → Exchanges → Option ℕ → ℕ → Type 0
 HasCome c taken None offset = offset ≡ 0
 HasCome c taken (Some total) offset = (offset < total) × HasStaged c taken total offset
 
 -- what stands before the offset has come, and nothing after it was asked for
-pub record HasReached (c : Carriage) (taken : Exchanges) (offset : ℕ) (total : Option ℕ)
+pub record HasReached (c : TransferSpec) (taken : Exchanges) (offset : ℕ) (total : Option ℕ)
     : Type 0 where
   pub told : first_total taken c.path ≡ total
   pub come : HasCome c taken total offset
   pub earlier : AreEarlier c taken offset offset
 
 -- it waits for a piece
-pub record WaitsForPiece (c : Carriage) (taken : Exchanges) (offset : ℕ) (total : Option ℕ)
+pub record WaitsForPiece (c : TransferSpec) (taken : Exchanges) (offset : ℕ) (total : Option ℕ)
     (to : Which) (request : Request) : Type 0 where
   pub of : to ≡ source_of c
   pub asked : request ≡ Fetch c.path c.source_since offset
   pub reached : HasReached c taken offset total
 
 -- a piece is staged that ends there
-pub record HasStagedTo (c : Carriage) (taken : Exchanges) (end total : ℕ) : Type 0 where
+pub record HasStagedTo (c : TransferSpec) (taken : Exchanges) (end total : ℕ) : Type 0 where
   pub within : end ≤ total
   pub told : first_total taken c.path ≡ Some total
   pub come : HasStaged c taken total end
@@ -70,7 +70,7 @@ pub record HasStagedTo (c : Carriage) (taken : Exchanges) (end total : ℕ) : Ty
   pub earlier : AreEarlier c taken end end
 
 -- it waits until a piece is staged, which ends there
-pub record WaitsForStage (c : Carriage) (taken : Exchanges) (end total : ℕ) (to : Which)
+pub record WaitsForStage (c : TransferSpec) (taken : Exchanges) (end total : ℕ) (to : Which)
     (request : Request) : Type 0 where
   pub offset : ℕ
   pub bytes : Bytes
@@ -85,14 +85,14 @@ pub record WaitsForStage (c : Carriage) (taken : Exchanges) (end total : ℕ) (t
   pub earlier : AreEarlier c taken (suc offset) offset
 
 -- it waits until the whole is put
-pub record WaitsForReplacement (c : Carriage) (taken : Exchanges) (to : Which)
+pub record WaitsForReplacement (c : TransferSpec) (taken : Exchanges) (to : Which)
     (request : Request) : Type 0 where
   pub total : ℕ
   pub of : to ≡ target_of c
   pub asked : request ≡ Replace c.item c.path c.target_since total
   pub whole : IsWhole c taken total
 
-abbrev pub WaitsAt : Carriage → Exchanges → Progress → Which → Request → Type 0
+abbrev pub WaitsAt : TransferSpec → Exchanges → Progress → Which → Request → Type 0
 WaitsAt c taken Ready to request = ⊥
 WaitsAt c taken (Fetching offset total) to request = WaitsForPiece c taken offset total to request
 WaitsAt c taken (Staging end total) to request = WaitsForStage c taken end total to request
@@ -102,4 +102,4 @@ WaitsAt c taken Over to request = ⊥
 -- it has come so far by these exchanges, and waits for the answer to this request
 abbrev pub WaitsFor : Transfer → Exchanges → Which → Request → Type 0
 WaitsFor transfer taken to request =
-    WaitsAt transfer.carriage taken transfer.progress to request
+    WaitsAt transfer.spec taken transfer.progress to request

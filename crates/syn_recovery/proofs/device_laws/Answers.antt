@@ -1,5 +1,5 @@
-use Rattle.syn_recovery.proofs.CallLemmas.{made_calls_meet, stops_after, broken_calls_meet}
-use Rattle.syn_recovery.proofs.CallLemmas.{made_reads_meet}
+use Rattle.syn_journal.proofs.CallLemmas.{made_calls_meet, stops_after, broken_calls_meet}
+use Rattle.syn_journal.proofs.CallLemmas.{made_reads_meet}
 use Rattle.syn_recovery.proofs.device_laws.Goals as goal
 
 pub returns-clause-made : goal.returns-clause-made

@@ -1,5 +1,5 @@
 use Rattle.syn_recovery.specs.Machines.{of_side, of_archive}
-use Rattle.syn_recovery.proofs.OpeningLemmas.{opens_to}
+use Rattle.syn_journal.proofs.OpeningLemmas.{opens_to}
 use Rattle.syn_recovery.proofs.opening_laws.Goals as goal
 
 pub returns-clause-sides : goal.returns-clause-sides

@@ -8,8 +8,8 @@ use Rattle.syn_model.specs.Path.{Bytes}
 use Rattle.syn_model.specs.Spelling.{event_spelling}
 use Rattle.syn_model.specs.Standing.{IsAllowedAt, Standing, causes_at, is_old}
 use Rattle.syn_model.specs.Tree.{Tree}
-use Rattle.syn_standing.specs.Updates.{IsOf}
-use Rattle.syn_standing.specs.declared.standing.Update.{Update}
+use Rattle.syn_replica.specs.Updates.{IsOf}
+use Rattle.syn_replica.specs.declared.standing.Update.{Update}
 use Rattle.syn_replica.specs.Steps.{is_done_at, room_causes}
 
 -- why the event is not added there, with so much room in the journal

@@ -1,17 +1,20 @@
 -- What an image and payloads give a replica to remember, and why they give it nothing.
 use Rattle.std.specs.Prelude.{◌≡◌, ◌≤◌, ◌<◌, ◌⊎◌, ◌^◌, ℕ, List, Option, Some}
 use Rattle.syn_model.specs.Path.{Bytes}
+use Rattle.syn_journal.specs.Keepings.{of_side}
+use Rattle.syn_journal.specs.Machines.{KeptAs}
 use Rattle.syn_model.specs.Event.{Event}
+use Rattle.syn_model.specs.History.{History, IsHistory, standing_of}
 use Rattle.syn_model.specs.Image as model
 use Rattle.syn_model.specs.Image.{GivesIn, IsOldImage, IsStanding, image_spelling}
 use Rattle.syn_model.specs.Standing.{Standing, standing_after}
 use Rattle.syn_model.specs.Version.{One}
-use Rattle.syn_standing.specs.Readings.{GivesNothing, GivesNothingIn, GivesOtherPair}
-use Rattle.syn_standing.specs.Updates.{IsOf}
-use Rattle.syn_standing.specs.declared.error.ReplicaError.{ReplicaError}
-use Rattle.syn_standing.specs.declared.error.ReplicaError.TheVariants.{Memory, Damaged, WrongPair}
-use Rattle.syn_standing.specs.declared.error.ReplicaError.TheVariants.{OldVersion}
-use Rattle.syn_standing.specs.declared.standing.Update.{Update}
+use Rattle.syn_replica.specs.Readings.{GivesNothing, GivesNothingIn, GivesOtherPair}
+use Rattle.syn_replica.specs.Updates.{IsOf}
+use Rattle.syn_replica.specs.declared.error.ReplicaError.{ReplicaError}
+use Rattle.syn_replica.specs.declared.error.ReplicaError.TheVariants.{Memory, Damaged, WrongPair}
+use Rattle.syn_replica.specs.declared.error.ReplicaError.TheVariants.{OldVersion}
+use Rattle.syn_replica.specs.declared.standing.Update.{Update}
 use Rattle.syn_replica.specs.declared.remembered.Remembered.{Remembered}
 
 -- its image
@@ -63,6 +66,15 @@ IsNoNext _ memory image payloads = ⊥
 abbrev pub IsUnreadAgain : ReplicaError → Remembered → Bytes → List Bytes → Type 0
 IsUnreadAgain error memory image payloads =
     (memory.pair < 2 ^ 64) × IsNoNext error memory image payloads
+
+-- it is what the machine of a side keeps for the pair
+pub record RemembersAs (pair : ℕ) (memory : Remembered) (history : History) : Type 0 where
+  pub pair_is : memory.pair ≡ pair
+  pub lawful : IsHistory history
+  pub standing : memory.standing ≡ standing_of history
+
+abbrev pub kept_as : ℕ → KeptAs Remembered History Event
+kept_as pair = record { keeping = of_side pair; Remembers = RemembersAs pair }
 
 -- the update makes the step of an event
 pub record StepsBy (old : Remembered) (update : Update) (new : Remembered) : Type 0 where

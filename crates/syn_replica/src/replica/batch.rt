@@ -3,7 +3,7 @@ ghost use Rattle.std.specs.Prelude.{◌≡◌, ◌⊎◌, ◌≤◌, ◌-◌, �
 ghost use Rattle.std.specs.Prelude.{IfErr, IfOk, IsErrAnd, MatchResult, OnOk};
 ghost use Rattle.syn_disk.specs.Stops.{LeavesOnly};
 ghost use Rattle.syn_journal.specs.Batches.{bytes_of_each, calls_for, records_size};
-ghost use Rattle.syn_journaled.specs.Endings.{Spends};
+ghost use Rattle.syn_journal.specs.Endings.{Spends};
 ghost use Rattle.syn_model.specs.History.{History};
 ghost use Rattle.syn_model.specs.Refusal.{Refusal, Device, Memory};
 ghost use Rattle.syn_model.specs.Spelling.{event_spelling};
@@ -13,17 +13,16 @@ ghost use Rattle.syn_replica.specs.Edits.{event_by};
 ghost use Rattle.syn_replica.specs.Refusals.{IsOneOf, edit_refusals, outside_refusals};
 ghost use Rattle.syn_replica.specs.inner.Additions.{add_refusal_at};
 ghost use Rattle.syn_replica.specs.inner.Batches.{AddsAll, add_all_refusal_at};
-ghost use Rattle.syn_standing.specs.Refusals.{refusal_of};
+ghost use Rattle.syn_replica.specs.ErrorRefusals.{refusal_of};
 
 use super::Replica;
 use crate::remembered::Remembered;
+use crate::{ReplicaError, Standing, opening_laws};
 use std::alloc::Global;
 use syn_disk::Disk;
 use syn_history::Event;
-use syn_journal::{JournalError, RECORD_HEADER, layout_laws};
-use syn_journaled::Journaled;
+use syn_journal::{JournalError, Journaled, RECORD_HEADER, layout_laws};
 use syn_model::history_laws;
-use syn_standing::{ReplicaError, Standing, opening_laws};
 use syn_tree::Edit;
 use syn_wire::{edit_length, encode_event};
 

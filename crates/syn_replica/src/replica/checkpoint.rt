@@ -1,25 +1,26 @@
 //! A checkpoint: what the history leaves is written as one image.
-ghost use Rattle.std.specs.Prelude.{◌≡◌, ◌⊎◌, ◌+◌, ◌^◌, ◌<◌, IfErr, OnOk, Err, length};
+ghost use Rattle.std.specs.Prelude.{◌≡◌, ◌⊎◌, ◌+◌, ◌^◌, ◌<◌, ℕ, IfErr, OnOk, Err, length};
 ghost use Rattle.syn_disk.specs.Stops.{LeavesOnly};
-ghost use Rattle.syn_journaled.specs.Endings.{ended};
+ghost use Rattle.syn_journal.specs.Endings.{ended};
 ghost use Rattle.syn_journal.specs.Layout.{longest_image};
 ghost use Rattle.syn_model.specs.History.{History};
 ghost use Rattle.syn_model.specs.Image.{image_spelling};
 ghost use Rattle.syn_model.specs.Refusal.{Full};
-ghost use Rattle.syn_standing.specs.Refusals.{refusal_of};
+ghost use Rattle.syn_replica.specs.ErrorRefusals.{refusal_of};
 ghost use Rattle.syn_replica.specs.Refusals.{IsOneOf, checkpoint_refusals};
 
 use super::Replica;
+use crate::{ReplicaError, opening_laws};
 use std::alloc::Global;
 use syn_disk::Disk;
 use syn_journal::JournalError;
 use syn_model::history_laws;
-use syn_standing::{ReplicaError, opening_laws};
 
 impl<D: Disk> Replica<D> {
     ghost use Rattle.syn_replica.specs.Replica.{pair_of, standing_shown, disk_of, generation_shown};
     ghost use Rattle.syn_replica.specs.Replica.{IsHalted, Stands, KeepsOrCompacts};
     ghost use Rattle.syn_replica.specs.Calls.{Compacts};
+    ghost use Rattle.syn_replica.specs.Machines.{CompactsImage, IsMachine, Journal};
 
     /// Takes an image of what the history leaves in the place of the journal's records, so that
     /// there is room again. No answer of another call changes, but those that tell of the journal:
@@ -46,6 +47,10 @@ impl<D: Disk> Replica<D> {
             → result ≡ Err (ReplicaError.Journal JournalError.Full) }
         ensures refusals { IfErr result (IsOneOf checkpoint_refusals) }
         ensures machine { Compacts self.old self.new (ended refusal_of result) }
+
+        // What it is to the model's machine, also where its device fails or stops.
+        ensures world { (number : ℕ) (machine : Journal) → IsMachine self.old number machine
+            → CompactsImage self.new number machine (ended refusal_of result) }
     {
         opening_laws();
         history_laws();

@@ -7,13 +7,13 @@ ghost use Rattle.syn_mark.specs.Marks.{contents_in};
 ghost use Rattle.syn_replica.specs.Refusals.{IsOneOf, reading_refusals};
 
 use super::Replica;
+use crate::ReplicaError;
 use crate::digests::Digests;
 use std::alloc::Global;
 use syn_disk::Disk;
 use syn_journal::JournalError;
 use syn_mark::Mark;
 use syn_path::{Name, Path};
-use syn_standing::ReplicaError;
 use syn_tree::TreeError;
 
 /// What stands in a directory, by marks.

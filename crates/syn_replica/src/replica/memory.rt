@@ -4,19 +4,19 @@ ghost use Rattle.syn_history.specs.Events.{event_of, token_of};
 ghost use Rattle.syn_model.specs.History.{History, standing_of};
 ghost use Rattle.syn_model.specs.Refusal.{Memory, first_cause};
 ghost use Rattle.syn_model.specs.Standing.{is_old, refusal_at};
-ghost use Rattle.syn_standing.specs.Causes.{since_causes};
-ghost use Rattle.syn_standing.specs.Refusals.{refusal_in, refusal_of};
-ghost use Rattle.syn_standing.specs.Updates.{IsReady, early_causes};
+ghost use Rattle.syn_replica.specs.Causes.{since_causes};
+ghost use Rattle.syn_replica.specs.ErrorRefusals.{refusal_in, refusal_of};
+ghost use Rattle.syn_replica.specs.Updates.{IsReady, early_causes};
 ghost use Rattle.syn_replica.specs.Steps.{is_done_at};
 ghost use Rattle.syn_replica.specs.inner.Additions.{Adds};
 ghost use Rattle.syn_wire.specs.Events.{IsShort};
 
 use super::Replica;
+use crate::{ReplicaError, Standing, Update};
 use std::alloc::Global;
 use syn_disk::Disk;
 use syn_history::{Event, HistoryError, Token};
 use syn_path::Path;
-use syn_standing::{ReplicaError, Standing, Update};
 use syn_wire::encode_event;
 
 impl<D: Disk> Replica<D> {

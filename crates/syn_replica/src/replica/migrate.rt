@@ -2,7 +2,7 @@
 ghost use Rattle.std.specs.Prelude.{◌≡◌, ◌⊎◌, ◌^◌, ◌<◌, ℕ, IfOk, IfErr};
 ghost use Rattle.std.specs.Prelude.{IsErrAnd, MatchResult, None, Some};
 ghost use Rattle.syn_disk.specs.Calls.{MakesAtLeast};
-ghost use Rattle.syn_journaled.specs.Endings.{CountsFailures, ReadsOrBreaks};
+ghost use Rattle.syn_journal.specs.Endings.{CountsFailures, ReadsOrBreaks};
 ghost use Rattle.syn_disk.specs.Stops.{LeavesOnly, Untouched};
 ghost use Rattle.syn_journal.specs.Layout.{Value, HasJournal};
 ghost use Rattle.syn_model.specs.History.{History};
@@ -10,7 +10,7 @@ ghost use Rattle.syn_model.specs.Image.{IsOldImage};
 ghost use Rattle.syn_model.specs.Refusal.{Device};
 ghost use Rattle.syn_model.specs.Version as model;
 ghost use Rattle.syn_model.specs.Version.{One};
-ghost use Rattle.syn_standing.specs.Refusals.{refusal_of};
+ghost use Rattle.syn_replica.specs.ErrorRefusals.{refusal_of};
 ghost use Rattle.syn_replica.specs.Disks.{DiskGives, DiskKeepsIn, DiskStandsIn};
 ghost use Rattle.syn_replica.specs.Disks.{IsOldDisk};
 ghost use Rattle.syn_replica.specs.Migrating.{GivesInEither, KeepsOrMigrates, OrBefore};
@@ -19,12 +19,12 @@ ghost use Rattle.syn_replica.specs.Refusals.{IsOneOf};
 ghost use Rattle.syn_replica.specs.Refusals.{greatest_refusals, lawful_refusals};
 
 use super::Replica;
+use crate::{ReplicaError, opening_laws};
 use std::alloc::Global;
 use std::cell::Cell;
 use syn_disk::Disk;
-use syn_journaled::Journaled;
+use syn_journal::Journaled;
 use syn_model::history_laws;
-use syn_standing::{ReplicaError, opening_laws};
 
 impl<D: Disk> Replica<D> {
     ghost use Rattle.syn_replica.specs.Replica.{pair_of, standing_shown, tried_shown, disk_of};

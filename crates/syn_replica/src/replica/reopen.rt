@@ -1,24 +1,25 @@
 //! A reopening: a replica finds out anew what its own disk stands for.
 ghost use Rattle.std.specs.Prelude.{◌≡◌, ◌≤◌, ◌<◌, ◌⊎◌, ◌++◌, ◌∷◌, [], None, Ok, IfErr, OnOk};
-ghost use Rattle.std.specs.Prelude.{MatchResult, length};
-ghost use Rattle.syn_journaled.specs.Endings.{ended};
+ghost use Rattle.std.specs.Prelude.{MatchResult, length, ℕ};
+ghost use Rattle.syn_journal.specs.Endings.{ended};
 ghost use Rattle.syn_model.specs.Event.{Event};
 ghost use Rattle.syn_model.specs.History.{History};
 ghost use Rattle.syn_model.specs.Refusal.{Device};
 ghost use Rattle.syn_replica.specs.Disks.{DiskGives, DiskStands, IsReopenRefusal};
-ghost use Rattle.syn_standing.specs.Refusals.{refusal_of};
+ghost use Rattle.syn_replica.specs.ErrorRefusals.{refusal_of};
 ghost use Rattle.syn_replica.specs.Refusals.{IsOneOf, outside_refusals};
 
 use super::Replica;
+use crate::{ReplicaError, opening_laws};
 use std::alloc::Global;
 use syn_disk::Disk;
-use syn_standing::{ReplicaError, opening_laws};
 
 impl<D: Disk> Replica<D> {
     ghost use Rattle.syn_replica.specs.Replica.{pair_of, standing_shown, tried_shown, disk_of};
     ghost use Rattle.syn_replica.specs.Replica.{position_shown, Stands, KeepsBeforeOrAfter};
     ghost use Rattle.syn_replica.specs.Growth.{KeepsUp, WithTried};
     ghost use Rattle.syn_replica.specs.Calls.{Reopens};
+    ghost use Rattle.syn_replica.specs.Machines.{IsMachine, Journal, ReadsDisk};
 
     /// Opens the replica's own disk again. A replica that was halted runs again.
     ///
@@ -60,6 +61,10 @@ impl<D: Disk> Replica<D> {
         ensures unchanged { (history : History) → Stands self.old history
             → IfErr result (λ e. (refusal_of e ≡ Device) ⊎ Stands self.new history) }
         ensures machine { Reopens self.old self.new (ended refusal_of result) }
+
+        // What it is to the model's machine, also where its device fails or stops.
+        ensures world { (number : ℕ) (machine : Journal) → IsMachine self.old number machine
+            → ReadsDisk self.new number machine (ended refusal_of result) }
     {
         opening_laws();
         match self.machine.reopen(alloc) {

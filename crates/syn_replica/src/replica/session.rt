@@ -2,7 +2,7 @@
 ghost use Rattle.std.specs.Prelude.{◌≡◌, ◌⊎◌, ◌↔◌, ◌<◌, ◌≤◌, ◌^◌, ℕ, length, IfOk, IfErr, IsErrAnd};
 ghost use Rattle.std.specs.Prelude.{Err, Ok, Some, true, false};
 ghost use Rattle.syn_disk.specs.Stops.{LeavesOnly};
-ghost use Rattle.syn_journaled.specs.Endings.{ended};
+ghost use Rattle.syn_journal.specs.Endings.{ended};
 ghost use Rattle.syn_model.specs.Limits.{greatest_piece};
 ghost use Rattle.syn_model.specs.Event.{Began, Replaced};
 ghost use Rattle.syn_model.specs.History.{History, last_session, standing_of, tree_of};
@@ -11,23 +11,23 @@ ghost use Rattle.syn_model.specs.Spelling.{spelling};
 ghost use Rattle.syn_model.specs.Tree.{subtree};
 ghost use Rattle.syn_history.specs.Events.{token_of};
 ghost use Rattle.syn_tree.specs.Nodes.{part_of};
-ghost use Rattle.syn_standing.specs.Refusals.{refusal_of};
+ghost use Rattle.syn_replica.specs.ErrorRefusals.{refusal_of};
 ghost use Rattle.syn_replica.specs.Refusals.{IsOneOf, outside_refusals};
 ghost use Rattle.syn_replica.specs.inner.Additions.{checking_refusals, MayReplace};
 ghost use Rattle.syn_replica.specs.Refusals.{begin_refusals, fetch_refusals, replace_refusals};
 ghost use Rattle.syn_replica.specs.Calls.{unless};
 ghost use Rattle.syn_replica.specs.Steps.{begun, begin_refusal, is_done, is_done_at, piece};
-ghost use Rattle.syn_standing.specs.Causes.{since_causes};
+ghost use Rattle.syn_replica.specs.Causes.{since_causes};
 ghost use Rattle.syn_replica.specs.Steps.{early_refusal, how_stands, replaced, replace_refusal};
 ghost use Rattle.std.specs.Prelude.{◌==◌, None, IfSome, option_map};
 
 use super::Replica;
+use crate::{ReplicaError, opening_laws};
 use std::alloc::Global;
 use syn_disk::Disk;
 use syn_history::{Event, Token};
 use syn_journal::JournalError;
 use syn_path::Path;
-use syn_standing::{ReplicaError, opening_laws};
 use syn_tree::Node;
 use syn_wire::{encode_piece, part_length};
 
@@ -45,7 +45,7 @@ pub struct Piece {
 
 /// How a token stands to a replica.
 #[derive(Clone, Copy, Debug, PartialEq, Eq)]
-pub enum TokenStanding {
+pub enum TokenStatus {
     /// It is that of the last replacement.
     Done,
     /// Its session is not the one begun last, or it is below the last token.
@@ -154,17 +154,17 @@ impl<D: Disk> Replica<D> {
     }
 
     /// How the token stands.
-    pub fn standing(&self, token: Token) -> TokenStanding
+    pub fn standing(&self, token: Token) -> TokenStatus
         ensures { (history : History) → Remembers self.now history
             → result ≡ how_stands history (token_of token) }
     {
         let done = self.is_done(&token);
         if done {
-            TokenStanding::Done
+            TokenStatus::Done
         } else if self.is_old(&token) {
-            TokenStanding::Old
+            TokenStatus::Old
         } else {
-            TokenStanding::Open
+            TokenStatus::Open
         }
     }
 

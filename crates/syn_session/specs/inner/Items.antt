@@ -7,9 +7,9 @@ use Rattle.syn_model.specs.Decision.{ToLeft, ToRight, MarkSame, MarkDir, Conflic
 use Rattle.syn_model.specs.Decision as model
 use Rattle.syn_model.specs.Path.{Path, parent}
 use Rattle.syn_model.specs.Tree.{subtree}
-use Rattle.syn_propagate.specs.Transfers.{carriage_of}
+use Rattle.syn_propagate.specs.Transfers.{spec_of}
 use Rattle.syn_scan.specs.Found.{Found, position_of}
-use Rattle.syn_session.specs.declared.course.Carried.{Carried}
+use Rattle.syn_session.specs.declared.plan_progress.Carried.{Carried}
 use Rattle.syn_session.specs.declared.doing.Doing.{Doing}
 use Rattle.syn_session.specs.declared.doing.Doing.TheVariants as has
 use Rattle.syn_image.specs.Archives.{kept_for}
@@ -17,7 +17,7 @@ use Rattle.syn_image.specs.Archives.{kept_for}
 -- what stands at the path on the source is carried for the item with the number
 pub record IsCarriedFrom (carried : Carried) (source : Side) (item : ℕ) (path : Path)
     (from to : Found) : Type 0 where
-  pub carriage : carriage_of carried.transfer ≡ record {
+  pub spec : spec_of carried.transfer ≡ record {
     source = source;
     item = item;
     path = path;

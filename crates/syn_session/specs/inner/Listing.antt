@@ -59,7 +59,7 @@ pub record KeepsRequests (old new : Session) (side : Which) : Type 0 where
   pub across : line_of new (other side) ≡ line_of old (other side)
   pub number_is : new.number ≡ old.number
   pub preference_is : new.preference ≡ old.preference
-  pub course : new.course ≡ old.course
+  pub progress : new.progress ≡ old.progress
 
 -- what waits, and what was found
 pub record KeepsFound (old new : Session) : Type 0 where
@@ -69,4 +69,4 @@ pub record KeepsFound (old new : Session) : Type 0 where
   pub number_is : new.number ≡ old.number
   pub preference_is : new.preference ≡ old.preference
   pub unstable : new.is_unstable ≡ old.is_unstable
-  pub course : new.course ≡ old.course
+  pub progress : new.progress ≡ old.progress

@@ -9,10 +9,10 @@ use crate::chart::rows::{Row, rows_of};
 use crate::error::SimulateError;
 use crate::player::Player;
 use crate::turn::{Moment, Turn};
+use crate::{Line, Script};
 use std::alloc::{AllocError, Global};
 use std::mem;
-use syn_host::SimulatedDisk;
-use syn_script::{Line, Script};
+use syn_world::SimulatedDisk;
 
 /// The chart of the script that the player played: a column for each machine, and a row for each
 /// step, message, record, report, stop and opening, in order of time.

@@ -1,8 +1,8 @@
 //! What a chart says of the lines of a script.
 
+use crate::Line;
 use std::alloc::{AllocError, Global};
 use syn_path::Side;
-use syn_script::Line;
 use syn_tree::Edit;
 use syn_world::Machine;
 

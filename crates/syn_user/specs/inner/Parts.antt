@@ -1,5 +1,6 @@
 -- The parts of an exchange.
 use Rattle.std.specs.Prelude.{◌≡◌, ◌≢◌, ◌≤◌, ◌-◌, ℕ, Bool, true, false, IfSome, List, min, Option}
+use Rattle.syn_link.specs.Connections.{writer_of}
 use Rattle.syn_link.specs.declared.error.LinkError.{LinkError}
 use Rattle.syn_link.specs.declared.error.LinkError.TheVariants as link
 use Rattle.syn_message.specs.UserReplies.{Telling, Told}
@@ -14,6 +15,7 @@ use Rattle.syn_user.specs.Lines.{IsUnread, Line}
 use Rattle.syn_user.specs.declared.error.UserError.{UserError}
 use Rattle.syn_user.specs.declared.error.UserError.TheVariants.{BadFrame, BadMessage, Device}
 use Rattle.syn_user.specs.declared.error.UserError.TheVariants.{Memory, Refused, TooLarge}
+use Rattle.syn_user.specs.declared.side.SideConnection.{SideConnection}
 use Rattle.syn_wire.specs.Trees.{IsWholeTreeIn}
 
 -- a frame's error
@@ -64,6 +66,10 @@ module _ (old new : Line) (wished : Wished) where
         Breaks error
     unheard : (error : UserError) → IsSent old new wished → IsUnheard old new wished error →
         Breaks error
+
+-- what a side's requests are written to
+abbrev pub side_writer : {R W : Type 0} → SideConnection R W → W
+side_writer side = writer_of side.connection
 
 -- so many bytes are as many as a piece can have from the offset on, of so many as a tree may have
 abbrev pub IsFull : ℕ → ℕ → ℕ → Type 0

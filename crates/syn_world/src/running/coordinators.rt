@@ -3,8 +3,8 @@ ghost use Rattle.syn_headline.specs.World.{World as ModelWorld, Checkpoint, Coor
 ghost use Rattle.syn_headline.specs.World.{Fail, Stop};
 
 use super::Running;
+use crate::SimulatedDisk;
 use std::alloc::Global;
-use syn_host::SimulatedDisk;
 
 impl<D: SimulatedDisk> Running<D> {
     ghost use Rattle.syn_world.specs.Failures.{failures_in};

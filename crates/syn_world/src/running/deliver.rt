@@ -2,9 +2,9 @@
 ghost use Rattle.syn_headline.specs.World.{World as ModelWorld, Deliver};
 
 use super::Running;
+use crate::SimulatedDisk;
 use crate::lists::Message;
 use std::alloc::Global;
-use syn_host::SimulatedDisk;
 
 impl<D: SimulatedDisk> Running<D> {
     ghost use Rattle.syn_world.specs.Runs.{Attempts};

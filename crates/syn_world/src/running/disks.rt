@@ -4,13 +4,13 @@ ghost use Rattle.syn_disk.specs.Disk.{NothingNew};
 ghost use Rattle.syn_headline.specs.Coordinator.{CoordinatorMachine};
 ghost use Rattle.syn_headline.specs.SideMachine.{SideMachine};
 ghost use Rattle.syn_headline.specs.World.{World as ModelWorld};
-ghost use Rattle.syn_host.specs.Coordinators.{IsCoordinator, archive_disk};
-ghost use Rattle.syn_host.specs.Sides.{IsHost, side_disk};
-ghost use Rattle.syn_host.specs.Starts.{IsFree};
+ghost use Rattle.syn_world.specs.Coordinators.{IsCoordinator, archive_disk};
+ghost use Rattle.syn_world.specs.Sides.{IsHost, side_disk};
+ghost use Rattle.syn_world.specs.Starts.{IsFree};
 
 use super::Running;
 use crate::world::Disks;
-use syn_host::{CoordinatorHost, SideHost, SimulatedDisk};
+use crate::{CoordinatorHost, SideHost, SimulatedDisk};
 
 impl<D: SimulatedDisk> Running<D> {
     ghost use Rattle.syn_world.specs.Failures.{disks_in};

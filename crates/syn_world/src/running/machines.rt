@@ -4,9 +4,9 @@ ghost use Rattle.syn_headline.specs.World.{Stop};
 ghost use Rattle.syn_world.specs.Steps.{machine_of};
 
 use super::Running;
+use crate::SimulatedDisk;
+use crate::machine::Machine;
 use std::alloc::Global;
-use syn_host::SimulatedDisk;
-use syn_script::Machine;
 
 impl<D: SimulatedDisk> Running<D> {
     ghost use Rattle.syn_world.specs.Failures.{failures_in};

@@ -5,8 +5,8 @@ ghost use Rattle.syn_world.specs.Failures.{failures_in};
 ghost use Rattle.syn_world.specs.Worlds.{TellsFound};
 
 use super::Running;
+use crate::{CoordinatorOutcome, SimulatedDisk};
 use std::alloc::Global;
-use syn_host::{CoordinatorOutcome, SimulatedDisk};
 use syn_image::Kept;
 use syn_refusal::Refusal;
 

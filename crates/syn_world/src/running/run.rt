@@ -3,9 +3,9 @@ ghost use Rattle.syn_headline.specs.World.{World as ModelWorld};
 ghost use Rattle.syn_world.specs.Steps.{step_of};
 
 use super::Running;
+use crate::SimulatedDisk;
 use crate::step::Step;
 use std::alloc::Global;
-use syn_host::SimulatedDisk;
 
 impl<D: SimulatedDisk> Running<D> {
     ghost use Rattle.syn_world.specs.Runs.{Attempts};

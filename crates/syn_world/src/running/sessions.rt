@@ -6,9 +6,9 @@ ghost use Rattle.syn_message.specs.Replies.{reply_of};
 ghost use Rattle.syn_path.specs.Sides.{which_of};
 
 use super::Running;
+use crate::SimulatedDisk;
 use crate::replies::can_be_sent;
 use std::alloc::Global;
-use syn_host::SimulatedDisk;
 use syn_message::Reply;
 use syn_path::Side;
 

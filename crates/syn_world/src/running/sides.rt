@@ -8,8 +8,8 @@ ghost use Rattle.syn_path.specs.Sides.{which_of};
 ghost use Rattle.syn_tree.specs.Edits.{edit_of};
 
 use super::Running;
+use crate::{SideAnswer, SimulatedDisk};
 use std::alloc::Global;
-use syn_host::{SideAnswer, SimulatedDisk};
 use syn_message::Request;
 use syn_path::Side;
 use syn_tree::Edit;

@@ -4,9 +4,9 @@ ghost use Rattle.syn_headline.specs.Acknowledged.{Stores};
 ghost use Rattle.syn_headline.specs.World.{World as ModelWorld, Step as ModelStep};
 
 use super::{Disks, World};
+use crate::SimulatedDisk;
 use crate::step::Step;
 use std::alloc::{AllocError, Global};
-use syn_host::SimulatedDisk;
 
 impl<D: SimulatedDisk> World<D> {
     ghost use Rattle.syn_world.specs.Failures.{failures_in};

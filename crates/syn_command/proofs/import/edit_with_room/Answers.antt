@@ -10,7 +10,7 @@ use Rattle.syn_replica.specs.Batches.{KeepsNoneOrAll}
 use Rattle.syn_replica.specs.Edits.{event_by}
 use Rattle.syn_replica.specs.Disks.{DiskStands}
 use Rattle.syn_replica.specs.Replica.{disk_of, pair_of}
-use Rattle.syn_standing.specs.Refusals.{refusal_of}
+use Rattle.syn_replica.specs.ErrorRefusals.{refusal_of}
 
 pub returns-in_err-with_room-clause-any_moment : goal.returns-in_err-with_room-clause-any_moment
 returns-in_err-with_room-clause-any_moment g c history stands =

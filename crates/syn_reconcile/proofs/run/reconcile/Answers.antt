@@ -3,7 +3,7 @@ use Rattle.syn_archive.specs.Archive.{disk_of as marks_disk, pair_of as marks_pa
 use Rattle.syn_disk.specs.Stops.{LeavesOnly}
 use Rattle.syn_model.proofs.ExitLemmas.{if_err_of_exit, match_of_exit}
 use Rattle.syn_model.specs.Decision.{Item}
-use Rattle.syn_model.specs.Plan.{IsReconciled, IsSynchronized, carried_out}
+use Rattle.syn_model.specs.Plan.{CanBePlanned, IsReconciled, IsSynchronized, carried_out}
 use Rattle.syn_path.specs.Sides.{which_of}
 use Rattle.syn_replica.specs.Replica.{disk_of, pair_of}
 use Rattle.syn_reconcile.proofs.RunLemmas.{all_carried, none_yet, started_marks, started_tree}
@@ -162,7 +162,8 @@ returns-clause-synchronized g c history kept stands keeps none apart =
     ∙ ap (carried_out found) (c.in_ok-replica.ensures.items ∙ c.in-Ok.ensures.plan)) in
     subst (IsSynchronized preference found) (sym whole)
     (c.plan_laws.ensures.synchronizes preference found c.tell_types.ensures.folder
-    c.tell_types.ensures.replica c.tell_types.ensures.archive apart)
+    (subst CanBePlanned c.tree.ensures c.tell_types.ensures.replica)
+    c.tell_types.ensures.archive apart)
 
 pub returns-clause-reconciled : goal.returns-clause-reconciled
 returns-clause-reconciled g c history kept stands keeps none =
@@ -178,4 +179,5 @@ returns-clause-reconciled g c history kept stands keeps none =
     ∙ ap (carried_out found) (c.in_ok-replica.ensures.items ∙ c.in-Ok.ensures.plan)) in
     subst (IsReconciled preference found) (sym whole)
     (c.plan_laws.ensures.reconciles preference found c.tell_types.ensures.folder
-    c.tell_types.ensures.replica c.tell_types.ensures.archive)
+    (subst CanBePlanned c.tree.ensures c.tell_types.ensures.replica)
+    c.tell_types.ensures.archive)

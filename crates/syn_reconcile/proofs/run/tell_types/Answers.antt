@@ -10,10 +10,9 @@ returns-clause-folder g c =
 
 pub returns-clause-replica : goal.returns-clause-replica
 returns-clause-replica g c =
-    subst CanBePlanned c.tree-2.ensures
-    (tree_plannable c.tree-2.result.now c.entries-2.ensures.tree c.entries-2.ensures.fits)
+    tree_plannable c.args.replica.now c.entries-2.ensures.tree c.entries-2.ensures.fits
 
 pub returns-clause-archive : goal.returns-clause-archive
 returns-clause-archive g c =
-    subst CanBePlanned c.tree-3.ensures
-    (marks_plannable c.tree-3.result.now c.as_slice.ensures.marks c.as_slice.ensures.fits)
+    subst CanBePlanned c.tree-2.ensures
+    (marks_plannable c.tree-2.result.now c.as_slice.ensures.marks c.as_slice.ensures.fits)

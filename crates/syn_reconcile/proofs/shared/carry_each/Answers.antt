@@ -2,10 +2,12 @@ use Rattle.std.proofs.Common.{◌≡◌, ◌∙◌, ◌++◌, ◌∷◌, [], ap,
 use Rattle.std.proofs.Common.{map, refl, subst, sym}
 use Rattle.std.proofs.lemmas.List.{map-append, nil_from_length}
 use Rattle.std.specs.Prelude.{IfNone}
-use Rattle.syn_archive.specs.Archive.{marks_shown}
+use Rattle.syn_archive.specs.Archive.{disk_of, marks_shown, pair_of}
 use Rattle.syn_folder.specs.declared.stranger.Stranger.{Stranger}
 use Rattle.syn_recon.specs.Items.{item_of, items_of}
-use Rattle.syn_reconcile.proofs.SharedLemmas.{alone_more, beside_more, hold_more}
+use Rattle.syn_reconcile.proofs.RunLemmas.{part_then}
+use Rattle.syn_reconcile.proofs.SharedLemmas.{alone_more, beside_more, cut_short, hold_more}
+use Rattle.syn_reconcile.proofs.SharedLemmas.{if_err_any, seen_first, step_seen, unwritten}
 use Rattle.syn_reconcile.specs.Settlings.{here, items_in}
 use Rattle.syn_reconcile.specs.Shared.{HoldInTurn, IsBeside, LeaveAlone, after_all_seen}
 use Rattle.syn_reconcile.specs.Shared as shared
@@ -31,6 +33,12 @@ loop-item-init g c =
           subst (λ (xs : List Settled). HoldInTurn c.args.shared.now c.args.user
           c.args.seen.now.position found xs c.args.pass.now c.args.pass.now) (sym none)
           (shared.none c.args.pass.now);
+      marks = λ kept keeps.
+          unwritten g.met.A.Disk.only_now c.args.archive.now kept keeps _
+          (λ bytes has. seen_first c.args.shared.now c.args.user c.args.seen.now.position
+          (items_of c.args.items.items) found c.args.pass.now (pair_of c.args.archive.now)
+          (marks_shown c.args.archive.now) bytes refl has);
+      marked = refl;
       apart = subst (LeaveAlone (g.F.EditedFolder.strangers c.args.folder.now)
           c.args.seen.now.tree) (sym none) tt;
       strangers = refl;
@@ -48,6 +56,11 @@ loop-item-preserved g c =
     let found = here (tree c.args.folder.now) seen.tree (marks_shown c.args.archive.now) in
     let noted = c.in_ok-note.ensures in
     let whole = c.loop-item.invariant.whole ∙ ap (λ xs. made ++ xs) c.in-Some.ensures.steps.0 in
+    let planned = items_of c.args.items.items in
+    let others = items_of c.next.new.self.rest.items in
+    let are : planned ≡ items_in settled ++ item_of item ∷ others =
+    ap items_of whole ∙ (map-append item_of made (item ∷ c.next.new.self.rest.items)
+    ∙ ap (λ xs. xs ++ item_of item ∷ others) (sym c.loop-item.invariant.items)) in
     record {
       whole = whole ∙ sym (append_assoc made (item ∷ []) c.next.new.self.rest.items);
       items =
@@ -70,6 +83,15 @@ loop-item-preserved g c =
           c.args.shared.now c.args.user seen.position one c.args.pass.now c.loop-item.pass
           c.carry_one.new.pass (c.loop-item.invariant.holds kept keeps)
           c.in_ok-refused.ensures.holds);
+      marks = λ kept keeps.
+          let on = c.loop-item.invariant.carried kept keeps in
+          step_seen c.args.shared.now c.args.user seen.position planned found c.args.pass.now
+          settled item others are (tree c.loop-item.folder) c.loop-item.archive on c.loop-item.pass
+          c.carry_one.new.pass (c.loop-item.invariant.holds kept keeps)
+          (pair_of c.args.archive.now) c.loop-item.invariant.marked (disk_of c.args.archive.now)
+          (disk_of c.carry_one.new.archive) (c.loop-item.invariant.marks kept keeps)
+          (c.carry_one.ensures.any_mark on.marks.kept on.marks.keeps);
+      marked = c.carry_one.ensures.marked ∙ c.loop-item.invariant.marked;
       apart =
           subst (LeaveAlone (strange c.args.folder.now) seen.tree) (sym noted)
           (alone_more (strange c.args.folder.now) seen.tree settled one
@@ -87,3 +109,99 @@ returns-clause-items g c =
     let all = c.loop-item.invariant.whole
     ∙ (ap (λ xs. c.loop-item.yielded ++ xs) none ∙ append-nil c.loop-item.yielded) in
     c.loop-item.invariant.items ∙ ap items_of (sym all)
+
+pub returns-in_err-refused-clause-stopped : goal.returns-in_err-refused-clause-stopped
+returns-in_err-refused-clause-stopped g c kept keeps =
+    let tree = g.F.EditedFolder.tree in
+    let made = c.loop-item.yielded in
+    let item = c.in-Some.item in
+    let settled = c.loop-item.settled.items in
+    let seen = c.args.seen.now in
+    let found = here (tree c.args.folder.now) seen.tree (marks_shown c.args.archive.now) in
+    let whole = c.loop-item.invariant.whole ∙ ap (λ xs. made ++ xs) c.in-Some.ensures.steps.0 in
+    let planned = items_of c.args.items.items in
+    let others = items_of c.next.new.self.rest.items in
+    let are : planned ≡ items_in settled ++ item_of item ∷ others =
+    ap items_of whole ∙ (map-append item_of made (item ∷ c.next.new.self.rest.items)
+    ∙ ap (λ xs. xs ++ item_of item ∷ others) (sym c.loop-item.invariant.items)) in
+    let on = c.loop-item.invariant.carried kept keeps in
+    let mark = c.carry_one.ensures.any_mark on.marks.kept on.marks.keeps in
+    if_err_any _ _
+    (cut_short c.args.shared.now c.args.user seen.position planned found c.args.pass.now settled
+    item others are (tree c.loop-item.folder) c.loop-item.archive on c.loop-item.pass
+    c.carry_one.new.pass (c.loop-item.invariant.holds kept keeps)
+    (pair_of c.args.archive.now) c.loop-item.invariant.marked (tree c.carry_one.new.folder)
+    c.carry_one.new.archive
+    (λ bytes may. mark.each bytes (g.met.A.Disk.counts_now (disk_of c.carry_one.new.archive)
+    (g.A.Disk.moment (disk_of c.loop-item.archive)) bytes mark.later may))
+    c.in_err-refused.ensures.stopped)
+
+pub returns-in_err-refused-clause-any_mark : goal.returns-in_err-refused-clause-any_mark
+returns-in_err-refused-clause-any_mark g c kept keeps =
+    let tree = g.F.EditedFolder.tree in
+    let made = c.loop-item.yielded in
+    let item = c.in-Some.item in
+    let settled = c.loop-item.settled.items in
+    let seen = c.args.seen.now in
+    let found = here (tree c.args.folder.now) seen.tree (marks_shown c.args.archive.now) in
+    let whole = c.loop-item.invariant.whole ∙ ap (λ xs. made ++ xs) c.in-Some.ensures.steps.0 in
+    let planned = items_of c.args.items.items in
+    let others = items_of c.next.new.self.rest.items in
+    let are : planned ≡ items_in settled ++ item_of item ∷ others =
+    ap items_of whole ∙ (map-append item_of made (item ∷ c.next.new.self.rest.items)
+    ∙ ap (λ xs. xs ++ item_of item ∷ others) (sym c.loop-item.invariant.items)) in
+    let on = c.loop-item.invariant.carried kept keeps in
+    step_seen c.args.shared.now c.args.user seen.position planned found c.args.pass.now settled
+    item others are (tree c.loop-item.folder) c.loop-item.archive on c.loop-item.pass
+    c.carry_one.new.pass (c.loop-item.invariant.holds kept keeps)
+    (pair_of c.args.archive.now) c.loop-item.invariant.marked (disk_of c.args.archive.now)
+    (disk_of c.carry_one.new.archive) (c.loop-item.invariant.marks kept keeps)
+    (c.carry_one.ensures.any_mark on.marks.kept on.marks.keeps)
+
+pub returns-in_err-note-clause-stopped : goal.returns-in_err-note-clause-stopped
+returns-in_err-note-clause-stopped g c kept keeps =
+    let tree = g.F.EditedFolder.tree in
+    let made = c.loop-item.yielded in
+    let item = c.in-Some.item in
+    let settled = c.loop-item.settled.items in
+    let seen = c.args.seen.now in
+    let found = here (tree c.args.folder.now) seen.tree (marks_shown c.args.archive.now) in
+    let whole = c.loop-item.invariant.whole ∙ ap (λ xs. made ++ xs) c.in-Some.ensures.steps.0 in
+    let planned = items_of c.args.items.items in
+    let others = items_of c.next.new.self.rest.items in
+    let are : planned ≡ items_in settled ++ item_of item ∷ others =
+    ap items_of whole ∙ (map-append item_of made (item ∷ c.next.new.self.rest.items)
+    ∙ ap (λ xs. xs ++ item_of item ∷ others) (sym c.loop-item.invariant.items)) in
+    let one : Settled = record { item = item; refused = c.in_ok-refused.refused } in
+    let on = c.loop-item.invariant.carried kept keeps in
+    if_err_any _ _
+    (shared.IsCutShort.between (settled ++ one ∷ []) (part_then planned settled one others are)
+    (beside_more found settled (tree c.loop-item.folder) c.loop-item.archive on one
+    (tree c.carry_one.new.folder) c.carry_one.new.archive
+    (c.in_ok-refused.ensures.carried on.marks.kept on.marks.keeps))
+    (hold_more found settled (tree c.loop-item.folder) c.loop-item.archive on
+    c.args.shared.now c.args.user seen.position one c.args.pass.now c.loop-item.pass
+    c.carry_one.new.pass (c.loop-item.invariant.holds kept keeps)
+    c.in_ok-refused.ensures.holds))
+
+pub returns-in_err-note-clause-any_mark : goal.returns-in_err-note-clause-any_mark
+returns-in_err-note-clause-any_mark g c kept keeps =
+    let tree = g.F.EditedFolder.tree in
+    let made = c.loop-item.yielded in
+    let item = c.in-Some.item in
+    let settled = c.loop-item.settled.items in
+    let seen = c.args.seen.now in
+    let found = here (tree c.args.folder.now) seen.tree (marks_shown c.args.archive.now) in
+    let whole = c.loop-item.invariant.whole ∙ ap (λ xs. made ++ xs) c.in-Some.ensures.steps.0 in
+    let planned = items_of c.args.items.items in
+    let others = items_of c.next.new.self.rest.items in
+    let are : planned ≡ items_in settled ++ item_of item ∷ others =
+    ap items_of whole ∙ (map-append item_of made (item ∷ c.next.new.self.rest.items)
+    ∙ ap (λ xs. xs ++ item_of item ∷ others) (sym c.loop-item.invariant.items)) in
+    let on = c.loop-item.invariant.carried kept keeps in
+    step_seen c.args.shared.now c.args.user seen.position planned found c.args.pass.now settled
+    item others are (tree c.loop-item.folder) c.loop-item.archive on c.loop-item.pass
+    c.carry_one.new.pass (c.loop-item.invariant.holds kept keeps)
+    (pair_of c.args.archive.now) c.loop-item.invariant.marked (disk_of c.args.archive.now)
+    (disk_of c.carry_one.new.archive) (c.loop-item.invariant.marks kept keeps)
+    (c.carry_one.ensures.any_mark on.marks.kept on.marks.keeps)

@@ -6,7 +6,7 @@ use Rattle.syn_model.specs.Event.{Event}
 use Rattle.syn_replica.specs.Edits.{event_by}
 use Rattle.syn_replica.specs.Growing.{itself, grown_twice}
 use Rattle.syn_replica.specs.Replica.{position_shown}
-use Rattle.syn_standing.specs.declared.error.ReplicaError.{ReplicaError}
+use Rattle.syn_replica.specs.declared.error.ReplicaError.{ReplicaError}
 use Rattle.syn_tree.specs.declared.edit.Edit.{Edit}
 use Rattle.syn_shared.specs.Parts.{AddsInTurn, EndsWith}
 use Rattle.syn_shared.specs.Parts as parts

@@ -2,7 +2,7 @@ use Rattle.std.proofs.Common.{◌≡◌, map, subst}
 use Rattle.syn_change.specs.Changes.{AreChanges}
 use Rattle.syn_model.proofs.ExitLemmas.{is_err_of_exit}
 use Rattle.syn_model.specs.Tree.{Tree, replace}
-use Rattle.syn_standing.specs.Refusals.{refusal_of}
+use Rattle.syn_replica.specs.ErrorRefusals.{refusal_of}
 use Rattle.syn_tree.specs.Edits.{edit_of}
 use Rattle.syn_tree.specs.Nodes.{part_of}
 use Rattle.syn_shared.proofs.parts.planned_within.Goals as goal

@@ -2,7 +2,7 @@ use Rattle.std.proofs.Common.{ℕ, List, Result, map, refl, subst, sym}
 use Rattle.syn_model.proofs.ExitLemmas.{exit_is}
 use Rattle.syn_model.specs.Event.{Event}
 use Rattle.syn_replica.specs.Growing.{itself}
-use Rattle.syn_standing.specs.declared.error.ReplicaError.{ReplicaError}
+use Rattle.syn_replica.specs.declared.error.ReplicaError.{ReplicaError}
 use Rattle.syn_tree.specs.Edits.{edit_of}
 use Rattle.syn_tree.specs.Nodes.{part_of}
 use Rattle.syn_shared.specs.Parts.{EndsWith, Puts}

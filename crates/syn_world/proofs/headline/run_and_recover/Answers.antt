@@ -3,7 +3,7 @@ use Rattle.std.specs.Prelude.{◌^◌}
 use Rattle.syn_disk.specs.declared.disk.Disk.{Ghosts}
 use Rattle.syn_headline.specs.Acknowledged.{Stores}
 use Rattle.syn_headline.specs.World.{Step}
-use Rattle.syn_host.specs.Starts.{IsFromOutside}
+use Rattle.syn_world.specs.Starts.{IsFromOutside}
 use Rattle.syn_refusal.specs.declared.refusal.Refusal.{Refusal}
 use Rattle.syn_world.specs.Headlines.{HasRunSafely, IsCutShort, IsNotOpened, IsSafeRun}
 use Rattle.syn_world.specs.Headlines.{EndsInPart}

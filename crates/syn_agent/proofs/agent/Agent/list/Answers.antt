@@ -11,7 +11,7 @@ use Rattle.syn_model.specs.Refusal as why
 use Rattle.syn_model.specs.Tree.{is_directory}
 use Rattle.syn_refusal.specs.Refusals.{cause_of}
 use Rattle.syn_replica.specs.Refusals.{reading_refusals}
-use Rattle.syn_standing.specs.Refusals.{refusal_in, refusal_of}
+use Rattle.syn_replica.specs.ErrorRefusals.{refusal_in, refusal_of}
 use Rattle.syn_replica.specs.Replica.{Stands, tree_shown}
 
 pub returns-in-Ok-clause-answers : goal.returns-in-Ok-clause-answers

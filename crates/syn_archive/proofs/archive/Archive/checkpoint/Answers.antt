@@ -1,8 +1,8 @@
 use Rattle.std.proofs.Common.{◌≡◌, ◌<◌, ◌≤◌, ◌+◌, ◌∙◌, ℕ, length, true≢false, inl, inr, sym}
 use Rattle.std.proofs.Common.{ap, subst, arith, []}
 use Rattle.syn_journal.specs.Layout.{image_alone, longest_image, IsBeforeOrAfter}
-use Rattle.syn_journaled.specs.Endings.{ended}
-use Rattle.syn_journaled.proofs.Results.{on_ok_of}
+use Rattle.syn_journal.specs.Endings.{ended}
+use Rattle.syn_journal.proofs.Results.{on_ok_of}
 use Rattle.syn_model.specs.Limits.{greatest_image}
 use Rattle.syn_model.specs.Version.{current_version}
 use Rattle.syn_model.specs.MarkSpelling.{archive_spelling}
@@ -15,6 +15,7 @@ use Rattle.syn_archive.proofs.StandLemmas.{image_keeps, left_behind}
 use Rattle.syn_disk.proofs.LeftLemmas.{leaves_weaker, seen_is_left}
 use Rattle.syn_archive.proofs.StandLemmas.{stop_compacts}
 use Rattle.syn_archive.proofs.EndLemmas.{err_of, of_checkpoint}
+use Rattle.syn_archive.proofs.MachineLemmas.{as_machine, compacts_image}
 use Rattle.syn_archive.proofs.WriteLemmas.{compacts}
 use Rattle.syn_archive.proofs.archive.Archive.checkpoint.Goals as goal
 
@@ -81,3 +82,9 @@ returns-clause-machine g c =
     (λ kept stands. seen_is_left g.D.Disk.seen g.D.Disk.may_leave g.D.Disk.moment
     g.D.Disk.left_since g.met.D.Disk.seen_may_stay g.met.D.Disk.counts_now _ _
     (KeepsOrCompacts c.args.self.now kept) (returns-clause-any_moment g c kept stands))
+
+pub returns-clause-world : goal.returns-clause-world
+returns-clause-world g c number machine is =
+    compacts_image c.args.self.now (record { machine = c.checkpoint.new.self }) number machine is _
+    (returns-clause-machine g c)
+    (c.checkpoint.ensures.machine number machine (as_machine c.args.self.now number machine is))

@@ -1,16 +1,21 @@
-use Rattle.std.proofs.Common.{◌∙◌, Some, inl, subst, sym}
+use Rattle.std.proofs.Common.{◌∙◌, Some, ap, inl, subst, sym}
 use Rattle.std.proofs.lemmas.Option.{none-some}
-use Rattle.syn_journaled.specs.Endings.{ended}
-use Rattle.syn_journaled.proofs.Results.{ok_part, on_ok_of}
+use Rattle.syn_journal.specs.Endings.{ended}
+use Rattle.syn_journal.proofs.Results.{ok_part, on_ok_of}
 use Rattle.syn_model.proofs.ExitLemmas.{exit_is, if_err_of_exit, is_err_of_exit, on_ok_of_exit}
 use Rattle.syn_archive.specs.Archive.{KeepsBeforeOrAfter, room_shown, session_shown, shown}
 use Rattle.syn_archive.specs.Refusals.{refusal_of}
 use Rattle.syn_archive.specs.Calls.{Writes}
+use Rattle.syn_archive.specs.Machines.{KeepsRecord, refuses}
+use Rattle.syn_archive.specs.inner.Agreements.{agreed_archive}
 use Rattle.syn_archive.specs.inner.Keepings.{kept_in}
 use Rattle.syn_archive.proofs.StandLemmas.{keeps_now, not_written}
 use Rattle.syn_disk.proofs.LeftLemmas.{seen_is_left}
 use Rattle.syn_archive.proofs.EndLemmas.{err_part}
-use Rattle.syn_archive.proofs.KeepLemmas.{has_cause, is_why, none_refuses, not_prepared, of_record}
+use Rattle.syn_archive.proofs.KeepLemmas.{has_cause, is_why, no_device, none_refuses}
+use Rattle.syn_archive.proofs.KeepLemmas.{not_prepared, of_record}
+use Rattle.syn_archive.proofs.MachineLemmas.{as_machine, keeps_record, not_idle}
+use Rattle.syn_model.specs.Archive.{CanKeep, after_kept}
 use Rattle.syn_archive.proofs.WriteLemmas.{cause_of_write, has_room, record_of_write, writes}
 use Rattle.syn_archive.proofs.WriteLemmas.{written_moment, written_record, written_shown}
 use Rattle.syn_archive.proofs.WriteLemmas.{written_stands}
@@ -53,6 +58,13 @@ returns-in_err-payload-clause-machine g c =
     subst (λ r. Writes old old (Some what) (ended refusal_of r))
     (sym (exit_is c.from_residual.result _ c.from_residual.ensures.1))
     (not_prepared old what c.in_err-payload.ensures.refused)
+
+pub returns-in_err-payload-clause-world : goal.returns-in_err-payload-clause-world
+returns-in_err-payload-clause-world g c number machine is =
+    let what = kept_in (session_shown c.args.self.now) c.args.what in
+    subst (λ r. KeepsRecord c.args.self.now number machine what (ended refusal_of r))
+    (sym (exit_is c.from_residual.result _ c.from_residual.ensures.1))
+    (refuses _ (no_device c.in_err-payload.ensures.refused) is)
 
 -- ---- it was prepared, and written as the machine answers
 
@@ -112,3 +124,21 @@ returns-clause-machine g c =
     (ok_part refusal_of c.write.result _ _ c.write.ensures.state none)
     c.in_ok-payload.ensures.keeps)
     (err_part c.write.result _ _ c.write.ensures.state)
+
+pub returns-clause-world : goal.returns-clause-world
+returns-clause-world g c number machine is =
+    let old = c.args.self.now in
+    let what = kept_in (session_shown old) c.args.what in
+    let keeps = c.in_ok-payload.ensures.keeps in
+    keeps_record old (record { machine = c.write.new.self }) number machine is what
+    (not_idle number (shown old) machine.value (session_shown old) c.args.what is.remembers
+    c.requires) _ (returns-clause-machine g c)
+    (c.write.ensures.machine number machine what (as_machine old number machine is) (record {
+      can = subst (λ a. CanKeep a what) is.remembers keeps.can;
+      spelled = c.deref.ensures.value ∙ c.in_ok-payload.ensures.payload;
+      leads = λ state made. record {
+        pair_is = ap (λ a. a.pair) made ∙ is.pair_is;
+        archive_is = ap agreed_archive made
+            ∙ (keeps.gives ∙ ap (λ a. after_kept a what) is.remembers);
+      };
+    }))

@@ -1,7 +1,7 @@
 use Rattle.std.proofs.Common.{None, Some, inl, inr, sym, subst, arith}
-use Rattle.syn_journaled.specs.Endings.{ReadsOrBreaks}
-use Rattle.syn_journaled.specs.Migrations.{Migrated, NotMigrated}
-use Rattle.syn_journaled.proofs.Migrations.{more_made, only_read}
+use Rattle.syn_journal.specs.Endings.{ReadsOrBreaks}
+use Rattle.syn_journal.specs.Migrations.{Migrated, NotMigrated}
+use Rattle.syn_journal.proofs.Migrations.{more_made, only_read}
 use Rattle.syn_model.specs.Version.{One, Two}
 use Rattle.syn_archive.specs.Disks.{DiskKeepsIn}
 use Rattle.syn_archive.specs.Refusals.{of_journal, refusal_of}

@@ -5,9 +5,10 @@ use Rattle.syn_model.specs.ArchiveImage.{ArchiveStandsFor}
 use Rattle.syn_archive.specs.Archive.{disk_of, pair_of}
 use Rattle.syn_archive.specs.declared.error.ArchiveError.TheVariants.{Device}
 use Rattle.syn_archive.specs.inner.Agreements.{agreed_archive}
-use Rattle.syn_journaled.proofs.Results.{if_err_both, on_ok_both}
+use Rattle.syn_journal.proofs.Results.{if_err_both, on_ok_both}
 use Rattle.syn_archive.proofs.CallLemmas.{reopens}
 use Rattle.syn_archive.proofs.EndLemmas.{same_error}
+use Rattle.syn_archive.proofs.MachineLemmas.{as_machine, reads_disk}
 use Rattle.syn_archive.proofs.MeaningLemmas.{keeps_stands, reopen_refusal, stands_for_each}
 use Rattle.syn_archive.proofs.archive.Archive.reopen.Goals as goal
 
@@ -64,3 +65,9 @@ returns-clause-machine g c =
     let told = c.reopen.ensures in
     reopens c.args.self.now _ c.reopen.result told.follows told.state told.halted told.halts
     told.readings told.room told.remembers told.device
+
+pub returns-clause-world : goal.returns-clause-world
+returns-clause-world g c number machine is =
+    let old = c.args.self.now in
+    reads_disk old (record { machine = c.reopen.new.self }) number machine is _
+    (c.reopen.ensures.machine number machine (as_machine old number machine is))

@@ -11,6 +11,6 @@ returns-clause-stands g c pair machine stands goes = record {
   quiet = stands.quiet;
   untried = stands.untried;
   tries =
-      tries_still pair c.args.self.now.tried machine.journal machine.journal.status _ 0
+      tries_still c.args.self.now.tried machine.journal machine.journal.status _ 0
       (λ up. up) stands.tries;
 }

@@ -12,7 +12,7 @@ returns-in-Ok-clause-step g c =
     λ pair machine running taken quiet untried on.
     asked_so pair machine running taken _ c.args.session c.ask.new.self _ c.args.asks on quiet
     asked c.in-Ok.ensures.number c.in-Ok.ensures.preference c.in-Ok.ensures.unstable
-    c.in-Ok.ensures.course untried
+    c.in-Ok.ensures.progress untried
     c.replace.ensures.after _ c.in-Ok.ensures.sends
   where
     asked : (side : Which) → IsAskedOn (line_of c.args.session side) (line_of c.ask.new.self side)
@@ -27,4 +27,4 @@ returns-in-Err-clause-step g c =
     c.args.session _ _ c.args.asks _ c.finish.ensures.archive
     (ap (λ w. map kept_of w.items) c.finish.ensures.kept.0) (ap messages_of c.new.ensures.items)
     on (λ now tells. c.finish.ensures.report now (tells_same c.args.session c.ask.new.self now
-    c.in-Err.ensures.number c.in-Err.ensures.unstable c.in-Err.ensures.course tells))
+    c.in-Err.ensures.number c.in-Err.ensures.unstable c.in-Err.ensures.progress tells))

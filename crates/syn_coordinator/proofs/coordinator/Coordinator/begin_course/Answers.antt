@@ -1,4 +1,4 @@
-use Rattle.std.proofs.Common.{[], ◌∷◌, ◌++◌, sym, ap, ◌∙◌, subst, inl, ap₂}
+use Rattle.std.proofs.Common.{[], ◌∷◌, ◌++◌, sym, ap, ◌∙◌, subst, ap₂}
 use Rattle.syn_headline.specs.Network.{Left, Right}
 use Rattle.syn_model.specs.Archive.{Archive}
 use Rattle.syn_model.specs.Plan.{plan}
@@ -12,14 +12,14 @@ use Rattle.syn_coordinator.proofs.EndedLemmas.{exit_for_memory, match_of_memory}
 use Rattle.syn_coordinator.proofs.BreakLemmas.{none_breaks}
 use Rattle.syn_coordinator.proofs.coordinator.Coordinator.begin_course.Goals as goal
 
-pub returns-in_err-course-clause-step : goal.returns-in_err-course-clause-step
-returns-in_err-course-clause-step g c =
+pub returns-in_err-progress-clause-step : goal.returns-in_err-progress-clause-step
+returns-in_err-progress-clause-step g c =
     λ pair journal running taken is quiet fault heard scanned nothing.
     let self = c.args.self.now in
     let session = c.args.session.now in
     subst (λ r. TakesSo self.archive self.tried pair journal running taken session (written self) r)
     (sym (exit_for_memory c.from_residual.result _ c.from_residual.ensures.1
-    c.in_err-course.ensures.memory))
+    c.in_err-progress.ensures.memory))
     (no_plan self pair journal running taken session is fault heard scanned nothing quiet)
 
 pub returns-clause-step : goal.returns-clause-step
@@ -29,28 +29,28 @@ returns-clause-step g c =
     let session = c.args.session.now in
     let left = c.found-left.result.now in
     let right = c.found-right.result.now in
-    let made = c.in_ok-course.course in
+    let made = c.in_ok-progress.progress in
     let same_left = c.found-left.ensures.found in
     let same_right = c.found-right.ensures.found in
     let marks = c.tree-archive.ensures ∙ ap (λ (a : Archive). a.marks) is.remembers in
     let walked = c.walk-asks.ensures.step pair journal taken (running.taken ++ taken ∷ [])
     (first_reached (plan_in made left right)) is quiet
     (at_first self pair journal running taken session is fault heard scanned nothing made left
-    right same_left same_right c.in_ok-course.ensures.begun) in
-    subst (λ course. TakesSo c.walk-asks.new.self.archive c.walk-asks.new.self.tried pair journal
-    running taken (record session { course = course }) (written c.walk-asks.new.self)
+    right same_left same_right c.in_ok-progress.ensures.begun) in
+    subst (λ progress. TakesSo c.walk-asks.new.self.archive c.walk-asks.new.self.tried pair journal
+    running taken (record session { progress = progress }) (written c.walk-asks.new.self)
     c.walk-asks.result) (sym c.replace.ensures.after)
     (begins_so self pair journal running taken session is fault heard scanned nothing made left
-    right same_left same_right c.in_ok-course.ensures.begun
-    (c.in_ok-course.ensures.items ∙ ap₂ (λ r m. plan r (scan_of left) (scan_of right) m)
+    right same_left same_right c.in_ok-progress.ensures.begun
+    (c.in_ok-progress.ensures.items ∙ ap₂ (λ r m. plan r (scan_of left) (scan_of right) m)
     (sym heard.heard_is.preference) marks)
     (c.found-left.ensures.scan Left (running.taken ++ taken ∷ []) (scanned.whole Left)
     (scanned.found Left))
     (c.found-right.ensures.scan Right (running.taken ++ taken ∷ []) (scanned.whole Right)
     (scanned.found Right))
-    c.walk-asks.new.self c.walk-asks.new.course c.walk-asks.result walked)
+    c.walk-asks.new.self c.walk-asks.new.progress c.walk-asks.result walked)
 
-pub returns-in_err-course-clause-breaks : goal.returns-in_err-course-clause-breaks
-returns-in_err-course-clause-breaks g c =
+pub returns-in_err-progress-clause-breaks : goal.returns-in_err-progress-clause-breaks
+returns-in_err-progress-clause-breaks g c =
     match_of_memory c.from_residual.result _ _ _ c.from_residual.ensures.1
-    c.in_err-course.ensures.memory (inl (none_breaks c.args.self.now))
+    c.in_err-progress.ensures.memory (none_breaks c.args.self.now)

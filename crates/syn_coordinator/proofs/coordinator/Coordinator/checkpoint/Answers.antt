@@ -2,15 +2,15 @@ use Rattle.std.proofs.Common.{◌<◌, ◌^◌, Some, ap, subst, refl, inl, inr}
 use Rattle.std.proofs.lemmas.Option.{none-some}
 use Rattle.syn_archive.specs.Archive.{disk_of}
 use Rattle.syn_archive.specs.Refusals.{refusal_of}
-use Rattle.syn_archive.specs.Calls.{Compacts}
-use Rattle.syn_journaled.specs.Endings.{CountsFailures}
+use Rattle.syn_archive.specs.Machines.{CompactsImage}
+use Rattle.syn_journal.specs.Endings.{CountsFailures}
 use Rattle.syn_model.specs.Refusal.{Device}
-use Rattle.syn_keep.proofs.CheckpointLemmas.{compact_ok, compact_failed}
 use Rattle.syn_coordinator.proofs.RefusedLemmas.{checkpoint_does, refused_for, when_up, up_not_down}
 use Rattle.syn_coordinator.proofs.RefusedLemmas.{halted_not_down, none_stands}
-use Rattle.syn_keep.proofs.OutcomeLemmas.{device_not_full, not_halted, ok_not_full}
-use Rattle.syn_keep.proofs.DueLemmas.{stays, when_up as runs_up}
-use Rattle.syn_keep.proofs.StayLemmas.{same_machine}
+use Rattle.syn_coordinator.proofs.OutcomeLemmas.{device_not_full, not_halted, ok_not_full}
+use Rattle.syn_coordinator.proofs.DueLemmas.{stays, was_compacted, was_cut_short}
+use Rattle.syn_coordinator.proofs.DueLemmas.{when_up as runs_up}
+use Rattle.syn_coordinator.proofs.StayLemmas.{same_machine}
 use Rattle.syn_coordinator.proofs.HaltLemmas.{stands_not_halted, up_not_halted}
 use Rattle.syn_coordinator.proofs.coordinator.Coordinator.checkpoint.Goals as goal
 
@@ -21,10 +21,8 @@ returns-in-Ok-clause-step g c pair machine stands =
     (subst (λ n. n < 2 ^ 64) c.generation-generation.ensures c.is_long.ensures)
     (λ h. none-some _ (c.in-Ok.ensures.machine.halted.1 h)) in
     checkpoint_does c.args.self.now _ pair machine stands refl was refl _ up_not_down
-    (compact_ok c.args.self.now.archive _ pair machine.journal is was c.in-Ok.ensures.machine
-    (c.in-Ok.ensures.acknowledged _ was.stands) g.met.D.Disk.seen_may_stay
-    (c.keeps_on_disk.ensures _ (c.in-Ok.ensures.acknowledged _ was.stands))
-    c.device_laws.ensures.made)
+    (was_compacted c.checkpoint.new.self pair machine.journal
+    (c.in-Ok.ensures.world pair machine.journal is))
 
 pub returns-in-Err-clause-step : goal.returns-in-Err-clause-step
 returns-in-Err-clause-step g c pair machine stands device =
@@ -34,10 +32,9 @@ returns-in-Err-clause-step g c pair machine stands device =
     (λ h. not_halted c.in-Err.error Device (ap refusal_of device) (λ is. cc)
     (c.in-Err.ensures.machine.halted.1 h)) in
     checkpoint_does c.args.self.now _ pair machine stands refl was refl _ halted_not_down
-    (compact_failed c.args.self.now.archive _ pair machine.journal is was
-    (subst (λ e. Compacts c.args.self.now.archive c.checkpoint.new.self (Some (refusal_of e)))
-    device c.in-Err.ensures.machine) g.met.D.Disk.counts_now
-    (c.in-Err.ensures.any_moment _ was.stands) c.device_laws.ensures.broken)
+    (was_cut_short c.checkpoint.new.self pair machine.journal (subst
+    (λ e. CompactsImage c.checkpoint.new.self pair machine.journal (Some (refusal_of e))) device
+    (c.in-Err.ensures.world pair machine.journal is)))
 
 pub returns-in-Err-clause-refused : goal.returns-in-Err-clause-refused
 returns-in-Err-clause-refused g c pair machine stands other = (

@@ -2,7 +2,7 @@ use Rattle.std.proofs.Common.{sym, []}
 use Rattle.std.proofs.lemmas.List.{append-nil}
 use Rattle.syn_refusal.specs.Refusals.{cause_of}
 use Rattle.syn_session.specs.Passing.{refused_at}
-use Rattle.syn_coordinator.proofs.EndedLemmas.{match_of_memory}
+use Rattle.syn_coordinator.proofs.EndedLemmas.{match_of_memory, memory_alone}
 use Rattle.syn_coordinator.proofs.SettleLemmas.{ends_for_memory}
 use Rattle.syn_coordinator.proofs.coordinator.Coordinator.give_up.Goals as goal
 
@@ -22,6 +22,7 @@ returns g c = record {
         },
         quiet.0,
       );
+  memory = tt;
 }
 
 pub returns-in_err-refuse : goal.returns-in_err-refuse
@@ -35,4 +36,6 @@ returns-in_err-refuse g c = record {
             taken journal before c.refuse.new.self left right is quiet.0 quiet.1
             (c.in_err-refuse.ensures.stays left right before course_is),
       );
+  memory = memory_alone c.from_residual.result _ c.from_residual.ensures.1
+      c.in_err-refuse.ensures.memory;
 }

@@ -1,20 +1,19 @@
 use Rattle.std.proofs.Common.{◌∷◌, ◌∙◌, ◌+◌, ◌<◌, [], Err, Ok, Result, Some, ap, inl, inr}
 use Rattle.std.proofs.Common.{subst, sym}
 use Rattle.syn_archive.specs.Refusals.{refusal_of}
-use Rattle.syn_archive.specs.Calls.{Writes}
+use Rattle.syn_archive.specs.Machines.{KeepsRecord}
 use Rattle.syn_headline.specs.Machine.{Halted, Up}
-use Rattle.syn_journaled.specs.Endings.{CountsFailures as Counts}
-use Rattle.syn_keep.specs.Steps.{KeepsSo}
+use Rattle.syn_journal.specs.Endings.{CountsFailures as Counts}
+use Rattle.syn_coordinator.specs.Steps.{KeepsSo}
 use Rattle.syn_coordinator.specs.Coordinators.{Stands}
-use Rattle.syn_keep.proofs.DueLemmas.{stays as stays_so}
+use Rattle.syn_coordinator.proofs.DueLemmas.{stays as stays_so, was_broken, was_kept}
 use Rattle.syn_model.specs.Archive.{Session}
 use Rattle.syn_session.specs.Refusals.{CountsFailures}
 use Rattle.syn_session.specs.declared.error.SessionError.TheVariants as error
 use Rattle.syn_archive.specs.Archive.{disk_of, session_shown}
 use Rattle.syn_archive.proofs.EndLemmas.{same_error}
 use Rattle.syn_archive.specs.declared.error.ArchiveError.TheVariants as archive_error
-use Rattle.syn_journaled.proofs.Spent.{none_counted}
-use Rattle.syn_coordinator.proofs.KeepLemmas.{number_kept, number_failed}
+use Rattle.syn_journal.proofs.Spent.{none_counted}
 use Rattle.syn_coordinator.proofs.coordinator.Coordinator.keep_session.Goals as goal
 
 pub returns-in-Ok-clause-ok : goal.returns-in-Ok-clause-ok
@@ -22,9 +21,8 @@ returns-in-Ok-clause-ok g c pair machine stands =
     let kept = Session (session_shown c.args.self.now.archive + 1) in
     subst (λ archive. KeepsSo archive pair machine.journal kept (kept ∷ []) Up)
     (sym c.run.ensures.archive)
-    (number_kept _ _ pair machine.journal stands.journal c.requires.up c.device_laws.ensures.made
-    c.device_laws.ensures.after c.in-Ok.ensures.machine c.in-Ok.field-0
-    c.in-Ok.ensures.acknowledged c.keeps_on_disk.ensures)
+    (was_kept c.next_session.new.self pair machine.journal kept
+    (c.in-Ok.ensures.world pair machine.journal stands.journal))
 
 -- what a result refuses
 abbrev refused : {T E : Type 0} → E → Result T E → E
@@ -37,11 +35,9 @@ returns-in-Err-clause-device g c pair machine stands e =
     let kept = Session (session_shown c.args.self.now.archive + 1) in
     subst (λ archive. KeepsSo archive pair machine.journal kept [] Halted)
     (sym c.not_begun.ensures.archive)
-    (number_failed _ _ pair machine.journal stands.journal c.requires.up
-    c.device_laws.ensures.broken c.requires.fits
-    (subst (λ e. Writes c.args.self.now.archive c.next_session.new.self (Some kept)
-    (Some (refusal_of e))) device c.in-Err.ensures.machine) g.met.D.Disk.counts_now
-    c.in-Err.ensures.any_moment)
+    (was_broken c.next_session.new.self pair machine.journal kept (subst
+    (λ e. KeepsRecord c.next_session.new.self pair machine.journal kept (Some (refusal_of e)))
+    device (c.in-Err.ensures.world pair machine.journal stands.journal)))
 
 pub returns-in-Err-clause-failures : goal.returns-in-Err-clause-failures
 returns-in-Err-clause-failures g c =

@@ -1,4 +1,4 @@
-use Rattle.std.proofs.Common.{refl, subst, inl}
+use Rattle.std.proofs.Common.{refl, subst}
 use Rattle.std.specs.Prelude.{Ok}
 use Rattle.syn_message.specs.Replies.{reply_of}
 use Rattle.syn_session.specs.Answering.{exchange_of}
@@ -29,7 +29,7 @@ returns-in-Done-clause-step g c pair journal all before to number request is qui
     c.take_answer.new.self (Ok n)) c.in-Done.is
     (c.in_ok-asks.ensures.step journal.value left right all before to number request carries) in
     goes_later pair taken journal before left right all c.args.self.now c.walk_after.new.self
-    c.walk_after.new.course took.0 c.walk_after.result
+    c.walk_after.new.progress took.0 c.walk_after.result
     (c.walk_after.ensures.step pair journal taken _ before took.1.0 is quiet took.1.1 took.1.2)
 
 pub returns-in-Refused-clause-step : goal.returns-in-Refused-clause-step
@@ -42,7 +42,7 @@ returns-in-Refused-clause-step g c pair journal all before to number request is 
     (c.in_ok-asks.ensures.step journal.value left right all before to number request carries)
     in
     goes_later pair taken journal before left right all c.args.self.now c.walk_past.new.self
-    c.walk_past.new.course took.0 c.walk_past.result
+    c.walk_past.new.progress took.0 c.walk_past.result
     (c.walk_past.ensures.step pair journal taken _ before took.1.0 is quiet took.1.1 took.1.2
     took.1.3)
 
@@ -59,4 +59,4 @@ returns-in-Asks-clause-breaks g c = none_breaks c.args.self.now
 pub returns-in_err-asks-clause-breaks : goal.returns-in_err-asks-clause-breaks
 returns-in_err-asks-clause-breaks g c =
     match_of_exit c.from_residual.result _ _ _ c.from_residual.ensures.1
-    (inl (none_breaks c.args.self.now))
+    (none_breaks c.args.self.now)

@@ -7,11 +7,11 @@ use Rattle.syn_message.specs.Requests.{request_of}
 use Rattle.syn_path.specs.Sides.{which_of}
 use Rattle.syn_session.specs.Sendings.{messages_of}
 use Rattle.syn_session.specs.Answering.{exchange_of}
-use Rattle.syn_keep.specs.Machines.{IsMachine}
+use Rattle.syn_coordinator.specs.Machines.{IsMachine}
 use Rattle.syn_image.specs.Archives.{kept_of}
 use Rattle.syn_archive.specs.Archive.{IsHalted, disk_of}
-use Rattle.syn_coordinator.proofs.BreakLemmas.{nothing_told, off_before, off_then, still_breaks}
-use Rattle.syn_coordinator.proofs.BreakLemmas.{then_nothing, told_nothing}
+use Rattle.syn_coordinator.proofs.BreakLemmas.{ends_still, none_breaks, none_told, still_breaks}
+use Rattle.syn_coordinator.proofs.BreakLemmas.{then_nothing, told_so}
 use Rattle.syn_coordinator.proofs.HaltLemmas.{ends_by_failure, fails_or_stops, up_not_halted}
 use Rattle.syn_coordinator.proofs.ReplyLemmas.{answered_does, ends_so, expects, ignored_does}
 use Rattle.syn_coordinator.proofs.ReplyLemmas.{none_expected}
@@ -29,11 +29,9 @@ returns-in_default g c = record {
       (ap (λ w. map kept_of w.items) c.expecting.ensures.kept.0
       ∙ ap (map kept_of) c.new.ensures.items) (ap messages_of c.new-in_default.ensures.items);
   report = λ _. ap (option_map report_model) c.expecting.ensures.report;
-  breaks = inl (
-    told_nothing c.expecting.new.self c.expecting.ensures.kept.1,
-    c.expecting.ensures.kept.2,
-    ap (λ a. g.D.Disk.failures (disk_of a)) c.expecting.ensures.archive,
-  );
+  breaks = inl (none_told c.args.self.now c.expecting.new.self c.expecting.new.self
+      c.expecting.ensures.kept.1 c.expecting.ensures.kept.2 c.expecting.ensures.archive
+      (none_breaks c.expecting.new.self));
   halts = λ pair machine stands up halted. absurd (up_not_halted c.args.self.now.archive pair
       machine.journal stands.journal up
       (subst (λ a. IsHalted a) c.expecting.ensures.archive halted));
@@ -65,7 +63,7 @@ returns-in-Ok g c = record {
     | inr idle ↦
         absurd (false≢true (sym idle ∙ ap is_some c.in-Some.ensures.some.1))
   ];
-  breaks = inl (nothing_told c.args.self.now c.expecting.new.self c.ask.new.self
+  breaks = inl (none_told c.args.self.now c.expecting.new.self c.ask.new.self
       c.expecting.ensures.kept.1 c.expecting.ensures.kept.2 c.expecting.ensures.archive
       (then_nothing c.expecting.new.self c.take.new.self c.ask.new.self c.in-Ok.ensures.breaks
       (still_breaks c.take.new.self c.ask.new.self c.ask.ensures.kept.0 c.ask.ensures.kept.1
@@ -116,14 +114,10 @@ returns-in-Err g c = record {
   breaks =
       let still = still_breaks c.take.new.self c.finish.new.self c.finish.ensures.kept.1
       c.finish.ensures.kept.2 c.finish.ensures.archive in
-      elim c.in-Err.ensures.breaks [
-        | inl nothing ↦ inl (nothing_told c.args.self.now c.expecting.new.self c.finish.new.self
-            c.expecting.ensures.kept.1 c.expecting.ensures.kept.2 c.expecting.ensures.archive
-            (then_nothing c.expecting.new.self c.take.new.self c.finish.new.self nothing still))
-        | inr off ↦ inr (off_before c.args.self.now c.expecting.new.self c.finish.new.self
-            c.expecting.ensures.archive (off_then c.expecting.new.self c.take.new.self
-            c.finish.new.self off still c.finish.ensures.archive))
-      ];
+      told_so c.args.self.now c.expecting.new.self c.finish.new.self c.expecting.ensures.kept.1
+      c.expecting.ensures.kept.2 c.expecting.ensures.archive c.in-Err.ended
+      (ends_still c.expecting.new.self c.take.new.self c.finish.new.self still
+      c.finish.ensures.archive c.in-Err.ended c.in-Err.ensures.breaks);
   halts = λ pair machine stands up halted.
       let waits = c.in-Some.ensures.some in
       let it = expects c.args.self.now c.args.self.now pair machine (which_of c.args.from)
@@ -138,6 +132,6 @@ returns-in-Err g c = record {
       fails_or_stops c.args.self.now c.expecting.new.self c.take.new.self c.finish.new.self
       c.expecting.ensures.archive c.finish.ensures.archive
       (ends_by_failure c.expecting.new.self c.take.new.self pair machine.journal up it.0 _ _ _ _
-      untried ends c.in-Err.ensures.breaks
+      ends c.in-Err.ensures.breaks
       (subst (λ a. IsHalted a) c.finish.ensures.archive halted));
 }

@@ -1,7 +1,7 @@
 use Rattle.std.proofs.Common.{sym, []}
 use Rattle.std.proofs.lemmas.List.{append-nil}
 use Rattle.syn_session.specs.Passing.{past_at}
-use Rattle.syn_coordinator.proofs.EndedLemmas.{match_of_memory}
+use Rattle.syn_coordinator.proofs.EndedLemmas.{match_of_memory, memory_alone}
 use Rattle.syn_coordinator.proofs.SettleLemmas.{at_walk, ends_for_memory}
 use Rattle.syn_coordinator.proofs.WalkLemmas.{passes_conflict}
 use Rattle.syn_coordinator.proofs.coordinator.Coordinator.pass_conflict.Goals as goal
@@ -19,13 +19,14 @@ returns g c = record {
           after = past_at before;
           passes =
               passes_conflict pair taken journal before planned
-              (at_walk before c.args.course.now left right course_is planned at) c.args.path
+              (at_walk before c.args.progress.now left right course_is planned at) c.args.path
               conflict;
           is = is;
           course_is = later;
         },
         quiet.0,
       );
+  memory = tt;
 }
 
 pub returns-in_err-pass_conflict : goal.returns-in_err-pass_conflict
@@ -39,4 +40,6 @@ returns-in_err-pass_conflict g c = record {
             taken journal before c.pass_conflict.new.self left right is quiet.0 quiet.1
             (c.in_err-pass_conflict.ensures.stays left right before course_is),
       );
+  memory = memory_alone c.from_residual.result _ c.from_residual.ensures.1
+      c.in_err-pass_conflict.ensures.memory;
 }

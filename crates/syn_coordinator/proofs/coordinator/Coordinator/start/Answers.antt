@@ -14,9 +14,9 @@ use Rattle.syn_session.specs.Sendings.{messages_of}
 use Rattle.syn_session.specs.declared.error.SessionError.TheVariants.{Device}
 use Rattle.syn_model.specs.Archive as model
 use Rattle.syn_session.specs.Sessions.{IsSession, begin_messages, begun}
-use Rattle.syn_keep.specs.Steps.{KeepsSo}
-use Rattle.syn_keep.specs.Tries.{HoldsTried}
-use Rattle.syn_keep.proofs.DueLemmas.{when_runs}
+use Rattle.syn_coordinator.specs.Steps.{KeepsSo}
+use Rattle.syn_coordinator.specs.Tries.{HoldsTried}
+use Rattle.syn_coordinator.proofs.DueLemmas.{when_runs}
 use Rattle.syn_model.proofs.ExitLemmas.{if_err_of_exit, match_of_exit}
 use Rattle.syn_coordinator.proofs.HaltLemmas.{keeps_not_halted, up_not_halted}
 use Rattle.syn_coordinator.proofs.TickLemmas.{is_none}
@@ -54,8 +54,7 @@ returns-in_err-keep_session-clause-step g c pair machine stands =
     c.from_residual-in_err-keep_session.ensures.1
     (λ e. start_failed (option_map which_of c.args.preference) c.args.self.now
     c.keep_session.new.self pair machine
-    c.in_ok-check_start.ensures.idle (when_runs c.args.self.now.archive pair machine.journal
-    stands.journal c.in_ok-check_start.ensures.up).idle
+    c.in_ok-check_start.ensures.idle
     (subst (λ n. HoldsTried c.keep_session.new.self.archive (Session (n + 1))
     c.keep_session.new.self.tried) (ap (λ a. a.last_session) stands.journal.remembers)
     (c.in_err-keep_session.ensures.tried (ap (λ e. Err e) e)))
@@ -110,7 +109,7 @@ returns-clause-step g c pair machine stands =
     machine c.in_ok-check_start.ensures.idle
     (subst (λ n. n + 1 < 2 ^ 64) last c.in_ok-check_start.ensures.fits) (subst (λ p. p < 2 ^ 64)
     of_pair c.in_ok-session.ensures.fits) was.idle (c.in_ok-keep_session.ensures.untried
-    ∙ untried_up pair c.args.self.now.tried machine.journal stands.tries was.up)
+    ∙ untried_up c.args.self.now.tried machine.journal stands.tries was.up)
     c.in_ok-session.session c.in_ok-keep_session.ensures.running begins kept))
 
 pub returns-in_err-session-clause-refused : goal.returns-in_err-session-clause-refused

@@ -1,4 +1,4 @@
-use Rattle.std.proofs.Common.{sym, ◌∙◌, subst, inl}
+use Rattle.std.proofs.Common.{sym, ◌∙◌, subst}
 use Rattle.syn_message.specs.Replies.{reply_of}
 use Rattle.syn_message.specs.Requests.{request_of}
 use Rattle.syn_path.specs.Sides.{which_of}
@@ -28,16 +28,16 @@ returns-clause-step g c =
     let same_left = c.found-left.ensures.found in
     let same_right = c.found-right.ensures.found in
     carries_so pair journal before c.args.session.now running side number request reply session
-    answers c.in-Some.course was left right same_left same_right c.transfer_laws.ensures
-    c.args.self.now c.on_carried.new.self nothing c.on_carried.new.course c.on_carried.result
+    answers c.in-Some.progress was left right same_left same_right c.transfer_laws.ensures
+    c.args.self.now c.on_carried.new.self nothing c.on_carried.new.progress c.on_carried.result
     (c.on_carried.ensures.step pair journal running.taken (reached_by running) side number request
     is quiet (carries_now pair journal before c.args.session.now running side number request reply
-    session answers c.in-Some.course was left right same_left same_right))
+    session answers c.in-Some.progress was left right same_left same_right))
 
 pub returns-in-Some-2-clause-step : goal.returns-in-Some-2-clause-step
 returns-in-Some-2-clause-step g c =
     λ pair number journal before running is quiet session answers nothing.
-    let scans = sym answers.course ∙ c.in_default.is in
+    let scans = sym answers.progress ∙ c.in_default.is in
     let heard =
     c.in_ok-asks.ensures.step journal.value before running number session answers scans in (
       hears_on _ pair journal running (exchange_of (which_of c.args.from) number
@@ -53,7 +53,7 @@ returns-in-Some-2-clause-step g c =
 pub returns-in-None-clause-step : goal.returns-in-None-clause-step
 returns-in-None-clause-step g c =
     λ pair number journal before running is quiet session answers nothing.
-    let scans = sym answers.course ∙ c.in_default.is in
+    let scans = sym answers.progress ∙ c.in_default.is in
     let heard =
     c.in_ok-asks.ensures.step journal.value before running number session answers scans in
     c.begin_course.ensures.step pair journal running (exchange_of (which_of c.args.from) number
@@ -65,14 +65,14 @@ returns-in-None-clause-step g c =
 pub returns-in_err-asks-clause-step : goal.returns-in_err-asks-clause-step
 returns-in_err-asks-clause-step g c =
     λ pair number journal before running is quiet session answers nothing.
-    let scans = sym answers.course ∙ c.in_default.is in
+    let scans = sym answers.progress ∙ c.in_default.is in
     subst (λ r. TakesSo c.args.self.now.archive c.args.self.now.tried pair journal running
     (exchange_of (which_of c.args.from) number (request_of c.args.request)
     (reply_of c.args.reply)) c.hear.new.self (written c.args.self.now) r)
     (sym (exit_is c.from_residual.result _ c.from_residual.ensures.1))
     (hears_end _ pair journal running (exchange_of (which_of c.args.from) number
     (request_of c.args.request) (reply_of c.args.reply)) c.hear.new.self is _
-    (tries_none pair c.args.self.now.tried journal quiet.0 quiet.1) _ nothing _
+    (tries_none c.args.self.now.tried journal quiet.0 quiet.1) _ nothing _
     (c.in_err-asks.ensures.step journal.value before running number session answers scans))
 
 pub returns-in-Some-2-clause-breaks : goal.returns-in-Some-2-clause-breaks
@@ -81,4 +81,4 @@ returns-in-Some-2-clause-breaks g c = none_breaks c.args.self.now
 pub returns-in_err-asks-clause-breaks : goal.returns-in_err-asks-clause-breaks
 returns-in_err-asks-clause-breaks g c =
     match_of_exit c.from_residual.result _ _ _ c.from_residual.ensures.1
-    (inl (none_breaks c.args.self.now))
+    (none_breaks c.args.self.now)

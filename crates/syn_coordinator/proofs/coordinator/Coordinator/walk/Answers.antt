@@ -1,4 +1,4 @@
-use Rattle.std.proofs.Common.{refl, subst, ◌∙◌, inl}
+use Rattle.std.proofs.Common.{refl, subst, ◌∙◌}
 use Rattle.std.specs.Prelude.{MatchOption}
 use Rattle.syn_coordinator.specs.inner.Settling.{AsksSo, PassesOn}
 use Rattle.syn_model.proofs.ExitLemmas.{match_of_exit}
@@ -11,7 +11,7 @@ pub loop-init : goal.loop-init
 loop-init g c = record {
   come =
       λ pair journal taken all before is quiet at. no_turn pair taken journal before c.args.left.now
-      c.args.right.now all c.args.self.now is quiet c.args.course.now at;
+      c.args.right.now all c.args.self.now is quiet c.args.progress.now at;
   running = refl;
   report = refl;
   breaks = none_breaks c.args.self.now;
@@ -25,13 +25,13 @@ loop-preserved g c = record {
       let come = c.loop.invariant.come pair journal taken all before is quiet at in
       let turn = c.in_ok-asks.ensures.step pair come.2.journal taken all come.2.after come.2.is
       (still_quiet pair taken journal before left right all c.args.self.now c.loop.self
-      c.loop.course come quiet.1) (at_turn pair taken journal before left right all
-      c.args.self.now c.loop.self c.loop.course come) in
-      turn_past pair taken journal before left right all c.args.self.now c.loop.self c.loop.course
-      come c.pass.new.self c.pass.new.course
+      c.loop.progress come quiet.1) (at_turn pair taken journal before left right all
+      c.args.self.now c.loop.self c.loop.progress come) in
+      turn_past pair taken journal before left right all c.args.self.now c.loop.self c.loop.progress
+      come c.pass.new.self c.pass.new.progress
       (subst (λ o. MatchOption o (PassesOn c.loop.self c.pass.new.self pair taken come.2.journal
-      come.2.after c.pass.new.course left right all) (AsksSo c.loop.self c.pass.new.self pair
-      taken come.2.journal come.2.after c.pass.new.course left right all)) c.in_default.is
+      come.2.after c.pass.new.progress left right all) (AsksSo c.loop.self c.pass.new.self pair
+      taken come.2.journal come.2.after c.pass.new.progress left right all)) c.in_default.is
       turn);
   running = c.in_ok-asks.ensures.running ∙ c.loop.invariant.running;
   report = c.in_ok-asks.ensures.report ∙ c.loop.invariant.report;
@@ -46,13 +46,13 @@ returns-in-Some-clause-step g c pair journal taken all before is quiet at =
     let come = c.loop.invariant.come pair journal taken all before is quiet at in
     let turn = c.in_ok-asks.ensures.step pair come.2.journal taken all come.2.after come.2.is
     (still_quiet pair taken journal before left right all c.args.self.now c.loop.self
-    c.loop.course come quiet.1) (at_turn pair taken journal before left right all c.args.self.now
-    c.loop.self c.loop.course come) in
-    turn_asks pair taken journal before left right all c.args.self.now c.loop.self c.loop.course
-    come c.pass.new.self c.pass.new.course c.in-Some.asks
+    c.loop.progress come quiet.1) (at_turn pair taken journal before left right all c.args.self.now
+    c.loop.self c.loop.progress come) in
+    turn_asks pair taken journal before left right all c.args.self.now c.loop.self c.loop.progress
+    come c.pass.new.self c.pass.new.progress c.in-Some.asks
     (subst (λ o. MatchOption o (PassesOn c.loop.self c.pass.new.self pair taken come.2.journal
-    come.2.after c.pass.new.course left right all) (AsksSo c.loop.self c.pass.new.self pair taken
-    come.2.journal come.2.after c.pass.new.course left right all)) c.in-Some.is turn)
+    come.2.after c.pass.new.progress left right all) (AsksSo c.loop.self c.pass.new.self pair taken
+    come.2.journal come.2.after c.pass.new.progress left right all)) c.in-Some.is turn)
 
 pub returns-in_err-asks-clause-step : goal.returns-in_err-asks-clause-step
 returns-in_err-asks-clause-step g c pair journal taken all before is quiet at =
@@ -60,17 +60,18 @@ returns-in_err-asks-clause-step g c pair journal taken all before is quiet at =
     let right = c.args.right.now in
     let come = c.loop.invariant.come pair journal taken all before is quiet at in
     match_of_exit c.from_residual.result _ _ _ c.from_residual.ensures.1
-    (turn_ends pair taken journal before left right all c.args.self.now c.loop.self c.loop.course
-    come c.pass.new.self c.pass.new.course _
+    (turn_ends pair taken journal before left right all c.args.self.now c.loop.self c.loop.progress
+    come c.pass.new.self c.pass.new.progress _
     (c.in_err-asks.ensures.step pair come.2.journal taken all come.2.after come.2.is (still_quiet
-    pair taken journal before left right all c.args.self.now c.loop.self c.loop.course come quiet.1)
-    (at_turn pair taken journal before left right all c.args.self.now c.loop.self c.loop.course
+    pair taken journal before left right all c.args.self.now c.loop.self c.loop.progress come
+    quiet.1)
+    (at_turn pair taken journal before left right all c.args.self.now c.loop.self c.loop.progress
     come)))
 
 pub returns-clause-step : goal.returns-clause-step
 returns-clause-step g c pair journal taken all before is quiet at =
     no_turn_left pair taken journal before c.args.left.now c.args.right.now all
-    c.args.self.now c.loop.self c.loop.course
+    c.args.self.now c.loop.self c.loop.progress
     (c.loop.invariant.come pair journal taken all before is quiet at) quiet.1 _ refl
 
 pub returns-in-Some-clause-breaks : goal.returns-in-Some-clause-breaks
@@ -80,8 +81,8 @@ returns-in-Some-clause-breaks g c = then_nothing c.args.self.now c.loop.self c.p
 pub returns-in_err-asks-clause-breaks : goal.returns-in_err-asks-clause-breaks
 returns-in_err-asks-clause-breaks g c =
     match_of_exit c.from_residual.result _ _ _ c.from_residual.ensures.1
-    (then_ends c.args.self.now c.loop.self c.pass.new.self c.loop.invariant.breaks
+    (then_ends c.args.self.now c.loop.self c.pass.new.self c.loop.invariant.breaks _
     c.in_err-asks.ensures.breaks)
 
 pub returns-clause-breaks : goal.returns-clause-breaks
-returns-clause-breaks g c = inl c.loop.invariant.breaks
+returns-clause-breaks g c = c.loop.invariant.breaks

@@ -10,13 +10,13 @@ returns-clause-step g c pair journal taken all before planned is quiet out is_du
     let past = c.in_ok-settle.ensures.step pair journal left right taken before planned is quiet
     out.course_is out.at is_due out.carries in
     later_so pair taken journal before left right all c.args.self.now c.settle.new.self
-    c.args.course.now c.settle.new.course planned out past c.walk.new.self
-    c.walk.new.course c.walk.result
+    c.args.progress.now c.settle.new.progress planned out past c.walk.new.self
+    c.walk.new.progress c.walk.result
     (c.walk.ensures.step pair past.3.journal taken all past.3.after past.3.is (still_quiet pair
     taken journal before left right all c.args.self.now c.settle.new.self
-    c.args.course.now c.settle.new.course planned out past quiet)
+    c.args.progress.now c.settle.new.progress planned out past quiet)
     (at_next pair taken journal before left right all c.args.self.now c.settle.new.self
-    c.args.course.now c.settle.new.course planned out past))
+    c.args.progress.now c.settle.new.progress planned out past))
 
 pub returns-in_err-settle-clause-step : goal.returns-in_err-settle-clause-step
 returns-in_err-settle-clause-step g c pair journal taken all before planned is quiet out is_due =

@@ -11,15 +11,17 @@ use Rattle.syn_coordinator.proofs.coordinator.carrying.ask_first.Goals as goal
 
 pub returns-in-Ok-Ask-clause-step : goal.returns-in-Ok-Ask-clause-step
 returns-in-Ok-Ask-clause-step c archive left right all before planned is at carries asked =
-    let course = c.args.course.now in
-    let fresh = fresh_for c.plan_laws.ensures.orderly archive course left right before is planned at
+    let progress = c.args.progress.now in
+    let fresh = fresh_for c.plan_laws.ensures.orderly archive progress left right before is planned
+    at
     c.args.carried carries all asked in
-    subst (λ carried. Carries archive (record course { carried = carried }) left right all before
+    subst (λ carried. Carries archive (record progress { carried = carried }) left right all before
     (λ transfer. AsksOne transfer all (One c.in-Ok-Ask.side c.in-Ok-Ask.request)))
     (sym c.replace.ensures.after)
-    (carries_on archive course left right before is planned at c.args.carried (record c.args.carried
-    { transfer = c.step.new.self }) c.step.ensures.carriage refl carries all
-    (asked_past (plan_in course left right) course.cursor all asked)
+    (carries_on archive progress left right before is planned at c.args.carried
+    (record c.args.carried
+    { transfer = c.step.new.self }) c.step.ensures.spec refl carries all
+    (asked_past (plan_in progress left right) progress.cursor all asked)
     (λ transfer. AsksOne transfer all (One c.in-Ok-Ask.side c.in-Ok-Ask.request))
     (subst (λ next. Follows c.step.new.self all Staged next) c.in-Ok-Ask.field-0-is
     (c.in-Ok-Ask.ensures.starts all refl c.requires fresh Staged)))

@@ -12,7 +12,7 @@ use Rattle.syn_print.specs.Known.{OfEvent}
 use Rattle.syn_print.specs.declared.log.Logged.{Logged}
 use Rattle.syn_print.specs.declared.log.What.TheVariants.{Whole}
 use Rattle.syn_model.specs.Version.{current_version}
-use Rattle.syn_standing.specs.Readings.{IsEventOf, bytes_of_each}
+use Rattle.syn_replica.specs.Readings.{IsEventOf, bytes_of_each}
 use Rattle.syn_print.proofs.log.reading.push_events.Goals as goal
 
 pub loop-payload-init : goal.loop-payload-init

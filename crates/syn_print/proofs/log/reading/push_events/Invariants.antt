@@ -1,7 +1,7 @@
 use Rattle.std.proofs.Common.{take}
 use Rattle.syn_print.proofs.KnownLemmas.{AddsUpTo}
 use Rattle.syn_print.proofs.log.reading.push_events.Given as goal
-use Rattle.syn_standing.specs.Readings.{bytes_of_each}
+use Rattle.syn_replica.specs.Readings.{bytes_of_each}
 
 abbrev pub invariant-loop-payload : goal.invariant-loop-payload
 invariant-loop-payload l =

@@ -12,7 +12,7 @@ use Rattle.syn_print.specs.inner.Damages.{AreNoEvents, HasGreatest}
 use Rattle.std.specs.Prelude.{ℕ}
 use Rattle.syn_model.specs.Standing.{Standing}
 use Rattle.syn_model.specs.Version.{current_version}
-use Rattle.syn_standing.specs.Readings.{IsImageOf, bytes_of_each}
+use Rattle.syn_replica.specs.Readings.{IsImageOf, bytes_of_each}
 use Rattle.syn_print.proofs.log.reading.read_log.Goals as goal
 
 pub returns-in-Err-clause-cause : goal.returns-in-Err-clause-cause

@@ -4,7 +4,7 @@ use Rattle.syn_propagate.proofs.transfer.Transfer.fetch.Goals as goal
 
 pub returns-clause-asks : goal.returns-clause-asks
 returns-clause-asks c taken reached =
-    let carriage = c.args.self.now.carriage in
-    asked _ taken _ (Fetch carriage.path carriage.source_since c.args.offset) _
+    let spec = c.args.self.now.spec in
+    asked _ taken _ (Fetch spec.path spec.source_since c.args.offset) _
     c.in_ok-next.ensures.asks
-    (asks_fetch carriage taken c.args.offset c.args.total reached c.fetch.ensures.lawful)
+    (asks_fetch spec taken c.args.offset c.args.total reached c.fetch.ensures.lawful)

@@ -13,44 +13,44 @@ use Rattle.syn_propagate.specs.inner.Progresses.{WaitsAt}
 
 pub returns-in-Piece-clause-goes_on : goal.returns-in-Piece-clause-goes_on
 returns-in-Piece-clause-goes_on c taken to request number answer is waits =
-    let carriage = c.args.self.now.carriage in
+    let spec = c.args.self.now.spec in
     let next = c.take_piece.new.self in
-    let at = subst (λ p. WaitsAt carriage taken p to request) c.in-Fetching.is waits in
+    let at = subst (λ p. WaitsAt spec taken p to request) c.in-Fetching.is waits in
     subst (λ a. Answers next taken to number request (reply_of a) c.take_piece.result)
     (same_answer c.args.reply _ answer (c.in-Some.is ∙ ap (λ a. Some a) c.in-Piece.is) is)
-    (after_piece carriage next taken to number request c.take_piece.result c.in-Fetching.offset
+    (after_piece spec next taken to number request c.take_piece.result c.in-Fetching.offset
     c.in-Piece.whole c.in-Fetching.total c.in-Piece.bytes.items at
     (c.take_piece.ensures.goes_on taken number))
 
 pub returns-in-Staged-clause-goes_on : goal.returns-in-Staged-clause-goes_on
 returns-in-Staged-clause-goes_on c taken to request number answer is waits =
-    let carriage = c.args.self.now.carriage in
+    let spec = c.args.self.now.spec in
     let next = c.go_on.new.self in
-    let at = subst (λ p. WaitsAt carriage taken p to request) c.in-Staging.is waits in
+    let at = subst (λ p. WaitsAt spec taken p to request) c.in-Staging.is waits in
     subst (λ a. Answers next taken to number request (reply_of a) c.go_on.result)
     (same_answer c.args.reply _ answer (c.in-Some.is ∙ ap (λ a. Some a) c.in-Staged.is) is)
-    (after_staged carriage next taken to number request c.go_on.result c.in-Staging.end
+    (after_staged spec next taken to number request c.go_on.result c.in-Staging.end
     c.in-Staging.total at (c.go_on.ensures.goes_on _))
 
 pub returns-in-Done-clause-goes_on : goal.returns-in-Done-clause-goes_on
 returns-in-Done-clause-goes_on c taken to request number answer is waits =
-    let carriage = c.args.self.now.carriage in
-    let at = subst (λ p. WaitsAt carriage taken p to request) c.in-Replacing.is waits in
+    let spec = c.args.self.now.spec in
+    let at = subst (λ p. WaitsAt spec taken p to request) c.in-Replacing.is waits in
     subst (λ a. (fault_of taken to request (reply_of a) ≡ None)
-    × WasCarried carriage (with_answer taken to number request (reply_of a)))
+    × WasCarried spec (with_answer taken to number request (reply_of a)))
     (same_answer c.args.reply _ answer (c.in-Some.is ∙ ap (λ a. Some a) c.in-Done.is) is)
-    (after_done carriage c.args.self.now taken to number request (Ok Done) at)
+    (after_done spec c.args.self.now taken to number request (Ok Done) at)
 
 pub returns-in-Piece-clause-ends : goal.returns-in-Piece-clause-ends
 returns-in-Piece-clause-ends c taken to request answer is waits =
-    goes_on_after c.args.self.now.carriage request answer c.take_piece.result
+    goes_on_after c.args.self.now.spec request answer c.take_piece.result
     (ap (λ a. is_last (reply_of a))
     (sym (same_answer c.args.reply _ answer (c.in-Some.is ∙ ap (λ a. Some a) c.in-Piece.is) is)))
     c.take_piece.ensures.asking
 
 pub returns-in-Staged-clause-ends : goal.returns-in-Staged-clause-ends
 returns-in-Staged-clause-ends c taken to request answer is waits =
-    goes_on_after c.args.self.now.carriage request answer c.go_on.result
+    goes_on_after c.args.self.now.spec request answer c.go_on.result
     (ap (λ a. is_last (reply_of a))
     (sym (same_answer c.args.reply _ answer (c.in-Some.is ∙ ap (λ a. Some a) c.in-Staged.is) is)))
     c.go_on.ensures.asking

@@ -7,7 +7,7 @@ use Rattle.syn_propagate.proofs.transfer.Transfer.take_piece.Goals as goal
 
 pub returns-then-is_empty-clause-goes_on : goal.returns-then-is_empty-clause-goes_on
 returns-then-is_empty-clause-goes_on c taken number reached =
-    let carriage = c.args.self.now.carriage in
+    let spec = c.args.self.now.spec in
     let bytes = c.args.bytes.items in
     let counted : c.len.result ≡ length bytes = omega (arith, c.len.ensures) in
     let fits : fits_piece c.args.known c.args.offset c.args.total (length bytes) ≡ true =
@@ -15,15 +15,15 @@ returns-then-is_empty-clause-goes_on c taken number reached =
     (sym c.if-not-fits_piece.ensures) in
     let none : length bytes ≡ 0 =
     omega (arith, counted, c.len.ensures, eqb-true _ _ (sym c.if-is_empty.ensures)) in
-    let whole = whole_of_none carriage taken number c.args.offset c.args.total c.args.known bytes
+    let whole = whole_of_none spec taken number c.args.offset c.args.total c.args.known bytes
     reached fits none in
     goes_on _ _ c.replace.result
-    (no_fault carriage taken c.args.offset c.args.total c.args.known bytes reached fits)
+    (no_fault spec taken c.args.offset c.args.total c.args.known bytes reached fits)
     (c.replace.ensures.asks _ whole.0 whole.1)
 
 pub returns-clause-goes_on : goal.returns-clause-goes_on
 returns-clause-goes_on c taken number reached =
-    let carriage = c.args.self.now.carriage in
+    let spec = c.args.self.now.spec in
     let bytes = c.args.bytes.items in
     let counted : c.len.result ≡ length bytes = omega (arith, c.len.ensures) in
     let fits : fits_piece c.args.known c.args.offset c.args.total (length bytes) ≡ true =
@@ -31,8 +31,8 @@ returns-clause-goes_on c taken number reached =
     (sym c.if-not-fits_piece.ensures) in
     let here : vec_len c.args.bytes ≢ 0 = eqb-false _ _ (sym c.if-is_empty.ensures) in
     let some : 1 ≤ length bytes = omega (arith, here, counted, c.len.ensures) in (
-      no_fault carriage taken c.args.offset c.args.total c.args.known bytes reached fits,
-      asked _ _ _ (Stage carriage.item c.args.offset bytes) _ c.stage.ensures.asks
-          (asks_stage carriage taken number c.args.offset c.args.total _ c.args.known bytes reached
+      no_fault spec taken c.args.offset c.args.total c.args.known bytes reached fits,
+      asked _ _ _ (Stage spec.item c.args.offset bytes) _ c.stage.ensures.asks
+          (asks_stage spec taken number c.args.offset c.args.total _ c.args.known bytes reached
           fits some (c.stage.ensures.lawful some) (omega (arith, c.len-2.ensures))),
     )

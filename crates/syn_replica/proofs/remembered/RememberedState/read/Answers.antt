@@ -1,6 +1,6 @@
 use Rattle.std.proofs.Common.{true≢false, sym, ◌∙◌}
 use Rattle.syn_model.proofs.ExitLemmas.{if_err_of_exit}
-use Rattle.syn_standing.specs.Readings.{bytes_of_each}
+use Rattle.syn_replica.specs.Readings.{bytes_of_each}
 use Rattle.syn_replica.specs.inner.Memories.{IsUnread}
 use Rattle.syn_replica.proofs.RememberedLemmas.{same_memory, unread}
 use Rattle.syn_replica.proofs.remembered.RememberedState.read.Goals as goal

@@ -3,10 +3,10 @@ use Rattle.syn_history.specs.Past.{Past}
 use Rattle.syn_model.proofs.ExitLemmas.{if_err_of_exit}
 use Rattle.syn_model.specs.Image.{Gives}
 use Rattle.syn_model.specs.Refusal.{Memory}
-use Rattle.syn_standing.specs.Refusals.{refusal_of}
+use Rattle.syn_replica.specs.ErrorRefusals.{refusal_of}
 use Rattle.syn_replica.specs.inner.Memories.{IsUnreadAgain}
-use Rattle.syn_standing.specs.Readings.{bytes_of_each}
-use Rattle.syn_standing.specs.declared.error.ReplicaError.TheVariants.{Damaged}
+use Rattle.syn_replica.specs.Readings.{bytes_of_each}
+use Rattle.syn_replica.specs.declared.error.ReplicaError.TheVariants.{Damaged}
 use Rattle.syn_replica.proofs.RememberedLemmas.{no_next, own_memory, same_memory}
 use Rattle.syn_replica.proofs.remembered.RememberedState.read_again.Goals as goal
 

@@ -1,5 +1,5 @@
 use Rattle.syn_model.proofs.ExitLemmas.{if_err_of_exit}
-use Rattle.syn_standing.specs.Readings.{bytes_of_each}
+use Rattle.syn_replica.specs.Readings.{bytes_of_each}
 use Rattle.syn_replica.specs.inner.Memories.{IsUnreadOld}
 use Rattle.syn_replica.proofs.RememberedLemmas.{same_memory, unread_old}
 use Rattle.syn_replica.proofs.remembered.RememberedState.read_old.Goals as goal

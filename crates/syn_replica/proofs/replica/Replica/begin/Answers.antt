@@ -3,7 +3,7 @@ use Rattle.std.proofs.Common.{None, true≢false}
 use Rattle.std.proofs.lemmas.Bool.{eq-eqb, ne_eqb}
 use Rattle.std.specs.Prelude.{IfOk}
 use Rattle.syn_replica.specs.Refusals.{begin_refusals}
-use Rattle.syn_standing.specs.Refusals.{refusal_of, refusal_in}
+use Rattle.syn_replica.specs.ErrorRefusals.{refusal_of, refusal_in}
 use Rattle.syn_model.specs.Event.{Began}
 use Rattle.syn_model.specs.History.{History, last_session}
 use Rattle.syn_replica.specs.Replica.{Stands, pair_of, room_shown, standing_shown}
@@ -11,14 +11,14 @@ use Rattle.syn_replica.proofs.RoomLemmas.{added_refusals, begun_among, refused_a
 use Rattle.syn_replica.proofs.RoomLemmas.{room_passed}
 use Rattle.syn_replica.proofs.SessionLemmas.{begin_cause, begin_refused, begin_allowed, begun_size}
 use Rattle.syn_replica.proofs.SessionLemmas.{not_begun, one_longer}
-use Rattle.syn_standing.proofs.StandingLemmas.{early_at}
+use Rattle.syn_replica.proofs.StandingLemmas.{early_at}
 use Rattle.syn_replica.proofs.StandLemmas.{keeps_now, not_written}
 use Rattle.syn_model.specs.Refusal as why
 use Rattle.syn_replica.proofs.RefusalLemmas.{inner_refusals, never, early_among, inner_among}
 use Rattle.syn_replica.proofs.RefusalLemmas.{or_outside, not_full_device, not_full_halted}
 use Rattle.syn_replica.proofs.CallLemmas.{done_before, exits_early, refused_early}
 use Rattle.syn_replica.specs.Calls.{Writes, unless}
-use Rattle.syn_journaled.specs.Endings.{ended}
+use Rattle.syn_journal.specs.Endings.{ended}
 use Rattle.syn_replica.proofs.replica.Replica.begin.Goals as goal
 
 pub returns-clause-acknowledged : goal.returns-clause-acknowledged

@@ -4,19 +4,20 @@ use Rattle.std.proofs.lemmas.Option.{none-some}
 use Rattle.syn_journal.specs.Layout.{IsBeforeOrAfter, image_alone, longest_image}
 use Rattle.syn_journal.specs.declared.error.JournalError.TheVariants as by_journal
 use Rattle.syn_journal.specs.Journal as journal
-use Rattle.syn_journaled.proofs.Results.{answered, if_err_of, ok_part, on_ok_of}
+use Rattle.syn_journal.proofs.Results.{answered, if_err_of, ok_part, on_ok_of}
 use Rattle.syn_model.specs.Image.{StandsFor, image_spelling}
 use Rattle.syn_model.specs.Refusal as why
-use Rattle.syn_standing.specs.Refusals.{refusal_of}
-use Rattle.syn_standing.specs.declared.error.ReplicaError.TheVariants.{Journal}
+use Rattle.syn_replica.specs.ErrorRefusals.{refusal_of}
+use Rattle.syn_replica.specs.declared.error.ReplicaError.TheVariants.{Journal}
 use Rattle.syn_model.specs.History.{History}
 use Rattle.syn_replica.specs.Replica.{KeepsOrCompacts, Stands, disk_of, generation_shown}
 use Rattle.syn_replica.specs.Replica.{left_shown, pair_of, standing_shown}
 use Rattle.syn_replica.specs.declared.replica.Replica.{Replica}
-use Rattle.syn_journaled.specs.Endings.{ended}
+use Rattle.syn_journal.specs.Endings.{ended}
 use Rattle.syn_replica.proofs.GrowthLemmas.{broken, kept, of_checkpoint, stands_still, unmoved}
 use Rattle.syn_replica.specs.Growth.{IsGrown}
 use Rattle.syn_replica.proofs.CallLemmas.{compacts}
+use Rattle.syn_replica.proofs.MachineLemmas.{as_machine, compacts_image, runs_up}
 use Rattle.syn_replica.proofs.StandLemmas.{image_stands, left_behind}
 use Rattle.syn_disk.proofs.LeftLemmas.{leaves_weaker, seen_is_left}
 use Rattle.syn_replica.proofs.StandLemmas.{stop_compacts}
@@ -107,3 +108,13 @@ returns-clause-machine g c =
     ] in
     compacts old new (ended refusal_of c.checkpoint.result) told
     (record { pair = pair; standing = standing }) refl grown seen
+
+pub returns-clause-world : goal.returns-clause-world
+returns-clause-world g c number machine is =
+    let old = c.args.self.now in
+    let new : Replica _ _ = record old { machine = c.checkpoint.new.self } in
+    let told = c.checkpoint.ensures.journal in
+    compacts_image new number machine (ap (λ m. m.pair) c.checkpoint.ensures.state ∙ is.pair_is) _
+    (λ none. runs_up old number machine is
+    (λ halted. none-some _ (sym none ∙ told.halted.1 halted)))
+    (c.checkpoint.ensures.machine number machine (as_machine old number machine is))

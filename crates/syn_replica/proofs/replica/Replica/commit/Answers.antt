@@ -4,7 +4,7 @@ use Rattle.std.proofs.lemmas.Option.{none-some, same_Some}
 use Rattle.syn_journal.specs.Journal as journal
 use Rattle.syn_model.specs.Refusal as why
 use Rattle.syn_model.specs.Standing.{Standing}
-use Rattle.syn_standing.specs.Refusals.{refusal_of}
+use Rattle.syn_replica.specs.ErrorRefusals.{refusal_of}
 use Rattle.syn_model.specs.History.{History}
 use Rattle.syn_replica.specs.Growth.{IsGrown}
 use Rattle.syn_replica.specs.Replica.{KeepsBeforeOrAfter, Stands, disk_of, position_shown}

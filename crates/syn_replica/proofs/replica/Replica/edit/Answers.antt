@@ -3,7 +3,7 @@ use Rattle.std.proofs.Common.{true≢false}
 use Rattle.std.proofs.lemmas.Result.{err_from_is_err_and}
 use Rattle.syn_tree.specs.Edits.{edit_of}
 use Rattle.syn_replica.specs.Edits.{event_by}
-use Rattle.syn_standing.specs.Refusals.{refusal_of, refusal_in}
+use Rattle.syn_replica.specs.ErrorRefusals.{refusal_of, refusal_in}
 use Rattle.syn_replica.specs.Replica.{room_shown, standing_shown}
 use Rattle.syn_replica.specs.Steps.{add_refusal}
 use Rattle.syn_replica.specs.inner.Additions.{add_refusal_at}
@@ -12,7 +12,7 @@ use Rattle.syn_replica.proofs.RefusalLemmas.{inner_refusals, never, edit_among, 
 use Rattle.syn_replica.proofs.RefusalLemmas.{early_among, inner_among, not_full_device}
 use Rattle.syn_replica.proofs.RefusalLemmas.{not_full_halted, or_outside}
 use Rattle.syn_replica.proofs.CallLemmas.{exits_early, refused_early, still_stands}
-use Rattle.syn_standing.proofs.StandingLemmas.{early_at}
+use Rattle.syn_replica.proofs.StandingLemmas.{early_at}
 use Rattle.syn_replica.proofs.RoomLemmas.{added_refusals, edited_among, refused_at, room_at}
 use Rattle.syn_replica.proofs.RoomLemmas.{room_refused, room_passed}
 use Rattle.syn_replica.specs.Refusals.{IsOneOf, outside_refusals, edit_refusals}

@@ -4,9 +4,9 @@ use Rattle.std.proofs.lemmas.Option.{none-some, same_Some}
 use Rattle.syn_disk.specs.Stops.{LeavesOnly}
 use Rattle.syn_journal.specs.Batches.{bytes_of_each, calls_for}
 use Rattle.syn_journal.specs.Journal as journal
-use Rattle.syn_journaled.specs.Batches.{AppendsAll, HasAll}
-use Rattle.syn_journaled.specs.Endings.{Spends}
-use Rattle.syn_journaled.specs.Journaled.{disk_of as disk_in, journal_of as journal_in}
+use Rattle.syn_journal.specs.Appending.{AppendsAll, HasAll}
+use Rattle.syn_journal.specs.Endings.{Spends}
+use Rattle.syn_journal.specs.Journaled.{disk_of as disk_in, journal_of as journal_in}
 use Rattle.syn_model.proofs.ExitLemmas.{if_err_of_exit, match_of_exit}
 use Rattle.syn_model.specs.Refusal as why
 use Rattle.syn_replica.specs.Batches.{KeepsNoneOrAll, add_all_refusal}
@@ -15,7 +15,7 @@ use Rattle.syn_replica.specs.Refusals.{IsOneOf, edit_refusals, outside_refusals}
 use Rattle.syn_replica.specs.Replica.{disk_of, journal_of, left_shown, room_shown}
 use Rattle.syn_replica.specs.Replica.{standing_shown}
 use Rattle.syn_replica.specs.inner.Batches.{AddsAll}
-use Rattle.syn_standing.specs.Refusals.{refusal_of}
+use Rattle.syn_replica.specs.ErrorRefusals.{refusal_of}
 use Rattle.syn_replica.proofs.BatchLemmas.{edits_among, edits_inner, has_records, moments_of}
 use Rattle.syn_replica.proofs.BatchLemmas.{outside_of, spends_nothing, stands_with_all}
 use Rattle.syn_replica.proofs.BatchLemmas.{told_by_history}

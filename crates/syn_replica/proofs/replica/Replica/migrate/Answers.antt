@@ -1,11 +1,11 @@
 use Rattle.std.proofs.Common.{None, Some, inl, inr, sym, subst, arith}
-use Rattle.syn_journaled.proofs.Migrations.{more_made, only_read}
-use Rattle.syn_journaled.specs.Migrations.{Migrated, NotMigrated}
+use Rattle.syn_journal.proofs.Migrations.{more_made, only_read}
+use Rattle.syn_journal.specs.Migrations.{Migrated, NotMigrated}
 use Rattle.syn_model.specs.Version.{One, Two}
-use Rattle.syn_standing.specs.Refusals.{refusal_of}
-use Rattle.syn_standing.specs.declared.error.ReplicaError.TheVariants.{Journal}
+use Rattle.syn_replica.specs.ErrorRefusals.{refusal_of}
+use Rattle.syn_replica.specs.declared.error.ReplicaError.TheVariants.{Journal}
 use Rattle.syn_replica.specs.Disks.{DiskKeepsIn}
-use Rattle.syn_journaled.specs.Endings.{ReadsOrBreaks}
+use Rattle.syn_journal.specs.Endings.{ReadsOrBreaks}
 use Rattle.syn_replica.specs.Replica.{pair_of, standing_shown}
 use Rattle.syn_replica.specs.inner.Memories.{GivesOld, IsUnreadOld, image_of}
 use Rattle.syn_replica.proofs.MigrateCauses.{migrates_greatest, migrates_lawful}

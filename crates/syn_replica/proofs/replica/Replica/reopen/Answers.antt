@@ -2,10 +2,11 @@ use Rattle.std.proofs.Common.{◌≡◌, ◌⊎◌, ◌++◌, ◌∷◌, [], ap,
 use Rattle.syn_model.specs.Image.{Gives, StandsFor}
 use Rattle.syn_model.specs.Refusal as why
 use Rattle.syn_replica.specs.Disks.{DiskStands}
-use Rattle.syn_journaled.specs.Journaled as machine
+use Rattle.syn_journal.specs.Journaled as machine
 use Rattle.syn_replica.specs.Replica.{KeepsReadings, SameMemory, ShowsDisk, disk_of, pair_of}
 use Rattle.syn_replica.specs.declared.replica.Replica.{Replica}
 use Rattle.syn_replica.proofs.GrowthLemmas.{reopened, unmoved}
+use Rattle.syn_replica.proofs.MachineLemmas.{as_machine, reads_disk}
 use Rattle.syn_replica.proofs.MeaningLemmas.{reopen_refusal}
 use Rattle.syn_replica.proofs.ReopenLemmas.{kept_outside, stands_again, unopened_outside}
 use Rattle.syn_replica.proofs.StandLemmas.{keeps_stands, opened_each}
@@ -125,3 +126,18 @@ returns-in-Err-clause-machine g c =
       remembers = λ h. kept (told.remembers h);
       device = told.device;
     }
+
+-- ---- what it is to the machine
+
+pub returns-in-Ok-clause-world : goal.returns-in-Ok-clause-world
+returns-in-Ok-clause-world g c number machine is =
+    let old = c.args.self.now in
+    reads_disk _ number machine (c.in-Ok.ensures.follows.pair ∙ is.pair_is) _
+    (c.in-Ok.ensures.machine number machine (as_machine old number machine is))
+
+pub returns-in-Err-clause-world : goal.returns-in-Err-clause-world
+returns-in-Err-clause-world g c number machine is =
+    let old = c.args.self.now in
+    let new : Replica _ _ = record old { machine = c.reopen.new.self } in
+    reads_disk new number machine (ap (λ m. m.pair) c.in-Err.ensures.state ∙ is.pair_is) _
+    (c.in-Err.ensures.machine number machine (as_machine old number machine is))

@@ -9,7 +9,7 @@ use Rattle.syn_model.specs.Refusal as refusal
 use Rattle.syn_history.specs.Events.{token_of}
 use Rattle.syn_tree.specs.Nodes.{part_of}
 use Rattle.syn_replica.specs.Refusals.{IsOneOf, outside_refusals, replace_refusals}
-use Rattle.syn_standing.specs.Refusals.{refusal_of}
+use Rattle.syn_replica.specs.ErrorRefusals.{refusal_of}
 use Rattle.syn_replica.specs.Replica.{Stands, KeepsBeforeOrAfter, room_shown}
 use Rattle.syn_replica.specs.Replica.{standing_shown, disk_of}
 use Rattle.syn_replica.specs.Steps.{is_done_at, replace_refusal}
@@ -21,7 +21,7 @@ use Rattle.syn_replica.proofs.RefusalLemmas.{not_full_halted, or_outside, same_r
 use Rattle.syn_model.proofs.ExitLemmas.{if_err_of_exit, is_err_of_exit}
 use Rattle.syn_replica.proofs.CallLemmas.{done_before, exits_early, exits_halted, not_refused}
 use Rattle.syn_replica.specs.Calls.{Writes, unless}
-use Rattle.syn_journaled.specs.Endings.{ended}
+use Rattle.syn_journal.specs.Endings.{ended}
 use Rattle.syn_replica.proofs.SessionLemmas.{found_as, in_some, not_done, one_longer}
 use Rattle.syn_replica.proofs.StandLemmas.{keeps_now, not_written}
 use Rattle.syn_replica.proofs.replica.Replica.replace.Goals as goal

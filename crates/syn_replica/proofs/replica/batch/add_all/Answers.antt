@@ -9,7 +9,7 @@ use Rattle.syn_model.specs.Refusal.{Memory}
 use Rattle.syn_replica.specs.Batches.{events_size}
 use Rattle.syn_replica.specs.Edits.{event_by}
 use Rattle.syn_replica.specs.inner.Batches.{AddsAll, add_all_refusal_at}
-use Rattle.syn_standing.specs.Refusals.{refusal_of}
+use Rattle.syn_replica.specs.ErrorRefusals.{refusal_of}
 use Rattle.syn_tree.specs.declared.edit.Edit.{Edit}
 use Rattle.syn_replica.proofs.BatchLemmas.{adds_more, next_passed, next_refused}
 use Rattle.syn_replica.proofs.BatchLemmas.{size_more, sized}

@@ -1,8 +1,8 @@
 use Rattle.std.proofs.Common.{ap, inr, sym, ◌∙◌}
 use Rattle.std.proofs.lemmas.Result.{err_from_is_err_and}
 use Rattle.syn_replica.specs.Edits.{event_by}
-use Rattle.syn_standing.specs.Refusals.{refusal_in}
-use Rattle.syn_standing.proofs.StandingLemmas.{early_at}
+use Rattle.syn_replica.specs.ErrorRefusals.{refusal_in}
+use Rattle.syn_replica.proofs.StandingLemmas.{early_at}
 use Rattle.syn_replica.proofs.RoomLemmas.{refused_at}
 use Rattle.syn_replica.proofs.replica.batch.add_one.Goals as goal
 

@@ -15,7 +15,7 @@ returns c archive running is = resent_so archive c.args.self.now _ running is re
       left = c.count_resend.new.self;
       right = c.count_resend-2.new.self;
       is_unstable = c.args.self.now.is_unstable;
-      course = c.args.self.now.course;
+      progress = c.args.self.now.progress;
     }) side)
     again Left =
         record {

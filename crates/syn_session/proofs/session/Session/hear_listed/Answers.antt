@@ -27,7 +27,7 @@ returns-in_err-take_listing c = record {
       (at_once (swapped (c.in_err-take_listing.ensures.step running.taken number waits found))
       (tells_before archive before c.args.self.now running side number
       (ListAt path) reply is answers scans c.take_listing.new.self keeps.number_is
-      c.in_err-take_listing.ensures.unstable keeps.course));
+      c.in_err-take_listing.ensures.unstable keeps.progress));
 }
 
 pub returns : goal.returns
@@ -52,27 +52,27 @@ returns c = record {
       scans path refl taken after keeps c.in_ok-take_listing.ensures.unstable counted
       c.note_unstable.ensures.left c.note_unstable.ensures.right c.note_unstable.ensures.number
       c.note_unstable.ensures.preference
-      c.note_unstable.ensures.course step.1 taken_out in
+      c.note_unstable.ensures.progress step.1 taken_out in
       let both = listed_begun archive before now running side number (ListAt path) reply is answers
       scans path refl taken after keeps c.in_ok-take_listing.ensures.unstable counted
       c.note_unstable.ensures.left c.note_unstable.ensures.right c.note_unstable.ensures.number
       c.note_unstable.ensures.preference
-      c.note_unstable.ensures.course step.1 taken_out in
+      c.note_unstable.ensures.progress step.1 taken_out in
       let found = listed_found archive before now running side number (ListAt path) reply is answers
       scans path refl taken after keeps c.in_ok-take_listing.ensures.unstable counted
       c.note_unstable.ensures.left c.note_unstable.ensures.right c.note_unstable.ensures.number
       c.note_unstable.ensures.preference
-      c.note_unstable.ensures.course step.1 taken_out in
+      c.note_unstable.ensures.progress step.1 taken_out in
       let lines = listed_lines archive before now running side number (ListAt path) reply is answers
       scans path refl taken after keeps c.in_ok-take_listing.ensures.unstable counted
       c.note_unstable.ensures.left c.note_unstable.ensures.right
       c.note_unstable.ensures.number c.note_unstable.ensures.preference
-      c.note_unstable.ensures.course step.1 taken_out in
+      c.note_unstable.ensures.progress step.1 taken_out in
       let out = listed_out archive before now running side number (ListAt path) reply is answers
       scans path refl taken after keeps c.in_ok-take_listing.ensures.unstable counted
       c.note_unstable.ensures.left c.note_unstable.ensures.right
       c.note_unstable.ensures.number c.note_unstable.ensures.preference
-      c.note_unstable.ensures.course step.1 taken_out in
+      c.note_unstable.ensures.progress step.1 taken_out in
       hears_next after c.scan_on.new.self running side number (ListAt path) reply step.0 has both
       found lines out c.scan_on.ensures.same c.scan_on.result c.scan_on.ensures.some
       c.scan_on.ensures.none c.map_err.result (search rules);

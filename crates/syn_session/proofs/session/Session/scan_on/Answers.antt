@@ -12,7 +12,7 @@ then_ c = record {
   left = c.next_listings.new.self;
   right = c.next_listings-2.new.self;
   is_unstable = c.args.self.now.is_unstable;
-  course = c.args.self.now.course;
+  progress = c.args.self.now.progress;
 }
 
 same : (c : After-are_silent) → c.are_silent.result

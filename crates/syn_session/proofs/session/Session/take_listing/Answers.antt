@@ -21,7 +21,7 @@ returns-in-Left-clause-step c taken number =
           record { waiting = self.left.waiting; asked = self.left.asked; scan = c.take.new.self };
       right = self.right;
       is_unstable = self.is_unstable;
-      course = self.course;
+      progress = self.progress;
     } in
     subst (λ f. WaitsFor (line_of self (which_of f)).scan path →
     IsFoundIn (found_on self (which_of f)) (which_of f) taken → MatchResult c.take.result
@@ -44,7 +44,7 @@ returns-in-Right-clause-step c taken number =
         scan = c.take-in-Right.new.self;
       };
       is_unstable = self.is_unstable;
-      course = self.course;
+      progress = self.progress;
     } in
     subst (λ f. WaitsFor (line_of self (which_of f)).scan path →
     IsFoundIn (found_on self (which_of f)) (which_of f) taken → MatchResult c.take-in-Right.result

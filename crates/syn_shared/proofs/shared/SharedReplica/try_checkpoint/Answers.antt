@@ -3,6 +3,7 @@ use Rattle.syn_replica.specs.Replica.{generation_shown}
 use Rattle.syn_lock.specs.Locks.{origin_of}
 use Rattle.syn_replica.specs.Growth.{IsGrown}
 use Rattle.syn_shared.specs.Upkeep.{Checkpoints}
+use Rattle.syn_shared.proofs.UpkeepLemmas.{alone}
 use Rattle.syn_shared.proofs.UpkeepSteps.{checkpoint_world}
 use Rattle.syn_shared.proofs.HoldLemmas.{held_now, held_answer, later_now, later_none}
 use Rattle.syn_shared.proofs.shared.SharedReplica.try_checkpoint.Goals as goal
@@ -15,14 +16,14 @@ returns-clause-held g c =
     c.in-Ok.ensures.entered c.deref_mut.ensures.value (search rules) (record {
       world =
           λ pair agent machine is. checkpoint_world pair _ c.checkpoint-answer.new.self agent
-          machine is g.met.D.Disk.counts_now c.step_laws.ensures.up c.step_laws.ensures.compacted
-          c.step_laws.ensures.made c.step_laws.ensures.broken
+          machine is
           (subst (λ n. n < 2 ^ 64) (c.generation.ensures ∙ ap generation_shown
-          (c.deref-2.ensures ∙ sym c.deref_mut.ensures.value)) c.is_long.ensures)
-          c.checkpoint-answer.ensures.machine.memory c.checkpoint-answer.result
-          c.checkpoint-answer.ensures.any_moment c.checkpoint-answer.ensures.acknowledged
-          c.checkpoint-answer.ensures.full c.checkpoint-answer.ensures.first
-          c.checkpoint-answer.ensures.refusals c.checkpoint-answer.ensures.machine;
+          (c.deref.ensures ∙ sym c.deref_mut.ensures.value)) c.is_long.ensures)
+          c.checkpoint-answer.result c.checkpoint-answer.ensures.full
+          c.checkpoint-answer.ensures.first c.checkpoint-answer.ensures.refusals
+          c.checkpoint-answer.ensures.machine
+          (c.checkpoint-answer.ensures.world pair machine.journal
+          (alone pair _ c.checkpoint-answer.new.self agent machine is));
       acknowledged = c.checkpoint-answer.ensures.acknowledged;
       any_moment = c.checkpoint-answer.ensures.any_moment;
       cause = c.checkpoint-answer.ensures.cause;

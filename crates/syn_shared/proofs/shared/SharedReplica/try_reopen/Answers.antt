@@ -2,7 +2,7 @@ use Rattle.std.proofs.Common.{rules, ap}
 use Rattle.syn_lock.specs.Locks.{origin_of}
 use Rattle.syn_replica.specs.Growth.{IsGrown}
 use Rattle.syn_shared.specs.Upkeep.{Reopens}
-use Rattle.syn_shared.proofs.UpkeepSteps.{reopen_world}
+use Rattle.syn_shared.proofs.UpkeepLemmas.{alone, reopen_world}
 use Rattle.syn_shared.proofs.HoldLemmas.{held_now, held_answer, later_now, later_none}
 use Rattle.syn_shared.proofs.shared.SharedReplica.try_reopen.Goals as goal
 
@@ -14,10 +14,8 @@ returns-clause-held g c =
     c.in-Ok.ensures.entered c.deref_mut.ensures.value (search rules) (record {
       world =
           λ pair agent machine is. reopen_world pair _ c.reopen-answer.new.self agent machine is
-          g.met.D.Disk.seen_may_stay c.step_laws.ensures.up c.step_laws.ensures.opens
-          c.step_laws.ensures.reads c.step_laws.ensures.broken c.reopen-answer.result
-          c.reopen-answer.ensures.each c.reopen-answer.ensures.lawful
-          c.reopen-answer.ensures.unchanged c.reopen-answer.ensures.machine;
+          c.reopen-answer.result (c.reopen-answer.ensures.world pair machine.journal
+          (alone pair _ c.reopen-answer.new.self agent machine is));
       given = c.reopen-answer.ensures.given;
       each = c.reopen-answer.ensures.each;
       before_or_after = c.reopen-answer.ensures.before_or_after;

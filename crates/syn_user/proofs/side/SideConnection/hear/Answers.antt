@@ -1,5 +1,6 @@
 use Rattle.std.proofs.Common.{◌≡◌, ap, rules, sym, subst, ◌∙◌, ap₂, Some}
 use Rattle.syn_headline.specs.Side as model
+use Rattle.syn_link.specs.Connections.{held_by, reader_of}
 use Rattle.syn_link.specs.Streams.{Comes}
 use Rattle.syn_message.specs.Replies.{Answering, IsLawfulAnswering, IsLawfulReply}
 use Rattle.syn_message.specs.Replies.{answering_of, answering_spelling, reply_of}
@@ -24,8 +25,9 @@ returns-in-Some-2-clause-heard g c =
     (record { session = s; number = n; reply = reply_of told.reply })) session number in
     record {
       lawful = read.0.reply;
-      came = subst (λ b. Comes old.given (g.R.Read.remaining c.read_body.new.reader) old.held
-          c.read_body.new.framer (Some b)) (sym c.deref.ensures.value ∙ (read.1 ∙ spelled)) came;
+      came = subst (λ b. Comes old.given (g.R.Read.remaining (reader_of c.receive.new.self))
+          old.held (held_by c.receive.new.self) (Some b))
+          (sym c.deref.ensures.value ∙ (read.1 ∙ spelled)) came;
       next = c.number_after-self.ensures;
     }
 

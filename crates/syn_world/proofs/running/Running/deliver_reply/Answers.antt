@@ -3,7 +3,7 @@ use Rattle.std.proofs.lemmas.Bool.{false≢true}
 use Rattle.syn_headline.specs.Coordinator.{CoordinatorTakes}
 use Rattle.syn_headline.specs.Network.{Answers}
 use Rattle.syn_headline.specs.World.{Deliver}
-use Rattle.syn_host.specs.CoordinatorSteps.{Unrefused}
+use Rattle.syn_world.specs.CoordinatorSteps.{Unrefused}
 use Rattle.syn_message.specs.Replies.{reply_of}
 use Rattle.syn_path.specs.Sides.{which_of}
 use Rattle.syn_world.proofs.ListLemmas.{sent_can}

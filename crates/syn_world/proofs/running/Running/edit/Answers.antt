@@ -2,8 +2,8 @@ use Rattle.std.proofs.Common.{[], refl, subst, sym}
 use Rattle.syn_headline.specs.Network.{Left, Right}
 use Rattle.syn_headline.specs.SideMachine.{UserEdits}
 use Rattle.syn_headline.specs.World.{Edits}
-use Rattle.syn_host.specs.Outcomes.{refused_in}
-use Rattle.syn_host.specs.Sides.{side_disk}
+use Rattle.syn_world.specs.Outcomes.{refused_in}
+use Rattle.syn_world.specs.Sides.{side_disk}
 use Rattle.syn_model.specs.Event.{Edited}
 use Rattle.syn_path.specs.Sides.{which_of}
 use Rattle.syn_tree.specs.Edits.{edit_of}

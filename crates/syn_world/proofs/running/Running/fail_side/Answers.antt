@@ -4,7 +4,7 @@ use Rattle.syn_headline.specs.MachineSteps as one
 use Rattle.syn_headline.specs.Network.{Left, Right}
 use Rattle.syn_headline.specs.SideMachine.{side_kind}
 use Rattle.syn_headline.specs.World.{At, Fail, Steps, set_side}
-use Rattle.syn_host.specs.Sides.{side_disk}
+use Rattle.syn_world.specs.Sides.{side_disk}
 use Rattle.syn_path.specs.Sides.{which_of}
 use Rattle.syn_world.specs.Failures.{disks_in}
 use Rattle.syn_world.proofs.FailureLemmas.{left_counts, right_counts}

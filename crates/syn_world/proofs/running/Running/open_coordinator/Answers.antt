@@ -2,8 +2,8 @@ use Rattle.std.proofs.Common.{subst, sym}
 use Rattle.syn_headline.specs.World.{Coordinator, Open}
 use Rattle.syn_headline.specs.Coordinator.{coordinator_kind}
 use Rattle.syn_headline.specs.MachineSteps.{OpensDown}
-use Rattle.syn_host.specs.CoordinatorOpenings.{OpeningIsStep}
-use Rattle.syn_host.specs.Coordinators.{IsCoordinator, archive_disk}
+use Rattle.syn_world.specs.CoordinatorOpenings.{OpeningIsStep}
+use Rattle.syn_world.specs.Coordinators.{IsCoordinator, archive_disk}
 use Rattle.syn_world.proofs.OpeningLemmas.{goes_found}
 use Rattle.syn_world.proofs.SessionLemmas.{lift_coordinator}
 use Rattle.syn_world.proofs.running.Running.open_coordinator.Goals as goal

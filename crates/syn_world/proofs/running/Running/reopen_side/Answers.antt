@@ -4,8 +4,8 @@ use Rattle.syn_headline.specs.MachineSteps as one
 use Rattle.syn_headline.specs.Network.{Left, Right}
 use Rattle.syn_headline.specs.SideMachine.{side_kind}
 use Rattle.syn_headline.specs.World.{At, Reopen}
-use Rattle.syn_host.specs.Outcomes.{refused_in}
-use Rattle.syn_host.specs.Sides.{side_disk}
+use Rattle.syn_world.specs.Outcomes.{refused_in}
+use Rattle.syn_world.specs.Sides.{side_disk}
 use Rattle.syn_path.specs.Sides.{which_of}
 use Rattle.syn_world.specs.Failures.{disks_in, failures_in, last_of}
 use Rattle.syn_world.specs.Worlds.{GoesSo}

@@ -1,7 +1,7 @@
 use Rattle.std.proofs.Common.{refl}
 use Rattle.syn_headline.specs.Coordinator.{coordinator_kind}
 use Rattle.syn_headline.specs.MachineSteps.{Does, Stop}
-use Rattle.syn_host.specs.Coordinators.{archive_disk}
+use Rattle.syn_world.specs.Coordinators.{archive_disk}
 use Rattle.syn_world.specs.Failures.{disks_in}
 use Rattle.syn_world.proofs.FailureLemmas.{archive_counts}
 use Rattle.syn_world.proofs.CoordinatorLemmas.{coordinator_is, lift_device, stays_coordinator}

@@ -1,6 +1,6 @@
 use Rattle.syn_headline.specs.Coordinator.{CoordinatorTicks}
 use Rattle.syn_headline.specs.World.{Tick}
-use Rattle.syn_host.specs.CoordinatorSteps.{Unrefused}
+use Rattle.syn_world.specs.CoordinatorSteps.{Unrefused}
 use Rattle.syn_world.proofs.SessionLemmas.{goes_coordinator, lift_tick}
 use Rattle.syn_world.proofs.running.Running.tick.Goals as goal
 

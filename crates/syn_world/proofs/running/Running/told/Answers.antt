@@ -1,6 +1,6 @@
 use Rattle.std.proofs.Common.{◌≡◌, true, subst}
 use Rattle.std.specs.Prelude.{IfSome}
-use Rattle.syn_host.specs.Outcomes.{Tells}
+use Rattle.syn_world.specs.Outcomes.{Tells}
 use Rattle.syn_world.proofs.ListLemmas.{is_listed}
 use Rattle.syn_world.proofs.running.Running.told.Goals as goal
 

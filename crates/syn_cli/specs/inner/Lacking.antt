@@ -1,0 +1,43 @@
+-- Why a command and its values are no line.
+use Rattle.std.specs.Prelude.{◌≡◌, ◌≢◌, ◌⊎◌, List, [], ◌∷◌, None}
+use Rattle.clap.specs.Words.{Row, Text, first_of}
+use Rattle.syn_cli.specs.Reads.{HasValues, IsWrong, verb_of}
+use Rattle.syn_cli.specs.Verbs.{name_of, values_of, word_of}
+use Rattle.syn_cli.specs.declared.error.LineError.{LineError}
+use Rattle.syn_cli.specs.declared.error.LineError.TheVariants.{Value}
+use Rattle.syn_cli.specs.declared.line.Line.{Line}
+use Rattle.syn_cli.specs.declared.value.ValueName.{ValueName}
+use Rattle.syn_cli.specs.declared.value.ValueName.TheVariants.{Command}
+use Rattle.syn_cli.specs.declared.verb.Verb.{Verb}
+
+-- the line is one of the command, with the values that are given
+abbrev pub IsLineOf : Verb → List Row → Line → Type 0
+IsLineOf verb rows line = (verb_of line ≡ verb) × HasValues rows line
+
+abbrev pub IsOneOf : ValueName → List ValueName → Type 0
+IsOneOf told [] = ⊥
+IsOneOf told (value ∷ values) = (told ≡ value) ⊎ IsOneOf told values
+
+-- the value is required by the command, and no text is given for it
+abbrev pub IsMissing : Verb → List Row → ValueName → Type 0
+IsMissing verb rows told = IsOneOf told (values_of verb) × (first_of (name_of told) rows ≡ None)
+
+abbrev pub IsLacking : Verb → List Row → ValueName → Type 0
+IsLacking verb rows told = IsMissing verb rows told ⊎ IsWrong verb rows told
+
+-- the error tells a value that the command lacks
+abbrev pub IsLack : Verb → List Row → LineError → Type 0
+IsLack verb rows (Value told) = IsLacking verb rows told
+IsLack verb rows _ = ⊥
+
+abbrev pub IsUnknown : Text → Type 0
+IsUnknown name = (verb : Verb) → name ≢ word_of verb
+
+-- the same of a name: it is no command's, or that of the command that lacks the value
+abbrev pub LacksIn : Text → List Row → ValueName → Type 0
+LacksIn name rows told = ((told ≡ Command) × IsUnknown name)
+    ⊎ ((verb : Verb) × (name ≡ word_of verb) × IsLacking verb rows told)
+
+abbrev pub IsLackOf : Text → List Row → LineError → Type 0
+IsLackOf name rows (Value told) = LacksIn name rows told
+IsLackOf name rows _ = ⊥

@@ -1,0 +1,30 @@
+//! Why the words are no command.
+
+use crate::value::ValueName;
+use thiserror::Error;
+
+/// Why the words are no command.
+#[derive(Debug, Drop, Error)]
+pub enum LineError {
+    /// `clap` refuses the words, or they ask for the help or the version.
+    #[error("{0}")]
+    Usage(clap::Error),
+    /// The value of this name is not what it has to be.
+    #[error("error: invalid value for '<{}>': it has to be {}\n\n\
+        For more information, try '--help'.\n", .0.as_str(), .0.wanted())]
+    Value(ValueName),
+    /// Memory was refused.
+    #[error("Memory")]
+    Memory,
+}
+
+impl From<std::alloc::AllocError> for LineError {
+    ghost use Rattle.std.specs.Prelude.{◌≡◌};
+    ghost use Rattle.syn_cli.specs.declared.error.LineError.TheVariants.{Memory};
+
+    ghost from_gives = { λ _ e. e ≡ Memory };
+
+    fn from(_error: std::alloc::AllocError) -> LineError {
+        LineError::Memory
+    }
+}

@@ -1,0 +1,227 @@
+//! What a command line asks for.
+ghost use Rattle.std.specs.Prelude.{◌≡◌};
+ghost use Rattle.syn_cli.specs.Places.{text_of};
+
+use syn_path::Side;
+use syn_tree::Mode;
+
+/// What an image holds.
+#[derive(Clone, Copy, Debug, PartialEq, Eq)]
+pub enum ImageKind {
+    /// A tree of files with the history of its edits.
+    Replica,
+    /// The marks that both sides last agreed on.
+    Archive,
+}
+
+/// What an edit does.
+#[derive(Clone, Copy, Debug, PartialEq, Eq)]
+pub enum EditKind {
+    /// Puts standard input.
+    Put,
+    /// Makes a directory.
+    MakeDir,
+    /// Removes what stands there, with all below it.
+    Remove,
+    /// Gives the file that stands there this mode.
+    Chmod(Mode),
+}
+
+/// Where a replica is.
+#[derive(Clone, Copy, Debug, PartialEq, Eq)]
+pub enum ReplicaPlace<'a> {
+    /// In the file of this name.
+    File(&'a str),
+    /// After the server at this HOST:PORT. The text is looked at when it is used.
+    Served(&'a str),
+}
+
+impl<'a> ReplicaPlace<'a> {
+    /// The name of the file, or the address of the server.
+    pub fn as_str(&self) -> &'a str
+        ensures { result.now ≡ text_of self.now }
+    {
+        match self {
+            ReplicaPlace::File(file) => file,
+            ReplicaPlace::Served(address) => address,
+        }
+    }
+}
+
+/// What an export does with a folder that has something.
+#[derive(Clone, Copy, Debug, PartialEq, Eq)]
+pub enum Existing {
+    /// It is refused.
+    Refused,
+    /// What differs is written, and nothing is removed.
+    Updated,
+    /// What differs is written, and what is not exported is removed.
+    Mirrored,
+}
+
+/// An edit of a replica at a path, by a user.
+#[derive(Clone, Copy, Debug, PartialEq, Eq)]
+pub struct EditLine<'a> {
+    pub kind: EditKind,
+    pub place: ReplicaPlace<'a>,
+    pub user: u32,
+    pub path: &'a str,
+}
+
+/// An export of a directory of a replica into a folder. With no path it is the root.
+#[derive(Clone, Copy, Debug, PartialEq, Eq)]
+pub struct ExportLine<'a> {
+    pub place: ReplicaPlace<'a>,
+    pub folder: &'a str,
+    pub path: Option<&'a str>,
+    pub existing: Existing,
+}
+
+/// An import of a folder into a directory of a replica, by a user. With no path it is the root.
+#[derive(Clone, Copy, Debug, PartialEq, Eq)]
+pub struct ImportLine<'a> {
+    pub place: ReplicaPlace<'a>,
+    pub user: u32,
+    pub folder: &'a str,
+    pub path: Option<&'a str>,
+    pub is_skipping: bool,
+}
+
+/// A folder and a replica that are to be the same.
+#[derive(Clone, Copy, Debug, PartialEq, Eq)]
+pub struct ReconcileLine<'a> {
+    pub folder: &'a str,
+    /// The file that has the replica.
+    pub file: &'a str,
+    /// Whose edits the folder's changes are.
+    pub user: u32,
+    /// The file of what both last agreed on; with none it stands beside the replica.
+    pub archive: Option<&'a str>,
+    /// The folder is the left side, and the replica the right one.
+    pub preference: Option<Side>,
+    /// What would be done is printed, and nothing is done.
+    pub is_dry: bool,
+    /// A side that has become empty empties the other.
+    pub is_emptied: bool,
+}
+
+/// What a session is between.
+#[derive(Clone, Copy, Debug, PartialEq, Eq)]
+pub enum Between<'a> {
+    /// The replicas in the files of these names.
+    Files { left: &'a str, right: &'a str },
+    /// The replicas that are served at these addresses, each HOST:PORT. A text is looked at when it
+    /// is used.
+    Servers { left: &'a str, right: &'a str },
+}
+
+/// Two replicas and their archive, and the side that goes to the other where both changed.
+#[derive(Clone, Copy, Debug, PartialEq, Eq)]
+pub struct Pairing<'a> {
+    pub between: Between<'a>,
+    /// The file of the archive.
+    pub archive: &'a str,
+    pub preference: Option<Side>,
+}
+
+/// Two servers that are to be kept the same.
+#[derive(Clone, Copy, Debug, PartialEq, Eq)]
+pub struct KeepLine<'a> {
+    /// The address of each, HOST:PORT. A text is looked at when it is used.
+    pub left: &'a str,
+    pub right: &'a str,
+    /// The file of the archive.
+    pub archive: &'a str,
+    pub preference: Option<Side>,
+    /// So many seconds pass between two looks.
+    pub seconds: u64,
+}
+
+/// A replica that is to be served.
+#[derive(Clone, Copy, Debug, PartialEq, Eq)]
+pub struct ServeLine<'a> {
+    /// The file that has the replica.
+    pub file: &'a str,
+    /// HOST:PORT to listen at. The text is looked at when it is used.
+    pub address: &'a str,
+    /// The server ends when so many connections were served; with none it goes on.
+    pub connections: Option<u64>,
+    /// The folder that is kept the same as the replica meanwhile, if one is.
+    pub folder: Option<FolderLine<'a>>,
+}
+
+/// A folder that is kept the same as a replica.
+#[derive(Clone, Copy, Debug, PartialEq, Eq)]
+pub struct FolderLine<'a> {
+    pub folder: &'a str,
+    /// Whose edits the folder's changes are.
+    pub user: u32,
+    /// So many seconds pass between two looks: one where none are given.
+    pub seconds: Option<u64>,
+}
+
+/// What is done about an image.
+#[derive(Clone, Copy, Debug, PartialEq, Eq)]
+pub enum ImageLine<'a> {
+    /// Makes the file an image of the kind, for the pair.
+    Format {
+        kind: ImageKind,
+        pair: u64,
+        file: &'a str,
+    },
+    /// Prints a whole image.
+    Show {
+        place: ReplicaPlace<'a>,
+    },
+    /// Prints what stands at the path.
+    ShowPath {
+        place: ReplicaPlace<'a>,
+        path: &'a str,
+    },
+    /// Prints the numbers of the image in a file.
+    Check {
+        file: &'a str,
+    },
+    /// Makes the image of version 1 in a file one of version 2.
+    Migrate {
+        file: &'a str,
+    },
+    /// Prints the last events of the replica in a file, so many at most.
+    Log {
+        file: &'a str,
+        lines: Option<u64>,
+    },
+}
+
+/// A command with its values.
+#[derive(Clone, Copy, Debug, PartialEq, Eq)]
+pub enum Line<'a> {
+    /// Makes, prints or migrates an image.
+    Image(ImageLine<'a>),
+    /// Edits a replica.
+    Edit(EditLine<'a>),
+    /// Writes what a directory of a replica has into a folder.
+    Export(ExportLine<'a>),
+    /// Makes a directory of a replica what a folder is.
+    Import(ImportLine<'a>),
+    /// Makes a folder and a replica the same.
+    Reconcile(ReconcileLine<'a>),
+    /// Serves the replica in a file.
+    Serve(ServeLine<'a>),
+    /// Runs a session.
+    Session(Pairing<'a>),
+    /// Runs a session of two servers, and others whenever one of them has changed.
+    Keep(KeepLine<'a>),
+    /// Prints what a session would do.
+    Plan(Pairing<'a>),
+    /// Runs the steps of a script on a world of three machines in memory, and tells each of them
+    /// where it is traced.
+    Simulate { script: &'a str, is_traced: bool },
+}
+
+/// A command, and whether a refusal of it is to be explained.
+#[derive(Clone, Copy, Debug, PartialEq, Eq)]
+pub struct Asked<'a> {
+    pub line: Line<'a>,
+    pub is_verbose: bool,
+}

@@ -1,2 +1,0 @@
-pub mod ShownLemmas
-mod ScanLemmas

@@ -1,0 +1,257 @@
+-- A record that is due is what its machine does.
+use Rattle.std.proofs.Common.{◌≡◌, ◌≢◌, ◌⊎◌, ◌≤◌, ◌<◌, ◌+◌, ◌^◌, ℕ, Bool, true, false, nat_le, ◌||◌}
+use Rattle.std.proofs.Common.{if◌then◌else◌, List, [], ◌∷◌, ◌++◌, Some, None, is_some, refl, sym}
+use Rattle.std.proofs.Common.{Ok, Err, ap, ap₂, ◌∙◌, subst, inl, inr, arith}
+use Rattle.std.proofs.lemmas.Bool.{false≢true, true≢false}
+use Rattle.std.proofs.lemmas.Bool.Decides.{nat_tests}
+use Rattle.std.proofs.lemmas.Option.{none-some}
+use Rattle.std.specs.FinMap.{get, get-empty}
+use Rattle.syn_archive.specs.Archive.{Stands, IsHalted, KeepsBeforeOrAfter, KeepsReadings, pair_of}
+use Rattle.syn_archive.specs.Archive.{shown, disk_of, left_shown, marks_shown, generation_shown}
+use Rattle.syn_archive.specs.Archive.{journal_of}
+use Rattle.syn_archive.specs.Disks.{DiskKeeps, kept_size}
+use Rattle.syn_archive.specs.Refusals.{refusal_of}
+use Rattle.syn_archive.specs.declared.archive.Archive.{Archive}
+use Rattle.syn_archive.specs.declared.error.ArchiveError.{ArchiveError}
+use Rattle.syn_archive.specs.declared.error.ArchiveError.TheVariants as error
+use Rattle.syn_disk.specs.Arms.{is_stopped}
+use Rattle.syn_disk.specs.Stops.{LeavesOnly}
+use Rattle.syn_disk.specs.declared.disk.Disk.{Ghosts}
+use Rattle.syn_headline.specs.Coordinator.{archive_layout, writes}
+use Rattle.syn_headline.specs.Machine.{Up, Halted, Status, Compacts, compacted, not_compacted}
+use Rattle.syn_headline.specs.Machine.{has_room, idle}
+use Rattle.syn_headline.specs.Session.{is_recorded}
+use Rattle.syn_model.specs.Archive as model
+use Rattle.syn_model.specs.Archive.{Kept, CanKeep, IsLawfulKept, RecordedDir, after_kept}
+use Rattle.syn_model.specs.Archive.{kept_refusal, record_causes}
+use Rattle.syn_model.specs.Limits.{greatest}
+use Rattle.syn_model.specs.Mark.{IsMarks}
+use Rattle.syn_model.specs.Path.{Bytes, Path, path_cmp, is_root}
+use Rattle.syn_model.specs.Refusal.{Refusal, Device}
+use Rattle.syn_model.specs.Tree.{absent, IsPart, is_directory, replace, empty_directory}
+use Rattle.syn_refusal.specs.declared.refusal.Refusal.TheVariants as refusal
+use Rattle.syn_archive.specs.Machines.{CompactsImage, IsMachine, Journal, KeepsRecord, Runs}
+use Rattle.syn_archive.specs.Machines.{breaks_off, refuses}
+use Rattle.syn_archive.specs.Machines as by_archive
+use Rattle.syn_coordinator.specs.declared.due.Due.{Due}
+use Rattle.syn_coordinator.specs.declared.due.Due.TheVariants.{Ends, Tried, Unsent}
+use Rattle.syn_coordinator.specs.Due.{IsReady, MakesRoom, has_some, makes_some, Settles, recorded}
+use Rattle.syn_coordinator.specs.Due.{no_checkpoint, checkpoint_breaks, record_breaks, no_memory}
+use Rattle.syn_coordinator.specs.Due.{no_memory_after}
+use Rattle.syn_coordinator.specs.inner.Recording.{Writes, written, Checkpoints}
+use Rattle.syn_coordinator.specs.inner.Recording.{at_greatest, MakesRoomNow}
+use Rattle.syn_coordinator.specs.inner.Recording.{has_made, made_none, ended_by}
+use Rattle.syn_coordinator.specs.inner.Recording as step
+use Rattle.syn_archive.specs.Machines.{CompactsSo, KeepsSo, moves_on, moves_down}
+use Rattle.syn_archive.proofs.EndLemmas.{same_error}
+use Rattle.syn_coordinator.proofs.StayLemmas.{same_machine}
+
+-- ---- what is lawful
+
+nothing_at : (path : Path) → get absent path ≡ None
+nothing_at path = get-empty path_cmp path
+
+nothing_part : IsPart absent
+nothing_part = record {
+  parents = λ p n r h. absurd (true≢false (sym h ∙ ap is_some (nothing_at (p ++ n ∷ r))));
+  names = λ p h. absurd (true≢false (sym h ∙ ap is_some (nothing_at p)));
+  lawful = λ p contents h. absurd (none-some _ (sym (nothing_at p) ∙ h));
+}
+
+pub nothing_marks : IsMarks absent
+nothing_marks =
+    record {
+      part = nothing_part;
+      digests = λ path contents found. absurd (none-some _ (sym (nothing_at path) ∙ found));
+    }
+
+-- ---- whether it is for the device
+
+pub device_or_other : (e : ArchiveError) → (e ≡ error.Device) ⊎ (e ≢ error.Device)
+device_or_other error.Device = inl refl
+device_or_other _ = inr (λ is. cc)
+
+-- each other error ends what is due for lack of memory
+pub other_ends : (broken : Due) (e : ArchiveError) → e ≢ error.Device →
+    ended_by broken e ≡ Ends refusal.Memory
+other_ends broken error.Device other = absurd (other refl)
+other_ends broken _ other = refl
+
+pub full_no_device : error.Full ≢ error.Device
+full_no_device is = cc
+
+pub is_greatest : (n : ℕ) → n + 1 ≡ 2 ^ 64 → nat_le greatest n ≡ true
+is_greatest n e = grind (arith, nat_tests)
+
+pub is_less : (n : ℕ) → n < 2 ^ 64 → (n + 1 ≡ 2 ^ 64 → ⊥) → nat_le greatest n ≡ false
+is_less n h other = grind (arith, nat_tests)
+
+up_or_halted : {s : Status} → s ≡ Up → s ≡ Halted → ⊥
+up_or_halted up halted = cc
+
+-- ---- the machine of an archive
+
+module _ {D : Type 0} {disk : Ghosts D} (archive : Archive D disk) (pair : ℕ) (machine : Journal)
+    (is : IsMachine archive pair machine) where
+  pub when_runs : (IsHalted archive → ⊥) → Runs archive machine
+  when_runs up =
+      elim is.state as (λ _. Runs archive machine)
+      [ inl was ↦ was | inr fails ↦ absurd (up fails.is_halted) ]
+
+  pub when_up : machine.status ≡ Up → Runs archive machine
+  when_up up =
+      elim is.state as (λ _. Runs archive machine)
+      [ inl was ↦ was | inr fails ↦ absurd (up_or_halted up fails.halted) ]
+
+  pub when_halted : IsHalted archive → machine.status ≡ Halted
+  when_halted halted =
+      elim is.state as (λ _. machine.status ≡ Halted) [
+        | inl was ↦ absurd
+            (false≢true (sym was.stands.runs.running ∙ halted))
+        | inr fails ↦ fails.halted
+      ]
+
+  pub not_halted : Runs archive machine → IsHalted archive → ⊥
+  not_halted was halted = false≢true (sym was.stands.runs.running ∙ halted)
+
+  pub is_ready : (kept : Kept) → Runs archive machine → IsLawfulKept kept →
+      kept_refusal (shown archive) kept ≡ None → IsReady machine kept
+  is_ready kept was lawful allowed =
+      record {
+        up = was.up;
+        can = record {
+          lawful = lawful;
+          not_refused = ap (λ a. kept_refusal a kept) (sym is.remembers) ∙ allowed;
+        };
+      }
+
+  -- what the archive says of its room is what its machine says
+  pub room_is : (kept : Kept) → Runs archive machine →
+      (is_recorded (shown archive) kept || nat_le (kept_size kept) (left_shown archive))
+      ≡ has_room (archive_layout pair) machine kept
+  room_is kept was =
+      ap₂ (λ v r. is_recorded v kept || nat_le (kept_size kept) r) is.remembers was.room
+
+-- ---- a write
+
+module _ {D : Type 0} {disk : Ghosts D} (old new : Archive D disk) (pair : ℕ) (machine : Journal)
+    (is : IsMachine old pair machine) where
+  -- after a refusal but for the device it is the machine that it was
+  pub stays : (e : ArchiveError) → e ≢ error.Device →
+      (refusal_of e ≡ Device) ⊎ (journal_of new ≡ journal_of old) → KeepsReadings old new →
+      IsMachine new pair machine
+  stays e other unchanged readings =
+      elim unchanged as (λ _. IsMachine new pair machine) [
+        | inl device ↦ absurd (other (same_error e error.Device device))
+        | inr same ↦ same_machine old new same readings pair machine is
+      ]
+
+-- what the archive says of a record that was kept, and of one that was not
+module _ {D : Type 0} {disk : Ghosts D} (new : Archive D disk) (pair : ℕ) (machine : Journal)
+    (kept : Kept) where
+  pub was_kept : KeepsRecord new pair machine kept None →
+      KeepsSo new pair machine kept (kept ∷ []) Up
+  was_kept (by_archive.keeps so) = so
+
+  pub was_broken : KeepsRecord new pair machine kept (Some Device) →
+      KeepsSo new pair machine kept [] Halted
+  was_broken (by_archive.breaks so) = so
+  was_broken (refuses why other is) = absurd (other refl)
+
+  pub was_refused : (why : Refusal) → why ≢ Device → KeepsRecord new pair machine kept (Some why) →
+      IsMachine new pair machine
+  was_refused why other (by_archive.breaks so) = absurd (other refl)
+  was_refused why other (refuses same differs is) = is
+
+  pub write_fails : (e : ArchiveError) → KeepsRecord new pair machine kept (Some (refusal_of e)) →
+      Writes new pair machine kept (ended_by Tried e)
+  write_fails e told =
+      elim (device_or_other e) as (λ _. Writes new pair machine kept (ended_by Tried e)) [
+        | inl device ↦ subst (λ x. Writes new pair machine kept (ended_by Tried x)) (sym device)
+            (step.breaks (was_broken (subst
+            (λ x. KeepsRecord new pair machine kept (Some (refusal_of x))) device told)))
+        | inr other ↦ subst (Writes new pair machine kept) (sym (other_ends Tried e other))
+            (step.no_memory (was_refused (refusal_of e)
+            (λ is. other (same_error e error.Device is)) told))
+      ]
+
+-- and of a checkpoint
+module _ {D : Type 0} {disk : Ghosts D} (new : Archive D disk) (pair : ℕ) (machine : Journal)
+  where
+    pub was_compacted : CompactsImage new pair machine None → CompactsSo new pair machine Up
+    was_compacted (by_archive.compacts so) = so
+
+    pub was_cut_short : CompactsImage new pair machine (Some Device) →
+        CompactsSo new pair machine Halted
+    was_cut_short (breaks_off so) = so
+    was_cut_short (by_archive.stays why other is) = absurd (other refl)
+
+    pub was_not_compacted : (why : Refusal) → why ≢ Device →
+        CompactsImage new pair machine (Some why) → IsMachine new pair machine
+    was_not_compacted why other (breaks_off so) = absurd (other refl)
+    was_not_compacted why other (by_archive.stays same differs is) = is
+
+-- ---- a checkpoint
+
+module _ {D : Type 0} {disk : Ghosts D} (old new : Archive D disk) (pair : ℕ) (machine : Journal)
+    (is : IsMachine old pair machine) (fits : generation_shown old < 2 ^ 64) where
+  pub not_greatest : Runs old machine → (generation_shown old + 1 ≡ 2 ^ 64 → ⊥) →
+      nat_le greatest machine.generation ≡ false
+  not_greatest was other =
+      ap (nat_le greatest) (sym was.generation) ∙ is_less (generation_shown old) fits other
+
+-- ---- all of it
+
+-- a checkpoint leaves the value
+same_value : (pair : ℕ) (machine between : Journal) →
+    Compacts (archive_layout pair) machine between → between.value ≡ machine.value
+same_value pair machine between (compacted arms meets) = refl
+same_value pair machine between (not_compacted status arms failed left meets) = refl
+
+module _ {D : Type 0} {disk : Ghosts D} (new : Archive D disk) (pair : ℕ) (machine : Journal)
+    (kept : Kept) (ready : IsReady machine kept) where
+  pub settled : (made : Bool) (between : Journal) → MakesRoom pair machine kept made between →
+      has_room (archive_layout pair) between kept ≡ true → (due : Due) →
+      Writes new pair between kept due → Settles new pair machine kept due
+  settled made between room has due (written keeps) = recorded made between ready room has keeps
+  settled made between room has due (step.breaks keeps) =
+      record_breaks made between ready room has keeps
+  settled made between (has_some enough) has due (step.no_memory is) = no_memory is
+  settled made between (makes_some new none less compacts up) has due (step.no_memory is) =
+      no_memory_after between ready (makes_some new none less compacts up) is
+
+  pub ready_still : (between : Journal) → Compacts (archive_layout pair) machine between →
+      between.status ≡ Up → IsReady between kept
+  ready_still between compacts up =
+      record {
+        up = up;
+        can =
+            subst (λ v. CanKeep v kept) (sym (same_value pair machine between compacts)) ready.can;
+      }
+
+  module _ (no_room : has_room (archive_layout pair) machine kept ≡ false) where
+    pub without_room : (due : Due) → MakesRoomNow new pair machine (Err due) →
+        Settles new pair machine kept due
+    without_room due (made_none due' checkpoint) = by due' checkpoint
+      where
+        by : (due : Due) → Checkpoints new pair machine (Err due) →
+            Settles new pair machine kept due
+        by due (at_greatest last is) = no_checkpoint ready no_room last is
+        by due (step.breaks less moves) = checkpoint_breaks ready no_room less moves
+        by due (step.no_memory is) = no_memory is
+
+-- after a checkpoint the machine goes on, or was stopped
+module _ {D : Type 0} {disk : Ghosts D} (new : Archive D disk) (pair : ℕ) (machine : Journal) where
+  pub stopped_after : is_stopped (disk.arms (disk_of new)) ≡ true →
+      Checkpoints new pair machine (Ok tt) → Checkpoints new pair machine (Err Unsent)
+  stopped_after stopped (step.made less (moves_on between compacts up is)) =
+      absurd (false≢true (sym is.goes ∙ stopped))
+  stopped_after stopped (step.made less (moves_down between compacts cut down leaves)) =
+      step.breaks less (moves_down between compacts cut down leaves)
+
+  pub goes_on_after : is_stopped (disk.arms (disk_of new)) ≡ false →
+      Checkpoints new pair machine (Ok tt) → MakesRoomNow new pair machine (Ok tt)
+  goes_on_after goes (step.made less (moves_on between compacts up is)) =
+      has_made between less compacts up is
+  goes_on_after goes (step.made less (moves_down between compacts cut down leaves)) =
+      absurd (false≢true (sym goes ∙ cut))

@@ -1,3 +1,0 @@
-mod Extents
-mod Written
-mod Zeros

@@ -1,5 +1,0 @@
-use Rattle.std.proofs.Common.{◌≡◌, take}
-use Rattle.syn_host.proofs.copies.copy_refused.Given as goal
-
-abbrev pub invariant-loop-why : goal.invariant-loop-why
-invariant-loop-why l = l.copies.items ≡ take l.why-index l.source

@@ -1,0 +1,158 @@
+//! An opening: a machine finds out what a disk, or its own, gives.
+ghost use Rattle.std.specs.Prelude.{◌≡◌, ◌≢◌, ◌⊎◌, ℕ, None, Some, Option, true, false, IfOk, IfErr};
+ghost use Rattle.std.specs.Prelude.{OnOk, MatchResult};
+ghost use Rattle.syn_headline.specs.Machine as model;
+ghost use Rattle.syn_journal.specs.Journal as journal;
+ghost use Rattle.syn_journal.specs.Layout.{Value};
+ghost use Rattle.syn_journal.specs.Places.{Shows};
+ghost use Rattle.syn_journal.specs.Endings.{Reads, ended};
+ghost use Rattle.syn_journal.specs.Openings.{NotOpened};
+ghost use Rattle.syn_model.specs.Refusal.{Device, Memory};
+
+use super::Journaled;
+use crate::state::State;
+use crate::{Journal, Opened, Place};
+use std::alloc::Global;
+use syn_disk::Disk;
+use syn_refusal::Refusal;
+
+impl<D: Disk, S: State + Drop> Journaled<D, S> {
+    ghost use Rattle.syn_journal.specs.Journaled.{journal_of, state_of, disk_of, IsHalted};
+    ghost use Rattle.syn_journal.specs.Journaled.{Opened as IsOpened, KeepsReadings, ShowsDisk};
+    ghost use Rattle.syn_journal.specs.Machines.{IsMachine, ReadsDisk};
+
+    /// Opens what the disk holds, of the wanted pair, or of any.
+    ///
+    /// Refused as the journal is opened, and as the state is not read; the disk comes back. Nothing
+    /// is written.
+    pub fn open(
+        alloc: Global,
+        disk: D,
+        wanted: Option<u64>,
+    ) -> Result<Journaled<D, S>, (S::Error, D)>
+        ensures opened { IfOk result (IsOpened S.pair S.gives (D.seen disk)) }
+        ensures wanted { IfOk result (λ machine. (asked : ℕ) → wanted ≡ Some asked
+            → asked ≡ S.pair (state_of machine)) }
+        ensures refused { IfErr result (λ refused.
+            NotOpened S.of_journal (S.unread refused.0 wanted) refused.0 (D.seen disk)) }
+        ensures device { MatchResult result
+            (λ machine. Reads D.Disk None disk (disk_of machine))
+            (λ refused. Reads D.Disk (Some (S.why refused.0)) disk refused.1) }
+    {
+        let opened = match Journal::open(alloc, disk) {
+            Ok(opened) => opened,
+            Err((error, disk)) => return Err((S::refused(error), disk)),
+        };
+        let Opened {
+            journal,
+            image,
+            records,
+        } = opened;
+        match S::read(alloc, &image, &records, wanted) {
+            Ok(state) => Ok(Journaled { journal, state }),
+            Err(error) => Err((error, journal.into_disk())),
+        }
+    }
+
+    /// Opens the machine's own disk again. A machine that was halted runs again.
+    ///
+    /// Refused as the journal is opened, and as no state is read that may follow this one. After 11
+    /// the machine is as it was, halted or not; after any other refusal it is halted. One that was
+    /// halted then shows what it showed. Nothing is written.
+    pub fn reopen(&mut self, alloc: Global) -> Result<(), S::Error>
+        ensures opened { OnOk result
+            (IsOpened S.pair S.gives (D.seen (disk_of self.old)) self.new) }
+        ensures follows { OnOk result (S.follows (state_of self.old) (state_of self.new)) }
+        ensures refused { IfErr result (λ e. NotOpened S.of_journal
+            (S.unread_again e (state_of self.old)) e (D.seen (disk_of self.old))) }
+
+        // What stays after a refusal.
+        ensures state { IfErr result (λ _. state_of self.new ≡ state_of self.old) }
+        ensures halts { IfErr result (λ e. S.why e ≢ Memory → IsHalted self.new) }
+        ensures halted { IfErr result (λ _. IsHalted self.old → IsHalted self.new) }
+        ensures readings { IfErr result (λ _. KeepsReadings self.old self.new
+            ⊎ ShowsDisk self.new) }
+        ensures room { (value : Value) → journal.Stands (journal_of self.old) value
+            → IfErr result (λ _. KeepsReadings self.old self.new) }
+        ensures remembers { IsHalted self.old
+            → IfErr result (λ _. KeepsReadings self.old self.new) }
+        ensures unchanged { (value : Value) → journal.Stands (journal_of self.old) value
+            → S.gives value.image value.payloads (state_of self.old) → IfErr result (λ e.
+            (S.why e ≡ Device) ⊎ journal.Stands (journal_of self.new) value) }
+
+        ensures device { Reads D.Disk (ended S.why result) (disk_of self.old)
+            (disk_of self.new) }
+
+        // What it is to the model's machine, also where its device fails or stops.
+        ensures machine { (number : ℕ) (machine : model.Journaled S.Kept S.Added)
+            → IsMachine (S.kept_as number) self.old machine
+            → ReadsDisk (S.kept_as number) self.new machine (ended S.why result) }
+    {
+        S::keeping_laws();
+        self.open_again(alloc)
+    }
+
+    /// The reopening, as its journal makes it.
+    fn open_again(&mut self, alloc: Global) -> Result<(), S::Error>
+        ensures opened { OnOk result
+            (IsOpened S.pair S.gives (D.seen (disk_of self.old)) self.new) }
+        ensures follows { OnOk result (S.follows (state_of self.old) (state_of self.new)) }
+        ensures refused { IfErr result (λ e. NotOpened S.of_journal
+            (S.unread_again e (state_of self.old)) e (D.seen (disk_of self.old))) }
+
+        // What stays after a refusal.
+        ensures state { IfErr result (λ _. state_of self.new ≡ state_of self.old) }
+        ensures halts { IfErr result (λ e. S.why e ≢ Memory → IsHalted self.new) }
+        ensures halted { IfErr result (λ _. IsHalted self.old → IsHalted self.new) }
+        ensures readings { IfErr result (λ _. KeepsReadings self.old self.new
+            ⊎ ShowsDisk self.new) }
+        ensures room { (value : Value) → journal.Stands (journal_of self.old) value
+            → IfErr result (λ _. KeepsReadings self.old self.new) }
+        ensures remembers { IsHalted self.old
+            → IfErr result (λ _. KeepsReadings self.old self.new) }
+        ensures unchanged { (value : Value) → journal.Stands (journal_of self.old) value
+            → S.gives value.image value.payloads (state_of self.old) → IfErr result (λ e.
+            (S.why e ≡ Device) ⊎ journal.Stands (journal_of self.new) value) }
+
+        ensures device { Reads D.Disk (ended S.why result) (disk_of self.old)
+            (disk_of self.new) }
+    {
+        let was_halted = self.journal.is_halted();
+        let place = self.journal.place();
+        let found = match self.journal.reopen(alloc) {
+            Ok(found) => found,
+            Err(error) => return Err(S::refused(error)),
+        };
+        match self.state.read_again(alloc, &found.image, &found.records) {
+            Ok(state) => {
+                self.state = state;
+                Ok(())
+            }
+            Err(error) => {
+                self.settle(was_halted, place, &error);
+                Err(error)
+            }
+        }
+    }
+
+    /// Halts the machine where it was halted, as it was at the place, or where its disk gives no
+    /// state that may follow. Where memory was refused, one that ran goes on.
+    fn settle(&mut self, was_halted: bool, place: Place, error: &S::Error)
+        ensures halted { was_halted ≡ true → IsHalted self.new }
+        ensures halts { S.why error.now ≢ Memory → IsHalted self.new }
+        ensures goes_on { was_halted ≡ false → S.why error.now ≡ Memory → self.new ≡ self.old }
+        ensures disk { disk_of self.new ≡ disk_of self.old }
+        ensures state { state_of self.new ≡ state_of self.old }
+        ensures shows { was_halted ≡ true → Shows (journal_of self.new) place }
+        ensures readings { was_halted ≡ false → KeepsReadings self.old self.new }
+    {
+        if was_halted {
+            self.journal.halt_at(place);
+            return;
+        }
+        match S::refusal(error) {
+            Refusal::Memory => {}
+            _ => self.journal.halt(),
+        }
+    }
+}

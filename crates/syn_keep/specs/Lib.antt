@@ -1,5 +1,0 @@
-pub mod Machines
-pub mod Tries
-pub mod Steps
-pub mod Due
-pub mod inner

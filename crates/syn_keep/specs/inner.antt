@@ -1,2 +1,0 @@
--- Definitions of what is private.
-pub mod Recording

@@ -1,5 +1,0 @@
-use Rattle.syn_plain.proofs.TurnLemmas.{runs_agree}
-use Rattle.syn_plain.proofs.turn.turn_laws.Goals as goal
-
-pub returns : goal.returns
-returns c = runs_agree

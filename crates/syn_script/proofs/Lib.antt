@@ -1,3 +1,0 @@
-pub mod WordLemmas
-pub mod VerbLemmas
-pub mod ScriptLemmas

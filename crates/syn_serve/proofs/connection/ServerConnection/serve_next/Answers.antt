@@ -1,0 +1,57 @@
+use Rattle.std.proofs.Common.{refl, subst}
+use Rattle.std.proofs.lemmas.Result.{err_from_is_err_and}
+use Rattle.syn_serve.proofs.ServeLemmas.{answered_so, later_same}
+use Rattle.syn_serve.proofs.connection.ServerConnection.serve_next.Goals as goal
+use Rattle.syn_serve.specs.Exchanges.{answers, breaks, closes, ends}
+use Rattle.syn_serve.specs.Lines.{BreaksOff, Sends, line_of}
+use Rattle.syn_serve.specs.Messages.{message_of, response_of, response_spelling}
+
+pub returns-in_err-request-clause-exchanges : goal.returns-in_err-request-clause-exchanges
+returns-in_err-request-clause-exchanges g c =
+    let p = err_from_is_err_and c.from_residual.result c.from_residual.ensures.1 in
+    let told = c.in_err-request.ensures in
+    rw (p.1, p.2) (closes _ told.closes told.silent refl)
+
+pub returns-in_err-request-clause-later : goal.returns-in_err-request-clause-later
+returns-in_err-request-clause-later g c = later_same _ _
+
+pub returns-in_default-clause-exchanges : goal.returns-in_default-clause-exchanges
+returns-in_default-clause-exchanges g c =
+    let told = c.in_ok-request.ensures in
+    ends (rw c.in_default.is at told.end) told.silent refl
+
+pub returns-in_default-clause-later : goal.returns-in_default-clause-later
+returns-in_default-clause-later g c = later_same _ _
+
+pub returns-in_err-send-clause-exchanges : goal.returns-in_err-send-clause-exchanges
+returns-in_err-send-clause-exchanges g c =
+    let p = err_from_is_err_and c.from_residual-in_err-send.result
+    c.from_residual-in_err-send.ensures.1 in
+    let line = line_of g.R.Read.remaining g.W.Write.contents in
+    let told = c.in_ok-request.ensures in
+    let received = rw c.in-Some.is at told.request in
+    let message = message_of c.in-Some.request in
+    let response = response_of c.answer-reply.result in
+    let rest = c.send.ensures.rest in
+    let error = c.in_err-send.field-0.0 in
+    rw (p.1, p.2) (breaks message response error
+    (answered_so c.args.shared.now (line c.args.self.now) (line c.receive.new.self)
+    (line c.send.new.self) c.answer-reply.new.agent c.args.pass.now c.answer-reply.new.pass message
+    response received told.silent c.answer-reply.ensures.held rest.0 rest.1 rest.2)
+    (subst (λ w. BreaksOff error w (line c.send.new.self).written (response_spelling response))
+    told.silent.1 c.in_err-send.ensures.broken))
+
+pub returns-clause-exchanges : goal.returns-clause-exchanges
+returns-clause-exchanges g c =
+    let line = line_of g.R.Read.remaining g.W.Write.contents in
+    let told = c.in_ok-request.ensures in
+    let received = rw c.in-Some.is at told.request in
+    let message = message_of c.in-Some.request in
+    let response = response_of c.answer-reply.result in
+    let rest = c.send.ensures.rest in
+    answers message response
+    (answered_so c.args.shared.now (line c.args.self.now) (line c.receive.new.self)
+    (line c.send.new.self) c.answer-reply.new.agent c.args.pass.now c.answer-reply.new.pass message
+    response received told.silent c.answer-reply.ensures.held rest.0 rest.1 rest.2)
+    (subst (λ w. Sends w (line c.send.new.self).written (response_spelling response)) told.silent.1
+    c.in_ok-send.ensures.sent)

@@ -1,0 +1,20 @@
+use Rattle.std.proofs.Common.{not, refl, ap, ◌∙◌}
+use Rattle.syn_headline.specs.Report.{is_carrying, is_marking}
+use Rattle.syn_session.proofs.CourseLemmas.{record_is, count_fits, counts_none, counts_one}
+use Rattle.syn_session.proofs.CourseLemmas.{course_recorded, cursor_fits, marks_else, no_conflict}
+use Rattle.syn_session.proofs.plan_progress.PlanProgress.pass_carried.Goals as goal
+
+pub returns : goal.returns
+returns c = record {
+  passes = λ left right reached planned what is at due carries.
+      let of = record_is planned planned.item what due in
+      let fits = count_fits c.args.self.now left right reached is planned at
+      c.plan_laws.ensures.orderly what of is_carrying c.args.self.now.done is.done carries in
+      course_recorded c.args.self.now _ left right reached is planned at refl
+      (c.one_more-self-2.ensures (cursor_fits c.args.self.now left right reached is planned at))
+      c.plan_laws.ensures.orderly what of (no_conflict planned planned.item what due)
+      (c.one_more-self.ensures fits
+      ∙ counts_one c.args.self.now.done (is_carrying planned.item) carries)
+      (counts_none c.args.self.now.marked (is_marking planned.item)
+      (marks_else planned planned.item what due ∙ ap not carries)) refl refl;
+}

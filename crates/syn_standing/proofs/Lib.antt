@@ -1,6 +1,0 @@
-pub mod CauseLemmas
-pub mod StandingLemmas
-pub mod SinceLemmas
-pub mod AlikeLemmas
-pub mod SoundLemmas
-pub mod ReadingLemmas

@@ -1,4 +1,0 @@
-pub mod Refusals
-pub mod Causes
-pub mod Updates
-pub mod Readings

@@ -1,9 +1,0 @@
--- Where a replica is.
-use Rattle.clap.specs.Words.{Text}
-use Rattle.syn_words.specs.declared.line.ReplicaPlace.{ReplicaPlace}
-use Rattle.syn_words.specs.declared.line.ReplicaPlace.TheVariants.{File, Served}
-
--- the name of the file, or the address of the server
-abbrev pub text_of : ReplicaPlace → Text
-text_of (File file) = file.now
-text_of (Served address) = address.now

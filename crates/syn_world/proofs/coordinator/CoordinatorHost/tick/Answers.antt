@@ -1,0 +1,21 @@
+use Rattle.std.proofs.Common.{refl, sym, subst}
+use Rattle.syn_headline.specs.Coordinator.{CoordinatorTicks, no_session}
+use Rattle.syn_world.specs.Coordinators.{IsCoordinator, archive_disk}
+use Rattle.syn_world.specs.CoordinatorSteps.{CallIsStep, Unrefused}
+use Rattle.syn_world.proofs.CallLemmas.{refused_call}
+use Rattle.syn_world.proofs.CountLemmas.{down_still}
+use Rattle.syn_world.proofs.coordinator.CoordinatorHost.tick.Goals as goal
+
+pub returns-in-Up : goal.returns-in-Up
+returns-in-Up g c pair machine is =
+    subst (λ s. CallIsStep pair machine (g.D.Disk.failures (archive_disk s))
+    (Unrefused (CoordinatorTicks machine)) c.resend.result) (sym c.in-Up.is)
+    (c.resend.ensures pair machine (subst (λ s. IsCoordinator pair s machine) c.in-Up.is is))
+
+pub returns-in-Down : goal.returns-in-Down
+returns-in-Down g c pair machine is =
+    let rests = subst (λ s. IsCoordinator pair s machine) c.in-Down.is is in
+    refused_call pair machine _ _ (down_still c.in-Down.is)
+    c.refused.result _ _ (Unrefused (CoordinatorTicks machine)) rests
+    c.refused.ensures.coordinator c.refused.ensures.outcome refl
+    (record { step = no_session rests.idle; none = refl })

@@ -1,0 +1,11 @@
+use Rattle.syn_headline.specs.MachineSteps.{Does, Reopen, is_down}
+use Rattle.syn_headline.specs.SideMachine.{side_kind}
+use Rattle.syn_world.proofs.HostLemmas.{call_down, down}
+use Rattle.syn_world.proofs.side.SideHost.reopen.Goals as goal
+
+pub returns-in-Down : goal.returns-in-Down
+returns-in-Down g c pair machine is =
+    call_down pair c.args.self c.in-Down.side machine c.in-Down.is is c.unchanged.result
+    c.unchanged.ensures.side c.unchanged.ensures.outcome
+    (Does (side_kind pair) machine Reopen)
+    (is_down (down pair c.args.self c.in-Down.side machine c.in-Down.is is))
