@@ -1,7 +1,7 @@
 //! Carries out a command.
 ghost use Rattle.std.specs.Prelude.{◌≡◌, ◌⊎◌, map, IfOk};
 ghost use Rattle.syn_cli.specs.Reads.{Asks, AsksHelp, IsMistake, IsRequest};
-ghost use Rattle.syn_cli.specs.declared.line.Line.{Line};
+ghost use Rattle.syn_cli.specs.declared.command.Command.{Command};
 
 use crate::files::DisksInFiles;
 use crate::format::format;
@@ -14,11 +14,11 @@ use std::net::{Net, TcpListener, TcpStream};
 use std::sync::Wait;
 use std::thread::Threads;
 use std::time::Clock;
-use syn_cli::{ImageLine, Line, LineError, read_words};
+use syn_cli::{Command, ImageCommand, LineError, read_words};
 use syn_command::{CommandError, EditsTold, Failure, Outcome, Status, print_meanings, report};
 use syn_disk::OsFile;
 use syn_files::{
-    NamedDisks, Telling, edit, export, import, keep_servers, migrate, plan_named, print_image,
+    NamedDisks, ProgressMode, edit, export, import, keep_servers, migrate, plan_named, print_image,
     print_log, print_numbers, print_plan, reconcile_named, run_session, serve_named, show,
 };
 
@@ -47,18 +47,19 @@ where
     O: Write,
     E: Write,
     ensures done { result ≡ Status.Done
-        → ((line : Line) × Asks (map (λ word. word.now) words.entry.now) line)
+        → ((command : Command) × Asks (map (λ word. word.now) words.entry.now) command)
         ⊎ AsksHelp (map (λ word. word.now) words.entry.now) }
     ensures usage { result ≡ Status.Usage
-        → (line : Line) → ¬ Asks (map (λ word. word.now) words.entry.now) line }
+        → (command : Command) → ¬ Asks (map (λ word. word.now) words.entry.now) command }
 
     // Words that ask for nothing are told as such, or memory is refused while they are read.
-    ensures mistaken { ((line : Line) → ¬ Asks (map (λ word. word.now) words.entry.now) line)
+    ensures mistaken { ((command : Command)
+        → ¬ Asks (map (λ word. word.now) words.entry.now) command)
         → ¬ AsksHelp (map (λ word. word.now) words.entry.now)
         → (result ≡ Status.Usage) ⊎ (result ≡ Status.Refused) }
 {
-    let asked = match read_words(alloc, words) {
-        Ok(asked) => asked,
+    let arguments = match read_words(alloc, words) {
+        Ok(arguments) => arguments,
         Err(error) => return tell(&error, output, errors),
     };
     let context = Context {
@@ -66,15 +67,15 @@ where
         alloc,
         files,
         disks: &DisksInFiles(files),
-        telling: telling_of(asked.is_verbose, is_terminal),
+        telling: telling_of(arguments.is_verbose, is_terminal),
         told: EditsTold {
-            each: asked.is_verbose,
+            each: arguments.is_verbose,
             counts: is_terminal,
         },
     };
-    let answer = carry_out(&context, &asked.line, input, output, errors);
-    if asked.is_verbose || is_terminal {
-        report(Some(&asked.line), &answer, errors)
+    let answer = carry_out(&context, &arguments.command, input, output, errors);
+    if arguments.is_verbose || is_terminal {
+        report(Some(&arguments.command), &answer, errors)
     } else {
         report(None, &answer, errors)
     }
@@ -88,7 +89,7 @@ struct Context<'c, H, F, N> {
     alloc: Global,
     files: &'c F,
     disks: &'c N,
-    telling: Telling,
+    telling: ProgressMode,
     told: EditsTold,
 }
 
@@ -129,18 +130,18 @@ fn help<O: Write>(asked: &clap::Error, output: &mut O) -> Result<Outcome, Failur
 }
 
 /// How much is told of a session.
-fn telling_of(is_verbose: bool, is_terminal: bool) -> Telling {
+fn telling_of(is_verbose: bool, is_terminal: bool) -> ProgressMode {
     match (is_verbose, is_terminal) {
-        (false, _) => Telling::Nothing,
-        (true, false) => Telling::Items,
-        (true, true) => Telling::ItemsAndCounts,
+        (false, _) => ProgressMode::Nothing,
+        (true, false) => ProgressMode::Items,
+        (true, true) => ProgressMode::ItemsAndCounts,
     }
 }
 
-/// Carries out the line, and answers what it came to.
+/// Carries out the command, and answers what it came to.
 fn carry_out<H, F, N, I, O, E>(
     context: &Context<'_, H, F, N>,
-    line: &Line<'_>,
+    command: &Command<'_>,
     input: &mut I,
     output: &mut O,
     errors: &mut E,
@@ -157,33 +158,36 @@ where
     E: Write,
 {
     let (rt, alloc, disks) = (context.rt, context.alloc, context.disks);
-    let outcome = match line {
-        Line::Session(pairing) => {
+    let outcome = match command {
+        Command::Session(pairing) => {
             run_session(rt, alloc, disks, *pairing, context.telling, output, errors)?
         }
-        Line::Keep(line) => {
-            keep_servers(rt, alloc, disks, line, context.telling, output, errors)?
+        Command::Keep(given) => {
+            keep_servers(rt, alloc, disks, given, context.telling, output, errors)?
         }
-        Line::Plan(pairing) => print_plan(rt, alloc, disks, *pairing, output)?,
-        Line::Edit(line) => done_at(edit(rt, alloc, line, disks, input)?, output)?,
-        Line::Import(line) => {
+        Command::Plan(pairing) => print_plan(rt, alloc, disks, *pairing, output)?,
+        Command::Edit(given) => done_at(edit(rt, alloc, given, disks, input)?, output)?,
+        Command::Import(given) => {
             let (files, told) = (context.files, context.told);
-            done_at(import(rt, alloc, disks, files, line, told, errors)?, output)?
+            done_at(
+                import(rt, alloc, disks, files, given, told, errors)?,
+                output,
+            )?
         }
-        Line::Reconcile(line) if line.is_dry => {
-            plan_named(alloc, disks, context.files, line, output, errors)?
+        Command::Reconcile(given) if given.is_dry => {
+            plan_named(alloc, disks, context.files, given, output, errors)?
         }
-        Line::Reconcile(line) => {
+        Command::Reconcile(given) => {
             let (files, telling) = (context.files, context.telling);
-            reconcile_named(alloc, disks, files, line, telling, output, errors)?
+            reconcile_named(alloc, disks, files, given, telling, output, errors)?
         }
-        Line::Export(line) => done_at(export(rt, alloc, disks, context.files, line)?, output)?,
-        Line::Image(line) => carry_out_on_image(context, line, output)?,
-        Line::Serve(line) => {
-            serve_named(rt, alloc, disks, context.files, line)?;
+        Command::Export(given) => done_at(export(rt, alloc, disks, context.files, given)?, output)?,
+        Command::Image(given) => carry_out_on_image(context, given, output)?,
+        Command::Serve(given) => {
+            serve_named(rt, alloc, disks, context.files, given)?;
             Outcome::Done
         }
-        Line::Simulate { script, is_traced } => {
+        Command::Simulate { script, is_traced } => {
             play_script(alloc, context.files, script, *is_traced, output)?;
             Outcome::Done
         }
@@ -198,10 +202,10 @@ fn done_at<O: Write>(position: u64, output: &mut O) -> Result<Outcome, Failure> 
     Ok(Outcome::Done)
 }
 
-/// Carries out a line about an image, and answers what it came to.
+/// Carries out a command about an image, and answers what it came to.
 fn carry_out_on_image<H, F, N, O>(
     context: &Context<'_, H, F, N>,
-    line: &ImageLine<'_>,
+    command: &ImageCommand<'_>,
     output: &mut O,
 ) -> Result<Outcome, Failure>
 where
@@ -212,19 +216,19 @@ where
     O: Write,
 {
     let (rt, alloc, disks) = (context.rt, context.alloc, context.disks);
-    match line {
-        ImageLine::Format { kind, pair, file } => {
+    match command {
+        ImageCommand::Format { kind, pair, file } => {
             format(alloc, context.files, file, *kind, *pair)?;
             writeln!(output, "ok")?;
         }
-        ImageLine::Show { place } => print_image(rt, alloc, disks, *place, output)?,
-        ImageLine::ShowPath { place, path } => show(rt, alloc, disks, *place, path, output)?,
-        ImageLine::Check { file } => print_numbers(alloc, disks, file, output)?,
-        ImageLine::Migrate { file } => {
+        ImageCommand::Show { place } => print_image(rt, alloc, disks, *place, output)?,
+        ImageCommand::ShowPath { place, path } => show(rt, alloc, disks, *place, path, output)?,
+        ImageCommand::Check { file } => print_numbers(alloc, disks, file, output)?,
+        ImageCommand::Migrate { file } => {
             migrate(alloc, disks, file)?;
             writeln!(output, "ok")?;
         }
-        ImageLine::Log { file, lines } => print_log(alloc, disks, file, *lines, output)?,
+        ImageCommand::Log { file, lines } => print_log(alloc, disks, file, *lines, output)?,
     }
     Ok(Outcome::Done)
 }

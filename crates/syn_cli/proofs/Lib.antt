@@ -1,5 +1,5 @@
 pub mod GivenLemmas
 pub mod LackLemmas
-pub mod LineLemmas
+pub mod CommandLemmas
 pub mod VerbLemmas
 pub mod WrongLemmas

@@ -15,18 +15,18 @@ use Rattle.syn_cli.specs.Reads.{HasImageValues, HasSides, IsOnce, image_verb, se
 use Rattle.syn_cli.specs.Reads.{HasServed, LacksFolder, LacksUser, MayHaveFolder, TakesSeconds}
 use Rattle.syn_cli.specs.Reads.{verb_of}
 use Rattle.syn_cli.specs.Verbs.{edit_verb, name_of, values_of, word_of}
-use Rattle.syn_cli.specs.declared.line.Between.{Between}
-use Rattle.syn_cli.specs.declared.line.Between.TheVariants.{Files, Servers}
-use Rattle.syn_cli.specs.declared.line.EditKind.{EditKind}
-use Rattle.syn_cli.specs.declared.line.EditKind.TheVariants as kind
-use Rattle.syn_cli.specs.declared.line.FolderLine.{FolderLine}
-use Rattle.syn_cli.specs.declared.line.ImageLine.{ImageLine}
-use Rattle.syn_cli.specs.declared.line.ImageLine.TheVariants as image
-use Rattle.syn_cli.specs.declared.line.Line.{Line}
-use Rattle.syn_cli.specs.declared.line.Line.TheVariants as line
-use Rattle.syn_cli.specs.declared.line.ReplicaPlace.{ReplicaPlace}
-use Rattle.syn_cli.specs.declared.line.ReplicaPlace.TheVariants as place
-use Rattle.syn_cli.specs.declared.line.ServeLine.{ServeLine}
+use Rattle.syn_cli.specs.declared.command.Between.{Between}
+use Rattle.syn_cli.specs.declared.command.Between.TheVariants.{Files, Servers}
+use Rattle.syn_cli.specs.declared.command.EditKind.{EditKind}
+use Rattle.syn_cli.specs.declared.command.EditKind.TheVariants as kind
+use Rattle.syn_cli.specs.declared.command.FolderCommand.{FolderCommand}
+use Rattle.syn_cli.specs.declared.command.ImageCommand.{ImageCommand}
+use Rattle.syn_cli.specs.declared.command.ImageCommand.TheVariants as image
+use Rattle.syn_cli.specs.declared.command.Command.{Command}
+use Rattle.syn_cli.specs.declared.command.Command.TheVariants as command
+use Rattle.syn_cli.specs.declared.command.ReplicaPlace.{ReplicaPlace}
+use Rattle.syn_cli.specs.declared.command.ReplicaPlace.TheVariants as place
+use Rattle.syn_cli.specs.declared.command.ServeCommand.{ServeCommand}
 use Rattle.syn_cli.specs.declared.value.ValueName.{ValueName}
 use Rattle.syn_cli.specs.declared.value.ValueName.TheVariants as value
 use Rattle.syn_cli.specs.declared.verb.Verb.{Verb}
@@ -77,7 +77,7 @@ verb_at-word verb.Simulate = refl
 pub same_verb : (a b : Verb) → word_of a ≡ word_of b → a ≡ b
 same_verb a b e = sym (verb_at-word a) ∙ (ap verb_at e ∙ verb_at-word b)
 
--- ---- what a line has was given
+-- ---- what a command has was given
 
 file_given : (rows : List Row) (p : ReplicaPlace) → HasPlace rows p →
     IsGiven rows (name_of value.File)
@@ -93,7 +93,7 @@ edit_given rows kind.Remove has given = given
 edit_given rows (kind.Chmod mode) has given =
     (given.0, (given.1.0, (given.1.1.0, ((mode_digits (mode_of mode), has), tt))))
 
-image_given : (rows : List Row) (l : ImageLine) → HasImageValues rows l →
+image_given : (rows : List Row) (l : ImageCommand) → HasImageValues rows l →
     AreGiven rows (values_of (image_verb l))
 image_given rows (image.Format kind pair file) has =
     ((kind_word kind, has.0), ((has.1.0, has.1.1), ((file.now, has.2), tt)))
@@ -120,29 +120,29 @@ session_given : (rows : List Row) (between : Between) → IsGiven rows (name_of 
 session_given rows (Files left right) one other archive = (one, (other, (archive, tt)))
 session_given rows (Servers left right) one other archive = (archive, (one, (other, tt)))
 
-pub values_given : (rows : List Row) (l : Line) → HasValues rows l →
+pub values_given : (rows : List Row) (l : Command) → HasValues rows l →
     AreGiven rows (values_of (verb_of l))
-values_given rows (line.Image about) has = image_given rows about has
-values_given rows (line.Edit edit) has =
+values_given rows (command.Image about) has = image_given rows about has
+values_given rows (command.Edit edit) has =
     edit_given rows edit.kind has.3
     (file_given rows edit.place has.0, ((has.1.0, has.1.1), ((edit.path.now, has.2), tt)))
-values_given rows (line.Export exported) has =
+values_given rows (command.Export exported) has =
     (file_given rows exported.place has.0, ((exported.folder.now, has.1), tt))
-values_given rows (line.Import imported) has =
+values_given rows (command.Import imported) has =
     (file_given rows imported.place has.0, ((has.1.0, has.1.1), ((imported.folder.now, has.2), tt)))
-values_given rows (line.Reconcile reconciled) has = (
+values_given rows (command.Reconcile reconciled) has = (
   (reconciled.folder.now, has.folder),
   (
     (reconciled.file.now, has.file),
     ((has.user.0, has.user.1), tt),
   ),
 )
-values_given rows (line.Serve served) has =
+values_given rows (command.Serve served) has =
     ((served.file.now, has.file), ((served.address.now, has.address), tt))
-values_given rows (line.Session pairing) has =
+values_given rows (command.Session pairing) has =
     session_given rows pairing.between (left_given rows pairing.between has.0.sides)
     (right_given rows pairing.between has.0.sides) (pairing.archive.now, has.0.archive)
-values_given rows (line.Keep kept) has = (
+values_given rows (command.Keep kept) has = (
   (kept.archive.now, has.archive),
   (
     (kept.left.now, has.left),
@@ -152,11 +152,11 @@ values_given rows (line.Keep kept) has = (
     ),
   ),
 )
-values_given rows (line.Plan pairing) has = (
+values_given rows (command.Plan pairing) has = (
   left_given rows pairing.between has.0.sides,
   (right_given rows pairing.between has.0.sides, ((pairing.archive.now, has.0.archive), tt)),
 )
-values_given rows (line.Simulate script is_traced) has = ((script.now, has.0), tt)
+values_given rows (command.Simulate script is_traced) has = ((script.now, has.0), tt)
 
 -- ---- what is missing was not given
 
@@ -172,7 +172,7 @@ none_missing rows told (value ∷ values) given (inl same) none =
 none_missing rows told (value ∷ values) given (inr one) none =
     none_missing rows told values given.1 one none
 
--- ---- what is wrong is no line's
+-- ---- what is wrong is no command's
 
 -- a number that is given is one
 no_number : (bits : ℕ) (rows : List Row) (id : Text) (n : ℕ) → IsNoNumber bits rows id →
@@ -225,7 +225,7 @@ is_image verb.Migrate = true
 is_image verb.Log = true
 is_image _ = false
 
-image_is : (l : ImageLine) → is_image (image_verb l) ≡ true
+image_is : (l : ImageCommand) → is_image (image_verb l) ≡ true
 unfolding is_image
 image_is (image.Format kind pair file) = refl
 image_is (image.Show place) = refl
@@ -234,14 +234,14 @@ image_is (image.Check file) = refl
 image_is (image.Migrate file) = refl
 image_is (image.Log file lines) = refl
 
-no_image : (l : ImageLine) (v : Verb) → image_verb l ≡ v → is_image v ≡ false → ⊥
+no_image : (l : ImageCommand) (v : Verb) → image_verb l ≡ v → is_image v ≡ false → ⊥
 no_image l v same none = true≢false (sym (image_is l) ∙ (ap is_image same ∙ none))
 
 no_session_edits : (between : Between) → IsEdit (session_verb between) → ⊥
 no_session_edits (Files left right) is = is
 no_session_edits (Servers left right) is = is
 
-no_image_edits : (l : ImageLine) → IsEdit (image_verb l) → ⊥
+no_image_edits : (l : ImageCommand) → IsEdit (image_verb l) → ⊥
 no_image_edits (image.Format kind pair file) is = is
 no_image_edits (image.Show place) is = is
 no_image_edits (image.ShowPath place path) is = is
@@ -250,52 +250,53 @@ no_image_edits (image.Migrate file) is = is
 no_image_edits (image.Log file lines) is = is
 
 module _ (rows : List Row) where
-  kind_right : (l : Line) → verb_of l ≡ verb.Format → IsOtherKind rows → HasValues rows l → ⊥
+  kind_right : (l : Command) → verb_of l ≡ verb.Format → IsOtherKind rows → HasValues rows l → ⊥
   unfolding is_edit is_session
-  kind_right (line.Image (image.Format kind pair file)) is wrong has =
+  kind_right (command.Image (image.Format kind pair file)) is wrong has =
       wrong.2 kind (same_Some wrong.0 (kind_word kind) (sym wrong.1 ∙ has.0))
-  kind_right (line.Edit edit) is wrong has = no_edit edit.kind verb.Format is refl
-  kind_right (line.Session pairing) is wrong has =
+  kind_right (command.Edit edit) is wrong has = no_edit edit.kind verb.Format is refl
+  kind_right (command.Session pairing) is wrong has =
       no_session pairing.between verb.Format is refl
   kind_right _ is wrong has = cc
 
-  pair_right : (l : Line) → verb_of l ≡ verb.Format → IsNoNumber 64 rows (name_of value.Pair) →
+  pair_right : (l : Command) → verb_of l ≡ verb.Format → IsNoNumber 64 rows (name_of value.Pair) →
       HasValues rows l → ⊥
   unfolding is_edit is_session
-  pair_right (line.Image (image.Format kind pair file)) is wrong has =
+  pair_right (command.Image (image.Format kind pair file)) is wrong has =
       no_number 64 rows (name_of value.Pair) pair wrong has.1
-  pair_right (line.Edit edit) is wrong has = no_edit edit.kind verb.Format is refl
-  pair_right (line.Session pairing) is wrong has =
+  pair_right (command.Edit edit) is wrong has = no_edit edit.kind verb.Format is refl
+  pair_right (command.Session pairing) is wrong has =
       no_session pairing.between verb.Format is refl
   pair_right _ is wrong has = cc
 
-  editor_right : (l : Line) → IsEdit (verb_of l) → IsNoNumber 32 rows (name_of value.User) →
+  editor_right : (l : Command) → IsEdit (verb_of l) → IsNoNumber 32 rows (name_of value.User) →
       HasValues rows l → ⊥
-  editor_right (line.Edit edit) is wrong has =
+  editor_right (command.Edit edit) is wrong has =
       no_number 32 rows (name_of value.User) edit.user wrong has.1
-  editor_right (line.Image about) is wrong has = no_image_edits about is
-  editor_right (line.Session pairing) is wrong has = no_session_edits pairing.between is
+  editor_right (command.Image about) is wrong has = no_image_edits about is
+  editor_right (command.Session pairing) is wrong has = no_session_edits pairing.between is
   editor_right _ is wrong has = is
 
-  importer_right : (l : Line) → verb_of l ≡ verb.Import → IsNoNumber 32 rows (name_of value.User) →
+  importer_right : (l : Command) → verb_of l ≡ verb.Import →
+      IsNoNumber 32 rows (name_of value.User) →
       HasValues rows l → ⊥
   unfolding is_edit is_session is_image
-  importer_right (line.Import imported) is wrong has =
+  importer_right (command.Import imported) is wrong has =
       no_number 32 rows (name_of value.User) imported.user wrong has.1
-  importer_right (line.Image about) is wrong has = no_image about verb.Import is refl
-  importer_right (line.Edit edit) is wrong has = no_edit edit.kind verb.Import is refl
-  importer_right (line.Session pairing) is wrong has =
+  importer_right (command.Image about) is wrong has = no_image about verb.Import is refl
+  importer_right (command.Edit edit) is wrong has = no_edit edit.kind verb.Import is refl
+  importer_right (command.Session pairing) is wrong has =
       no_session pairing.between verb.Import is refl
   importer_right _ is wrong has = cc
 
-  reconciler_right : (l : Line) → verb_of l ≡ verb.Reconcile
+  reconciler_right : (l : Command) → verb_of l ≡ verb.Reconcile
       → IsNoNumber 32 rows (name_of value.User) → HasValues rows l → ⊥
   unfolding is_edit is_session is_image
-  reconciler_right (line.Reconcile reconciled) is wrong has =
+  reconciler_right (command.Reconcile reconciled) is wrong has =
       no_number 32 rows (name_of value.User) reconciled.user wrong has.user
-  reconciler_right (line.Image about) is wrong has = no_image about verb.Reconcile is refl
-  reconciler_right (line.Edit edit) is wrong has = no_edit edit.kind verb.Reconcile is refl
-  reconciler_right (line.Session pairing) is wrong has =
+  reconciler_right (command.Image about) is wrong has = no_image about verb.Reconcile is refl
+  reconciler_right (command.Edit edit) is wrong has = no_edit edit.kind verb.Reconcile is refl
+  reconciler_right (command.Session pairing) is wrong has =
       no_session pairing.between verb.Reconcile is refl
   reconciler_right _ is wrong has = cc
 
@@ -305,57 +306,57 @@ module _ (rows : List Row) where
       wrong.2 mode (same_Some wrong.0 (mode_digits (mode_of mode)) (sym wrong.1 ∙ has))
   no_mode _ is wrong has = cc
 
-  mode_right : (l : Line) → verb_of l ≡ verb.Chmod → IsNoMode rows → HasValues rows l → ⊥
+  mode_right : (l : Command) → verb_of l ≡ verb.Chmod → IsNoMode rows → HasValues rows l → ⊥
   unfolding is_session is_image
-  mode_right (line.Image about) is wrong has = no_image about verb.Chmod is refl
-  mode_right (line.Edit edit) is wrong has = no_mode edit.kind is wrong has.3
-  mode_right (line.Session pairing) is wrong has = no_session pairing.between verb.Chmod is refl
+  mode_right (command.Image about) is wrong has = no_image about verb.Chmod is refl
+  mode_right (command.Edit edit) is wrong has = no_mode edit.kind is wrong has.3
+  mode_right (command.Session pairing) is wrong has = no_session pairing.between verb.Chmod is refl
   mode_right _ is wrong has = cc
 
-  user_right : (l : Line) → HasUser (verb_of l) → IsNoNumber 32 rows (name_of value.User) →
+  user_right : (l : Command) → HasUser (verb_of l) → IsNoNumber 32 rows (name_of value.User) →
       HasValues rows l → ⊥
   user_right l (inl is) wrong has = editor_right l is wrong has
   user_right l (inr (inl is)) wrong has = importer_right l is wrong has
   user_right l (inr (inr is)) wrong has = reconciler_right l is wrong has
 
-  -- a line of a server is none that has this
-  no_serve : ((served : ServeLine) → HasServed rows served → ⊥) → (l : Line)
+  -- a command of a server is none that has this
+  no_serve : ((served : ServeCommand) → HasServed rows served → ⊥) → (l : Command)
       → verb_of l ≡ verb.Serve → HasValues rows l → ⊥
   unfolding is_edit is_session is_image
-  no_serve none (line.Serve served) is has = none served has
-  no_serve none (line.Image about) is has = no_image about verb.Serve is refl
-  no_serve none (line.Edit edit) is has = no_edit edit.kind verb.Serve is refl
-  no_serve none (line.Session pairing) is has = no_session pairing.between verb.Serve is refl
+  no_serve none (command.Serve served) is has = none served has
+  no_serve none (command.Image about) is has = no_image about verb.Serve is refl
+  no_serve none (command.Edit edit) is has = no_edit edit.kind verb.Serve is refl
+  no_serve none (command.Session pairing) is has = no_session pairing.between verb.Serve is refl
   no_serve none _ is has = cc
 
-  connections_right : (l : Line) → verb_of l ≡ verb.Serve →
+  connections_right : (l : Command) → verb_of l ≡ verb.Serve →
       IsNoNumber 64 rows (name_of value.Connections) → HasValues rows l → ⊥
   connections_right l is wrong has =
       no_serve (λ served its. no_optional_number rows (name_of value.Connections)
       served.connections wrong its.connections) l is has
 
-  no_folder_user : (folder : Option FolderLine) → IsGiven rows (name_of value.Folder)
+  no_folder_user : (folder : Option FolderCommand) → IsGiven rows (name_of value.Folder)
       → LacksUser rows → MayHaveFolder rows folder → ⊥
   no_folder_user None given lacks has = no_text _ given.0 has.0 given.1
   no_folder_user (Some kept) given (inl wrong) has =
       no_number 32 rows (name_of value.User) kept.user wrong has.user
   no_folder_user (Some kept) given (inr none) has = no_text _ has.user.0 none has.user.1
 
-  folder_user_right : (l : Line) → verb_of l ≡ verb.Serve → IsGiven rows (name_of value.Folder)
+  folder_user_right : (l : Command) → verb_of l ≡ verb.Serve → IsGiven rows (name_of value.Folder)
       → LacksUser rows → HasValues rows l → ⊥
   folder_user_right l is given lacks has =
       no_serve (λ served its. no_folder_user served.folder given lacks its.folder) l is has
 
-  no_folder : (folder : Option FolderLine) → LacksFolder rows → MayHaveFolder rows folder → ⊥
+  no_folder : (folder : Option FolderCommand) → LacksFolder rows → MayHaveFolder rows folder → ⊥
   no_folder None (none, inl given) has = no_text _ given.0 has.1 given.1
   no_folder None (none, inr given) has = no_text _ given.0 has.2 given.1
   no_folder (Some kept) lacks has = no_text _ kept.folder.now lacks.0 has.folder
 
-  folder_right : (l : Line) → verb_of l ≡ verb.Serve → LacksFolder rows → HasValues rows l → ⊥
+  folder_right : (l : Command) → verb_of l ≡ verb.Serve → LacksFolder rows → HasValues rows l → ⊥
   folder_right l is lacks has =
       no_serve (λ served its. no_folder served.folder lacks its.folder) l is has
 
-  no_folder_seconds : (folder : Option FolderLine) → IsNoNumber 64 rows (name_of value.Seconds)
+  no_folder_seconds : (folder : Option FolderCommand) → IsNoNumber 64 rows (name_of value.Seconds)
       → MayHaveFolder rows folder → ⊥
   no_folder_seconds None wrong has = no_text _ wrong.0 has.2 wrong.1
   no_folder_seconds (Some kept) wrong has =
@@ -372,7 +373,7 @@ module _ (rows : List Row) where
   no_edit_seconds kind.Remove takes = takes
   no_edit_seconds (kind.Chmod mode) takes = takes
 
-  no_image_seconds : (l : ImageLine) → TakesSeconds (image_verb l) → ⊥
+  no_image_seconds : (l : ImageCommand) → TakesSeconds (image_verb l) → ⊥
   no_image_seconds (image.Format kind pair file) takes = takes
   no_image_seconds (image.Show place) takes = takes
   no_image_seconds (image.ShowPath place path) takes = takes
@@ -380,25 +381,25 @@ module _ (rows : List Row) where
   no_image_seconds (image.Migrate file) takes = takes
   no_image_seconds (image.Log file lines) takes = takes
 
-  seconds_right : (l : Line) → TakesSeconds (verb_of l) →
+  seconds_right : (l : Command) → TakesSeconds (verb_of l) →
       IsNoNumber 64 rows (name_of value.Seconds) → HasValues rows l → ⊥
-  seconds_right (line.Keep kept) takes wrong has =
+  seconds_right (command.Keep kept) takes wrong has =
       no_number 64 rows (name_of value.Seconds) kept.seconds wrong has.seconds
-  seconds_right (line.Serve served) takes wrong has =
+  seconds_right (command.Serve served) takes wrong has =
       no_folder_seconds served.folder wrong has.folder
-  seconds_right (line.Session pairing) takes wrong has =
+  seconds_right (command.Session pairing) takes wrong has =
       no_seconds pairing.between wrong takes has.1
-  seconds_right (line.Image about) takes wrong has = no_image_seconds about takes
-  seconds_right (line.Edit edit) takes wrong has = no_edit_seconds edit.kind takes
+  seconds_right (command.Image about) takes wrong has = no_image_seconds about takes
+  seconds_right (command.Edit edit) takes wrong has = no_edit_seconds edit.kind takes
   seconds_right _ takes wrong has = takes
 
-  lines_right : (l : Line) → verb_of l ≡ verb.Log → IsNoNumber 64 rows (name_of value.Lines) →
+  lines_right : (l : Command) → verb_of l ≡ verb.Log → IsNoNumber 64 rows (name_of value.Lines) →
       HasValues rows l → ⊥
   unfolding is_edit is_session
-  lines_right (line.Image (image.Log file lines)) is wrong has =
+  lines_right (command.Image (image.Log file lines)) is wrong has =
       no_optional_number rows (name_of value.Lines) lines wrong has.1
-  lines_right (line.Edit edit) is wrong has = no_edit edit.kind verb.Log is refl
-  lines_right (line.Session pairing) is wrong has = no_session pairing.between verb.Log is refl
+  lines_right (command.Edit edit) is wrong has = no_edit edit.kind verb.Log is refl
+  lines_right (command.Session pairing) is wrong has = no_session pairing.between verb.Log is refl
   lines_right _ is wrong has = cc
 
   -- a side that is given is one
@@ -413,7 +414,7 @@ module _ (rows : List Row) where
   no_edit_prefers kind.Remove takes = takes
   no_edit_prefers (kind.Chmod mode) takes = takes
 
-  no_image_prefers : (l : ImageLine) → TakesPreference (image_verb l) → ⊥
+  no_image_prefers : (l : ImageCommand) → TakesPreference (image_verb l) → ⊥
   no_image_prefers (image.Format kind pair file) takes = takes
   no_image_prefers (image.Show place) takes = takes
   no_image_prefers (image.ShowPath place path) takes = takes
@@ -421,16 +422,16 @@ module _ (rows : List Row) where
   no_image_prefers (image.Migrate file) takes = takes
   no_image_prefers (image.Log file lines) takes = takes
 
-  preference_right : (l : Line) → TakesPreference (verb_of l) → IsOtherSide rows →
+  preference_right : (l : Command) → TakesPreference (verb_of l) → IsOtherSide rows →
       HasValues rows l → ⊥
-  preference_right (line.Session pairing) takes wrong has =
+  preference_right (command.Session pairing) takes wrong has =
       no_side pairing.preference wrong has.0.preference
-  preference_right (line.Keep kept) takes wrong has =
+  preference_right (command.Keep kept) takes wrong has =
       no_side kept.preference wrong has.preference
-  preference_right (line.Plan pairing) takes wrong has =
+  preference_right (command.Plan pairing) takes wrong has =
       no_side pairing.preference wrong has.0.preference
-  preference_right (line.Image about) takes wrong has = no_image_prefers about takes
-  preference_right (line.Edit edit) takes wrong has = no_edit_prefers edit.kind takes
+  preference_right (command.Image about) takes wrong has = no_image_prefers about takes
+  preference_right (command.Edit edit) takes wrong has = no_edit_prefers edit.kind takes
   preference_right _ takes wrong has = takes
 
   no_folder_side : (preference : Option Side) → IsOtherFolderSide rows
@@ -439,19 +440,20 @@ module _ (rows : List Row) where
   no_folder_side (Some preferred) wrong has =
       wrong.2 preferred (same_Some wrong.0 (folder_side_word preferred) (sym wrong.1 ∙ has))
 
-  folder_preference_right : (l : Line) → verb_of l ≡ verb.Reconcile → IsOtherFolderSide rows →
+  folder_preference_right : (l : Command) → verb_of l ≡ verb.Reconcile → IsOtherFolderSide rows →
       HasValues rows l → ⊥
   unfolding is_edit is_session is_image
-  folder_preference_right (line.Reconcile reconciled) is wrong has =
+  folder_preference_right (command.Reconcile reconciled) is wrong has =
       no_folder_side reconciled.preference wrong has.preference
-  folder_preference_right (line.Image about) is wrong has = no_image about verb.Reconcile is refl
-  folder_preference_right (line.Edit edit) is wrong has =
+  folder_preference_right (command.Image about) is wrong has = no_image about verb.Reconcile is refl
+  folder_preference_right (command.Edit edit) is wrong has =
       no_edit edit.kind verb.Reconcile is refl
-  folder_preference_right (line.Session pairing) is wrong has =
+  folder_preference_right (command.Session pairing) is wrong has =
       no_session pairing.between verb.Reconcile is refl
   folder_preference_right _ is wrong has = cc
 
-  none_wrong : (l : Line) (told : ValueName) → IsWrong (verb_of l) rows told → HasValues rows l → ⊥
+  none_wrong : (l : Command) (told : ValueName) → IsWrong (verb_of l) rows told →
+      HasValues rows l → ⊥
   none_wrong l value.Kind wrong has = kind_right l wrong.0 wrong.1 has
   none_wrong l value.Pair wrong has = pair_right l wrong.0 wrong.1 has
   none_wrong l value.User (inl wrong) has = user_right l wrong.0 wrong.1 has
@@ -465,13 +467,13 @@ module _ (rows : List Row) where
   none_wrong l value.FolderPreference wrong has = folder_preference_right l wrong.0 wrong.1 has
   none_wrong l _ wrong has = wrong
 
-  none_lacking : (l : Line) (told : ValueName) → IsLacking (verb_of l) rows told →
+  none_lacking : (l : Command) (told : ValueName) → IsLacking (verb_of l) rows told →
       HasValues rows l → ⊥
   none_lacking l told (inl missing) has =
       none_missing rows told (values_of (verb_of l)) (values_given rows l has) missing.0 missing.1
   none_lacking l told (inr wrong) has = none_wrong l told wrong has
 
-  -- no line is that of a command that lacks a value
+  -- no command is that of a verb that lacks a value
   pub lacks_nothing : (name : Text) (told : ValueName) → LacksIn name rows told →
       NothingReads (Some (name, rows))
   lacks_nothing name told (inl unknown) l read = unknown.1 (verb_of l) read.0

@@ -1,6 +1,6 @@
 -- Where `clap` finds no fault in the program's words, they name a command with each value that it
 -- requires, so a value is wrong
--- where no line is what they say.
+-- where no command is what they say.
 use Rattle.std.proofs.Common.{◌≡◌, ◌&&◌, ◌||◌, ◌∙◌, ℕ, Bool, cond, true, false, not, List, [], ◌∷◌}
 use Rattle.std.proofs.Common.{◌++◌, map}
 use Rattle.std.proofs.Common.{length, Option, Some, None, is_some, option_map, codes, refl, sym, ap}

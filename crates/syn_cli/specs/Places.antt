@@ -1,7 +1,7 @@
 -- Where a replica is.
 use Rattle.clap.specs.Words.{Text}
-use Rattle.syn_cli.specs.declared.line.ReplicaPlace.{ReplicaPlace}
-use Rattle.syn_cli.specs.declared.line.ReplicaPlace.TheVariants.{File, Served}
+use Rattle.syn_cli.specs.declared.command.ReplicaPlace.{ReplicaPlace}
+use Rattle.syn_cli.specs.declared.command.ReplicaPlace.TheVariants.{File, Served}
 
 -- the name of the file, or the address of the server
 abbrev pub text_of : ReplicaPlace → Text

@@ -15,25 +15,25 @@ use Rattle.syn_cli.specs.App.{syn_app}
 use Rattle.syn_cli.specs.Verbs.{edit_verb, name_of, values_of, word_of}
 use Rattle.syn_cli.specs.declared.error.LineError.{LineError}
 use Rattle.syn_cli.specs.declared.error.LineError.TheVariants.{Usage, Value, Memory}
-use Rattle.syn_cli.specs.declared.line.Between.{Between}
-use Rattle.syn_cli.specs.declared.line.Between.TheVariants.{Files, Servers}
-use Rattle.syn_cli.specs.declared.line.EditKind.{EditKind}
-use Rattle.syn_cli.specs.declared.line.EditKind.TheVariants as kind
-use Rattle.syn_cli.specs.declared.line.Existing.{Existing}
-use Rattle.syn_cli.specs.declared.line.Existing.TheVariants.{Refused, Updated, Mirrored}
-use Rattle.syn_cli.specs.declared.line.ImageKind.{ImageKind}
-use Rattle.syn_cli.specs.declared.line.ImageKind.TheVariants.{Replica, Archive}
-use Rattle.syn_cli.specs.declared.line.ImageLine.{ImageLine}
-use Rattle.syn_cli.specs.declared.line.ImageLine.TheVariants as image
-use Rattle.syn_cli.specs.declared.line.KeepLine.{KeepLine}
-use Rattle.syn_cli.specs.declared.line.Line.{Line}
-use Rattle.syn_cli.specs.declared.line.Line.TheVariants as line
-use Rattle.syn_cli.specs.declared.line.Pairing.{Pairing}
-use Rattle.syn_cli.specs.declared.line.ReconcileLine.{ReconcileLine}
-use Rattle.syn_cli.specs.declared.line.FolderLine.{FolderLine}
-use Rattle.syn_cli.specs.declared.line.ReplicaPlace.{ReplicaPlace}
-use Rattle.syn_cli.specs.declared.line.ReplicaPlace.TheVariants as place
-use Rattle.syn_cli.specs.declared.line.ServeLine.{ServeLine}
+use Rattle.syn_cli.specs.declared.command.Between.{Between}
+use Rattle.syn_cli.specs.declared.command.Between.TheVariants.{Files, Servers}
+use Rattle.syn_cli.specs.declared.command.EditKind.{EditKind}
+use Rattle.syn_cli.specs.declared.command.EditKind.TheVariants as kind
+use Rattle.syn_cli.specs.declared.command.Existing.{Existing}
+use Rattle.syn_cli.specs.declared.command.Existing.TheVariants.{Refused, Updated, Mirrored}
+use Rattle.syn_cli.specs.declared.command.ImageKind.{ImageKind}
+use Rattle.syn_cli.specs.declared.command.ImageKind.TheVariants.{Replica, Archive}
+use Rattle.syn_cli.specs.declared.command.ImageCommand.{ImageCommand}
+use Rattle.syn_cli.specs.declared.command.ImageCommand.TheVariants as image
+use Rattle.syn_cli.specs.declared.command.KeepCommand.{KeepCommand}
+use Rattle.syn_cli.specs.declared.command.Command.{Command}
+use Rattle.syn_cli.specs.declared.command.Command.TheVariants as command
+use Rattle.syn_cli.specs.declared.command.Pairing.{Pairing}
+use Rattle.syn_cli.specs.declared.command.ReconcileCommand.{ReconcileCommand}
+use Rattle.syn_cli.specs.declared.command.FolderCommand.{FolderCommand}
+use Rattle.syn_cli.specs.declared.command.ReplicaPlace.{ReplicaPlace}
+use Rattle.syn_cli.specs.declared.command.ReplicaPlace.TheVariants as place
+use Rattle.syn_cli.specs.declared.command.ServeCommand.{ServeCommand}
 use Rattle.syn_cli.specs.declared.value.ValueName.{ValueName}
 use Rattle.syn_cli.specs.declared.value.ValueName.TheVariants as value
 use Rattle.syn_cli.specs.declared.verb.Verb.{Verb}
@@ -125,8 +125,8 @@ TakesSeconds verb.Sync = Unit {0}
 TakesSeconds verb.Serve = Unit {0}
 TakesSeconds _ = ⊥
 
--- the command of a line about an image
-abbrev pub image_verb : ImageLine → Verb
+-- the verb of a command about an image
+abbrev pub image_verb : ImageCommand → Verb
 image_verb (image.Format kind pair file) = verb.Format
 image_verb (image.Show place) = verb.Show
 image_verb (image.ShowPath place path) = verb.Show
@@ -139,21 +139,21 @@ abbrev pub session_verb : Between → Verb
 session_verb (Files left right) = verb.Run
 session_verb (Servers left right) = verb.Sync
 
--- the command of a line
-abbrev pub verb_of : Line → Verb
-verb_of (line.Image about) = image_verb about
-verb_of (line.Edit edit) = edit_verb edit.kind
-verb_of (line.Export exported) = verb.Export
-verb_of (line.Import imported) = verb.Import
-verb_of (line.Reconcile reconciled) = verb.Reconcile
-verb_of (line.Serve served) = verb.Serve
-verb_of (line.Session pairing) = session_verb pairing.between
-verb_of (line.Keep kept) = verb.Sync
-verb_of (line.Plan pairing) = verb.Plan
-verb_of (line.Simulate script is_traced) = verb.Simulate
+-- the verb of a command
+abbrev pub verb_of : Command → Verb
+verb_of (command.Image about) = image_verb about
+verb_of (command.Edit edit) = edit_verb edit.kind
+verb_of (command.Export exported) = verb.Export
+verb_of (command.Import imported) = verb.Import
+verb_of (command.Reconcile reconciled) = verb.Reconcile
+verb_of (command.Serve served) = verb.Serve
+verb_of (command.Session pairing) = session_verb pairing.between
+verb_of (command.Keep kept) = verb.Sync
+verb_of (command.Plan pairing) = verb.Plan
+verb_of (command.Simulate script is_traced) = verb.Simulate
 
--- the values of a line about an image are those that are given
-abbrev pub HasImageValues : List Row → ImageLine → Type 0
+-- the values of a command about an image are those that are given
+abbrev pub HasImageValues : List Row → ImageCommand → Type 0
 HasImageValues rows (image.Format kind pair file) =
     HasText rows (name_of value.Kind) (kind_word kind)
     × HasNumber 64 rows (name_of value.Pair) pair × HasText rows (name_of value.File) file.now
@@ -191,7 +191,7 @@ pub record HasPairing (rows : List Row) (pairing : Pairing) : Type 0 where
 
 -- the two servers that are kept the same, their archive, the side that is preferred and the seconds
 -- between two looks are those that are given
-pub record HasKept (rows : List Row) (kept : KeepLine) : Type 0 where
+pub record HasKept (rows : List Row) (kept : KeepCommand) : Type 0 where
   pub left : HasText rows (name_of value.Left) kept.left.now
   pub right : HasText rows (name_of value.Right) kept.right.now
   pub archive : HasText rows (name_of value.Archive) kept.archive.now
@@ -199,7 +199,7 @@ pub record HasKept (rows : List Row) (kept : KeepLine) : Type 0 where
   pub seconds : HasNumber 64 rows (name_of value.Seconds) kept.seconds
 
 -- the values of a reconciliation are those that are given
-pub record HasReconciled (rows : List Row) (reconciled : ReconcileLine) : Type 0 where
+pub record HasReconciled (rows : List Row) (reconciled : ReconcileCommand) : Type 0 where
   pub folder : HasText rows (name_of value.Folder) reconciled.folder.now
   pub file : HasText rows (name_of value.File) reconciled.file.now
   pub user : HasNumber 32 rows (name_of value.User) reconciled.user
@@ -209,58 +209,58 @@ pub record HasReconciled (rows : List Row) (reconciled : ReconcileLine) : Type 0
   pub emptied : IsTrue reconciled.is_emptied ↔ IsSet rows (codes "emptied")
 
 -- the values of a folder that is kept the same are those that are given
-pub record HasFolder (rows : List Row) (kept : FolderLine) : Type 0 where
+pub record HasFolder (rows : List Row) (kept : FolderCommand) : Type 0 where
   pub folder : HasText rows (name_of value.Folder) kept.folder.now
   pub user : HasNumber 32 rows (name_of value.User) kept.user
   pub seconds : MayHaveNumber 64 rows (name_of value.Seconds) kept.seconds
 
 -- the folder given, or none where nothing of one is given
-abbrev pub MayHaveFolder : List Row → Option FolderLine → Type 0
+abbrev pub MayHaveFolder : List Row → Option FolderCommand → Type 0
 MayHaveFolder rows None = (first_of (name_of value.Folder) rows ≡ None)
     × (first_of (name_of value.User) rows ≡ None)
     × (first_of (name_of value.Seconds) rows ≡ None)
 MayHaveFolder rows (Some kept) = HasFolder rows kept
 
 -- the values of a server are those that are given
-pub record HasServed (rows : List Row) (served : ServeLine) : Type 0 where
+pub record HasServed (rows : List Row) (served : ServeCommand) : Type 0 where
   pub file : HasText rows (name_of value.File) served.file.now
   pub address : HasText rows (name_of value.Address) served.address.now
   pub connections : MayHaveNumber 64 rows (name_of value.Connections) served.connections
   pub folder : MayHaveFolder rows served.folder
 
--- the values of a line are those that are given
-abbrev pub HasValues : List Row → Line → Type 0
-HasValues rows (line.Image about) = HasImageValues rows about
-HasValues rows (line.Edit edit) = HasPlace rows edit.place
+-- the values of a command are those that are given
+abbrev pub HasValues : List Row → Command → Type 0
+HasValues rows (command.Image about) = HasImageValues rows about
+HasValues rows (command.Edit edit) = HasPlace rows edit.place
     × HasNumber 32 rows (name_of value.User) edit.user
     × HasText rows (name_of value.Path) edit.path.now × HasMode rows edit.kind
-HasValues rows (line.Export exported) = HasPlace rows exported.place
+HasValues rows (command.Export exported) = HasPlace rows exported.place
     × HasText rows (name_of value.Folder) exported.folder.now
     × MayHaveText rows (name_of value.Path) exported.path × HasExisting rows exported.existing
-HasValues rows (line.Import imported) = HasPlace rows imported.place
+HasValues rows (command.Import imported) = HasPlace rows imported.place
     × HasNumber 32 rows (name_of value.User) imported.user
     × HasText rows (name_of value.Folder) imported.folder.now
     × MayHaveText rows (name_of value.Path) imported.path
     × (IsTrue imported.is_skipping ↔ IsSet rows (codes "skip"))
-HasValues rows (line.Reconcile reconciled) = HasReconciled rows reconciled
-HasValues rows (line.Serve served) = HasServed rows served
-HasValues rows (line.Session pairing) = HasPairing rows pairing × IsOnce rows pairing.between
-HasValues rows (line.Keep kept) = HasKept rows kept
-HasValues rows (line.Plan pairing) = HasPairing rows pairing × AreServed rows pairing.between
-HasValues rows (line.Simulate script is_traced) = HasText rows (name_of value.Script) script.now
+HasValues rows (command.Reconcile reconciled) = HasReconciled rows reconciled
+HasValues rows (command.Serve served) = HasServed rows served
+HasValues rows (command.Session pairing) = HasPairing rows pairing × IsOnce rows pairing.between
+HasValues rows (command.Keep kept) = HasKept rows kept
+HasValues rows (command.Plan pairing) = HasPairing rows pairing × AreServed rows pairing.between
+HasValues rows (command.Simulate script is_traced) = HasText rows (name_of value.Script) script.now
     × (IsTrue is_traced ↔ IsSet rows (codes "trace"))
 
--- the line is that of the subcommand and its rows
-abbrev pub ReadsRows : Text → List Row → Line → Type 0
-ReadsRows name rows line = (name ≡ word_of (verb_of line)) × HasValues rows line
+-- the command is that of the subcommand and its rows
+abbrev pub ReadsRows : Text → List Row → Command → Type 0
+ReadsRows name rows command = (name ≡ word_of (verb_of command)) × HasValues rows command
 
-abbrev pub Reads : Option (Text × List Row) → Line → Type 0
-Reads None line = ⊥
-Reads (Some found) line = ReadsRows found.0 found.1 line
+abbrev pub Reads : Option (Text × List Row) → Command → Type 0
+Reads None command = ⊥
+Reads (Some found) command = ReadsRows found.0 found.1 command
 
--- no line is that of the subcommand
+-- no command is that of the subcommand
 abbrev pub NothingReads : Option (Text × List Row) → Type 0
-NothingReads found = (line : Line) → ¬ Reads found line
+NothingReads found = (command : Command) → ¬ Reads found command
 
 -- a text is given for the id
 abbrev pub IsGiven : List Row → Text → Type 0
@@ -346,10 +346,10 @@ abbrev pub IsWrongValue : Option (Text × List Row) → ValueName → Type 0
 IsWrongValue None told = ⊥
 IsWrongValue (Some found) told = IsWrongIn found.0 found.1 told
 
--- the words ask for what the line says: `clap` takes them, and their values are the line's
-pub record Asks (words : List Text) (line : Line) : Type 0 where
+-- the words ask for what the command says: `clap` takes them, and their values are the command's
+pub record Asks (words : List Text) (command : Command) : Type 0 where
   pub taken : fault_of syn_app words ≡ []
-  pub reads : Reads (subcommand_of syn_app words) line
+  pub reads : Reads (subcommand_of syn_app words) command
 
 -- the words ask for the help or the version
 abbrev pub AsksHelp : List Text → Type 0

@@ -1,8 +1,8 @@
 -- The commands of the program and their values, with the words that name them.
 use Rattle.std.specs.Prelude.{List, [], ◌∷◌, codes}
 use Rattle.clap.specs.Words.{Text}
-use Rattle.syn_cli.specs.declared.line.EditKind.{EditKind}
-use Rattle.syn_cli.specs.declared.line.EditKind.TheVariants as kind
+use Rattle.syn_cli.specs.declared.command.EditKind.{EditKind}
+use Rattle.syn_cli.specs.declared.command.EditKind.TheVariants as kind
 use Rattle.syn_cli.specs.declared.value.ValueName.{ValueName}
 use Rattle.syn_cli.specs.declared.value.ValueName.TheVariants.{Command, Kind, Pair, User, File}
 use Rattle.syn_cli.specs.declared.value.ValueName.TheVariants.{Path, Folder, Address, Connections}

@@ -1,29 +1,30 @@
 //! What the words of a command line ask for.
 //!
-//! The words are read by `clap`, whose commands are made here. A line is what the words say, or
+//! The words are read by `clap`, whose commands are made here. A command is what the words say, or
 //! there is none, and then it is told which value is wrong, or what `clap` says of the words.
 //!
 //! # What it promises
 //!
-//! - `read_words` answers a line that the words say (`ok`: `Asks`). Where they ask for help or the
-//!   version it says so (`asked`), and where it tells a mistake no line is what they say
+//! - `read_words` answers the command that the words say (`ok`: `Asks`). Where they ask for help or
+//!   the version it says so (`asked`), and where it tells a mistake no command is what they say
 //!   (`mistaken`). A value that is told is wrong (`wrong`).
 #![tactic(auto)]
 
+mod command;
 mod commands;
 mod error;
-mod line;
-mod lines;
+mod matched;
 mod value;
 mod values;
 mod verb;
 mod words;
 
-pub use error::LineError;
-pub use line::{
-    Asked, Between, EditKind, EditLine, Existing, ExportLine, FolderLine, ImageKind, ImageLine,
-    ImportLine, KeepLine, Line, Pairing, ReconcileLine, ReplicaPlace, ServeLine,
+pub use command::{
+    Arguments, Between, Command, EditCommand, EditKind, Existing, ExportCommand, FolderCommand,
+    ImageCommand, ImageKind, ImportCommand, KeepCommand, Pairing, ReconcileCommand, ReplicaPlace,
+    ServeCommand,
 };
+pub use error::LineError;
 pub use value::ValueName;
 pub use verb::Verb;
 pub use words::read_words;

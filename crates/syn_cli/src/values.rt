@@ -6,20 +6,20 @@ ghost use Rattle.syn_cli.specs.Reads.{HasPlace, IsNumber, IsSet, folder_side_wor
 ghost use Rattle.syn_cli.specs.Reads.{side_word};
 ghost use Rattle.syn_cli.specs.Verbs.{name_of};
 ghost use Rattle.syn_cli.specs.declared.error.LineError.TheVariants.{Value};
-ghost use Rattle.syn_cli.specs.declared.line.ImageKind.{ImageKind};
+ghost use Rattle.syn_cli.specs.declared.command.ImageKind.{ImageKind};
 ghost use Rattle.syn_path.specs.declared.side.Side.{Side as Named};
 ghost use Rattle.syn_tree.specs.Modes.{mode_digits, mode_of};
 ghost use Rattle.syn_tree.specs.declared.mode.Mode.{Mode as Bits};
 
+use crate::command::{ImageKind, ReplicaPlace};
 use crate::error::LineError;
-use crate::line::{ImageKind, ReplicaPlace};
 use crate::value::ValueName;
 use clap::ArgMatches;
 use syn_path::Side;
 use syn_tree::Mode;
 
 /// The text that is given for the value.
-#[tactic(auto, using(crate::proofs::LineLemmas::first_value_rows))]
+#[tactic(auto, using(crate::proofs::CommandLemmas::first_value_rows))]
 pub(crate) fn text<'a>(found: &ArgMatches<'a>, value: ValueName) -> Result<&'a str, LineError>
     ensures ok { IfOk result (λ text. first_of (name_of value) (rows_of (found_of found.now))
         ≡ Some text.now) }
@@ -31,7 +31,7 @@ pub(crate) fn text<'a>(found: &ArgMatches<'a>, value: ValueName) -> Result<&'a s
 }
 
 /// The text that is given for the value, if any is.
-#[tactic(auto, using(crate::proofs::LineLemmas::first_value_rows))]
+#[tactic(auto, using(crate::proofs::CommandLemmas::first_value_rows))]
 pub(crate) fn optional_text<'a>(found: &ArgMatches<'a>, value: ValueName) -> Option<&'a str>
     ensures some { IfSome result (λ text. first_of (name_of value) (rows_of (found_of found.now))
         ≡ Some text.now) }
@@ -42,7 +42,7 @@ pub(crate) fn optional_text<'a>(found: &ArgMatches<'a>, value: ValueName) -> Opt
 }
 
 /// Whether the flag is among the words. `clap` gives a flag that is the text `true`.
-#[tactic(auto, using(crate::proofs::LineLemmas::first_value_rows))]
+#[tactic(auto, using(crate::proofs::CommandLemmas::first_value_rows))]
 pub(crate) fn is_set(found: &ArgMatches<'_>, id: &str) -> bool
     ensures { IsTrue result ↔ IsSet (rows_of (found_of found.now)) id.now }
 {

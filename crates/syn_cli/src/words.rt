@@ -4,13 +4,13 @@ ghost use Rattle.clap.specs.Words.{IsAmong, fault_of, found_of, kind_of, rows_of
 ghost use Rattle.syn_cli.specs.App.{syn_app};
 ghost use Rattle.syn_cli.specs.Reads.{Asks, AsksHelp, AsksWhy, IfUsage, IfValue, IsMistake};
 ghost use Rattle.syn_cli.specs.Reads.{IsRequest, IsSet, IsValue, IsWrongValue, ReadsRows};
-ghost use Rattle.syn_cli.specs.declared.line.Line.{Line};
+ghost use Rattle.syn_cli.specs.declared.command.Command.{Command};
 ghost use Rattle.syn_cli.specs.inner.Lacking.{IsLackOf};
 
+use crate::command::Arguments;
 use crate::commands::syn_command;
 use crate::error::LineError;
-use crate::line::Asked;
-use crate::lines::line_of;
+use crate::matched::command_of;
 use crate::value::ValueName;
 use crate::values::is_set;
 use crate::verb::read_verb;
@@ -22,8 +22,9 @@ use std::alloc::Global;
 ///
 /// What `clap` refuses, the help and the version are `Usage`, and a value that is wrong is told by
 /// its name. Refused memory is `Memory`.
-pub fn read_words<'a>(alloc: Global, words: &'a [&'a str]) -> Result<Asked<'a>, LineError>
-    ensures ok { IfOk result (λ asked. Asks (map (λ word. word.now) words.entry.now) asked.line) }
+pub fn read_words<'a>(alloc: Global, words: &'a [&'a str]) -> Result<Arguments<'a>, LineError>
+    ensures ok { IfOk result (λ asked.
+        Asks (map (λ word. word.now) words.entry.now) asked.command) }
     ensures verbose { IfOk result (λ asked. IsTrue asked.is_verbose
         ↔ AsksWhy (map (λ word. word.now) words.entry.now)) }
 
@@ -31,9 +32,9 @@ pub fn read_words<'a>(alloc: Global, words: &'a [&'a str]) -> Result<Asked<'a>, 
     ensures asked { IfErr result (λ error. IsRequest error
         → AsksHelp (map (λ word. word.now) words.entry.now)) }
 
-    // Where anything but refused memory is told, the words ask for no line.
+    // Where anything but refused memory is told, the words ask for no command.
     ensures mistaken { IfErr result (λ error. IsMistake error
-        → (line : Line) → ¬ Asks (map (λ word. word.now) words.entry.now) line) }
+        → (command : Command) → ¬ Asks (map (λ word. word.now) words.entry.now) command) }
 
     // What `clap` tells is of the kinds that it states of the words.
     ensures usage { IfErr result (λ error. IfUsage error
@@ -85,15 +86,18 @@ fn asked_of<'a>(
     name: &'a str,
     found: &ArgMatches<'a>,
     is_verbose: bool,
-) -> Result<Asked<'a>, LineError>
+) -> Result<Arguments<'a>, LineError>
     ensures ok { IfOk result (λ asked.
-        ReadsRows name.entry.now (rows_of (found_of found.now)) asked.line) }
+        ReadsRows name.entry.now (rows_of (found_of found.now)) asked.command) }
     ensures verbose { IfOk result (λ asked. asked.is_verbose ≡ is_verbose) }
     ensures lacks { IfErr result (IsLackOf name.entry.now (rows_of (found_of found.now))) }
 {
     let Some(verb) = read_verb(name) else {
         return Err(LineError::Value(ValueName::Command));
     };
-    let line = line_of(verb, found)?;
-    Ok(Asked { line, is_verbose })
+    let command = command_of(verb, found)?;
+    Ok(Arguments {
+        command,
+        is_verbose,
+    })
 }

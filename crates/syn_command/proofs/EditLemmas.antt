@@ -22,8 +22,8 @@ use Rattle.syn_replica.specs.Steps.{add_refusal, room_causes}
 use Rattle.syn_replica.specs.declared.replica.Replica.{Replica}
 use Rattle.syn_command.specs.Asked.{edit_asked}
 use Rattle.syn_command.specs.declared.edit.TheConstants.{MOST_INPUT as most}
-use Rattle.syn_cli.specs.declared.line.EditKind.{EditKind}
-use Rattle.syn_cli.specs.declared.line.EditKind.TheVariants as kind
+use Rattle.syn_cli.specs.declared.command.EditKind.{EditKind}
+use Rattle.syn_cli.specs.declared.command.EditKind.TheVariants as kind
 
 over : (n : ℕ) → n ≤ 16384 → 16384 < n → ⊥
 over n a b = omega (arith, a, b)

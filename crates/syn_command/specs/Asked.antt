@@ -3,9 +3,9 @@ use Rattle.std.specs.Prelude.{◌≡◌, Option, Some}
 use Rattle.syn_model.specs.Path.{Bytes, Path}
 use Rattle.syn_model.specs.Event.{Event, Edited, Edit, Put, MakeDir, Remove, Chmod}
 use Rattle.syn_tree.specs.Modes.{mode_of}
-use Rattle.syn_cli.specs.declared.line.EditKind.{EditKind}
-use Rattle.syn_cli.specs.declared.line.EditKind.TheVariants as kind
-use Rattle.syn_cli.specs.declared.line.EditLine.{EditLine}
+use Rattle.syn_cli.specs.declared.command.EditKind.{EditKind}
+use Rattle.syn_cli.specs.declared.command.EditKind.TheVariants as kind
+use Rattle.syn_cli.specs.declared.command.EditCommand.{EditCommand}
 
 -- this is left of the input, which only a put reads
 abbrev pub IsInput : EditKind → Option Bytes → Bytes → Type 0
@@ -20,5 +20,5 @@ edit_asked kind.Remove path left = Remove path
 edit_asked (kind.Chmod mode) path left = Chmod path (mode_of mode)
 
 -- the same as an event of the line's user
-abbrev pub event_asked : EditLine → Path → Bytes → Event
+abbrev pub event_asked : EditCommand → Path → Bytes → Event
 event_asked line path left = Edited line.user (edit_asked line.kind path left)

@@ -13,8 +13,8 @@ use Rattle.syn_command.specs.declared.error.CommandError.{CommandError}
 use Rattle.syn_command.specs.declared.error.CommandError.TheVariants.{Path, Open, Replica, Archive}
 use Rattle.syn_command.specs.declared.error.CommandError.TheVariants.{Refused, Device, Longer}
 use Rattle.syn_command.specs.declared.error.CommandError.TheVariants.{Memory, User, Folder}
-use Rattle.syn_cli.specs.declared.line.EditKind.{EditKind}
-use Rattle.syn_cli.specs.declared.line.EditKind.TheVariants.{Put}
+use Rattle.syn_cli.specs.declared.command.EditKind.{EditKind}
+use Rattle.syn_cli.specs.declared.command.EditKind.TheVariants.{Put}
 
 -- it is that of what refused
 abbrev pub refusal_of : CommandError → Refusal

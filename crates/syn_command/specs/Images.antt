@@ -16,8 +16,8 @@ use Rattle.syn_command.specs.declared.error.CommandError.{CommandError}
 use Rattle.syn_command.specs.declared.error.CommandError.TheVariants as error
 use Rattle.syn_command.specs.declared.image.Image.{Image}
 use Rattle.syn_command.specs.declared.image.Image.TheVariants.{Replica, Archive}
-use Rattle.syn_cli.specs.declared.line.ImageKind.{ImageKind}
-use Rattle.syn_cli.specs.declared.line.ImageKind.TheVariants as kind
+use Rattle.syn_cli.specs.declared.command.ImageKind.{ImageKind}
+use Rattle.syn_cli.specs.declared.command.ImageKind.TheVariants as kind
 
 -- the bytes of the disk give what the image has
 abbrev pub IsOn : {D : Type 0} → {disk : Ghosts D} → List ℕ → Image D disk → Type 0

@@ -15,7 +15,7 @@ ghost use Rattle.syn_command.specs.Errors.{refusal_of, IsEditRefusal, IsOfStream
 use crate::error::CommandError;
 use std::alloc::Global;
 use std::io::Read;
-use syn_cli::{EditKind, EditLine};
+use syn_cli::{EditCommand, EditKind};
 use syn_disk::Disk;
 use syn_model::history_laws;
 use syn_path::Path;
@@ -36,7 +36,7 @@ const MOST_INPUT: u64 = LONGEST_FILE as u64 + 1;
 pub fn make_edit<D: Disk, I: Read>(
     alloc: Global,
     replica: &mut Replica<D>,
-    line: &EditLine<'_>,
+    line: &EditCommand<'_>,
     path: Path,
     input: &mut I,
 ) -> Result<u64, CommandError>

@@ -7,7 +7,7 @@ use crate::failure::Failure;
 use crate::outcome::Outcome;
 use crate::status::{Status, status_in};
 use std::io::{self, Write};
-use syn_cli::{Between, ImageLine, Line};
+use syn_cli::{Between, Command, ImageCommand};
 use syn_disk::{DISK_SIZE, OpenError};
 use syn_folder::FolderError;
 use syn_refusal::Refusal;
@@ -17,7 +17,7 @@ use syn_refusal::Refusal;
 ///
 /// An error of `errors` itself is not told: there is nowhere left to tell it.
 pub fn report<E: Write>(
-    asked: Option<&Line<'_>>,
+    asked: Option<&Command<'_>>,
     answer: &Result<Outcome, Failure>,
     errors: &mut E,
 ) -> Status
@@ -33,7 +33,7 @@ pub fn report<E: Write>(
 }
 
 /// Why the command was not done.
-fn tell_failure<E: Write>(asked: Option<&Line<'_>>, failure: &Failure, errors: &mut E) {
+fn tell_failure<E: Write>(asked: Option<&Command<'_>>, failure: &Failure, errors: &mut E) {
     match failure {
         Failure::Line(number) => {
             let _ = writeln!(errors, "syn: script line {number}");
@@ -67,46 +67,60 @@ fn refuse<E: Write>(error: &CommandError, errors: &mut E) {
 }
 
 /// What the line is about: its files, paths, folders and addresses.
-fn name_line<E: Write>(line: &Line<'_>, errors: &mut E) -> io::Result<()> {
+fn name_line<E: Write>(line: &Command<'_>, errors: &mut E) -> io::Result<()> {
     match line {
-        Line::Image(image) => name_image_line(image, errors),
-        Line::Edit(edit) => write!(errors, "syn: {} in {}", edit.path, edit.place.as_str()),
-        Line::Export(line) => write!(errors, "syn: {} into {}", line.place.as_str(), line.folder),
-        Line::Import(line) => write!(errors, "syn: {} into {}", line.folder, line.place.as_str()),
-        Line::Reconcile(line) => write!(errors, "syn: {} and {}", line.folder, line.file),
-        Line::Serve(line) => {
+        Command::Image(image) => name_image_line(image, errors),
+        Command::Edit(edit) => write!(errors, "syn: {} in {}", edit.path, edit.place.as_str()),
+        Command::Export(line) => write!(
+            errors,
+            "syn: {} into {}",
+            line.place.as_str(),
+            line.folder
+        ),
+        Command::Import(line) => write!(
+            errors,
+            "syn: {} into {}",
+            line.folder,
+            line.place.as_str()
+        ),
+        Command::Reconcile(line) => write!(errors, "syn: {} and {}", line.folder, line.file),
+        Command::Serve(line) => {
             let (file, address) = (line.file, line.address);
             write!(errors, "syn: {file} at {address}")
         }
-        Line::Session(pairing) | Line::Plan(pairing) => {
+        Command::Session(pairing) | Command::Plan(pairing) => {
             let (Between::Files { left, right } | Between::Servers { left, right }) =
                 pairing.between;
             let archive = pairing.archive;
             write!(errors, "syn: {left} and {right} with {archive}")
         }
-        Line::Keep(kept) => {
+        Command::Keep(kept) => {
             let (left, right, archive) = (kept.left, kept.right, kept.archive);
             write!(errors, "syn: {left} and {right} with {archive}")
         }
-        Line::Simulate { script, .. } => write!(errors, "syn: {script}"),
+        Command::Simulate { script, .. } => write!(errors, "syn: {script}"),
     }
 }
 
 /// What a line about an image is about.
-fn name_image_line<E: Write>(line: &ImageLine<'_>, errors: &mut E) -> io::Result<()> {
+fn name_image_line<E: Write>(line: &ImageCommand<'_>, errors: &mut E) -> io::Result<()> {
     match line {
-        ImageLine::Format { file, .. }
-        | ImageLine::Check { file }
-        | ImageLine::Migrate { file }
-        | ImageLine::Log { file, .. } => write!(errors, "syn: {file}"),
-        ImageLine::Show { place } => write!(errors, "syn: {}", place.as_str()),
-        ImageLine::ShowPath { place, path } => write!(errors, "syn: {path} in {}", place.as_str()),
+        ImageCommand::Format { file, .. }
+        | ImageCommand::Check { file }
+        | ImageCommand::Migrate { file }
+        | ImageCommand::Log { file, .. } => write!(errors, "syn: {file}"),
+        ImageCommand::Show { place } => write!(errors, "syn: {}", place.as_str()),
+        ImageCommand::ShowPath { place, path } => write!(
+            errors,
+            "syn: {path} in {}",
+            place.as_str()
+        ),
     }
 }
 
 /// What was refused, of which file or path, and what the system said of it, where it said
 /// something.
-fn explain<E: Write>(line: &Line<'_>, error: &CommandError, errors: &mut E) {
+fn explain<E: Write>(line: &Command<'_>, error: &CommandError, errors: &mut E) {
     let _ = name_line(line, errors);
     let refusal = error.refusal();
     let plain = refusal.explanation();

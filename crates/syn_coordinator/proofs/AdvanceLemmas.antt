@@ -17,14 +17,15 @@ use Rattle.syn_coordinator.specs.Machines.{Journal}
 use Rattle.syn_coordinator.specs.Tries.{HoldsTried, IsShown, Tries}
 use Rattle.syn_coordinator.specs.declared.ended.Ended.{Ended}
 use Rattle.syn_coordinator.specs.declared.ended.Ended.TheVariants.{Early, Failed}
-use Rattle.syn_coordinator.specs.declared.due.Due.{Due}
-use Rattle.syn_coordinator.specs.declared.tried.Tried.{Tried}
+use Rattle.syn_coordinator.specs.declared.due.RecordOutcome.{RecordOutcome}
+use Rattle.syn_coordinator.specs.declared.tried.Unconfirmed.{Unconfirmed}
 use Rattle.syn_coordinator.proofs.TriedLemmas.{compact_writes, failed_at, kept_quiet}
 use Rattle.syn_coordinator.proofs.TriedLemmas.{tries_held, tries_none}
 use Rattle.syn_coordinator.specs.inner.Advancing.{Advanced, kept_it, refused_it, ended, stopped}
 use Rattle.syn_coordinator.specs.inner.Advancing.{Remembers}
-use Rattle.syn_coordinator.specs.Due as due
-use Rattle.syn_coordinator.specs.Due.{IsReady, MakesRoom, TriesBy, has_some, makes_some, Settles}
+use Rattle.syn_coordinator.specs.RecordOutcome as due
+use Rattle.syn_coordinator.specs.RecordOutcome.{IsReady, MakesRoom, TriesBy}
+use Rattle.syn_coordinator.specs.RecordOutcome.{has_some, makes_some, Settles}
 use Rattle.syn_coordinator.specs.Steps.{moves_on, moves_down}
 use Rattle.syn_coordinator.proofs.DueLemmas.{ready_still}
 
@@ -97,7 +98,7 @@ halted_not_up halted up = cc
 
 -- ---- what is remembered
 
-module _ (before : Status) (tried : Option Tried) (journal : Journal)
+module _ (before : Status) (tried : Option Unconfirmed) (journal : Journal)
     (tries : Tries tried journal) where
   -- the machine is as it was
   pub remembers_still : (how : Ended) → journal.status ≡ before →
@@ -113,7 +114,8 @@ module _ (before : Status) (tried : Option Tried) (journal : Journal)
 
 -- ---- a step
 
-module _ {D : Type 0} {disk : Ghosts D} (new : Archive D disk) (tried : Option Tried) (pair : ℕ)
+module _ {D : Type 0} {disk : Ghosts D} (new : Archive D disk) (tried : Option Unconfirmed)
+    (pair : ℕ)
     (plan : List Planned) (taken : Exchange) (walk : Walk) (planned : Planned) (what : Kept)
     (fresh : walk.made_room ≡ false) (at : slice_get plan walk.cursor ≡ Some planned)
     (is_due : IsDue walk.cursor planned taken what) where
@@ -167,7 +169,7 @@ module _ {D : Type 0} {disk : Ghosts D} (new : Archive D disk) (tried : Option T
   tries_unsent journal compacts quiet none =
       tries_none tried journal none (compact_writes pair walk.journal journal compacts ∙ quiet)
 
-  pub advanced : (became : Due) → Settles new pair walk.journal what became →
+  pub advanced : (became : RecordOutcome) → Settles new pair walk.journal what became →
       walk.journal.writing ≡ None → TriesBy new what None tried became →
       Advanced new tried pair plan taken walk planned what became
   unfolding no_room to_keep

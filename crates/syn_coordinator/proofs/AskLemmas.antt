@@ -22,8 +22,8 @@ use Rattle.syn_session.specs.declared.session.Asks.{Asks}
 use Rattle.syn_session.specs.declared.session.Session.{Session}
 use Rattle.syn_session.specs.Answering.{IsAskedOn, IsHeard, asks_of, messages_asked}
 use Rattle.syn_session.specs.Hearing.{IsFresh}
-use Rattle.syn_session.specs.Sessions.{IsLine}
-use Rattle.syn_session.specs.Stages.{line_of, waiting_of}
+use Rattle.syn_session.specs.Sessions.{IsPeer}
+use Rattle.syn_session.specs.Stages.{peer_of, waiting_of}
 use Rattle.syn_session.proofs.WaitingLemmas.{below_more}
 use Rattle.syn_path.specs.Sides.{which_of}
 use Rattle.syn_path.specs.declared.side.Side.{Side}
@@ -83,17 +83,17 @@ numbered_at count (request ∷ more) one (suc k, h, e) =
     )
 
 module _ (heard : Running) (old new : Session) (asks : Asks) (is : IsHeard old heard)
-    (asked : (side : Which) → IsAskedOn (line_of old side) (line_of new side) (asks_of asks side))
+    (asked : (side : Which) → IsAskedOn (peer_of old side) (peer_of new side) (asks_of asks side))
     (number : new.number ≡ old.number) (preferred : new.preference ≡ old.preference)
-    (may_wait : (side : Which) → MayWait (waiting_of (line_of old side)
-    ++ numbered (line_of old side).asked (asks_of asks side)))
+    (may_wait : (side : Which) → MayWait (waiting_of (peer_of old side)
+    ++ numbered (peer_of old side).asked (asks_of asks side)))
     (apart : (side : Which) → AllPairs (λ one another. ¬ IsRepeat one another)
     (asks_of asks side)) where
   abbrev pub then_asking : Running
   then_asking = asking heard (asks_of asks Left) (asks_of asks Right)
 
   waits_on : (side : Which) → outstanding heard side ++ numbered (asked_count heard side)
-      (asks_of asks side) ≡ waiting_of (line_of new side)
+      (asks_of asks side) ≡ waiting_of (peer_of new side)
   waits_on side =
       ap₂ (λ w n. w ++ numbered n (asks_of asks side)) (is.line side).waits (is.line side).count
       ∙ sym (asked side).waits
@@ -115,7 +115,7 @@ module _ (heard : Running) (old new : Session) (asks : Asks) (is : IsHeard old h
       add : (a b d : ℕ) → a + (b + d) ≡ a + b + d
       add a b d = omega arith
 
-  count_on : (side : Which) → asked_count then_asking side ≡ (line_of new side).asked
+  count_on : (side : Which) → asked_count then_asking side ≡ (peer_of new side).asked
   count_on Left =
       sum_on Left (count_by (λ one. is_side Left one.side) heard.taken)
       ∙ (ap (λ n. n + length (asks_of asks Left)) (is.line Left).count ∙ sym (asked Left).count)
@@ -123,15 +123,15 @@ module _ (heard : Running) (old new : Session) (asks : Asks) (is : IsHeard old h
       sum_on Right (count_by (λ one. is_side Right one.side) heard.taken) ∙ (ap
       (λ n. n + length (asks_of asks Right)) (is.line Right).count ∙ sym (asked Right).count)
 
-  few_on : (side : Which) → (line_of new side).asked ≤ 2 ^ 32
-  few_on side = elim (asked side).few as (λ _. (line_of new side).asked ≤ 2 ^ 32) [
+  few_on : (side : Which) → (peer_of new side).asked ≤ 2 ^ 32
+  few_on side = elim (asked side).few as (λ _. (peer_of new side).asked ≤ 2 ^ 32) [
     | inl none ↦ let same = (asked side).count
-        ∙ ap (λ l. (line_of old side).asked + length l) none in let was = (is.line side).few in
+        ∙ ap (λ l. (peer_of old side).asked + length l) none in let was = (is.line side).few in
         omega (arith, same, was)
     | inr few ↦ few
   ]
 
-  pub line_asked : (side : Which) → IsLine (line_of new side) then_asking side
+  pub line_asked : (side : Which) → IsPeer (peer_of new side) then_asking side
   line_asked side =
       let was = is.line side in
       record {
@@ -140,14 +140,14 @@ module _ (heard : Running) (old new : Session) (asks : Asks) (is : IsHeard old h
         few = few_on side;
         rising =
             subst AreRising (sym (asked side).waits)
-            (numbered-rising (waiting_of (line_of old side)) (line_of old side).asked
+            (numbered-rising (waiting_of (peer_of old side)) (peer_of old side).asked
             (asks_of asks side) was.rising was.below);
         below =
-            subst (λ w. All (λ one. one.number < (line_of new side).asked) w)
+            subst (λ w. All (λ one. one.number < (peer_of new side).asked) w)
             (sym (asked side).waits) (subst (λ n. All (λ one. one.number < n)
-            (waiting_of (line_of old side)
-            ++ numbered (line_of old side).asked (asks_of asks side))) (sym (asked side).count)
-            (below_more (waiting_of (line_of old side)) (line_of old side).asked
+            (waiting_of (peer_of old side)
+            ++ numbered (peer_of old side).asked (asks_of asks side))) (sym (asked side).count)
+            (below_more (waiting_of (peer_of old side)) (peer_of old side).asked
             (asks_of asks side) was.below));
         may = subst MayWait (sym (asked side).waits) (may_wait side);
       }
@@ -245,7 +245,7 @@ module _ (heard : Running) (old new : Session) (asks : Asks) (is : IsHeard old h
     module _ (archive : Archive) (may : (side : Which) (request : Request) → Contains
         (asks_of asks side) request → MayAsk archive heard side request × IsLawfulBody request)
         (some : (side : Which)
-        × (1 ≤ length (waiting_of (line_of old side)) + length (asks_of asks side))) where
+        × (1 ≤ length (waiting_of (peer_of old side)) + length (asks_of asks side))) where
       each : (side : Which) (P : Request → Type 0) →
           ((request : Request) → Contains (asks_of asks side) request → P request) →
           All P (asks_of asks side)
@@ -263,13 +263,13 @@ module _ (heard : Running) (old new : Session) (asks : Asks) (is : IsHeard old h
       may_on side = subst MayWait (sym (line_asked side).waits) (line_asked side).may
 
       some_on : (side : Which) →
-          1 ≤ length (waiting_of (line_of old side)) + length (asks_of asks side) →
+          1 ≤ length (waiting_of (peer_of old side)) + length (asks_of asks side) →
           1 ≤ length (outstanding then_asking side)
       some_on side more =
           let long = ap length ((line_asked side).waits ∙ (asked side).waits) in
-          let both = length-append (waiting_of (line_of old side))
-          (numbered (line_of old side).asked (asks_of asks side)) in
-          let same = length-numbered (asks_of asks side) (line_of old side).asked in
+          let both = length-append (waiting_of (peer_of old side))
+          (numbered (peer_of old side).asked (asks_of asks side)) in
+          let same = length-numbered (asks_of asks side) (peer_of old side).asked in
           omega (arith, long, both, same, more)
 
       one_waits : (side : Which) → 1 ≤ length (outstanding then_asking side) →
@@ -297,7 +297,7 @@ module _ (heard : Running) (old new : Session) (asks : Asks) (is : IsHeard old h
   sends_that = ap₂ (λ l r. l ++ r) (on Left) (on Right)
     where
       on : (side : Which) →
-          messages_to old.number side (numbered (line_of old side).asked (asks_of asks side))
+          messages_to old.number side (numbered (peer_of old side).asked (asks_of asks side))
           ≡ messages_to heard.session side (numbered (asked_count heard side) (asks_of asks side))
       on side =
           ap₂ (λ n c. messages_to n side (numbered c (asks_of asks side))) (sym is.number)

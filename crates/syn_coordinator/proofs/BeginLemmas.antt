@@ -23,7 +23,7 @@ use Rattle.syn_coordinator.specs.Machines.{IsMachine, Journal}
 use Rattle.syn_session.specs.Scanning.{WasListedAt, WasNoDirectoryAt, found_of}
 use Rattle.syn_coordinator.specs.declared.coordinator.Coordinator.{Coordinator}
 use Rattle.syn_session.specs.declared.plan_progress.PlanProgress.{PlanProgress}
-use Rattle.syn_session.specs.declared.line.Line.{Line}
+use Rattle.syn_session.specs.declared.peer.PeerState.{PeerState}
 use Rattle.syn_coordinator.specs.declared.ended.Ended.{Ended}
 use Rattle.syn_coordinator.specs.declared.ended.Ended.TheVariants.{Early}
 use Rattle.syn_session.specs.declared.session.Session.{Session}
@@ -34,10 +34,10 @@ use Rattle.syn_coordinator.specs.inner.Carrying.{CarriesOn, EndsCarrying}
 use Rattle.syn_coordinator.specs.inner.Carrying as carrying
 use Rattle.syn_session.specs.Hearing.{HasHeard, IsScanned, afterwards}
 use Rattle.syn_session.specs.Plans.{Plan}
-use Rattle.syn_session.specs.Sessions.{IsLine, IsSession, IsStage, Tells}
+use Rattle.syn_session.specs.Sessions.{IsPeer, IsSession, IsStage, Tells}
 use Rattle.syn_coordinator.specs.inner.Settling.{AsksSo, EndsSo, IsQuiet}
 use Rattle.syn_session.specs.Stages.{Carries, IsAskedBefore, IsCarrying, IsPlanProgress, IsOfScan}
-use Rattle.syn_session.specs.Stages.{Reached, found_on, line_of, plan_in, reached_by, requests_on}
+use Rattle.syn_session.specs.Stages.{Reached, found_on, peer_of, plan_in, reached_by, requests_on}
 use Rattle.syn_session.specs.Stages.{waiting_of}
 use Rattle.syn_coordinator.specs.inner.Taking as taking
 use Rattle.syn_coordinator.specs.inner.Walking.{ComesToAsk, Ends, IsAtItem}
@@ -63,14 +63,14 @@ heard_with session progress heard h =
       once = h.once;
     }
   where
-    line : (side : Which) → IsLine (line_of (record session { progress = progress }) side) heard
+    line : (side : Which) → IsPeer (peer_of (record session { progress = progress }) side) heard
         side
     line Left = h.line Left
     line Right = h.line Right
 
 silent_with : (session : Session) (progress : Option PlanProgress) →
-    ((side : Which) → waiting_of (line_of session side) ≡ []) → (side : Which) →
-    waiting_of (line_of (record session { progress = progress }) side) ≡ []
+    ((side : Which) → waiting_of (peer_of session side) ≡ []) → (side : Which) →
+    waiting_of (peer_of (record session { progress = progress }) side) ≡ []
 silent_with session progress silent Left = silent Left
 silent_with session progress silent Right = silent Right
 
@@ -221,50 +221,50 @@ module _ (pair : ℕ) (journal : Journal) (before session : Session) (running : 
       subst (λ c. IsStage journal.value before c running.taken (reached_by running))
       (sym answers.progress ∙ was) is.stage
 
-  asked_now : Contains (requests_on (line_of before side)) request
-  asked_now = asked_has (waiting_of (line_of before side)) number request answers.asked
+  asked_now : Contains (requests_on (peer_of before side)) request
+  asked_now = asked_has (waiting_of (peer_of before side)) number request answers.asked
 
   -- the side that answers is the one that was asked
-  own_side : (to : Which) → requests_on (line_of before (other to)) ≡ [] → to ≡ side
+  own_side : (to : Which) → requests_on (peer_of before (other to)) ≡ [] → to ≡ side
   own_side Left none = by side asked_now
     where
-      by : (on : Which) → Contains (requests_on (line_of before on)) request → Left ≡ on
+      by : (on : Which) → Contains (requests_on (peer_of before on)) request → Left ≡ on
       by Left asks = refl
       by Right asks = absurd (no_such request (subst (λ l. Contains l request) none asks))
   own_side Right none = by side asked_now
     where
-      by : (on : Which) → Contains (requests_on (line_of before on)) request → Right ≡ on
+      by : (on : Which) → Contains (requests_on (peer_of before on)) request → Right ≡ on
       by Left asks = absurd (no_such request (subst (λ l. Contains l request) none asks))
       by Right asks = refl
 
   asked_side : carrying_then.to ≡ side
   asked_side = own_side carrying_then.to carrying_then.alone
 
-  waits_now : requests_on (line_of before side) ≡ carrying_then.request ∷ []
+  waits_now : requests_on (peer_of before side) ≡ carrying_then.request ∷ []
   waits_now =
-      subst (λ w. requests_on (line_of before w) ≡ carrying_then.request ∷ []) asked_side
+      subst (λ w. requests_on (peer_of before w) ≡ carrying_then.request ∷ []) asked_side
       carrying_then.waits
 
   asked_it : carrying_then.request ≡ request
   asked_it =
       only_in carrying_then.request request (subst (λ l. Contains l request) waits_now asked_now)
 
-  same_scan : (on : Which) → (line_of session on).scan ≡ (line_of before on).scan
+  same_scan : (on : Which) → (peer_of session on).scan ≡ (peer_of before on).scan
   same_scan =
-      by_sides (λ on. (line_of session on).scan ≡ (line_of before on).scan) side answers.scan
-      (ap (λ (l : Line). l.scan) answers.across)
+      by_sides (λ on. (peer_of session on).scan ≡ (peer_of before on).scan) side answers.scan
+      (ap (λ (l : PeerState). l.scan) answers.across)
 
-  pub silent_now : (on : Which) → waiting_of (line_of session on) ≡ []
-  silent_now = by_sides (λ on. waiting_of (line_of session on) ≡ []) side
+  pub silent_now : (on : Which) → waiting_of (peer_of session on) ≡ []
+  silent_now = by_sides (λ on. waiting_of (peer_of session on) ≡ []) side
       (answers.waits (is.line side).rising
-      ∙ alone_is (waiting_of (line_of before side)) number request few answers.asked)
-      (ap waiting_of answers.across ∙ none_waits (waiting_of (line_of before (other side)))
-      (subst (λ w. requests_on (line_of before (other w)) ≡ []) asked_side carrying_then.alone))
+      ∙ alone_is (waiting_of (peer_of before side)) number request few answers.asked)
+      (ap waiting_of answers.across ∙ none_waits (waiting_of (peer_of before (other side)))
+      (subst (λ w. requests_on (peer_of before (other w)) ≡ []) asked_side carrying_then.alone))
     where
-      few : length (waiting_of (line_of before side)) ≤ 1
+      few : length (waiting_of (peer_of before side)) ≤ 1
       few =
           let one = ap length waits_now in
-          let same = length-map (waiting_of (line_of before side))
+          let same = length-map (waiting_of (peer_of before side))
           (λ (one : Outstanding). one.request) in
           omega (arith, one, same)
 

@@ -12,8 +12,8 @@ use Rattle.syn_coordinator.specs.inner.Advancing.{Breaks, BreaksAs, BreaksBy}
 use Rattle.syn_disk.specs.Arms.{is_stopped}
 use Rattle.syn_disk.specs.declared.disk.Disk.{Ghosts}
 use Rattle.syn_coordinator.specs.Tries.{record_of}
-use Rattle.syn_coordinator.specs.declared.due.Due.{Due}
-use Rattle.syn_coordinator.specs.declared.due.Due.TheVariants as due
+use Rattle.syn_coordinator.specs.declared.due.RecordOutcome.{RecordOutcome}
+use Rattle.syn_coordinator.specs.declared.due.RecordOutcome.TheVariants as due
 use Rattle.syn_refusal.specs.declared.refusal.Refusal.TheVariants as refusal
 
 module _ {D : Type 0} {disk : Ghosts D} where
@@ -142,10 +142,10 @@ module _ {D : Type 0} {disk : Ghosts D} where
       counted = inr (stopped, nothing.counted);
     }
 
-    pub cut_breaks : (it : Due) → is_stopped (disk.arms (device_of new)) ≡ true →
+    pub cut_breaks : (it : RecordOutcome) → is_stopped (disk.arms (device_of new)) ≡ true →
         BreaksBy old new it → BreaksAs old new Failed
     cut_breaks due.Recorded stopped nothing = inl (stopped_short stopped nothing)
     cut_breaks (due.Refused why) stopped nothing = inl (stopped_short stopped nothing)
     cut_breaks (due.Ends why) stopped nothing = inl (stopped_short stopped nothing)
     cut_breaks due.Unsent stopped unsent = inl unsent
-    cut_breaks due.Tried stopped off = inr off
+    cut_breaks due.Unconfirmed stopped off = inr off

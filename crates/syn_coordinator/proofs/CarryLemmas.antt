@@ -33,16 +33,16 @@ use Rattle.syn_session.specs.Scanning.{found_of}
 use Rattle.syn_session.specs.declared.plan_progress.PlanProgress.{PlanProgress}
 use Rattle.syn_coordinator.specs.declared.ended.Ended.{Ended}
 use Rattle.syn_session.specs.declared.session.Session.{Session}
-use Rattle.syn_coordinator.specs.declared.tried.Tried.{Tried}
+use Rattle.syn_coordinator.specs.declared.tried.Unconfirmed.{Unconfirmed}
 use Rattle.syn_session.specs.Answering.{IsHeard, asks_of}
 use Rattle.syn_coordinator.specs.inner.Taking.{TakesEnd, TakesOn, Walks, reaching}
 use Rattle.syn_session.specs.declared.session.Asks.{Asks}
 use Rattle.syn_session.specs.declared.session.Asks.TheVariants.{Listings, One}
 use Rattle.syn_session.specs.Hearing.{IsAsking, IsFresh}
-use Rattle.syn_session.specs.Sessions.{IsLine, IsStage, Tells, TellsOf}
+use Rattle.syn_session.specs.Sessions.{IsPeer, IsStage, Tells, TellsOf}
 use Rattle.syn_image.specs.Archives.{kept_for}
 use Rattle.syn_session.specs.Stages.{Carries, IsCarriageOf, IsPlanProgress, Reached, found_on}
-use Rattle.syn_session.specs.Stages.{line_of, plan_in, reached_by, requests_on, waiting_of}
+use Rattle.syn_session.specs.Stages.{peer_of, plan_in, reached_by, requests_on, waiting_of}
 use Rattle.syn_coordinator.specs.inner.Taking as taking
 use Rattle.syn_coordinator.specs.inner.Walking.{ComesToAsk, Ends, HasKept, ends, goes_down, plan_at}
 use Rattle.syn_coordinator.specs.inner.Walking.{walk_at}
@@ -150,7 +150,7 @@ heard_reaching session running taken after h =
       once = once;
     }
   where
-    line : (side : Which) → IsLine (line_of session side) (reaching running taken after) side
+    line : (side : Which) → IsPeer (peer_of session side) (reaching running taken after) side
     line Left =
         record {
           waits = (h.line Left).waits;
@@ -179,7 +179,7 @@ module _ {D : Type 0} {disk : Ghosts D} (new : Archive D disk) (pair : ℕ) (jou
     (is_course : session.progress ≡ Some progress)
     (heard : IsHeard session (hearing running taken))
     (unstable : is_unstable (hearing running taken) ≡ session.is_unstable)
-    (silent : (side : Which) → waiting_of (line_of session side) ≡ [])
+    (silent : (side : Which) → waiting_of (peer_of session side) ≡ [])
     (fault : fault_of running.taken taken.side taken.request taken.reply ≡ None) (before : Reached)
     (same_cursor : before.cursor ≡ running.cursor)
     (same_refused : before.refused ≡ running.refused) (same_kept : before.kept ≡ running.kept)
@@ -215,7 +215,8 @@ module _ {D : Type 0} {disk : Ghosts D} (new : Archive D disk) (pair : ℕ) (jou
   }
 
   -- it comes to its end
-  pub ends_course : (tried : Option Tried) (kept : List Kept) (ended : Ended) → Ends new tried pair
+  pub ends_course : (tried : Option Unconfirmed) (kept : List Kept) (ended : Ended) →
+      Ends new tried pair
       taken journal before kept progress (found_on session Left) (found_on session Right) ended →
       TakesEnd new tried pair journal running taken session kept ended
   ends_course tried kept ended (ends walk after goes cursor refused has_kept why is is_at tries) =
@@ -278,12 +279,12 @@ module _ {D : Type 0} {disk : Ghosts D} (new : Archive D disk) (pair : ℕ) (jou
     asks_across side_is.Right = refl
 
     now_asks : (side : Which) (later : Session) → IsAsking session later (One asker wants) →
-        requests_on (line_of later side) ≡ asks_of (One asker wants) side
+        requests_on (peer_of later side) ≡ asks_of (One asker wants) side
     now_asks side later asking =
         ap (map (λ (one : Outstanding). one.request)) ((asking.line side).waits
-        ∙ ap (λ w. w ++ numbered (line_of session side).asked
+        ∙ ap (λ w. w ++ numbered (peer_of session side).asked
         (asks_of (One asker wants) side)) (silent side))
-        ∙ numbered_requests (line_of session side).asked (asks_of (One asker wants) side)
+        ∙ numbered_requests (peer_of session side).asked (asks_of (One asker wants) side)
 
     few_asked : (to : Side) (on : Which) → length (asks_of (One to wants) on) ≤ 1
     few_asked side_is.Left Left = omega arith
@@ -291,14 +292,14 @@ module _ {D : Type 0} {disk : Ghosts D} (new : Archive D disk) (pair : ℕ) (jou
     few_asked side_is.Right Left = omega arith
     few_asked side_is.Right Right = omega arith
 
-    may_wait_so : (side : Which) → MayWait (waiting_of (line_of session side)
-        ++ numbered (line_of session side).asked (asks_of (One asker wants) side))
+    may_wait_so : (side : Which) → MayWait (waiting_of (peer_of session side)
+        ++ numbered (peer_of session side).asked (asks_of (One asker wants) side))
     may_wait_so side =
         let few = few_asked asker side in
         let none = ap length (silent side) in
-        let long = length-append (waiting_of (line_of session side))
-        (numbered (line_of session side).asked (asks_of (One asker wants) side)) in
-        let same = numbered-length (line_of session side).asked
+        let long = length-append (waiting_of (peer_of session side))
+        (numbered (peer_of session side).asked (asks_of (One asker wants) side)) in
+        let same = numbered-length (peer_of session side).asked
         (asks_of (One asker wants) side) in
         inl (omega (arith, few, none, long, same))
 
@@ -308,7 +309,7 @@ module _ {D : Type 0} {disk : Ghosts D} (new : Archive D disk) (pair : ℕ) (jou
         let few = few_asked asker side in
         absurd (omega (arith, before, less, few))
 
-    some_so : (side : Which) × (1 ≤ length (waiting_of (line_of session side))
+    some_so : (side : Which) × (1 ≤ length (waiting_of (peer_of session side))
         + length (asks_of (One asker wants) side))
     some_so = (which_of asker, let one = ap length (asks_own asker) in omega (arith, one))
 

@@ -30,7 +30,7 @@ use Rattle.syn_coordinator.specs.Openings.{OpensAs, RestsStill, RestsWith}
 use Rattle.syn_coordinator.specs.Coordinators.{Stands}
 use Rattle.syn_coordinator.specs.Tries.{found_in, listed}
 use Rattle.syn_coordinator.specs.declared.coordinator.Coordinator.{Coordinator}
-use Rattle.syn_coordinator.specs.declared.tried.Tried.{Tried}
+use Rattle.syn_coordinator.specs.declared.tried.Unconfirmed.{Unconfirmed}
 use Rattle.syn_coordinator.proofs.MachineLemmas.{may_be}
 use Rattle.syn_coordinator.proofs.OpeningLemmas.{found_is}
 use Rattle.syn_coordinator.proofs.ReopenLemmas.{some_archive}
@@ -76,7 +76,7 @@ with_journal_alone machine journal idle =
     none_runs Halted = refl
     none_runs Down = refl
 
-module _ {D : Type 0} (disk : Ghosts D) (pair : ℕ) (device : D) (tried : Option Tried)
+module _ {D : Type 0} (disk : Ghosts D) (pair : ℕ) (device : D) (tried : Option Unconfirmed)
     (opening : CoordinatorMachine)
     (rests : RestsWith disk.arms disk.may_leave pair device tried opening)
     (stays : (d : D) → disk.may_leave d (disk.seen d)) (reads : MadeReadsMeet) where

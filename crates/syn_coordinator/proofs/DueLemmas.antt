@@ -33,11 +33,13 @@ use Rattle.syn_refusal.specs.declared.refusal.Refusal.TheVariants as refusal
 use Rattle.syn_archive.specs.Machines.{CompactsImage, IsMachine, Journal, KeepsRecord, Runs}
 use Rattle.syn_archive.specs.Machines.{breaks_off, refuses}
 use Rattle.syn_archive.specs.Machines as by_archive
-use Rattle.syn_coordinator.specs.declared.due.Due.{Due}
-use Rattle.syn_coordinator.specs.declared.due.Due.TheVariants.{Ends, Tried, Unsent}
-use Rattle.syn_coordinator.specs.Due.{IsReady, MakesRoom, has_some, makes_some, Settles, recorded}
-use Rattle.syn_coordinator.specs.Due.{no_checkpoint, checkpoint_breaks, record_breaks, no_memory}
-use Rattle.syn_coordinator.specs.Due.{no_memory_after}
+use Rattle.syn_coordinator.specs.declared.due.RecordOutcome.{RecordOutcome}
+use Rattle.syn_coordinator.specs.declared.due.RecordOutcome.TheVariants.{Ends, Unconfirmed, Unsent}
+use Rattle.syn_coordinator.specs.RecordOutcome.{IsReady, MakesRoom, has_some}
+use Rattle.syn_coordinator.specs.RecordOutcome.{makes_some, Settles, recorded}
+use Rattle.syn_coordinator.specs.RecordOutcome.{no_checkpoint, checkpoint_breaks}
+use Rattle.syn_coordinator.specs.RecordOutcome.{record_breaks, no_memory}
+use Rattle.syn_coordinator.specs.RecordOutcome.{no_memory_after}
 use Rattle.syn_coordinator.specs.inner.Recording.{Writes, written, Checkpoints}
 use Rattle.syn_coordinator.specs.inner.Recording.{at_greatest, MakesRoomNow}
 use Rattle.syn_coordinator.specs.inner.Recording.{has_made, made_none, ended_by}
@@ -72,7 +74,7 @@ device_or_other error.Device = inl refl
 device_or_other _ = inr (λ is. cc)
 
 -- each other error ends what is due for lack of memory
-pub other_ends : (broken : Due) (e : ArchiveError) → e ≢ error.Device →
+pub other_ends : (broken : RecordOutcome) (e : ArchiveError) → e ≢ error.Device →
     ended_by broken e ≡ Ends refusal.Memory
 other_ends broken error.Device other = absurd (other refl)
 other_ends broken _ other = refl
@@ -164,13 +166,14 @@ module _ {D : Type 0} {disk : Ghosts D} (new : Archive D disk) (pair : ℕ) (mac
   was_refused why other (refuses same differs is) = is
 
   pub write_fails : (e : ArchiveError) → KeepsRecord new pair machine kept (Some (refusal_of e)) →
-      Writes new pair machine kept (ended_by Tried e)
+      Writes new pair machine kept (ended_by Unconfirmed e)
   write_fails e told =
-      elim (device_or_other e) as (λ _. Writes new pair machine kept (ended_by Tried e)) [
-        | inl device ↦ subst (λ x. Writes new pair machine kept (ended_by Tried x)) (sym device)
+      elim (device_or_other e) as (λ _. Writes new pair machine kept (ended_by Unconfirmed e)) [
+        | inl device ↦ subst (λ x. Writes new pair machine kept (ended_by Unconfirmed x))
+            (sym device)
             (step.breaks (was_broken (subst
             (λ x. KeepsRecord new pair machine kept (Some (refusal_of x))) device told)))
-        | inr other ↦ subst (Writes new pair machine kept) (sym (other_ends Tried e other))
+        | inr other ↦ subst (Writes new pair machine kept) (sym (other_ends Unconfirmed e other))
             (step.no_memory (was_refused (refusal_of e)
             (λ is. other (same_error e error.Device is)) told))
       ]
@@ -211,7 +214,7 @@ same_value pair machine between (not_compacted status arms failed left meets) = 
 module _ {D : Type 0} {disk : Ghosts D} (new : Archive D disk) (pair : ℕ) (machine : Journal)
     (kept : Kept) (ready : IsReady machine kept) where
   pub settled : (made : Bool) (between : Journal) → MakesRoom pair machine kept made between →
-      has_room (archive_layout pair) between kept ≡ true → (due : Due) →
+      has_room (archive_layout pair) between kept ≡ true → (due : RecordOutcome) →
       Writes new pair between kept due → Settles new pair machine kept due
   settled made between room has due (written keeps) = recorded made between ready room has keeps
   settled made between room has due (step.breaks keeps) =
@@ -230,11 +233,11 @@ module _ {D : Type 0} {disk : Ghosts D} (new : Archive D disk) (pair : ℕ) (mac
       }
 
   module _ (no_room : has_room (archive_layout pair) machine kept ≡ false) where
-    pub without_room : (due : Due) → MakesRoomNow new pair machine (Err due) →
+    pub without_room : (due : RecordOutcome) → MakesRoomNow new pair machine (Err due) →
         Settles new pair machine kept due
     without_room due (made_none due' checkpoint) = by due' checkpoint
       where
-        by : (due : Due) → Checkpoints new pair machine (Err due) →
+        by : (due : RecordOutcome) → Checkpoints new pair machine (Err due) →
             Settles new pair machine kept due
         by due (at_greatest last is) = no_checkpoint ready no_room last is
         by due (step.breaks less moves) = checkpoint_breaks ready no_room less moves

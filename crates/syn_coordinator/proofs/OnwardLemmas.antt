@@ -11,7 +11,7 @@ use Rattle.syn_headline.specs.Side as model
 use Rattle.syn_model.specs.Refusal.{Refusal as Why}
 use Rattle.syn_scan.specs.Found.{Found}
 use Rattle.syn_coordinator.specs.Machines.{IsMachine, Journal}
-use Rattle.syn_session.specs.declared.answering.Carrying.TheVariants as carrying
+use Rattle.syn_session.specs.declared.answering.ItemProgress.TheVariants as carrying
 use Rattle.syn_coordinator.specs.declared.coordinator.Coordinator.{Coordinator}
 use Rattle.syn_session.specs.declared.plan_progress.PlanProgress.{PlanProgress}
 use Rattle.syn_session.specs.declared.session.Asks.{Asks}

@@ -29,7 +29,7 @@ use Rattle.syn_coordinator.specs.declared.ended.Ended.TheVariants.{Early, Settle
 use Rattle.syn_session.specs.Passing.{refused_at}
 use Rattle.syn_session.specs.Plans.{Plan}
 use Rattle.syn_coordinator.specs.inner.Settling.{AsksSo, EndsSo, HasCome, IsPast, IsQuiet, PassesOn}
-use Rattle.syn_coordinator.specs.declared.tried.Tried.{Tried}
+use Rattle.syn_coordinator.specs.declared.tried.Unconfirmed.{Unconfirmed}
 use Rattle.syn_coordinator.proofs.AdvanceLemmas.{remembers_still}
 use Rattle.syn_coordinator.proofs.TriedLemmas.{tries_none}
 use Rattle.syn_session.specs.Stages.{AreAskedBefore, Carries, IsCarriageOf, IsPlanProgress, Reached}
@@ -76,7 +76,7 @@ module _ {D : Type 0} {disk : Ghosts D} (pair : ℕ) (taken : Exchange) (journal
       (ap (λ a. kept_refusal a (kept_for carried.kept)) (sym is.remembers) ∙ sym refused)
 
   -- no item is left
-  pub ends_settled : (archive : Archive D disk) (tried : Option Tried) →
+  pub ends_settled : (archive : Archive D disk) (tried : Option Unconfirmed) →
       IsMachine archive pair journal → tried ≡ None → journal.writing ≡ None →
       (progress : PlanProgress) →
       IsPlanProgress progress left right before →

@@ -27,7 +27,7 @@ use Rattle.syn_coordinator.specs.Coordinators.{checkpoint_refusals, device_of, e
 use Rattle.syn_coordinator.specs.Coordinators.{report_shown, runs, goes_on, goes_down}
 use Rattle.syn_coordinator.specs.Tries.{Tries, found_in, listed}
 use Rattle.syn_coordinator.proofs.OpeningLemmas.{found_is}
-use Rattle.syn_coordinator.specs.declared.tried.Tried.{Tried}
+use Rattle.syn_coordinator.specs.declared.tried.Unconfirmed.{Unconfirmed}
 use Rattle.syn_coordinator.proofs.TriedLemmas.{tries_none, tries_still, untried_up}
 use Rattle.syn_coordinator.proofs.ReopenLemmas.{Reopened, opened_again, cut_off, NotReopened}
 use Rattle.syn_coordinator.proofs.ReopenLemmas.{stayed, went_down}
@@ -168,7 +168,7 @@ runs_up archive pair journal is up =
     elim is.state as (λ _. Runs archive journal)
     [ inl runs ↦ runs | inr fails ↦ absurd (halted_not_up (sym fails.halted ∙ up)) ]
 
-cut_tries : (pair : ℕ) (tried : Option Tried) (machine journal : Journal) (kept : List Kept) →
+cut_tries : (pair : ℕ) (tried : Option Unconfirmed) (machine journal : Journal) (kept : List Kept) →
     Reopened pair machine journal kept → journal.status ≡ Down → Tries tried machine →
     Tries tried journal
 cut_tries pair tried machine journal kept
@@ -180,7 +180,8 @@ cut_tries pair tried machine journal kept
 cut_tries pair tried machine journal kept (cut_off calls arms failures meets) down tries =
     tries_still tried machine Down arms failures (λ _. down_not_up) tries
 
-unopened_tries : (pair : ℕ) (tried : Option Tried) (machine journal : Journal) (met left : Status) →
+unopened_tries : (pair : ℕ) (tried : Option Unconfirmed) (machine journal : Journal)
+    (met left : Status) →
     (machine.status ≢ Up → left ≢ Up) → NotReopened machine met left journal →
     Tries tried machine → Tries tried journal
 unopened_tries pair tried machine journal met left stops (stayed calls arms failures meets) tries =

@@ -23,13 +23,13 @@ use Rattle.syn_coordinator.specs.Tries.{Tries}
 use Rattle.syn_coordinator.specs.declared.ended.Ended.{Ended}
 use Rattle.syn_session.specs.declared.session.Asks.{Asks}
 use Rattle.syn_session.specs.declared.session.Session.{Session}
-use Rattle.syn_coordinator.specs.declared.tried.Tried.{Tried}
+use Rattle.syn_coordinator.specs.declared.tried.Unconfirmed.{Unconfirmed}
 use Rattle.syn_coordinator.specs.inner.Answered.{Answered, goes_down, goes_on, reported}
 use Rattle.syn_session.specs.Answering.{IsAnswering, IsAskedOn, asks_of, exchange_of}
 use Rattle.syn_session.specs.Answering.{messages_asked}
 use Rattle.syn_session.specs.Hearing.{IsAsking}
 use Rattle.syn_session.specs.Sessions.{IsRunning, IsSession, Tells, TellsOf}
-use Rattle.syn_session.specs.Stages.{Reached, line_of, reached_by, waiting_of}
+use Rattle.syn_session.specs.Stages.{Reached, peer_of, reached_by, waiting_of}
 use Rattle.syn_coordinator.specs.inner.Taking.{TakesEnd, TakesOn, Walks, reaching}
 use Rattle.syn_coordinator.specs.inner.Taking as taking
 use Rattle.syn_coordinator.specs.inner.Walking.{ended_by, walk_at}
@@ -67,7 +67,7 @@ module _ (pair : ℕ) (machine : CoordinatorMachine) (running : Running) (taken 
       (on : TakesOn new.archive pair machine.journal running taken session kept asks)
       (quiet : machine.journal.writing ≡ None)
       (asked : (side : Which) →
-      IsAskedOn (line_of session side) (line_of next side) (asks_of asks side))
+      IsAskedOn (peer_of session side) (peer_of next side) (asks_of asks side))
       (number : next.number ≡ session.number)
       (preferred : next.preference ≡ session.preference) (unstable : next.is_unstable ≡
       session.is_unstable)
@@ -191,7 +191,7 @@ module _ (pair : ℕ) (machine : CoordinatorMachine) (running : Running) (taken 
         goes_down _ _ (model.stops after.plan walks.logged walk kept walks.fault walks.has
         walks.goes down) stopped down leaves refl tries
 
-    pub ends_so : (archive : Archive D disk) (tried : Option Tried) (session : Session)
+    pub ends_so : (archive : Archive D disk) (tried : Option Unconfirmed) (session : Session)
         (had kept : List Kept) (ended : Ended) (messages : List Message) → new.archive ≡ archive →
         new.tried ≡ tried → kept ≡ had → messages ≡ [] →
         TakesEnd archive tried pair machine.journal running taken session had ended →
@@ -260,7 +260,7 @@ module _ {D : Type 0} {disk : Ghosts D} (old new : Coordinator D disk) (pair : �
       ∙ ap is_some none) ∙ ap is_some expected.runs)
 
   none_waits : Stands old pair machine → (ran : Session) → old.running ≡ Some ran →
-      (ran.number ≡ session → asked_in (waiting_of (line_of ran from)) number ≡ None) →
+      (ran.number ≡ session → asked_in (waiting_of (peer_of ran from)) number ≡ None) →
       (running : Running) (request : Request) →
       IsExpected machine from session number running request → ⊥
   none_waits stands ran was silent running request expected =
@@ -276,7 +276,7 @@ module _ {D : Type 0} {disk : Ghosts D} (old new : Coordinator D disk) (pair : �
 
   -- neither is the case that an answer is expected
   pub none_expected : Stands old pair machine → ((ran : Session) → old.running ≡ Some ran →
-      ran.number ≡ session → asked_in (waiting_of (line_of ran from)) number ≡ None) →
+      ran.number ≡ session → asked_in (waiting_of (peer_of ran from)) number ≡ None) →
       (running : Running) (request : Request) →
       IsExpected machine from session number running request → ⊥
   none_expected stands silent = by old.running refl

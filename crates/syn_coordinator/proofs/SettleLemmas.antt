@@ -26,16 +26,16 @@ use Rattle.syn_refusal.specs.declared.refusal.Refusal.TheVariants as refusal
 use Rattle.syn_scan.specs.Found.{Found}
 use Rattle.syn_coordinator.specs.Machines.{IsMachine, Journal}
 use Rattle.syn_session.specs.declared.plan_progress.PlanProgress.{PlanProgress}
-use Rattle.syn_coordinator.specs.declared.due.Due.{Due}
-use Rattle.syn_coordinator.specs.declared.due.Due.TheVariants as due
+use Rattle.syn_coordinator.specs.declared.due.RecordOutcome.{RecordOutcome}
+use Rattle.syn_coordinator.specs.declared.due.RecordOutcome.TheVariants as due
 use Rattle.syn_coordinator.specs.declared.ended.Ended.{Ended}
 use Rattle.syn_coordinator.specs.declared.ended.Ended.TheVariants.{Early}
-use Rattle.syn_coordinator.specs.declared.tried.Tried.{Tried}
+use Rattle.syn_coordinator.specs.declared.tried.Unconfirmed.{Unconfirmed}
 use Rattle.syn_coordinator.proofs.TriedLemmas.{tries_none}
 use Rattle.syn_coordinator.specs.inner.Advancing.{Advanced, EndsAs, ended, kept_by, kept_it}
 use Rattle.syn_coordinator.specs.inner.Advancing.{refused_it, stopped}
 use Rattle.syn_session.specs.Passing.{kept_at, refused_at}
-use Rattle.syn_coordinator.specs.Due.{Settles, TriesBy, recorded}
+use Rattle.syn_coordinator.specs.RecordOutcome.{Settles, TriesBy, recorded}
 use Rattle.syn_session.specs.Stages.{AreAskedBefore, IsCarriedFor, IsPlanProgress, Reached, plan_in}
 use Rattle.syn_coordinator.specs.inner.Walking.{Comes, Ends, ends, goes_down, plan_at, walk_at}
 use Rattle.syn_coordinator.proofs.AdvanceLemmas.{advanced, remembers_still}
@@ -45,7 +45,8 @@ use Rattle.syn_coordinator.proofs.WalkLemmas.{ends_at, keeps_none, passes_by}
 
 -- where nothing was remembered before
 pub tries_by : {D : Type 0} {disk : Ghosts D} (new : Archive D disk) (what : Kept)
-    (old tried : Option Tried) (due : Due) → old ≡ None → TriesBy new what old tried due →
+    (old tried : Option Unconfirmed) (due : RecordOutcome) → old ≡ None →
+    TriesBy new what old tried due →
     TriesBy new what None tried due
 tries_by new what old tried due none tries = subst (λ o. TriesBy new what o tried due) none tries
 
@@ -58,7 +59,8 @@ at_walk before progress left right is planned at =
     ap (λ p. slice_get (option_map_or (λ plan. plan) p []) before.cursor) is.plan
     ∙ (ap (slice_get (plan_in progress left right)) is.cursor ∙ at)
 
-module _ {D : Type 0} {disk : Ghosts D} (new : Archive D disk) (tried : Option Tried) (pair : ℕ)
+module _ {D : Type 0} {disk : Ghosts D} (new : Archive D disk) (tried : Option Unconfirmed)
+    (pair : ℕ)
     (taken : Exchange) (journal : Journal) (before : Reached) where
   -- lack of memory ends it where it is
   pub ends_for_memory : (progress : PlanProgress) (left right : Found) →
@@ -77,7 +79,7 @@ module _ {D : Type 0} {disk : Ghosts D} (new : Archive D disk) (tried : Option T
       (at : slice_get (plan_in progress left right) progress.cursor ≡ Some planned) where
     module _ (what : Kept) (is_due : IsDue progress.cursor planned taken what)
         (quiet : journal.writing ≡ None) where
-      pub became : (due : Due) → Settles new pair journal what due →
+      pub became : (due : RecordOutcome) → Settles new pair journal what due →
           TriesBy new what None tried due →
           Advanced new tried pair (plan_at before) taken (walk_at journal before) planned what due
       became due settles tries =
@@ -86,13 +88,13 @@ module _ {D : Type 0} {disk : Ghosts D} (new : Archive D disk) (tried : Option T
           (subst (λ n. IsDue n planned taken what) (sym is.cursor) is_due) due settles quiet tries
 
       -- the machine is down
-      pub is_cut_off : (due : Due) → Settles new pair journal what due →
+      pub is_cut_off : (due : RecordOutcome) → Settles new pair journal what due →
           TriesBy new what None tried due →
           is_stopped (disk.arms (disk_of new)) ≡ true → (progress : PlanProgress) (how : Ended) →
           Ends new tried pair taken journal before (kept_by what due) progress left right how
       is_cut_off due settles tries cut progress how = by due (became due settles tries)
         where
-          by : (due : Due) → Advanced new tried pair (plan_at before) taken
+          by : (due : RecordOutcome) → Advanced new tried pair (plan_at before) taken
               (walk_at journal before) planned what due →
               Ends new tried pair taken journal before (kept_by what due) progress left right how
           by due (kept_it journal advances up is) = absurd (false≢true (sym is.goes ∙ cut))
@@ -162,7 +164,8 @@ module _ {D : Type 0} {disk : Ghosts D} (new : Archive D disk) (tried : Option T
               by (stopped became later advances down cut leaves tries) =
                   absurd (false≢true (sym goes ∙ cut))
 
-      pub is_ended : (it : Due) (how : Ended) → EndsAs it how → Settles new pair journal what it →
+      pub is_ended : (it : RecordOutcome) (how : Ended) → EndsAs it how →
+          Settles new pair journal what it →
           TriesBy new what None tried it →
           Ends new tried pair taken journal before [] progress left right how
       is_ended it how so settles tries =

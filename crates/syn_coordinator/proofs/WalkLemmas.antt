@@ -19,10 +19,10 @@ use Rattle.syn_model.specs.Refusal.{Refusal}
 use Rattle.syn_scan.specs.Found.{Found}
 use Rattle.syn_coordinator.specs.Machines.{Journal}
 use Rattle.syn_session.specs.declared.plan_progress.PlanProgress.{PlanProgress}
-use Rattle.syn_coordinator.specs.declared.due.Due.{Due}
-use Rattle.syn_coordinator.specs.declared.due.Due.TheVariants as due
+use Rattle.syn_coordinator.specs.declared.due.RecordOutcome.{RecordOutcome}
+use Rattle.syn_coordinator.specs.declared.due.RecordOutcome.TheVariants as due
 use Rattle.syn_coordinator.specs.declared.ended.Ended.{Ended}
-use Rattle.syn_coordinator.specs.declared.tried.Tried.{Tried}
+use Rattle.syn_coordinator.specs.declared.tried.Unconfirmed.{Unconfirmed}
 use Rattle.syn_coordinator.specs.inner.Advancing.{Advanced, EndsAs, Remembers, ended, kept_by}
 use Rattle.syn_coordinator.specs.inner.Advancing.{kept_it, refused_it, stopped}
 use Rattle.syn_session.specs.Passing.{past_at, refused_at}
@@ -99,7 +99,7 @@ module _ (pair : ℕ) (taken : Exchange) where
             course_is = comes.course_is;
           }
 
-      pub ends_after : (tried : Option Tried) (how : Ended) →
+      pub ends_after : (tried : Option Unconfirmed) (how : Ended) →
           Ends new tried pair taken middle between more progress left right how →
           Ends new tried pair taken old before (kept ++ more) progress left right how
       ends_after tried how (ends walk after advances cursor refused has why is course_is tries) =
@@ -163,18 +163,18 @@ module _ (pair : ℕ) (taken : Exchange) where
 
     -- ---- what became of its record
 
-    module _ {D : Type 0} {disk : Ghosts D} (new : Archive D disk) (tried : Option Tried)
+    module _ {D : Type 0} {disk : Ghosts D} (new : Archive D disk) (tried : Option Unconfirmed)
         (planned : Planned) (what : Kept) (progress : PlanProgress) (left right : Found) where
       -- where it ends the session nothing was kept, and it ends it in one way
-      ends_one : (it : Due) (how : Ended) → EndsAs it how →
+      ends_one : (it : RecordOutcome) (how : Ended) → EndsAs it how →
           (kept_by what it ≡ []) × ((other : Ended) → EndsAs it other → other ≡ how)
       ends_one (due.Ends why) how is = (refl, λ other same. same ∙ sym is)
       ends_one due.Unsent how is = (refl, λ other same. same ∙ sym is)
-      ends_one due.Tried how is = (refl, λ other same. same ∙ sym is)
+      ends_one due.Unconfirmed how is = (refl, λ other same. same ∙ sym is)
       ends_one due.Recorded how is = absurd is
       ends_one (due.Refused why) how is = absurd is
 
-      pub ends_at : (it : Due) (how : Ended) → EndsAs it how →
+      pub ends_at : (it : RecordOutcome) (how : Ended) → EndsAs it how →
           IsPlanProgress progress left right before →
           Advanced new tried pair (plan_at before) taken (walk_at old before) planned what it →
           Ends new tried pair taken old before [] progress left right how

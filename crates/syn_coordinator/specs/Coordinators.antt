@@ -18,7 +18,7 @@ use Rattle.syn_headline.specs.Network.{Message, Which}
 use Rattle.syn_headline.specs.Report.{Report}
 use Rattle.syn_coordinator.specs.Machines.{IsMachine, LeavesMachine}
 use Rattle.syn_coordinator.specs.Tries.{Tries, record_of}
-use Rattle.syn_coordinator.specs.declared.tried.Tried.{Tried}
+use Rattle.syn_coordinator.specs.declared.tried.Unconfirmed.{Unconfirmed}
 use Rattle.syn_model.specs.Archive.{Kept}
 use Rattle.syn_model.specs.Refusal.{Cause, Refusal}
 use Rattle.syn_model.specs.Refusal as why
@@ -28,7 +28,7 @@ use Rattle.syn_image.specs.Archives.{kept_of}
 
 -- what was answered 9 in the last call that could write: what was tried last, or what was so before
 -- another opening
-abbrev pub broken_by : Broken → Option Tried → Option Kept
+abbrev pub broken_by : Broken → Option Unconfirmed → Option Kept
 broken_by Nothing tried = None
 broken_by AsTried tried = option_map record_of tried
 broken_by (Copied kept) tried = Some (kept_of kept)
@@ -52,7 +52,7 @@ module _ {D : Type 0} {disk : Ghosts D} (coordinator : Coordinator D disk) where
   broken = broken_by coordinator.broke coordinator.tried
 
   -- the record that was tried last and not kept, until the archive is opened again
-  abbrev pub tried_shown : Option Tried
+  abbrev pub tried_shown : Option Unconfirmed
   tried_shown = coordinator.tried
 
   -- a session runs

@@ -3,5 +3,5 @@ pub mod Openings
 pub mod Machines
 pub mod Tries
 pub mod Steps
-pub mod Due
+pub mod RecordOutcome
 pub mod inner

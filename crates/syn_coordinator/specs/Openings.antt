@@ -8,7 +8,7 @@ use Rattle.syn_headline.specs.Coordinator.{CoordinatorMachine, coordinator_kind,
 use Rattle.syn_headline.specs.Machine.{Down, unarmed}
 use Rattle.syn_headline.specs.MachineSteps.{OpensDown}
 use Rattle.syn_coordinator.specs.Tries.{Tries}
-use Rattle.syn_coordinator.specs.declared.tried.Tried.{Tried}
+use Rattle.syn_coordinator.specs.declared.tried.Unconfirmed.{Unconfirmed}
 use Rattle.syn_model.specs.Archive.{Kept}
 use Rattle.syn_model.specs.Path.{Bytes}
 use Rattle.syn_model.specs.Refusal.{Refusal}
@@ -19,7 +19,8 @@ use Rattle.syn_recovery.specs.Meaning.{MayBeOf}
 -- The machine is down, with nothing armed and no session; its disk may be left so, and this was
 -- tried last
 pub record RestsWith {D : Type 0} (arms : D → DiskArms) (may_leave : D → Bytes → Type 0)
-    (pair : ℕ) (device : D) (tried : Option Tried) (machine : CoordinatorMachine) : Type 0 where
+    (pair : ℕ) (device : D) (tried : Option Unconfirmed)
+    (machine : CoordinatorMachine) : Type 0 where
   pub down : machine.journal.status ≡ Down
   pub unarmed_is : machine.journal.arms ≡ unarmed
   pub idle : machine.running ≡ None
@@ -38,7 +39,7 @@ pub record OpensAs {D : Type 0} {disk : Ghosts D} (coordinator : Coordinator D d
 
 -- the machine is still down, and was refused so
 pub record RestsStill {D : Type 0} (arms : D → DiskArms) (may_leave : D → Bytes → Type 0)
-    (pair : ℕ) (device : D) (tried : Option Tried) (machine : CoordinatorMachine)
+    (pair : ℕ) (device : D) (tried : Option Unconfirmed) (machine : CoordinatorMachine)
     (reason : Refusal) : Type 0 where
   pub next : CoordinatorMachine
   pub opens : OpensDown (coordinator_kind pair) machine next no_call (reason ∷ [])

@@ -20,7 +20,7 @@ ghost use Rattle.syn_session.specs.Sessions.{IsSession, Tells, begin_messages, b
 ghost use Rattle.syn_session.specs.declared.session.Session.{Session as Ran};
 ghost use Rattle.syn_image.specs.Archives.{kept_of};
 
-use crate::Tried;
+use crate::Unconfirmed;
 use crate::ended::Ended;
 use std::alloc::Global;
 use syn_archive::{Archive, ArchiveError};
@@ -48,7 +48,7 @@ pub struct Coordinator<D: Disk> {
     report: Option<Report>,
     written: Vec<Kept>,
     /// What was tried last and not kept, until the archive is opened again.
-    tried: Option<Tried>,
+    tried: Option<Unconfirmed>,
     broke: Broken,
 }
 
@@ -117,7 +117,7 @@ impl<D: Disk> Coordinator<D> {
     }
 
     /// The archive, and what was tried and not kept. A session that runs is given up.
-    pub fn into_parts(self) -> (Archive<D>, Option<Tried>)
+    pub fn into_parts(self) -> (Archive<D>, Option<Unconfirmed>)
         ensures archive { result.0 ≡ archive_of self }
         ensures tried { result.1 ≡ tried_shown self }
     {
@@ -188,7 +188,7 @@ impl<D: Disk> Coordinator<D> {
 
     /// The record that was being written as a device call failed or the machine stopped, until the
     /// archive is opened again.
-    pub fn tried(&self) -> Option<&Tried>
+    pub fn tried(&self) -> Option<&Unconfirmed>
         ensures { option_map (λ tried. tried.now) result ≡ tried_shown self.now }
     {
         self.tried.as_ref()
@@ -363,7 +363,7 @@ impl<D: Disk> Coordinator<D> {
         match error {
             ArchiveError::Device => {
                 self.written = Vec::new(alloc);
-                self.tried = Some(Tried::new(Kept::Session(number), &self.archive));
+                self.tried = Some(Unconfirmed::new(Kept::Session(number), &self.archive));
                 self.broke = Broken::AsTried;
                 SessionError::Device
             }

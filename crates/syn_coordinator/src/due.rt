@@ -7,8 +7,8 @@ ghost use Rattle.syn_disk.specs.Arms.{is_stopped};
 ghost use Rattle.syn_headline.specs.Coordinator.{archive_layout};
 ghost use Rattle.syn_headline.specs.Machine.{has_room};
 ghost use Rattle.syn_headline.specs.Session.{is_recorded};
-ghost use Rattle.syn_coordinator.specs.Due.{IsAsItWas, IsReady, Settles, CountsFailures};
-ghost use Rattle.syn_coordinator.specs.Due.{CountsFailuresOrStops};
+ghost use Rattle.syn_coordinator.specs.RecordOutcome.{IsAsItWas, IsReady, Settles, CountsFailures};
+ghost use Rattle.syn_coordinator.specs.RecordOutcome.{CountsFailuresOrStops};
 ghost use Rattle.syn_coordinator.specs.Machines.{IsMachine, Journal};
 ghost use Rattle.syn_coordinator.specs.inner.Recording.{Checkpoints, MakesRoomNow, Writes};
 ghost use Rattle.syn_coordinator.specs.inner.Recording.{ended_by};
@@ -31,7 +31,7 @@ use syn_refusal::Refusal;
 
 /// What became of a record that was due.
 #[derive(Clone, Copy, Debug, PartialEq, Eq)]
-pub enum Due {
+pub enum RecordOutcome {
     /// It is in the archive.
     Recorded,
     /// Its item is refused so.
@@ -43,7 +43,7 @@ pub enum Due {
     Unsent,
     /// The session ends 9: the record was sent to the disk, and a device call failed or the machine
     /// was stopped before it was kept. The archive may have it when it is opened again.
-    Tried,
+    Unconfirmed,
 }
 
 /// Records in the archive what is due for an item; a directory that is recorded already is left as
@@ -55,29 +55,33 @@ pub enum Due {
 /// stopped after the checkpoint, 8 where that leaves no room either, and 11 where memory is
 /// refused. An item that is refused leaves the archive as it was. With 9 comes whether the record
 /// was sent to the disk.
-pub fn keep_due<D: Disk>(alloc: Global, archive: &mut Archive<D>, kept: &ItemRecord) -> Due
+pub fn keep_due<D: Disk>(
+    alloc: Global,
+    archive: &mut Archive<D>,
+    kept: &ItemRecord,
+) -> RecordOutcome
     ensures settles { (pair : ℕ) (machine : Journal) → IsMachine archive.old pair machine
         → Settles archive.new pair machine (kept_for kept.now) result }
     ensures failures { CountsFailuresOrStops result
         (is_stopped (D.Disk.arms (disk_of archive.new)))
         (D.Disk.failures (disk_of archive.old)) (D.Disk.failures (disk_of archive.new)) }
-    ensures refused { (why : Refusal) → result ≡ Due.Refused why
+    ensures refused { (why : Refusal) → result ≡ RecordOutcome.Refused why
         → IsAsItWas archive.old archive.new }
     ensures pair { pair_of archive.new ≡ pair_of archive.old }
 {
     is_lawful(kept);
     if archive.is_halted() {
-        return Due::Ends(Refusal::Halted);
+        return RecordOutcome::Ends(Refusal::Halted);
     }
     match refusal_for(archive, kept) {
-        Some(why) => Due::Refused(why),
+        Some(why) => RecordOutcome::Refused(why),
         None if has_room(archive, kept) => write(alloc, archive, kept),
         None => write_after(alloc, archive, kept),
     }
 }
 
 /// Records after a checkpoint what the archive does not refuse and has no room for.
-fn write_after<D: Disk>(alloc: Global, archive: &mut Archive<D>, kept: &ItemRecord) -> Due
+fn write_after<D: Disk>(alloc: Global, archive: &mut Archive<D>, kept: &ItemRecord) -> RecordOutcome
     ensures settles { (pair : ℕ) (machine : Journal) → IsMachine archive.old pair machine
         → IsReady machine (kept_for kept.now)
         → has_room (archive_layout pair) machine (kept_for kept.now) ≡ false
@@ -85,7 +89,7 @@ fn write_after<D: Disk>(alloc: Global, archive: &mut Archive<D>, kept: &ItemReco
     ensures failures { CountsFailuresOrStops result
         (is_stopped (D.Disk.arms (disk_of archive.new)))
         (D.Disk.failures (disk_of archive.old)) (D.Disk.failures (disk_of archive.new)) }
-    ensures refused { (why : Refusal) → result ≡ Due.Refused why
+    ensures refused { (why : Refusal) → result ≡ RecordOutcome.Refused why
         → IsAsItWas archive.old archive.new }
     ensures pair { pair_of archive.new ≡ pair_of archive.old }
 {
@@ -95,7 +99,7 @@ fn write_after<D: Disk>(alloc: Global, archive: &mut Archive<D>, kept: &ItemReco
     if has_room(archive, kept) {
         write(alloc, archive, kept)
     } else {
-        Due::Ends(Refusal::JournalFull)
+        RecordOutcome::Ends(Refusal::JournalFull)
     }
 }
 
@@ -173,33 +177,33 @@ fn has_room<D: Disk>(archive: &Archive<D>, kept: &ItemRecord) -> bool
 
 /// Writes a checkpoint, so that the journal has room again. Without one, the error is how what is
 /// due ends.
-fn make_room<D: Disk>(alloc: Global, archive: &mut Archive<D>) -> Result<(), Due>
+fn make_room<D: Disk>(alloc: Global, archive: &mut Archive<D>) -> Result<(), RecordOutcome>
     ensures room { (pair : ℕ) (machine : Journal) → IsMachine archive.old pair machine
         → MakesRoomNow archive.new pair machine result }
     ensures failures { MatchResult result
         (λ _. D.Disk.failures (disk_of archive.new) ≡ D.Disk.failures (disk_of archive.old))
         (λ due. CountsFailuresOrStops due (is_stopped (D.Disk.arms (disk_of archive.new)))
         (D.Disk.failures (disk_of archive.old)) (D.Disk.failures (disk_of archive.new))) }
-    ensures refused { IfErr result (λ due. (why : Refusal) → due ≡ Due.Refused why
+    ensures refused { IfErr result (λ due. (why : Refusal) → due ≡ RecordOutcome.Refused why
         → IsAsItWas archive.old archive.new) }
     ensures pair { pair_of archive.new ≡ pair_of archive.old }
 {
     checkpoint(alloc, archive)?;
     if archive.is_cut() {
-        return Err(Due::Unsent);
+        return Err(RecordOutcome::Unsent);
     }
     Ok(())
 }
 
 /// Writes a checkpoint. Without one, the error is how what is due ends.
-fn checkpoint<D: Disk>(alloc: Global, archive: &mut Archive<D>) -> Result<(), Due>
+fn checkpoint<D: Disk>(alloc: Global, archive: &mut Archive<D>) -> Result<(), RecordOutcome>
     ensures made { (pair : ℕ) (machine : Journal) → IsMachine archive.old pair machine
         → Checkpoints archive.new pair machine result }
     ensures failures { MatchResult result
         (λ _. D.failures (disk_of archive.new) ≡ D.failures (disk_of archive.old))
         (λ due. CountsFailures due (D.failures (disk_of archive.old))
         (D.failures (disk_of archive.new))) }
-    ensures refused { IfErr result (λ due. (why : Refusal) → due ≡ Due.Refused why
+    ensures refused { IfErr result (λ due. (why : Refusal) → due ≡ RecordOutcome.Refused why
         → IsAsItWas archive.old archive.new) }
     ensures pair { pair_of archive.new ≡ pair_of archive.old }
 {
@@ -207,37 +211,38 @@ fn checkpoint<D: Disk>(alloc: Global, archive: &mut Archive<D>) -> Result<(), Du
     is_long(generation);
     match archive.checkpoint(alloc) {
         Ok(()) => Ok(()),
-        Err(ArchiveError::Full) => Err(Due::Refused(Refusal::Full)),
-        Err(error) => Err(ending(error, Due::Unsent)),
+        Err(ArchiveError::Full) => Err(RecordOutcome::Refused(Refusal::Full)),
+        Err(error) => Err(ending(error, RecordOutcome::Unsent)),
     }
 }
 
 /// How what is due ends where the archive fails so: as is given where its device does, and else for
 /// lack of memory, since each other cause was looked at before.
-fn ending(error: ArchiveError, broken: Due) -> Due
+fn ending(error: ArchiveError, broken: RecordOutcome) -> RecordOutcome
     ensures ended { result ≡ ended_by broken error }
-    ensures unrefused { (why : Refusal) → broken ≢ Due.Refused why → result ≢ Due.Refused why }
+    ensures unrefused { (why : Refusal) → broken ≢ RecordOutcome.Refused why
+        → result ≢ RecordOutcome.Refused why }
 {
     match error {
         ArchiveError::Device => broken,
-        _ => Due::Ends(Refusal::Memory),
+        _ => RecordOutcome::Ends(Refusal::Memory),
     }
 }
 
 /// Writes the record of an item, which the archive does not refuse.
-fn write<D: Disk>(alloc: Global, archive: &mut Archive<D>, kept: &ItemRecord) -> Due
+fn write<D: Disk>(alloc: Global, archive: &mut Archive<D>, kept: &ItemRecord) -> RecordOutcome
     ensures writes { (pair : ℕ) (machine : Journal) → IsMachine archive.old pair machine
         → IsReady machine (kept_for kept.now)
         → Writes archive.new pair machine (kept_for kept.now) result }
     ensures failures { CountsFailures result (D.failures (disk_of archive.old))
         (D.failures (disk_of archive.new)) }
-    ensures unrefused { (why : Refusal) → result ≢ Due.Refused why }
+    ensures unrefused { (why : Refusal) → result ≢ RecordOutcome.Refused why }
     ensures pair { pair_of archive.new ≡ pair_of archive.old }
 {
     match kept {
         ItemRecord::Record(path, marks) => match copied_marks(alloc, marks.as_ref()) {
             Ok(copy) => write_record(alloc, archive, path, copy),
-            Err(_) => Due::Ends(Refusal::Memory),
+            Err(_) => RecordOutcome::Ends(Refusal::Memory),
         },
         ItemRecord::Dir(path) => write_dir(alloc, archive, path),
     }
@@ -249,33 +254,33 @@ fn write_record<D: Disk>(
     archive: &mut Archive<D>,
     path: &Path,
     marks: Option<MarkTree>,
-) -> Due
+) -> RecordOutcome
     ensures writes { (pair : ℕ) (machine : Journal) → IsMachine archive.old pair machine
         → let kept = RecordOf path.now (or_absent marks) in IsReady machine kept
         → Writes archive.new pair machine kept result }
     ensures failures { CountsFailures result (D.failures (disk_of archive.old))
         (D.failures (disk_of archive.new)) }
-    ensures unrefused { (why : Refusal) → result ≢ Due.Refused why }
+    ensures unrefused { (why : Refusal) → result ≢ RecordOutcome.Refused why }
     ensures pair { pair_of archive.new ≡ pair_of archive.old }
 {
     match archive.record(alloc, path, marks) {
-        Ok(()) => Due::Recorded,
-        Err(error) => ending(error, Due::Tried),
+        Ok(()) => RecordOutcome::Recorded,
+        Err(error) => ending(error, RecordOutcome::Unconfirmed),
     }
 }
 
 /// Writes the record of a directory at the path, if none is recorded there.
-fn write_dir<D: Disk>(alloc: Global, archive: &mut Archive<D>, path: &Path) -> Due
+fn write_dir<D: Disk>(alloc: Global, archive: &mut Archive<D>, path: &Path) -> RecordOutcome
     ensures writes { (pair : ℕ) (machine : Journal) → IsMachine archive.old pair machine
         → IsReady machine (RecordedDir path.now)
         → Writes archive.new pair machine (RecordedDir path.now) result }
     ensures failures { CountsFailures result (D.failures (disk_of archive.old))
         (D.failures (disk_of archive.new)) }
-    ensures unrefused { (why : Refusal) → result ≢ Due.Refused why }
+    ensures unrefused { (why : Refusal) → result ≢ RecordOutcome.Refused why }
     ensures pair { pair_of archive.new ≡ pair_of archive.old }
 {
     match archive.record_dir(alloc, path) {
-        Ok(()) => Due::Recorded,
-        Err(error) => ending(error, Due::Tried),
+        Ok(()) => RecordOutcome::Recorded,
+        Err(error) => ending(error, RecordOutcome::Unconfirmed),
     }
 }

@@ -47,14 +47,14 @@
 //!   `Settles`). It is recorded; or its item is refused as the archive refuses it, or 7 where no
 //!   checkpoint can be made. Or the session ends: 10 where the archive is halted, 9 for the device,
 //!   8 where a checkpoint leaves no room, and 11 for memory. With 9 it says whether the record was
-//!   sent to the disk (`Tried`) or its checkpoint failed before that (`Unsent`).
+//!   sent to the disk (`Unconfirmed`) or its checkpoint failed before that (`Unsent`).
 //! - An item that is refused leaves the archive just as it was, with its disk (`refused`).
 //! - The count of failed device calls grows exactly where the session ends for the device, but for
 //!   a stop right after the checkpoint (`failures`). The pair stays (`pair`).
 //! - `refusal_for` is why the archive refuses the record, but for its journal and its device.
-//! - `Tried` is a record that was being written as a device call failed, with the room and the
-//!   generation that the archive showed (`IsTriedBy`). `found` gives it where the archive, which
-//!   was opened again, has less room in the same generation (`found_in`).
+//! - `Unconfirmed` is a record that was being written as a device call failed, with the room and
+//!   the generation that the archive showed (`IsTriedBy`). `found` gives it where the archive,
+//!   which was opened again, has less room in the same generation (`found_in`).
 //! - `Tries tried machine`: what is remembered is what the machine's journal was writing, and
 //!   nothing is remembered where it was writing nothing.
 #![tactic(auto)]
@@ -65,5 +65,5 @@ mod ended;
 mod tried;
 
 pub use coordinator::Coordinator;
-pub use due::{Due, keep_due, refusal_for};
-pub use tried::{Tried, found};
+pub use due::{RecordOutcome, keep_due, refusal_for};
+pub use tried::{Unconfirmed, found};

@@ -11,7 +11,7 @@ use std::fs::Files;
 use std::io::Write;
 use std::net::{Net, TcpStream};
 use std::thread::Threads;
-use syn_cli::{ExportLine, ImportLine, ReplicaPlace};
+use syn_cli::{ExportCommand, ImportCommand, ReplicaPlace};
 use syn_command::{
     CommandError, EditsTold, export_part, import_folder, part_of, plan_import, send_edits,
 };
@@ -31,7 +31,7 @@ pub fn export<H: Net<Stream = TcpStream> + Threads + Sync, N: NamedDisks, F: Fil
     alloc: Global,
     disks: &N,
     files: &F,
-    line: &ExportLine<'_>,
+    line: &ExportCommand<'_>,
 ) -> Result<u64, CommandError>
 where
     F::File: Sync,
@@ -67,7 +67,7 @@ pub fn import<H: Net<Stream = TcpStream>, N: NamedDisks, F: Files, E: Write>(
     alloc: Global,
     disks: &N,
     files: &F,
-    line: &ImportLine<'_>,
+    line: &ImportCommand<'_>,
     told: EditsTold,
     errors: &mut E,
 ) -> Result<u64, CommandError>
@@ -148,7 +148,7 @@ fn export_into<H: Threads + Sync, F: Files>(
     files: &F,
     tree: &Tree,
     path: &Path,
-    line: &ExportLine<'_>,
+    line: &ExportCommand<'_>,
 ) -> Result<(), FolderError>
 where
     F::File: Sync,

@@ -9,7 +9,7 @@ use crate::network::{edit_served, show_path_served, show_tree_served};
 use std::alloc::Global;
 use std::io::{Read, Write};
 use std::net::{Net, TcpStream};
-use syn_cli::{EditLine, ReplicaPlace};
+use syn_cli::{EditCommand, ReplicaPlace};
 use syn_command::{CommandError, check_image, make_edit, migrate_image, show_image, show_path};
 use syn_disk::{Access, LockedDisk};
 use syn_path::Path;
@@ -81,7 +81,7 @@ pub fn print_log<N: NamedDisks, O: Write>(
 pub fn edit<H: Net<Stream = TcpStream>, N: NamedDisks, I: Read>(
     rt: &H,
     alloc: Global,
-    line: &EditLine<'_>,
+    line: &EditCommand<'_>,
     disks: &N,
     input: &mut I,
 ) -> Result<u64, CommandError>

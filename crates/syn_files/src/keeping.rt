@@ -1,20 +1,20 @@
 //! Two servers that are kept the same: a session runs whenever one of them has changed.
 
 use crate::named::{NamedDisks, archive_in};
-use crate::sessions::{Telling, Told};
+use crate::sessions::{ProgressMode, Told};
 use crate::upkeep::shorten_archive;
 use std::alloc::Global;
 use std::io::{self, ErrorKind, Write};
 use std::net::{Net, TcpListener, TcpStream};
 use std::thread;
 use std::time::{Clock, Duration};
-use syn_cli::KeepLine;
+use syn_cli::KeepCommand;
 use syn_command::{CommandError, Outcome};
 use syn_coordinator::Coordinator;
 use syn_daemon::{reach, sync};
 use syn_disk::Disk;
 use syn_image::Kept;
-use syn_message::{Answered, Reply};
+use syn_message::{Reply, ReplyMessage};
 use syn_path::Side;
 use syn_print::show_report;
 use syn_refusal::Refusal;
@@ -33,8 +33,8 @@ pub fn keep_servers<H, N, O, E>(
     rt: &H,
     alloc: Global,
     disks: &N,
-    line: &KeepLine<'_>,
-    telling: Telling,
+    line: &KeepCommand<'_>,
+    telling: ProgressMode,
     output: &mut O,
     errors: &mut E,
 ) -> Result<Outcome, CommandError>
@@ -47,9 +47,9 @@ where
     let archive = archive_in(alloc, disks, line.archive)?;
     let coordinator = Coordinator::new(alloc, archive);
     match telling {
-        Telling::Nothing => keep(rt, alloc, coordinator, line, &mut Lost(errors), output),
-        Telling::Items | Telling::ItemsAndCounts => {
-            let counts = telling == Telling::ItemsAndCounts;
+        ProgressMode::Nothing => keep(rt, alloc, coordinator, line, &mut Lost(errors), output),
+        ProgressMode::Items | ProgressMode::ItemsAndCounts => {
+            let counts = telling == ProgressMode::ItemsAndCounts;
             let mut progress = Progress::new(alloc, errors, counts);
             keep(rt, alloc, coordinator, line, &mut progress, output)
         }
@@ -67,7 +67,7 @@ impl<E: Write> Watch for Lost<'_, E> {
 
     fn sent(&mut self, _sending: &Sending) {}
 
-    fn heard(&mut self, _from: Side, _answered: &Answered) {}
+    fn heard(&mut self, _from: Side, _answered: &ReplyMessage) {}
 
     fn planned(&mut self, _items: usize) {}
 
@@ -96,7 +96,7 @@ impl<V: Watch> Watch for Counted<'_, V> {
         self.watch.sent(sending);
     }
 
-    fn heard(&mut self, from: Side, answered: &Answered) {
+    fn heard(&mut self, from: Side, answered: &ReplyMessage) {
         let after = match from {
             Side::Left => &mut self.left,
             Side::Right => &mut self.right,
@@ -141,7 +141,7 @@ fn keep<H, D, V, O>(
     rt: &H,
     alloc: Global,
     mut coordinator: Coordinator<D>,
-    line: &KeepLine<'_>,
+    line: &KeepCommand<'_>,
     watch: &mut V,
     output: &mut O,
 ) -> Result<Outcome, CommandError>
@@ -253,7 +253,7 @@ fn session<H, D, V, O>(
     rt: &H,
     alloc: Global,
     coordinator: &mut Coordinator<D>,
-    line: &KeepLine<'_>,
+    line: &KeepCommand<'_>,
     watch: &mut V,
     output: &mut O,
     before: Settled,

@@ -11,7 +11,7 @@ use std::net::{Net, TcpListener, TcpStream};
 use std::sync::Wait;
 use std::thread::Threads;
 use std::time::Clock;
-use syn_cli::{EditLine, ServeLine};
+use syn_cli::{EditCommand, ServeCommand};
 use syn_command::{CommandError, read_edit, show_path};
 use syn_daemon::{FolderSide, OpenGates, Plain, reach, serve, serve_beside};
 use syn_disk::Disk;
@@ -33,7 +33,7 @@ pub fn serve_named<'a, H, N, F>(
     alloc: Global,
     disks: &N,
     files: &'a F,
-    line: &ServeLine<'a>,
+    line: &ServeCommand<'a>,
 ) -> Result<(), CommandError>
 where
     H: Net<Listener = TcpListener, Stream = TcpStream> + Threads + Wait + Clock + Eprint,
@@ -66,7 +66,7 @@ fn serve_alone<H, D>(
     rt: &H,
     alloc: Global,
     shared: &SharedReplica<D>,
-    line: &ServeLine<'_>,
+    line: &ServeCommand<'_>,
 ) -> Result<(), CommandError>
 where
     H: Net<Listener = TcpListener, Stream = TcpStream> + Threads + Wait + Clock + Eprint,
@@ -85,7 +85,7 @@ fn serve_with_folder<H, D, F, A>(
     rt: &H,
     alloc: Global,
     shared: &SharedReplica<D>,
-    line: &ServeLine<'_>,
+    line: &ServeCommand<'_>,
     side: FolderSide<'_, F, A>,
 ) -> Result<(), CommandError>
 where
@@ -113,7 +113,7 @@ pub fn edit_served<H: Net<Stream = TcpStream>, I: Read>(
     rt: &H,
     alloc: Global,
     address: &str,
-    line: &EditLine<'_>,
+    line: &EditCommand<'_>,
     path: Path,
     input: &mut I,
 ) -> Result<u64, CommandError> {

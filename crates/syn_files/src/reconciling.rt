@@ -1,12 +1,12 @@
 //! A folder and the replica of a name, which are made the same.
 
 use crate::named::{NamedDisks, archive_on, replica_in, replica_to_read};
-use crate::sessions::Telling;
+use crate::sessions::ProgressMode;
 use std::alloc::{AllocError, Global};
 use std::fs::Files;
 use std::io::{self, ErrorKind, Write};
 use syn_archive::Archive;
-use syn_cli::ReconcileLine;
+use syn_cli::ReconcileCommand;
 use syn_command::{CommandError, Outcome, outcome_planned};
 use syn_disk::{Access, Disk, MemDisk, OpenError};
 use syn_folder::{EditedFolder, SystemFolder};
@@ -25,8 +25,8 @@ pub fn reconcile_named<N: NamedDisks, F: Files, O: Write, E: Write>(
     alloc: Global,
     disks: &N,
     files: &F,
-    line: &ReconcileLine<'_>,
-    telling: Telling,
+    line: &ReconcileCommand<'_>,
+    telling: ProgressMode,
     output: &mut O,
     errors: &mut E,
 ) -> Result<Outcome, CommandError> {
@@ -46,7 +46,7 @@ pub fn reconcile_named<N: NamedDisks, F: Files, O: Write, E: Write>(
     );
     match settled {
         Ok((_, report)) => {
-            if telling != Telling::Nothing {
+            if telling != ProgressMode::Nothing {
                 tell_items(&report, errors);
             }
             print_report(&report, output)?;
@@ -65,7 +65,7 @@ pub fn plan_named<N: NamedDisks, F: Files, O: Write, E: Write>(
     alloc: Global,
     disks: &N,
     files: &F,
-    line: &ReconcileLine<'_>,
+    line: &ReconcileCommand<'_>,
     output: &mut O,
     errors: &mut E,
 ) -> Result<Outcome, CommandError> {
@@ -91,7 +91,7 @@ fn plan_opened<F: EditedFolder, R: Disk, A: Disk, O: Write, E: Write>(
     folder: &F,
     replica: &Replica<R>,
     archive: &Archive<A>,
-    line: &ReconcileLine<'_>,
+    line: &ReconcileCommand<'_>,
     output: &mut O,
     errors: &mut E,
 ) -> Result<Outcome, CommandError> {
@@ -158,7 +158,7 @@ fn empty_archive(alloc: Global, pair: u64) -> Result<Archive<MemDisk>, CommandEr
 }
 
 /// What is done where one side has become empty.
-fn when_empty(line: &ReconcileLine<'_>) -> WhenEmpty {
+fn when_empty(line: &ReconcileCommand<'_>) -> WhenEmpty {
     if line.is_emptied {
         WhenEmpty::Carry
     } else {
@@ -224,7 +224,11 @@ fn outcome_of(report: &Report) -> Outcome {
 
 /// Why the folder and the replica are not reconciled. That a side is empty is told in a line, since
 /// its number alone says too little.
-fn told<E: Write>(error: ReconcileError, line: &ReconcileLine<'_>, errors: &mut E) -> CommandError {
+fn told<E: Write>(
+    error: ReconcileError,
+    line: &ReconcileCommand<'_>,
+    errors: &mut E,
+) -> CommandError {
     match error {
         ReconcileError::Empty(side) => {
             let empty = match side {

@@ -27,7 +27,7 @@ use syn_sync::{Progress, Unwatched, Watch};
 
 /// How much is told of a session as it goes.
 #[derive(Clone, Copy, Debug, PartialEq, Eq)]
-pub enum Telling {
+pub enum ProgressMode {
     /// Nothing but its report.
     Nothing,
     /// Each item, as it is settled.
@@ -46,7 +46,7 @@ pub fn run_session<H, N, O, E>(
     alloc: Global,
     disks: &N,
     pairing: Pairing<'_>,
-    telling: Telling,
+    telling: ProgressMode,
     output: &mut O,
     errors: &mut E,
 ) -> Result<Outcome, CommandError>
@@ -56,10 +56,10 @@ where
     O: Write,
     E: Write,
 {
-    if let Telling::Nothing = telling {
+    if let ProgressMode::Nothing = telling {
         return drive(rt, alloc, disks, pairing, &mut Unwatched, output);
     }
-    let counts = telling == Telling::ItemsAndCounts;
+    let counts = telling == ProgressMode::ItemsAndCounts;
     let mut progress = Progress::new(alloc, errors, counts);
     drive(rt, alloc, disks, pairing, &mut progress, output)
 }

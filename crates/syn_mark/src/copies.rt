@@ -8,7 +8,7 @@ ghost use Rattle.syn_tree.specs.Lists.{stripped};
 
 use std::alloc::{AllocError, Global};
 use syn_path::{Name, Path, PathError};
-use syn_placed::{Placed, Standing};
+use syn_placed::{EntryKind, Placed};
 use syn_tree::TreeError;
 
 /// Equal names, put after those that are there. Refused where memory is refused.
@@ -37,7 +37,7 @@ fn joined(alloc: Global, above: &[Name], below: &[Name]) -> Result<Path, PathErr
 /// Puts the entries after those that are there, each with the path before its own.
 ///
 /// Refused 7 where a path would pass its limits, and 11 where memory is refused.
-pub(crate) fn push_under<C: Standing>(
+pub(crate) fn push_under<C: EntryKind>(
     alloc: Global,
     list: &mut Vec<Placed<C>>,
     at: &Path,
@@ -59,7 +59,7 @@ pub(crate) fn push_under<C: Standing>(
 
 /// The entries below the path, each without the path before its own. Refused where memory is
 /// refused.
-pub(crate) fn below<C: Standing>(
+pub(crate) fn below<C: EntryKind>(
     alloc: Global,
     list: &[Placed<C>],
     at: &Path,
@@ -74,7 +74,7 @@ pub(crate) fn below<C: Standing>(
 }
 
 /// Puts an entry below the path after those that are there, without the path before its own.
-fn push_below<C: Standing>(
+fn push_below<C: EntryKind>(
     alloc: Global,
     copies: &mut Vec<Placed<C>>,
     at: &Path,

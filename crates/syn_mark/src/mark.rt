@@ -9,7 +9,7 @@ ghost use Rattle.syn_tree.specs.Modes.{mode_of};
 
 use sha2::{Digest, Sha256};
 use std::alloc::{AllocError, Global};
-use syn_placed::Standing;
+use syn_placed::EntryKind;
 use syn_tree::Mode;
 
 /// What stands for a file or a directory.
@@ -31,7 +31,7 @@ impl Mark {
     }
 }
 
-impl Standing for Mark {
+impl EntryKind for Mark {
     ghost use Rattle.syn_mark.specs.Marks.{content_of};
     ghost use Rattle.syn_tree.specs.Modes.{mode_of};
 

@@ -17,7 +17,7 @@ use crate::mark::Mark;
 use crate::tree::{MarkEntry, MarkTree};
 use std::alloc::{AllocError, Global};
 use syn_path::{Name, Path};
-use syn_placed::Standing;
+use syn_placed::EntryKind;
 use syn_placed::list::{entry_at, is_directory, parent_names};
 use syn_tree::TreeError;
 

@@ -26,7 +26,7 @@ use syn_path::{Path, is_path};
 use syn_placed::list::{
     are_rising, count_children_at, entry_at, part_at, part_below, replace_part,
 };
-use syn_placed::{Placed, Standing};
+use syn_placed::{EntryKind, Placed};
 use syn_tree::TreeError;
 
 /// A path with its mark. Contracts see it as the pair of the two.

@@ -10,7 +10,7 @@ use Rattle.syn_message.specs.Bodies.{IsWholeReading, body_spelling}
 use Rattle.syn_message.specs.Listings.{IsListing, entries_of, entries_spelling}
 use Rattle.syn_message.specs.declared.kind.TheConstants.{BEGUN, LISTED, NOT_DIR, PIECE, STAGED}
 use Rattle.syn_message.specs.declared.kind.TheConstants.{DONE, REFUSED}
-use Rattle.syn_message.specs.declared.reply.Answered.{Answered}
+use Rattle.syn_message.specs.declared.reply.ReplyMessage.{ReplyMessage}
 use Rattle.syn_message.specs.declared.reply.Reply.{Reply}
 use Rattle.syn_message.specs.declared.reply.Reply.TheVariants as has
 use Rattle.syn_refusal.specs.Refusals.{cause_of}
@@ -32,7 +32,7 @@ pub record Answering : Type 0 where
   pub number : ℕ
   pub reply : model.Reply
 
-abbrev pub answering_of : Answered → Answering
+abbrev pub answering_of : ReplyMessage → Answering
 answering_of answered = record {
   session = answered.session;
   number = answered.number;

@@ -6,7 +6,7 @@ use Rattle.syn_headline.specs.Side as model
 use Rattle.syn_model.specs.Path.{Bytes, path_spelling}
 use Rattle.syn_message.specs.Bodies.{IsWholeReading, body_spelling}
 use Rattle.syn_message.specs.declared.kind.TheConstants.{BEGIN, LIST, FETCH, STAGE, REPLACE}
-use Rattle.syn_message.specs.declared.request.Asked.{Asked}
+use Rattle.syn_message.specs.declared.request.RequestMessage.{RequestMessage}
 use Rattle.syn_message.specs.declared.request.Request.{Request}
 use Rattle.syn_message.specs.declared.request.Request.TheVariants as has
 use Rattle.syn_wire.specs.Events.{file_spelling}
@@ -25,7 +25,7 @@ pub record Asking : Type 0 where
   pub number : ℕ
   pub request : model.Request
 
-abbrev pub asking_of : Asked → Asking
+abbrev pub asking_of : RequestMessage → Asking
 asking_of asked =
     record { session = asked.session; number = asked.number; request = request_of asked.request }
 

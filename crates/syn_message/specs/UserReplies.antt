@@ -9,7 +9,7 @@ use Rattle.syn_model.specs.Refusal.{Refusal, number}
 use Rattle.syn_model.specs.Tree.{Content, Directory, File}
 use Rattle.syn_message.specs.Bodies.{IsWholeReading, body_spelling}
 use Rattle.syn_message.specs.declared.kind.TheConstants.{EDITED, GOT, REFUSED}
-use Rattle.syn_message.specs.declared.user_reply.AnsweredToUser.{AnsweredToUser}
+use Rattle.syn_message.specs.declared.user_reply.UserReplyMessage.{UserReplyMessage}
 use Rattle.syn_message.specs.declared.user_reply.UserReply.{UserReply}
 use Rattle.syn_message.specs.declared.user_reply.UserReply.TheVariants as has
 use Rattle.syn_refusal.specs.Refusals.{cause_of}
@@ -31,7 +31,7 @@ pub record Telling : Type 0 where
   pub number : ℕ
   pub told : Told
 
-abbrev pub telling_of : AnsweredToUser → Telling
+abbrev pub telling_of : UserReplyMessage → Telling
 telling_of answered = record { number = answered.number; told = told_of answered.reply }
 
 abbrev pub told_kind : Told → ℕ

@@ -5,7 +5,7 @@ use Rattle.syn_model.specs.Path.{Bytes, Path, IsPath, path_spelling}
 use Rattle.syn_model.specs.Spelling.{event_spelling}
 use Rattle.syn_message.specs.Bodies.{body_spelling}
 use Rattle.syn_message.specs.declared.kind.TheConstants.{EDIT, GET}
-use Rattle.syn_message.specs.declared.user.AskedByUser.{AskedByUser}
+use Rattle.syn_message.specs.declared.user.UserRequestMessage.{UserRequestMessage}
 use Rattle.syn_message.specs.declared.user.UserRequest.{UserRequest}
 use Rattle.syn_message.specs.declared.user.UserRequest.TheVariants as has
 use Rattle.syn_tree.specs.Edits.{edit_of}
@@ -25,7 +25,7 @@ pub record Wished : Type 0 where
   pub number : ℕ
   pub wish : Wish
 
-abbrev pub wished_of : AskedByUser → Wished
+abbrev pub wished_of : UserRequestMessage → Wished
 wished_of asked = record { number = asked.number; wish = wish_of asked.request }
 
 abbrev pub wish_kind : Wish → ℕ

@@ -34,14 +34,14 @@ mod user_reading;
 mod user_reply;
 mod user_reply_reading;
 
-pub use reply::{Answered, Reply, encode_reply};
+pub use reply::{Reply, ReplyMessage, encode_reply};
 pub use reply_reading::decode_reply;
-pub use request::{Asked, Request, encode_request};
+pub use request::{Request, RequestMessage, encode_request};
 pub use request_reading::decode_request;
 pub use syn_wire::LONGEST_PIECE;
-pub use user::{AskedByUser, UserRequest, encode_user_request};
+pub use user::{UserRequest, UserRequestMessage, encode_user_request};
 pub use user_reading::decode_user_request;
-pub use user_reply::{AnsweredToUser, UserReply, encode_user_reply};
+pub use user_reply::{UserReply, UserReplyMessage, encode_user_reply};
 pub use user_reply_reading::decode_user_reply;
 
 /// No two messages have one body, so what was written is read again.

@@ -92,7 +92,7 @@ impl Reply {
 
 /// A reply, with the session, from 1, and the number of the request.
 #[derive(Debug, Drop)]
-pub struct Answered {
+pub struct ReplyMessage {
     pub session: u64,
     pub number: u32,
     pub reply: Reply,
@@ -101,7 +101,7 @@ pub struct Answered {
 /// The body of the reply.
 ///
 /// Refused 11 where memory is refused.
-pub fn encode_reply(alloc: Global, answered: &Answered) -> Result<Vec<u8>, WireError>
+pub fn encode_reply(alloc: Global, answered: &ReplyMessage) -> Result<Vec<u8>, WireError>
     requires { IsLawfulAnswering (answering_of answered.now) }
     ensures { IfOk result (λ body. body.items ≡ answering_spelling (answering_of answered.now)) }
 {

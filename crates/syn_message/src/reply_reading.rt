@@ -10,7 +10,7 @@ ghost use Rattle.syn_wire.specs.Events.{file_spelling};
 use crate::head::read_head;
 use crate::kind::{BEGUN, DONE, LISTED, NOT_DIR, PIECE, REFUSED, STAGED};
 use crate::listing::read_entries;
-use crate::reply::{Answered, Reply};
+use crate::reply::{Reply, ReplyMessage};
 use std::alloc::Global;
 use syn_refusal::Refusal;
 use syn_wire::{LONGEST_PIECE, WireError, read_file, read_u32, read_u64, spelling_laws};
@@ -18,7 +18,7 @@ use syn_wire::{LONGEST_PIECE, WireError, read_file, read_u32, read_u64, spelling
 /// The reply that the body spells; none where it spells no reply.
 ///
 /// Refused 11 where memory is refused.
-pub fn decode_reply(alloc: Global, body: &[u8]) -> Result<Option<Answered>, WireError>
+pub fn decode_reply(alloc: Global, body: &[u8]) -> Result<Option<ReplyMessage>, WireError>
     ensures { IfOk result (λ read. IsWholeReading IsLawfulAnswering answering_spelling body.now
         (option_map answering_of read)) }
 {
@@ -29,7 +29,7 @@ pub fn decode_reply(alloc: Global, body: &[u8]) -> Result<Option<Answered>, Wire
         return Ok(None);
     };
     match read_fields(alloc, *kind, fields)? {
-        Some(reply) => Ok(Some(Answered {
+        Some(reply) => Ok(Some(ReplyMessage {
             session,
             number,
             reply,

@@ -112,7 +112,7 @@ impl Request {
 
 /// A request with its session, from 1, and its number in it.
 #[derive(Debug, Drop)]
-pub struct Asked {
+pub struct RequestMessage {
     pub session: u64,
     pub number: u32,
     pub request: Request,
@@ -121,7 +121,7 @@ pub struct Asked {
 /// The body of the request.
 ///
 /// Refused 11 where memory is refused.
-pub fn encode_request(alloc: Global, asked: &Asked) -> Result<Vec<u8>, WireError>
+pub fn encode_request(alloc: Global, asked: &RequestMessage) -> Result<Vec<u8>, WireError>
     requires { IsLawfulAsking (asking_of asked.now) }
     ensures { IfOk result (λ body. body.items ≡ asking_spelling (asking_of asked.now)) }
 {

@@ -9,7 +9,7 @@ ghost use Rattle.syn_wire.specs.Events.{file_spelling};
 
 use crate::head::read_head;
 use crate::kind::{BEGIN, FETCH, LIST, REPLACE, STAGE};
-use crate::request::{Asked, Request};
+use crate::request::{Request, RequestMessage};
 use std::alloc::Global;
 use syn_wire::{
     LONGEST_PIECE, WireError, decode_path, read_file, read_u32, read_u64, spelling_laws,
@@ -18,7 +18,7 @@ use syn_wire::{
 /// The request that the body spells; none where it spells no request.
 ///
 /// Refused 11 where memory is refused.
-pub fn decode_request(alloc: Global, body: &[u8]) -> Result<Option<Asked>, WireError>
+pub fn decode_request(alloc: Global, body: &[u8]) -> Result<Option<RequestMessage>, WireError>
     ensures { IfOk result (λ read. IsWholeReading IsLawfulAsking asking_spelling body.now
         (option_map asking_of read)) }
 {
@@ -29,7 +29,7 @@ pub fn decode_request(alloc: Global, body: &[u8]) -> Result<Option<Asked>, WireE
         return Ok(None);
     };
     match read_fields(alloc, *kind, fields)? {
-        Some(request) => Ok(Some(Asked {
+        Some(request) => Ok(Some(RequestMessage {
             session,
             number,
             request,

@@ -33,7 +33,7 @@ impl UserRequest {
 
 /// A user's request with its number. It belongs to no session.
 #[derive(Debug, Drop)]
-pub struct AskedByUser {
+pub struct UserRequestMessage {
     pub number: u32,
     pub request: UserRequest,
 }
@@ -41,7 +41,7 @@ pub struct AskedByUser {
 /// The body of the request.
 ///
 /// Refused 11 where memory is refused.
-pub fn encode_user_request(alloc: Global, asked: &AskedByUser) -> Result<Vec<u8>, WireError>
+pub fn encode_user_request(alloc: Global, asked: &UserRequestMessage) -> Result<Vec<u8>, WireError>
     requires { IsLawfulWished (wished_of asked.now) }
     ensures { IfOk result (λ body. body.items ≡ wished_spelling (wished_of asked.now)) }
 {

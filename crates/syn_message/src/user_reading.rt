@@ -6,7 +6,7 @@ ghost use Rattle.syn_message.specs.inner.Heads.{ReadsWish};
 
 use crate::head::read_user_head;
 use crate::kind::{EDIT, GET};
-use crate::user::{AskedByUser, UserRequest};
+use crate::user::{UserRequest, UserRequestMessage};
 use std::alloc::Global;
 use syn_history::Event;
 use syn_wire::{Version, WireError, decode_event, decode_path, spelling_laws};
@@ -14,7 +14,10 @@ use syn_wire::{Version, WireError, decode_event, decode_path, spelling_laws};
 /// The user's request that the body spells; none where it spells none.
 ///
 /// Refused 11 where memory is refused.
-pub fn decode_user_request(alloc: Global, body: &[u8]) -> Result<Option<AskedByUser>, WireError>
+pub fn decode_user_request(
+    alloc: Global,
+    body: &[u8],
+) -> Result<Option<UserRequestMessage>, WireError>
     ensures { IfOk result (λ read. IsWholeReading IsLawfulWished wished_spelling body.now
         (option_map wished_of read)) }
 {
@@ -25,7 +28,7 @@ pub fn decode_user_request(alloc: Global, body: &[u8]) -> Result<Option<AskedByU
         return Ok(None);
     };
     match read_wish(alloc, *kind, fields)? {
-        Some(request) => Ok(Some(AskedByUser { number, request })),
+        Some(request) => Ok(Some(UserRequestMessage { number, request })),
         None => Ok(None),
     }
 }

@@ -33,7 +33,7 @@ pub enum UserReply {
 
 /// A reply to a user, with the number of the request. It belongs to no session.
 #[derive(Debug, Drop)]
-pub struct AnsweredToUser {
+pub struct UserReplyMessage {
     pub number: u32,
     pub reply: UserReply,
 }
@@ -41,7 +41,7 @@ pub struct AnsweredToUser {
 /// The body of the reply.
 ///
 /// Refused 11 where memory is refused.
-pub fn encode_user_reply(alloc: Global, answered: &AnsweredToUser) -> Result<Vec<u8>, WireError>
+pub fn encode_user_reply(alloc: Global, answered: &UserReplyMessage) -> Result<Vec<u8>, WireError>
     requires { IsLawfulTelling (telling_of answered.now) }
     ensures { IfOk result (λ body. body.items ≡ telling_spelling (telling_of answered.now)) }
 {

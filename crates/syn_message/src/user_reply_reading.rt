@@ -11,7 +11,7 @@ ghost use Rattle.syn_tree.specs.Modes.{mode_of};
 use crate::head::read_user_head;
 use crate::kind::{EDITED, GOT, REFUSED};
 use crate::reply_reading::read_refusal;
-use crate::user_reply::{ABSENT, AnsweredToUser, DIRECTORY, FILE, UserReply};
+use crate::user_reply::{ABSENT, DIRECTORY, FILE, UserReply, UserReplyMessage};
 use std::alloc::Global;
 use syn_tree::{Content, LONGEST_FILE, Mode};
 use syn_wire::{Version, WireError, read_contents, read_u64, spelling_laws};
@@ -19,7 +19,7 @@ use syn_wire::{Version, WireError, read_contents, read_u64, spelling_laws};
 /// The reply to a user that the body spells; none where it spells none.
 ///
 /// Refused 11 where memory is refused.
-pub fn decode_user_reply(alloc: Global, body: &[u8]) -> Result<Option<AnsweredToUser>, WireError>
+pub fn decode_user_reply(alloc: Global, body: &[u8]) -> Result<Option<UserReplyMessage>, WireError>
     ensures { IfOk result (λ read. IsWholeReading IsLawfulTelling telling_spelling body.now
         (option_map telling_of read)) }
 {
@@ -30,7 +30,7 @@ pub fn decode_user_reply(alloc: Global, body: &[u8]) -> Result<Option<AnsweredTo
         return Ok(None);
     };
     match read_told(alloc, *kind, fields)? {
-        Some(reply) => Ok(Some(AnsweredToUser { number, reply })),
+        Some(reply) => Ok(Some(UserReplyMessage { number, reply })),
         None => Ok(None),
     }
 }

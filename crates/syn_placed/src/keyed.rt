@@ -1,7 +1,7 @@
 //! A key with what stands at its path. A tree is a list of such entries.
 ghost use Rattle.std.specs.Prelude.{◌≡◌, IfOk};
 
-use crate::placed::{Placed, Standing};
+use crate::placed::{EntryKind, Placed};
 use crate::slot::Slot;
 use std::alloc::{AllocError, Global};
 use std::marker::Model;
@@ -10,11 +10,11 @@ use syn_path::Key;
 /// A key with what stands at its path, in memory of its own: a list of such entries moves pointers
 /// alone. Contracts see it as the pair of the path and what stands there.
 #[derive(Debug, Drop)]
-pub struct Keyed<C: Standing> {
+pub struct Keyed<C: EntryKind> {
     slot: Slot<C>,
 }
 
-impl<C: Standing> Model for Keyed<C> {
+impl<C: EntryKind> Model for Keyed<C> {
     ghost use Rattle.syn_model.specs.Tree.{Pair};
 
     ghost Value = { Pair };
@@ -22,7 +22,7 @@ impl<C: Standing> Model for Keyed<C> {
     ghost view = { λ e. (e.slot.0, C.content e.slot.1) };
 }
 
-impl<C: Standing> Keyed<C> {
+impl<C: EntryKind> Keyed<C> {
     /// What stands at the path of the key. Refused where memory is refused.
     pub fn new(alloc: Global, key: &Key, content: C) -> Result<Keyed<C>, AllocError>
         ensures { IfOk result (λ entry. entry ≡ (key.now, C.content content)) }

@@ -3,7 +3,7 @@
 //! # What it promises
 //!
 //! - An entry is a path with what stands there (`Placed`): a tree's content, a mark, or something
-//!   else that is a file or a directory (`Standing`). Contracts see it as the model's pair.
+//!   else that is a file or a directory (`EntryKind`). Contracts see it as the model's pair.
 //! - `syn_placed::list` looks up, cuts and joins lists of such entries in path order.
 //! - `Keyed` is an entry with a key in place of its path, in memory of its own.
 //!   `syn_placed::ranges` does with lists of these what `list` does with the others (`part_at`,
@@ -24,5 +24,5 @@ mod slot;
 
 pub use key_map::KeyMap;
 pub use keyed::Keyed;
-pub use placed::{Placed, Standing};
+pub use placed::{EntryKind, Placed};
 pub use slot::Slot;

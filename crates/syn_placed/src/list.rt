@@ -8,13 +8,13 @@ ghost use Rattle.syn_model.specs.Tree.{is_directory_content};
 ghost use Rattle.syn_placed.specs.Pairs.{rooted, AreRising, is_before, is_within, before, within};
 ghost use Rattle.syn_placed.specs.Pairs.{beyond, is_below, is_child};
 
-use crate::placed::{Placed, Standing};
+use crate::placed::{EntryKind, Placed};
 use crate::runs::{replace_run, run_of};
 use std::cmp::Ordering;
 use syn_path::{Name, Path};
 
 /// The paths strictly rise, from the root's on.
-pub fn are_rising<C: Standing>(list: &[Placed<C>]) -> bool
+pub fn are_rising<C: EntryKind>(list: &[Placed<C>]) -> bool
     ensures { IsTrue result ↔ AreRising (rooted list.now) }
 {
     let mut last: &[Name] = &[];
@@ -35,28 +35,28 @@ fn comes_before(names: &[Name], path: &Path) -> bool
 }
 
 /// The entry stands before the path of these names.
-fn is_before<C: Standing>(entry: &Placed<C>, names: &[Name]) -> bool
+fn is_before<C: EntryKind>(entry: &Placed<C>, names: &[Name]) -> bool
     ensures { result ≡ is_before names.now entry.now }
 {
     entry.path().names().cmp(&names) == Ordering::Less
 }
 
 /// The entry stands at the path of these names.
-fn is_at<C: Standing>(entry: &Placed<C>, names: &[Name]) -> bool
+fn is_at<C: EntryKind>(entry: &Placed<C>, names: &[Name]) -> bool
     ensures { result ≡ eq_by_cmp path_cmp entry.now.0 names.now }
 {
     entry.path().names().cmp(&names) == Ordering::Equal
 }
 
 /// The entry stands at or below the path of these names.
-fn is_within<C: Standing>(entry: &Placed<C>, names: &[Name]) -> bool
+fn is_within<C: EntryKind>(entry: &Placed<C>, names: &[Name]) -> bool
     ensures { result ≡ is_within names.now entry.now }
 {
     entry.path().names().starts_with(names)
 }
 
 /// How many entries stand before the path of these names.
-pub fn count_before<C: Standing>(list: &[Placed<C>], names: &[Name]) -> usize
+pub fn count_before<C: EntryKind>(list: &[Placed<C>], names: &[Name]) -> usize
     requires { AreRising list.now }
     ensures { result ≡ length (before names.now list.now) }
 {
@@ -64,7 +64,7 @@ pub fn count_before<C: Standing>(list: &[Placed<C>], names: &[Name]) -> usize
 }
 
 /// Where the entries at and below the path of these names begin, and how many they are.
-fn place_of<C: Standing>(list: &[Placed<C>], names: &[Name]) -> (usize, usize)
+fn place_of<C: EntryKind>(list: &[Placed<C>], names: &[Name]) -> (usize, usize)
     requires { AreRising list.now }
     ensures start { result.0 ≡ length (before names.now list.now) }
     ensures count { result.1 ≡ length (within names.now list.now) }
@@ -76,7 +76,7 @@ fn place_of<C: Standing>(list: &[Placed<C>], names: &[Name]) -> (usize, usize)
 }
 
 /// The entries at and below the path of these names.
-pub fn part_at<'a, C: Standing>(list: &'a [Placed<C>], names: &[Name]) -> &'a [Placed<C>]
+pub fn part_at<'a, C: EntryKind>(list: &'a [Placed<C>], names: &[Name]) -> &'a [Placed<C>]
     requires { AreRising list.now }
     ensures { result.now ≡ within names.now list.now }
 {
@@ -85,7 +85,7 @@ pub fn part_at<'a, C: Standing>(list: &'a [Placed<C>], names: &[Name]) -> &'a [P
 }
 
 /// The entries below the path, without the one at it.
-pub fn part_below<'a, C: Standing>(list: &'a [Placed<C>], at: &Path) -> &'a [Placed<C>]
+pub fn part_below<'a, C: EntryKind>(list: &'a [Placed<C>], at: &Path) -> &'a [Placed<C>]
     requires { AreRising list.now }
     ensures { result.now ≡ filter (is_below at.now) list.now }
 {
@@ -98,7 +98,7 @@ pub fn part_below<'a, C: Standing>(list: &'a [Placed<C>], at: &Path) -> &'a [Pla
 }
 
 /// The entry at the path of these names; none where nothing stands there.
-pub fn entry_at<'a, C: Standing>(list: &'a [Placed<C>], names: &[Name]) -> Option<&'a Placed<C>>
+pub fn entry_at<'a, C: EntryKind>(list: &'a [Placed<C>], names: &[Name]) -> Option<&'a Placed<C>>
     requires { AreRising list.now }
     ensures { option_map (λ entry. entry.now.1) result ≡ find path_cmp names.now list.now }
 {
@@ -114,7 +114,7 @@ pub fn entry_at<'a, C: Standing>(list: &'a [Placed<C>], names: &[Name]) -> Optio
 }
 
 /// A directory stands at the path of these names, among entries below a root directory.
-pub fn is_directory<C: Standing>(list: &[Placed<C>], names: &[Name]) -> bool
+pub fn is_directory<C: EntryKind>(list: &[Placed<C>], names: &[Name]) -> bool
     requires { AreRising (rooted list.now) }
     ensures { result ≡ is_directory_content (find path_cmp names.now (rooted list.now)) }
 {
@@ -148,7 +148,7 @@ pub fn parent_names(path: &Path) -> &[Name]
 }
 
 /// How many entries stand in the directory of these names.
-pub fn count_children<C: Standing>(list: &[Placed<C>], above: &[Name]) -> usize
+pub fn count_children<C: EntryKind>(list: &[Placed<C>], above: &[Name]) -> usize
     ensures { result ≡ count_by (λ pair. is_child above.now pair.0) list.now }
 {
     list.iter()
@@ -157,7 +157,7 @@ pub fn count_children<C: Standing>(list: &[Placed<C>], above: &[Name]) -> usize
 }
 
 /// How many entries stand in the directory at the path, by a count in the part below it alone.
-pub fn count_children_at<C: Standing>(list: &[Placed<C>], at: &Path) -> usize
+pub fn count_children_at<C: EntryKind>(list: &[Placed<C>], at: &Path) -> usize
     requires { AreRising list.now }
     ensures { result ≡ count_by (λ pair. is_child at.now pair.0) list.now }
 {
@@ -166,7 +166,7 @@ pub fn count_children_at<C: Standing>(list: &[Placed<C>], at: &Path) -> usize
 }
 
 /// Puts these entries in the place of what is at and below the path.
-pub fn replace_part<C: Standing>(list: &mut Vec<Placed<C>>, at: &Path, added: Vec<Placed<C>>)
+pub fn replace_part<C: EntryKind>(list: &mut Vec<Placed<C>>, at: &Path, added: Vec<Placed<C>>)
     requires rising { AreRising list.old.items }
     requires room { length (before at.now list.old.items) + length
         (beyond at.now list.old.items) + vec_len added ≤ vec_capacity list.old }

@@ -7,7 +7,7 @@ use std::marker::Model;
 use syn_path::Path;
 
 /// What may stand at a path: a file or a directory. Contracts see it as the model's content.
-pub trait Standing: Drop + Sized {
+pub trait EntryKind: Drop + Sized {
     ghost use Rattle.syn_model.specs.Tree.{Content as Contained};
 
     ghost content: { Self → Contained };
@@ -23,12 +23,12 @@ pub trait Standing: Drop + Sized {
 
 /// A path with what stands there. Contracts see it as the pair of the two.
 #[derive(Debug, Drop)]
-pub struct Placed<C: Standing> {
+pub struct Placed<C: EntryKind> {
     path: Path,
     content: C,
 }
 
-impl<C: Standing> Model for Placed<C> {
+impl<C: EntryKind> Model for Placed<C> {
     ghost use Rattle.syn_model.specs.Tree.{Pair};
 
     ghost Value = { Pair };
@@ -36,7 +36,7 @@ impl<C: Standing> Model for Placed<C> {
     ghost view = { λ e. (e.path, C.content e.content) };
 }
 
-impl<C: Standing> Placed<C> {
+impl<C: EntryKind> Placed<C> {
     /// What stands at the path.
     pub fn new(path: Path, content: C) -> Placed<C>
         ensures { result ≡ (path, C.content content) }

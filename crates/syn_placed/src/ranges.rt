@@ -9,13 +9,13 @@ ghost use Rattle.syn_placed.specs.Pairs.{rooted, AreRising, is_before, is_within
 ghost use Rattle.syn_placed.specs.Pairs.{beyond, is_below, is_child};
 
 use crate::keyed::Keyed;
-use crate::placed::Standing;
+use crate::placed::EntryKind;
 use crate::runs::{replace_run, run_of};
 use std::cmp::Ordering;
 use syn_path::Key;
 
 /// The paths strictly rise, from the root's on.
-pub fn are_rising<C: Standing>(list: &[Keyed<C>]) -> bool
+pub fn are_rising<C: EntryKind>(list: &[Keyed<C>]) -> bool
     ensures { IsTrue result ↔ AreRising (rooted list.now) }
 {
     let mut last = Key::root();
@@ -36,35 +36,35 @@ fn comes_before(key: &Key, other: &Key) -> bool
 }
 
 /// The entry stands before the key.
-fn is_before<C: Standing>(entry: &Keyed<C>, at: &Key) -> bool
+fn is_before<C: EntryKind>(entry: &Keyed<C>, at: &Key) -> bool
     ensures { result ≡ is_before at.now entry.now }
 {
     entry.key().cmp(at) == Ordering::Less
 }
 
 /// The entry stands at the key.
-fn is_at<C: Standing>(entry: &Keyed<C>, at: &Key) -> bool
+fn is_at<C: EntryKind>(entry: &Keyed<C>, at: &Key) -> bool
     ensures { result ≡ eq_by_cmp path_cmp entry.now.0 at.now }
 {
     entry.key().cmp(at) == Ordering::Equal
 }
 
 /// The entry stands at the key, or at that of a path below it.
-fn is_within<C: Standing>(entry: &Keyed<C>, at: &Key) -> bool
+fn is_within<C: EntryKind>(entry: &Keyed<C>, at: &Key) -> bool
     ensures { result ≡ is_within at.now entry.now }
 {
     at.is_prefix(entry.key())
 }
 
 /// The entry stands in the directory at the key.
-fn is_child<C: Standing>(entry: &Keyed<C>, above: &Key) -> bool
+fn is_child<C: EntryKind>(entry: &Keyed<C>, above: &Key) -> bool
     ensures { result ≡ is_child above.now entry.now.0 }
 {
     entry.key().is_child(above)
 }
 
 /// How many entries stand before the key.
-fn count_before<C: Standing>(list: &[Keyed<C>], at: &Key) -> usize
+fn count_before<C: EntryKind>(list: &[Keyed<C>], at: &Key) -> usize
     requires { AreRising list.now }
     ensures { result ≡ length (before at.now list.now) }
 {
@@ -72,7 +72,7 @@ fn count_before<C: Standing>(list: &[Keyed<C>], at: &Key) -> usize
 }
 
 /// Where the entries at and below the path begin, and how many they are.
-fn place_of<C: Standing>(list: &[Keyed<C>], at: &Key) -> (usize, usize)
+fn place_of<C: EntryKind>(list: &[Keyed<C>], at: &Key) -> (usize, usize)
     requires { AreRising list.now }
     ensures start { result.0 ≡ length (before at.now list.now) }
     ensures count { result.1 ≡ length (within at.now list.now) }
@@ -84,7 +84,7 @@ fn place_of<C: Standing>(list: &[Keyed<C>], at: &Key) -> (usize, usize)
 }
 
 /// The entries at and below the path.
-pub fn part_at<'a, C: Standing>(list: &'a [Keyed<C>], at: &Key) -> &'a [Keyed<C>]
+pub fn part_at<'a, C: EntryKind>(list: &'a [Keyed<C>], at: &Key) -> &'a [Keyed<C>]
     requires { AreRising list.now }
     ensures { result.now ≡ within at.now list.now }
 {
@@ -93,7 +93,7 @@ pub fn part_at<'a, C: Standing>(list: &'a [Keyed<C>], at: &Key) -> &'a [Keyed<C>
 }
 
 /// The entries below the path, without the one at it.
-pub fn part_below<'a, C: Standing>(list: &'a [Keyed<C>], at: &Key) -> &'a [Keyed<C>]
+pub fn part_below<'a, C: EntryKind>(list: &'a [Keyed<C>], at: &Key) -> &'a [Keyed<C>]
     requires { AreRising list.now }
     ensures { result.now ≡ filter (is_below at.now) list.now }
 {
@@ -105,7 +105,7 @@ pub fn part_below<'a, C: Standing>(list: &'a [Keyed<C>], at: &Key) -> &'a [Keyed
 }
 
 /// The entry at the path; none where nothing stands there.
-pub fn entry_at<'a, C: Standing>(list: &'a [Keyed<C>], at: &Key) -> Option<&'a Keyed<C>>
+pub fn entry_at<'a, C: EntryKind>(list: &'a [Keyed<C>], at: &Key) -> Option<&'a Keyed<C>>
     requires { AreRising list.now }
     ensures { option_map (λ entry. entry.now.1) result ≡ find path_cmp at.now list.now }
 {
@@ -117,7 +117,7 @@ pub fn entry_at<'a, C: Standing>(list: &'a [Keyed<C>], at: &Key) -> Option<&'a K
 }
 
 /// A directory stands at the path, among entries below a root directory.
-pub fn is_directory<C: Standing>(list: &[Keyed<C>], at: &Key) -> bool
+pub fn is_directory<C: EntryKind>(list: &[Keyed<C>], at: &Key) -> bool
     requires { AreRising (rooted list.now) }
     ensures { result ≡ is_directory_content (find path_cmp at.now (rooted list.now)) }
 {
@@ -131,14 +131,14 @@ pub fn is_directory<C: Standing>(list: &[Keyed<C>], at: &Key) -> bool
 }
 
 /// How many entries stand in the directory at the path.
-pub fn count_children<C: Standing>(list: &[Keyed<C>], above: &Key) -> usize
+pub fn count_children<C: EntryKind>(list: &[Keyed<C>], above: &Key) -> usize
     ensures { result ≡ count_by (λ pair. is_child above.now pair.0) list.now }
 {
     list.iter().filter(|entry| is_child(entry, above)).count()
 }
 
 /// How many entries stand in the directory at the path, by a count in the part below it alone.
-pub fn count_children_at<C: Standing>(list: &[Keyed<C>], at: &Key) -> usize
+pub fn count_children_at<C: EntryKind>(list: &[Keyed<C>], at: &Key) -> usize
     requires { AreRising list.now }
     ensures { result ≡ count_by (λ pair. is_child at.now pair.0) list.now }
 {
@@ -146,7 +146,7 @@ pub fn count_children_at<C: Standing>(list: &[Keyed<C>], at: &Key) -> usize
 }
 
 /// Puts these entries in the place of what is at and below the path.
-pub fn replace_part<C: Standing>(list: &mut Vec<Keyed<C>>, at: &Key, added: Vec<Keyed<C>>)
+pub fn replace_part<C: EntryKind>(list: &mut Vec<Keyed<C>>, at: &Key, added: Vec<Keyed<C>>)
     requires rising { AreRising list.old.items }
     requires room { length (before at.now list.old.items) + length
         (beyond at.now list.old.items) + vec_len added ≤ vec_capacity list.old }

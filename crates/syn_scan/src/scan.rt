@@ -20,7 +20,7 @@ use std::alloc::{AllocError, Global};
 use std::marker::Model;
 use syn_mark::{Mark, MarkEntry, MarkTree};
 use syn_path::Path;
-use syn_placed::Standing;
+use syn_placed::EntryKind;
 use syn_placed::list::{count_before, parent_names};
 
 /// What a side showed in a session: the marks of its tree, each listed directory with the position

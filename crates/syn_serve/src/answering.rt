@@ -17,7 +17,8 @@ use syn_agent::Agent;
 use syn_disk::Disk;
 use syn_lock::Pass;
 use syn_message::{
-    Answered, AnsweredToUser, Asked, AskedByUser, Reply, Request, UserReply, UserRequest,
+    Reply, ReplyMessage, Request, RequestMessage, UserReply, UserReplyMessage, UserRequest,
+    UserRequestMessage,
 };
 use syn_model::are_bytes;
 use syn_path::Path;
@@ -44,22 +45,22 @@ pub(crate) fn answer<H: Wait, D: Disk>(
 {
     match request {
         AnyRequest::Session(asked) => {
-            let Asked {
+            let RequestMessage {
                 session,
                 number,
                 request,
             } = asked;
             let reply = answer_session(rt, alloc, shared, pass, agent, session, request);
-            AnyReply::Session(Answered {
+            AnyReply::Session(ReplyMessage {
                 session,
                 number,
                 reply,
             })
         }
         AnyRequest::User(asked) => {
-            let AskedByUser { number, request } = asked;
+            let UserRequestMessage { number, request } = asked;
             let reply = answer_user(rt, alloc, shared, pass, request);
-            AnyReply::User(AnsweredToUser { number, reply })
+            AnyReply::User(UserReplyMessage { number, reply })
         }
     }
 }

@@ -7,8 +7,8 @@ ghost use Rattle.syn_serve.specs.Messages.{response_spelling};
 
 use std::alloc::Global;
 use syn_message::{
-    Answered, AnsweredToUser, Asked, AskedByUser, decode_request, decode_user_request,
-    encode_reply, encode_user_reply,
+    ReplyMessage, RequestMessage, UserReplyMessage, UserRequestMessage, decode_request,
+    decode_user_request, encode_reply, encode_user_reply,
 };
 use syn_wire::WireError;
 
@@ -16,9 +16,9 @@ use syn_wire::WireError;
 #[derive(Debug, Drop)]
 pub enum AnyRequest {
     /// With its session and its number.
-    Session(Asked),
+    Session(RequestMessage),
     /// With its number.
-    User(AskedByUser),
+    User(UserRequestMessage),
 }
 
 impl AnyRequest {
@@ -37,9 +37,9 @@ impl AnyRequest {
 #[derive(Debug, Drop)]
 pub enum AnyReply {
     /// With the session and the number of the request.
-    Session(Answered),
+    Session(ReplyMessage),
     /// With the number of the request.
-    User(AnsweredToUser),
+    User(UserReplyMessage),
 }
 
 /// The request that the body spells; none where it spells none of either.

@@ -18,8 +18,8 @@ use Rattle.syn_headline.proofs.Rising.{one_less, without-rising}
 use Rattle.syn_model.specs.Archive as archive
 use Rattle.syn_session.specs.declared.session.Session.{Session}
 use Rattle.syn_session.specs.Answering.{IsAnswering, IsHeard, exchange_of}
-use Rattle.syn_session.specs.Sessions.{IsLine, IsSession}
-use Rattle.syn_session.specs.Stages.{line_of, waiting_of}
+use Rattle.syn_session.specs.Sessions.{IsPeer, IsSession}
+use Rattle.syn_session.specs.Stages.{peer_of, waiting_of}
 use Rattle.syn_session.proofs.WaitingLemmas.{in_filter, may_less}
 use Rattle.syn_path.specs.Sides.{which_of}
 use Rattle.syn_path.specs.declared.side.Side.{Side}
@@ -36,64 +36,64 @@ module _ (kept : archive.Archive) (old new : Session) (running : Running) (side 
   abbrev exchange_now : Exchange
   exchange_now = exchange_of side number request reply
 
-  -- what waits on the line of the side then
-  left_now : waiting_of (line_of new side) ≡ without number (waiting_of (line_of old side))
-  left_now = answers.waits (is.line side).rising
+  -- what waits on the side then
+  left_now : waiting_of (peer_of new side) ≡ without number (waiting_of (peer_of old side))
+  left_now = answers.waits (is.peer side).rising
 
   own : (on : Which) → on ≡ side → (waits :
       outstanding (hearing running exchange_now) on ≡ without number (outstanding running on)) →
       (count : count_by (λ one. is_side on one.side) (running.taken ++ exchange_now ∷ [])
       ≡ count_by (λ one. is_side on one.side) running.taken + 1) →
-      IsLine (line_of new on) (hearing running exchange_now) on
+      IsPeer (peer_of new on) (hearing running exchange_now) on
   own on e waits count =
       let answered =
-      subst (λ s. (asked_in (waiting_of (line_of old s)) number ≡ Some request)
-      × (waiting_of (line_of new s) ≡ without number (waiting_of (line_of old s)))
-      × ((line_of new s).asked ≡ (line_of old s).asked))
+      subst (λ s. (asked_in (waiting_of (peer_of old s)) number ≡ Some request)
+      × (waiting_of (peer_of new s) ≡ without number (waiting_of (peer_of old s)))
+      × ((peer_of new s).asked ≡ (peer_of old s).asked))
       (sym e) (answers.asked, left_now, answers.count) in
-      let now = waits ∙ (ap (without number) (is.line on).waits ∙ sym answered.1) in
-      let less = one_less (waiting_of (line_of old on)) number request (is.line on).rising
+      let now = waits ∙ (ap (without number) (is.peer on).waits ∙ sym answered.1) in
+      let less = one_less (waiting_of (peer_of old on)) number request (is.peer on).rising
       answered.0 in
       let long = ap length now in
       let left = ap length answered.1 in
-      let was = ap length (is.line on).waits in
-      let all = (is.line on).count in
+      let was = ap length (is.peer on).waits in
+      let all = (is.peer on).count in
       let same = answered.2 in
       record {
         waits = now;
         count = omega (arith, count, long, left, less, was, all, same);
-        few = subst (λ n. n ≤ 2 ^ 32) (sym answered.2) (is.line on).few;
+        few = subst (λ n. n ≤ 2 ^ 32) (sym answered.2) (is.peer on).few;
         rising =
             subst AreRising (sym answered.1)
-            (without-rising number (waiting_of (line_of old on)) (is.line on).rising);
+            (without-rising number (waiting_of (peer_of old on)) (is.peer on).rising);
         below =
-            subst (λ w. All (λ one. one.number < (line_of new on).asked) w) (sym answered.1)
-            (subst (λ n. All (λ one. one.number < n) (without number (waiting_of (line_of old on))))
+            subst (λ w. All (λ one. one.number < (peer_of new on).asked) w) (sym answered.1)
+            (subst (λ n. All (λ one. one.number < n) (without number (waiting_of (peer_of old on))))
             (sym answered.2) (All-filter (λ one. not (one.number == number))
-            (λ one. one.number < (line_of old on).asked) (waiting_of (line_of old on))
-            (is.line on).below));
+            (λ one. one.number < (peer_of old on).asked) (waiting_of (peer_of old on))
+            (is.peer on).below));
         may =
             subst MayWait (sym answered.1)
-            (may_less number (waiting_of (line_of old on)) (is.line on).may);
+            (may_less number (waiting_of (peer_of old on)) (is.peer on).may);
       }
 
   across : (on : Which) → on ≡ other side →
       (waits : outstanding (hearing running exchange_now) on ≡ outstanding running on) →
       (count : count_by (λ one. is_side on one.side) (running.taken ++ exchange_now ∷ [])
       ≡ count_by (λ one. is_side on one.side) running.taken) →
-      IsLine (line_of new on) (hearing running exchange_now) on
+      IsPeer (peer_of new on) (hearing running exchange_now) on
   across on e waits count =
-      let same = subst (λ s. line_of new s ≡ line_of old s) (sym e) answers.across in record {
-        waits = waits ∙ ((is.line on).waits ∙ ap waiting_of (sym same));
+      let same = subst (λ s. peer_of new s ≡ peer_of old s) (sym e) answers.across in record {
+        waits = waits ∙ ((is.peer on).waits ∙ ap waiting_of (sym same));
         count =
             ap₂ (λ a b. a + b) count (ap length waits)
-            ∙ ((is.line on).count ∙ ap (λ l. l.asked) (sym same));
-        few = subst (λ n. n ≤ 2 ^ 32) (ap (λ l. l.asked) (sym same)) (is.line on).few;
-        rising = subst (λ l. AreRising (waiting_of l)) (sym same) (is.line on).rising;
+            ∙ ((is.peer on).count ∙ ap (λ l. l.asked) (sym same));
+        few = subst (λ n. n ≤ 2 ^ 32) (ap (λ l. l.asked) (sym same)) (is.peer on).few;
+        rising = subst (λ l. AreRising (waiting_of l)) (sym same) (is.peer on).rising;
         below =
             subst (λ l. All (λ one. one.number < l.asked) (waiting_of l)) (sym same)
-            (is.line on).below;
-        may = subst (λ l. MayWait (waiting_of l)) (sym same) (is.line on).may;
+            (is.peer on).below;
+        may = subst (λ l. MayWait (waiting_of l)) (sym same) (is.peer on).may;
       }
 
 more : (n : ℕ) → n + (0 + 1) ≡ n + 1
@@ -105,7 +105,7 @@ none_more n = omega arith
 module _ (kept : archive.Archive) (old new : Session) (running : Running) (number : ℕ)
     (request : Request) (reply : model.Reply) (is : IsSession kept old running) where
   heard_on : (side : Which) → IsAnswering old new side number request → (on : Which) →
-      IsLine (line_of new on) (hearing running (exchange_of side number request reply)) on
+      IsPeer (peer_of new on) (hearing running (exchange_of side number request reply)) on
   heard_on Left answers Left =
       own kept old new running Left number request reply is answers Left refl refl
       (count_then Left running.taken _ ∙ more _)
@@ -128,7 +128,7 @@ module _ (kept : archive.Archive) (old new : Session) (running : Running) (numbe
         | inl before ↦ inl (said, before)
         | inr now ↦
             let waited = asked_waits (outstanding running side) number request
-            (ap (λ l. asked_in l number) (is.line side).waits ∙ answers.asked) in
+            (ap (λ l. asked_in l number) (is.peer side).waits ∙ answers.asked) in
             let here : WasAsked running side number request =
             subst (λ r. WasAsked running side number r) waited.3
             (subst (λ m. WasAsked running side m waited.0.request) waited.2
@@ -151,7 +151,7 @@ module _ (kept : archive.Archive) (old new : Session) (running : Running) (numbe
         is.preference
         ∙ sym (ap (λ (p : Option Side). option_map which_of p) answers.preference_is);
     lawful = subst (λ n. n < 2 ^ 64) (sym answers.number_is) is.lawful;
-    line = heard_on side answers;
+    peer = heard_on side answers;
     once =
         λ on m n a b was_m was_n repeat. is.once on m n a b (was_asked side answers on m a was_m)
         (was_asked side answers on n b was_n) repeat;

@@ -27,7 +27,7 @@ use Rattle.syn_propagate.specs.declared.next.Next.TheVariants as next
 use Rattle.syn_refusal.specs.Refusals.{cause_of}
 use Rattle.syn_refusal.specs.declared.refusal.Refusal.{Refusal}
 use Rattle.syn_scan.specs.Found.{Found}
-use Rattle.syn_session.specs.declared.answering.Carrying.TheVariants as carrying
+use Rattle.syn_session.specs.declared.answering.ItemProgress.TheVariants as carrying
 use Rattle.syn_session.specs.declared.plan_progress.Carried.{Carried}
 use Rattle.syn_session.specs.declared.plan_progress.PlanProgress.{PlanProgress}
 use Rattle.syn_session.specs.declared.session.Asks.TheVariants.{One}

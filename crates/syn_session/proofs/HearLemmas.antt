@@ -21,7 +21,7 @@ use Rattle.syn_model.specs.Path.{Path}
 use Rattle.syn_scan.specs.Asked.{AreAllOut, is_out}
 use Rattle.syn_scan.specs.Found.{Found, IsWhole, is_open}
 use Rattle.syn_session.specs.Scanning.{IsFoundIn, WaitsFor, WasAnswered, asked_of, found_of, out_of}
-use Rattle.syn_session.specs.declared.line.Line.{Line}
+use Rattle.syn_session.specs.declared.peer.PeerState.{PeerState}
 use Rattle.syn_session.specs.declared.session.Asks.{Asks}
 use Rattle.syn_session.specs.declared.session.Asks.TheVariants.{Listings}
 use Rattle.syn_session.specs.declared.session.Session.{Session}
@@ -29,8 +29,8 @@ use Rattle.syn_session.specs.Answering.{asks_of}
 use Rattle.syn_session.specs.inner.Listing.{IsListed, IsNextListing, KeepsFound, ListsNext, ListsOn}
 use Rattle.syn_session.specs.inner.Listing.{is_silent}
 use Rattle.syn_session.specs.Hearing.{HasHeard, IsAsking, IsFresh, IsScanned, ScansOn}
-use Rattle.syn_session.specs.Sessions.{IsLine, IsStage}
-use Rattle.syn_session.specs.Stages.{IsToList, lists, found_on, line_of, reached_by, requests_on}
+use Rattle.syn_session.specs.Sessions.{IsPeer, IsStage}
+use Rattle.syn_session.specs.Stages.{IsToList, lists, found_on, peer_of, reached_by, requests_on}
 use Rattle.syn_session.specs.Stages.{outstanding_of, waiting_of}
 use Rattle.syn_session.proofs.WaitingLemmas.{contains_out, from_map, in_map, listings_all}
 use Rattle.syn_session.proofs.WaitingLemmas.{may_listings, none_wait, numbered_requests}
@@ -91,26 +91,26 @@ module _ (session new : Session) (heard : Running) (h : HasHeard session heard)
     (begun : BothBegun heard.taken)
     (found : (side : Which) → IsFoundIn (found_on session side) side heard.taken)
     (listing : (side : Which) → IsToList session side)
-    (out : (side : Which) (path : Path) → WaitsFor (line_of session side).scan path →
-    Contains (requests_on (line_of session side)) (ListAt path))
+    (out : (side : Which) (path : Path) → WaitsFor (peer_of session side).scan path →
+    Contains (requests_on (peer_of session side)) (ListAt path))
     (keeps : KeepsFound session new) where
   found_new : (side : Which) → IsFoundIn (found_on new side) side heard.taken
   found_new side = subst (λ f. IsFoundIn f side heard.taken) (sym (keeps.found side)) (found side)
 
-  waiting_new : (side : Which) → waiting_of (line_of new side) ≡ waiting_of (line_of session side)
+  waiting_new : (side : Which) → waiting_of (peer_of new side) ≡ waiting_of (peer_of session side)
   waiting_new side = ap (λ w. map outstanding_of w.items) (keeps.waits side)
 
-  line_new : (side : Which) → IsLine (line_of new side) heard side
-  line_new side =
-      let was = h.heard_is.line side in record {
+  peer_new : (side : Which) → IsPeer (peer_of new side) heard side
+  peer_new side =
+      let was = h.heard_is.peer side in record {
         waits = was.waits ∙ sym (waiting_new side);
         count = was.count ∙ sym (keeps.count side);
         few = subst (λ n. n ≤ 2 ^ 32) (sym (keeps.count side)) was.few;
         rising = subst AreRising (sym (waiting_new side)) was.rising;
         below =
-            subst (λ n. All (λ one. one.number < n) (waiting_of (line_of new side)))
+            subst (λ n. All (λ one. one.number < n) (waiting_of (peer_of new side)))
             (sym (keeps.count side)) (subst
-            (λ w. All (λ one. one.number < (line_of session side).asked) w)
+            (λ w. All (λ one. one.number < (peer_of session side).asked) w)
             (sym (waiting_new side)) was.below);
         may = subst MayWait (sym (waiting_new side)) was.may;
       }
@@ -125,7 +125,7 @@ module _ (session new : Session) (heard : Running) (h : HasHeard session heard)
               ∙ sym (ap (λ (p : Option Side). option_map which_of p) keeps.preference_is);
           lawful = subst (λ n. n < 2 ^ 64)
               (sym keeps.number_is) h.heard_is.lawful;
-          line = line_new;
+          peer = peer_new;
           once = h.heard_is.once;
         };
     unstable = h.unstable ∙ sym keeps.unstable;
@@ -135,8 +135,8 @@ module _ (session new : Session) (heard : Running) (h : HasHeard session heard)
   }
 
   -- where nothing waits nothing is out
-  nothing_out : (side : Which) → waiting_of (line_of new side) ≡ [] → (path : Path) →
-      WaitsFor (line_of session side).scan path → ⊥
+  nothing_out : (side : Which) → waiting_of (peer_of new side) ≡ [] → (path : Path) →
+      WaitsFor (peer_of session side).scan path → ⊥
   nothing_out side none path is =
       none_at (ListAt path) (subst (λ w. Contains (map (λ (one : Outstanding). one.request) w)
       (ListAt path)) (sym (waiting_new side) ∙ none) (out side path is))
@@ -148,101 +148,101 @@ module _ (session new : Session) (heard : Running) (h : HasHeard session heard)
       whole : (side : Which) → IsWhole (found_on new side)
       whole side path =
           shut_by (is_open (found_on new side) path)
-          (is_out (out_of (line_of new side).scan) path) (is.all side path)
+          (is_out (out_of (peer_of new side).scan) path) (is.all side path)
           (λ waits. nothing_out side (is.silent side) path
           (subst (λ ps. is_out ps path ≡ true) (is.out side) waits))
 
   module _ (asks : Asks) (on : ListsOn session new asks) where
     -- a listing that is asked for
     next_listing : (side : Which) (request : Request) → Contains (asks_of asks side) request →
-        (path : Path) × (request ≡ ListAt path) × IsNextListing (line_of session side) path
+        (path : Path) × (request ≡ ListAt path) × IsNextListing (peer_of session side) path
     next_listing side request has =
         let it = from_map ListAt (on.paths side) request
         (subst (λ rs. Contains rs request) (on.asked side) has) in (
           it.0,
           sym it.2,
-          All-contains (IsNextListing (line_of session side)) (on.paths side)
+          All-contains (IsNextListing (peer_of session side)) (on.paths side)
               it.0 (on.next side).each it.1,
         )
 
-    fresh_listing : (side : Which) (path : Path) → IsNextListing (line_of session side) path →
+    fresh_listing : (side : Which) (path : Path) → IsNextListing (peer_of session side) path →
         IsFresh heard side (ListAt path)
     fresh_listing side path is n before (inl (reply, has)) repeat =
         is.unanswered ((found side).only _ path has refl (no_repeat before path repeat))
     fresh_listing side path is n before (inr (k, has)) repeat =
         let it = listing side before (in_map (λ (one : Outstanding). one.request)
-        (waiting_of (line_of session side)) (record { number = n; request = before; resent = k })
+        (waiting_of (peer_of session side)) (record { number = n; request = before; resent = k })
         (subst (λ l. let waits : Outstanding = record {
           number = n;
           request = before;
           resent = k;
-        } in Contains l waits) (h.heard_is.line side).waits has)) in
-        is.unasked (subst (WaitsFor (line_of session side).scan)
+        } in Contains l waits) (h.heard_is.peer side).waits has)) in
+        is.unasked (subst (WaitsFor (peer_of session side).scan)
         (same_directory it.0 path (sym it.1 ∙ no_repeat before path repeat)) it.2)
 
-    may_wait_on : (side : Which) → MayWait (waiting_of (line_of new side)
-        ++ numbered (line_of new side).asked (asks_of asks side))
+    may_wait_on : (side : Which) → MayWait (waiting_of (peer_of new side)
+        ++ numbered (peer_of new side).asked (asks_of asks side))
     may_wait_on side =
-        subst (λ rs. MayWait (waiting_of (line_of new side)
-        ++ numbered (line_of new side).asked rs)) (sym (on.asked side))
-        (subst (λ w. MayWait (w ++ numbered (line_of new side).asked
+        subst (λ rs. MayWait (waiting_of (peer_of new side)
+        ++ numbered (peer_of new side).asked rs)) (sym (on.asked side))
+        (subst (λ w. MayWait (w ++ numbered (peer_of new side).asked
         (map ListAt (on.paths side)))) (sym (waiting_new side))
-        (may_listings (waiting_of (line_of session side)) (line_of new side).asked
-        (on.paths side) (h.heard_is.line side).may
-        (listings_all (waiting_of (line_of session side))
-        (WaitsFor (line_of session side).scan) (listing side)) (on.next side).few))
+        (may_listings (waiting_of (peer_of session side)) (peer_of new side).asked
+        (on.paths side) (h.heard_is.peer side).may
+        (listings_all (waiting_of (peer_of session side))
+        (WaitsFor (peer_of session side).scan) (listing side)) (on.next side).few))
 
     module _ (later : Session) (asking : IsAsking new later asks) where
-      requests_later : (side : Which) → requests_on (line_of later side)
-          ≡ requests_on (line_of session side) ++ map ListAt (on.paths side)
+      requests_later : (side : Which) → requests_on (peer_of later side)
+          ≡ requests_on (peer_of session side) ++ map ListAt (on.paths side)
       requests_later side =
-          ap (map (λ (one : Outstanding). one.request)) (asking.line side).waits
-          ∙ (map-append (λ (one : Outstanding). one.request) (waiting_of (line_of new side))
-          (numbered (line_of new side).asked (asks_of asks side))
-          ∙ (ap (λ l. requests_on (line_of new side) ++ l)
-          (numbered_requests (line_of new side).asked (asks_of asks side) ∙ on.asked side)
+          ap (map (λ (one : Outstanding). one.request)) (asking.peer side).waits
+          ∙ (map-append (λ (one : Outstanding). one.request) (waiting_of (peer_of new side))
+          (numbered (peer_of new side).asked (asks_of asks side))
+          ∙ (ap (λ l. requests_on (peer_of new side) ++ l)
+          (numbered_requests (peer_of new side).asked (asks_of asks side) ∙ on.asked side)
           ∙ ap (λ w. map (λ (one : Outstanding). one.request) w
           ++ map ListAt (on.paths side)) (waiting_new side)))
 
-      out_later : (side : Which) → out_of (line_of later side).scan
-          ≡ out_of (line_of session side).scan ++ on.paths side
-      out_later side = ap out_of (asking.line side).scan ∙ (on.next side).out
+      out_later : (side : Which) → out_of (peer_of later side).scan
+          ≡ out_of (peer_of session side).scan ++ on.paths side
+      out_later side = ap out_of (asking.peer side).scan ∙ (on.next side).out
 
       to_list : (side : Which) → IsToList later side
       to_list side request has =
-          elim (Contains-append_cases (requests_on (line_of session side))
+          elim (Contains-append_cases (requests_on (peer_of session side))
           (map ListAt (on.paths side)) request
           (subst (λ l. Contains l request) (requests_later side) has))
           as (λ _. (path : Path) × (request ≡ ListAt path)
-          × WaitsFor (line_of later side).scan path) [
+          × WaitsFor (peer_of later side).scan path) [
             | inl was ↦ let it = listing side request was in (
               it.0,
               it.1,
               subst (λ ps. is_out ps it.0 ≡ true) (sym (out_later side)) (contains_out _ it.0
-                  (Contains-append_left (out_of (line_of session side).scan) (on.paths side) it.0
-                  (out_contains (out_of (line_of session side).scan) it.0 it.2))),
+                  (Contains-append_left (out_of (peer_of session side).scan) (on.paths side) it.0
+                  (out_contains (out_of (peer_of session side).scan) it.0 it.2))),
             )
             | inr now ↦ let it = from_map ListAt (on.paths side) request now in (
               it.0,
               sym it.2,
               subst (λ ps. is_out ps it.0 ≡ true) (sym (out_later side)) (contains_out _ it.0
-                  (Contains-append_right (out_of (line_of session side).scan) (on.paths side) it.0
+                  (Contains-append_right (out_of (peer_of session side).scan) (on.paths side) it.0
                   it.1)),
             )
           ]
 
-      still_out : (side : Which) (path : Path) → WaitsFor (line_of later side).scan path →
-          Contains (requests_on (line_of later side)) (ListAt path)
+      still_out : (side : Which) (path : Path) → WaitsFor (peer_of later side).scan path →
+          Contains (requests_on (peer_of later side)) (ListAt path)
       still_out side path waits =
           subst (λ l. Contains l (ListAt path)) (sym (requests_later side))
-          (elim (Contains-append_cases (out_of (line_of session side).scan) (on.paths side) path
+          (elim (Contains-append_cases (out_of (peer_of session side).scan) (on.paths side) path
           (out_contains _ path (subst (λ ps. is_out ps path ≡ true) (out_later side) waits)))
-          as (λ _. Contains (requests_on (line_of session side)
+          as (λ _. Contains (requests_on (peer_of session side)
           ++ map ListAt (on.paths side)) (ListAt path)) [
-            | inl was ↦ Contains-append_left (requests_on (line_of session side))
+            | inl was ↦ Contains-append_left (requests_on (peer_of session side))
                 (map ListAt (on.paths side)) (ListAt path) (out side path
-                (contains_out (out_of (line_of session side).scan) path was))
-            | inr now ↦ Contains-append_right (requests_on (line_of session side))
+                (contains_out (out_of (peer_of session side).scan) path was))
+            | inr now ↦ Contains-append_right (requests_on (peer_of session side))
                 (map ListAt (on.paths side)) (ListAt path)
                 (in_map ListAt (on.paths side) path now)
           ])
@@ -271,7 +271,7 @@ module _ (session new : Session) (heard : Running) (h : HasHeard session heard)
             of_scan = h.of_scan;
             found =
                 λ side. subst (λ s. IsFoundIn (found_of s) side heard.taken)
-                (sym (asking.line side).scan) (found_new side);
+                (sym (asking.peer side).scan) (found_new side);
             at = lists begun (to_list later asking);
             out = still_out later asking;
           });
@@ -284,10 +284,10 @@ module _ (session new : Session) (heard : Running) (h : HasHeard session heard)
 
 -- ---- whether anything is listed next
 
-quiet_line : (old new : Line) (paths : List Path) → new.waiting ≡ old.waiting →
+quiet_peer : (old new : PeerState) (paths : List Path) → new.waiting ≡ old.waiting →
     ListsNext old new paths → is_silent new paths ≡ true →
     (waiting_of new ≡ []) × (out_of new.scan ≡ out_of old.scan) × AreAllOut (asked_of new.scan)
-quiet_line old new paths same next quiet =
+quiet_peer old new paths same next quiet =
     let both = and_parts (not (nat_lt 0 (length (waiting_of new)))) (nat_eq (length paths) 0) quiet
     in
     let none = none_wait (waiting_of new) (off _ both.0) in
@@ -315,9 +315,9 @@ quiet_line old new paths same next quiet =
         never : (n : ℕ) → nat_eq (suc n) 0 ≡ true → ⊥
         never n e = grind (arith, nat_tests)
 
-loud_line : (new : Line) (paths : List Path) → is_silent new paths ≡ false →
+loud_peer : (new : PeerState) (paths : List Path) → is_silent new paths ≡ false →
     1 ≤ length (waiting_of new) + length paths
-loud_line new paths loud =
+loud_peer new paths loud =
     by (length (waiting_of new)) (length paths) loud
   where
     by : (m n : ℕ) → (not (nat_lt 0 m) && nat_eq n 0) ≡ false → 1 ≤ m + n
@@ -334,15 +334,15 @@ module _ (old new : Session) (left right : Vec Path Global) (left_same : new.lef
   listed_so quiet =
       let both = and_parts (is_silent new.left left.items) (is_silent new.right right.items)
       quiet in
-      let l = quiet_line old.left new.left left.items left_same next_left both.0 in
-      let r = quiet_line old.right new.right right.items right_same next_right both.1 in
+      let l = quiet_peer old.left new.left left.items left_same next_left both.0 in
+      let r = quiet_peer old.right new.right right.items right_same next_right both.1 in
       record {
-        silent = λ side. elim side as (λ side. waiting_of (line_of new side) ≡ [])
+        silent = λ side. elim side as (λ side. waiting_of (peer_of new side) ≡ [])
             [ Left ↦ l.0 | Right ↦ r.0 ];
         out = λ side. elim side as (λ side.
-            out_of (line_of new side).scan ≡ out_of (line_of old side).scan)
+            out_of (peer_of new side).scan ≡ out_of (peer_of old side).scan)
             [ Left ↦ l.1 | Right ↦ r.1 ];
-        all = λ side. elim side as (λ side. AreAllOut (asked_of (line_of new side).scan))
+        all = λ side. elim side as (λ side. AreAllOut (asked_of (peer_of new side).scan))
             [ Left ↦ l.2 | Right ↦ r.2 ];
       }
 
@@ -362,20 +362,20 @@ module _ (old new : Session) (left right : Vec Path Global) (left_same : new.lef
         λ side. elim side as (λ side. asks_of (Listings left right) side
         ≡ map ListAt (paths_of side)) [ Left ↦ refl | Right ↦ refl ];
     next =
-        λ side. elim side as (λ side. ListsNext (line_of old side) (line_of new side)
+        λ side. elim side as (λ side. ListsNext (peer_of old side) (peer_of new side)
         (paths_of side)) [ Left ↦ next_left | Right ↦ next_right ];
     some =
         elim (either_loud (is_silent new.left left.items) (is_silent new.right right.items) loud)
-        as (λ _. (side : Which) × (1 ≤ length (waiting_of (line_of new side))
+        as (λ _. (side : Which) × (1 ≤ length (waiting_of (peer_of new side))
         + length (asks_of (Listings left right) side))) [
           | inl l ↦ (
             Left,
-            let more = loud_line new.left left.items l in
+            let more = loud_peer new.left left.items l in
                 let long = length-map left.items ListAt in omega (arith, more, long),
           )
           | inr r ↦ (
             Right,
-            let more = loud_line new.right right.items r in
+            let more = loud_peer new.right right.items r in
                 let long = length-map right.items ListAt in omega (arith, more, long),
           )
         ];

@@ -19,7 +19,7 @@ use Rattle.syn_session.specs.inner.Listing.{IsListed, KeepsFound, ListsOn}
 use Rattle.syn_session.specs.Hearing.{EndsHearing, HasHeard, Hears, afterwards}
 use Rattle.syn_refusal.specs.declared.refusal.Refusal.{Refusal as Why}
 use Rattle.syn_refusal.specs.declared.refusal.Refusal.TheVariants.{Memory}
-use Rattle.syn_session.specs.Stages.{IsToList, found_on, line_of, requests_on}
+use Rattle.syn_session.specs.Stages.{IsToList, found_on, peer_of, requests_on}
 use Rattle.syn_session.proofs.HearLemmas.{heard_new, scans_either}
 use Rattle.syn_session.proofs.TellingLemmas.{tells_heard}
 
@@ -41,8 +41,8 @@ pub hears_next : {E : Type 0} (old new : Session) (running : Running) (side : Wh
     BothBegun heard.taken →
     ((on : Which) → IsFoundIn (found_on old on) on heard.taken) →
     ((on : Which) → IsToList old on) →
-    ((on : Which) (path : Path) → WaitsFor (line_of old on).scan path →
-    Contains (requests_on (line_of old on)) (ListAt path)) → KeepsFound old new →
+    ((on : Which) (path : Path) → WaitsFor (peer_of old on).scan path →
+    Contains (requests_on (peer_of old on)) (ListAt path)) → KeepsFound old new →
     (went : Result (Option Asks) E) → IfOk went (λ next. IfSome next (ListsOn old new)) →
     IfOk went (λ next. IfNone next (IsListed old new)) → (result : Result (Option Asks) Why) →
     MatchResult went (λ next. result ≡ Ok next) (λ _. IsErrAnd result (λ why. why ≡ Memory)) →

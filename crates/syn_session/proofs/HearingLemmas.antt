@@ -23,7 +23,7 @@ use Rattle.syn_model.specs.Archive as archive
 use Rattle.syn_model.specs.Path.{Path}
 use Rattle.syn_scan.specs.Asked.{is_out, without as without_path}
 use Rattle.syn_session.specs.Scanning.{IsFoundIn, WaitsFor, found_of, out_of}
-use Rattle.syn_session.specs.declared.line.Line.{Line}
+use Rattle.syn_session.specs.declared.peer.PeerState.{PeerState}
 use Rattle.syn_session.specs.declared.session.Asks.{Asks}
 use Rattle.syn_session.specs.declared.session.Session.{Session}
 use Rattle.syn_session.specs.Answering.{IsAnswering, asks_of, exchange_of}
@@ -32,7 +32,7 @@ use Rattle.syn_session.specs.Hearing.{HasHeard, IsAsking, ScansOn}
 use Rattle.syn_session.specs.Sessions.{IsSession, IsStage, Tells}
 use Rattle.syn_session.specs.Stages.{AreOfScan, IsBeginningOrListing, IsOfScan, IsScanning}
 use Rattle.syn_session.specs.Stages.{IsToBegin, IsToList, begins, lists, found_on}
-use Rattle.syn_session.specs.Stages.{line_of, outstanding_of, reached_by, requests_on, waiting_of}
+use Rattle.syn_session.specs.Stages.{peer_of, outstanding_of, reached_by, requests_on, waiting_of}
 use Rattle.syn_session.proofs.AnswerLemmas.{heard_so, unstable_then}
 use Rattle.syn_session.proofs.HeardNext.{no_begin_in, no_list_in}
 use Rattle.syn_session.proofs.HearLemmas.{found_still}
@@ -64,14 +64,14 @@ module _ (kept : archive.Archive) (before now : Session) (running : Running) (si
   scanning : IsScanning before running.taken (reached_by running)
   scanning = subst (λ c. IsStage kept before c running.taken (reached_by running)) scans is.stage
 
-  left_now : waiting_of (line_of now side) ≡ without number (waiting_of (line_of before side))
-  left_now = answers.waits (is.line side).rising
+  left_now : waiting_of (peer_of now side) ≡ without number (waiting_of (peer_of before side))
+  left_now = answers.waits (is.peer side).rising
 
-  waited : Contains (requests_on (line_of before side)) request
-  waited = asked_has (waiting_of (line_of before side)) number request answers.asked
+  waited : Contains (requests_on (peer_of before side)) request
+  waited = asked_has (waiting_of (peer_of before side)) number request answers.asked
 
-  waits_across : waiting_of (line_of now (other side))
-      ≡ waiting_of (line_of before (other side))
+  waits_across : waiting_of (peer_of now (other side))
+      ≡ waiting_of (peer_of before (other side))
   waits_across = ap waiting_of answers.across
 
   -- it was begun or a listing, as what was asked before
@@ -93,10 +93,10 @@ module _ (kept : archive.Archive) (before now : Session) (running : Running) (si
       tells_nothing session running (is.number ∙ sym (n ∙ answers.number_is))
       (is.unstable ∙ sym (u ∙ answers.unstable)) (c ∙ still_scans) scanning.nothing
 
-  scan_same : (on : Which) → (line_of now on).scan ≡ (line_of before on).scan
+  scan_same : (on : Which) → (peer_of now on).scan ≡ (peer_of before on).scan
   scan_same =
-      by_sides (λ on. (line_of now on).scan ≡ (line_of before on).scan) side answers.scan
-      (ap (λ (l : Line). l.scan) answers.across)
+      by_sides (λ on. (peer_of now on).scan ≡ (peer_of before on).scan) side answers.scan
+      (ap (λ (l : PeerState). l.scan) answers.across)
 
   -- while it scans it waits for nothing but a begin or a listing
   neither : ((pair : ℕ) → request ≡ Begin pair → ⊥) → ((path : Path) → request ≡ ListAt path → ⊥) →
@@ -155,7 +155,7 @@ module _ (kept : archive.Archive) (before now : Session) (running : Running) (si
 
     -- so nothing is out
     no_list_waits : (on : Which) (path : Path) →
-        Contains (requests_on (line_of before on)) (ListAt path) → ⊥
+        Contains (requests_on (peer_of before on)) (ListAt path) → ⊥
     no_list_waits on path has = elim (each_begins on) [
       | inl (asked, e) ↦ list_not_begin path asked (sym (only_in (Begin asked) (ListAt path)
           (subst (λ l. Contains l (ListAt path)) e has)))
@@ -163,20 +163,20 @@ module _ (kept : archive.Archive) (before now : Session) (running : Running) (si
           (subst (λ l. Contains l (ListAt path)) e has)
     ]
 
-    nothing_out : (on : Which) (path : Path) → WaitsFor (line_of now on).scan path → ⊥
+    nothing_out : (on : Which) (path : Path) → WaitsFor (peer_of now on).scan path → ⊥
     nothing_out on path waits =
         no_list_waits on path
         (scanning.out on path (subst (λ s. WaitsFor s path) (scan_same on) waits))
 
-    silent_here : waiting_of (line_of now side) ≡ []
+    silent_here : waiting_of (peer_of now side) ≡ []
     silent_here =
-        left_now ∙ alone_is (waiting_of (line_of before side)) number request few answers.asked
+        left_now ∙ alone_is (waiting_of (peer_of before side)) number request few answers.asked
       where
-        few : length (waiting_of (line_of before side)) ≤ 1
+        few : length (waiting_of (peer_of before side)) ≤ 1
         few =
-            let same = length-map (waiting_of (line_of before side))
+            let same = length-map (waiting_of (peer_of before side))
             (λ (one : Outstanding). one.request) in
-            elim (each_begins side) as (λ _. length (waiting_of (line_of before side)) ≤ 1) [
+            elim (each_begins side) as (λ _. length (waiting_of (peer_of before side)) ≤ 1) [
               | inl (asked, e) ↦ let one = ap length e in omega (arith, same, one)
               | inr (e, asked, at, was) ↦ let none = ap length e in omega (arith, same, none)
             ]
@@ -201,7 +201,7 @@ module _ (kept : archive.Archive) (before now : Session) (running : Running) (si
     was_begun on p k was = (was.0, Contains-append_left running.taken _ _ was.1)
 
     -- the other side has begun too
-    module _ (silent : waiting_of (line_of now (other side)) ≡ []) where
+    module _ (silent : waiting_of (peer_of now (other side)) ≡ []) where
       pub both_begun : BothBegun heard.taken
       both_begun =
           by_sides (λ on. (p : ℕ) × (k : ℕ) × WasTaken heard.taken on (Begin p) (Begun k)) side
@@ -214,30 +214,30 @@ module _ (kept : archive.Archive) (before now : Session) (running : Running) (si
             | inr was ↦ (was.1, was.2, was_begun (other side) was.1 was.2 was.3)
           ])
 
-      silent_on : (on : Which) → waiting_of (line_of now on) ≡ []
-      silent_on = by_sides (λ on. waiting_of (line_of now on) ≡ []) side silent_here silent
+      silent_on : (on : Which) → waiting_of (peer_of now on) ≡ []
+      silent_on = by_sides (λ on. waiting_of (peer_of now on) ≡ []) side silent_here silent
 
       pub begun_lines : (on : Which) → IsToList now on
       begun_lines on r has =
           absurd (none_waits r (subst (λ w. Contains (map (λ (one : Outstanding). one.request) w) r)
           (silent_on on) has))
 
-      pub begun_out : (on : Which) (path : Path) → WaitsFor (line_of now on).scan path →
-          Contains (requests_on (line_of now on)) (ListAt path)
+      pub begun_out : (on : Which) (path : Path) → WaitsFor (peer_of now on).scan path →
+          Contains (requests_on (peer_of now on)) (ListAt path)
       begun_out on path waits = absurd (nothing_out on path waits)
 
     -- the other side is still to begin
-    module _ (waits : 1 ≤ length (waiting_of (line_of now (other side)))) (asks : Asks)
+    module _ (waits : 1 ≤ length (waiting_of (peer_of now (other side)))) (asks : Asks)
         (nothing : (on : Which) → asks_of asks on ≡ []) where
       waits_then : (on : Which) (later : Session) → IsAsking now later asks →
-          waiting_of (line_of later on) ≡ waiting_of (line_of now on)
+          waiting_of (peer_of later on) ≡ waiting_of (peer_of now on)
       waits_then on later asking =
-          (asking.line on).waits
-          ∙ (ap (λ rs. waiting_of (line_of now on) ++ numbered (line_of now on).asked rs)
-          (nothing on) ∙ append-nil (waiting_of (line_of now on)))
+          (asking.peer on).waits
+          ∙ (ap (λ rs. waiting_of (peer_of now on) ++ numbered (peer_of now on).asked rs)
+          (nothing on) ∙ append-nil (waiting_of (peer_of now on)))
 
       requests_then : (on : Which) (later : Session) → IsAsking now later asks →
-          requests_on (line_of later on) ≡ requests_on (line_of now on)
+          requests_on (peer_of later on) ≡ requests_on (peer_of now on)
       requests_then on later asking =
           ap (map (λ (one : Outstanding). one.request)) (waits_then on later asking)
 
@@ -269,13 +269,13 @@ module _ (kept : archive.Archive) (before now : Session) (running : Running) (si
             )
           ])
 
-      may_wait_on : (on : Which) → MayWait (waiting_of (line_of now on)
-          ++ numbered (line_of now on).asked (asks_of asks on))
+      may_wait_on : (on : Which) → MayWait (waiting_of (peer_of now on)
+          ++ numbered (peer_of now on).asked (asks_of asks on))
       may_wait_on on =
-          subst MayWait (sym (ap (λ rs. waiting_of (line_of now on)
-          ++ numbered (line_of now on).asked rs) (nothing on)
-          ∙ append-nil (waiting_of (line_of now on))))
-          ((heard_so kept before now running number request reply is side answers).line on).may
+          subst MayWait (sym (ap (λ rs. waiting_of (peer_of now on)
+          ++ numbered (peer_of now on).asked rs) (nothing on)
+          ∙ append-nil (waiting_of (peer_of now on))))
+          ((heard_so kept before now running number request reply is side answers).peer on).may
 
       pub waits_on : ScansOn now heard (Some asks)
       waits_on archive = record {
@@ -293,12 +293,12 @@ module _ (kept : archive.Archive) (before now : Session) (running : Running) (si
               of_scan = of_scan_then (subst IsOfScan (sym begin) tt);
               found =
                   λ on. subst (λ s. IsFoundIn (found_of s) on heard.taken)
-                  (sym (asking.line on).scan)
+                  (sym (asking.peer on).scan)
                   (found_begun on);
               at = begins (to_begin later asking);
               out =
                   λ on path is_out. absurd (nothing_out on path
-                  (subst (λ s. WaitsFor s path) (asking.line on).scan is_out));
+                  (subst (λ s. WaitsFor s path) (asking.peer on).scan is_out));
             });
       }
 
@@ -319,11 +319,11 @@ module _ (kept : archive.Archive) (before now : Session) (running : Running) (si
         ]
 
     -- it waits for that
-    pub waits_for : WaitsFor (line_of now side).scan path
+    pub waits_for : WaitsFor (peer_of now side).scan path
     waits_for =
         let it = each_lists.1 side request waited in
         subst (λ s. WaitsFor s path) (sym answers.scan)
-        (subst (WaitsFor (line_of before side).scan)
+        (subst (WaitsFor (peer_of before side).scan)
         (sym (same_directory path it.0 (sym listing ∙ it.1))) it.2)
 
     pub found_before : IsFoundIn (found_on now side) side running.taken
@@ -339,25 +339,25 @@ module _ (kept : archive.Archive) (before now : Session) (running : Running) (si
         (preferred_so : after.preference ≡ taken.preference) (progress : after.progress ≡
         taken.progress)
         (found : IsFoundIn (found_on taken side) side heard.taken)
-        (out : out_of (line_of taken side).scan
-        ≡ without_path (out_of (line_of now side).scan) path) where
-      line_same : (on : Which) → line_of after on ≡ line_of taken on
-      line_same Left = left
-      line_same Right = right
+        (out : out_of (peer_of taken side).scan
+        ≡ without_path (out_of (peer_of now side).scan) path) where
+      peer_same : (on : Which) → peer_of after on ≡ peer_of taken on
+      peer_same Left = left
+      peer_same Right = right
 
-      waiting_same : (on : Which) → (line_of after on).waiting ≡ (line_of now on).waiting
+      waiting_same : (on : Which) → (peer_of after on).waiting ≡ (peer_of now on).waiting
       waiting_same on =
-          ap (λ (l : Line). l.waiting) (line_same on)
-          ∙ by_sides (λ o. (line_of taken o).waiting ≡ (line_of now o).waiting) side keeps.waits
-          (ap (λ (l : Line). l.waiting) keeps.across) on
+          ap (λ (l : PeerState). l.waiting) (peer_same on)
+          ∙ by_sides (λ o. (peer_of taken o).waiting ≡ (peer_of now o).waiting) side keeps.waits
+          (ap (λ (l : PeerState). l.waiting) keeps.across) on
 
-      count_same : (on : Which) → (line_of after on).asked ≡ (line_of now on).asked
+      count_same : (on : Which) → (peer_of after on).asked ≡ (peer_of now on).asked
       count_same on =
-          ap (λ (l : Line). l.asked) (line_same on)
-          ∙ by_sides (λ o. (line_of taken o).asked ≡ (line_of now o).asked) side keeps.count
-          (ap (λ (l : Line). l.asked) keeps.across) on
+          ap (λ (l : PeerState). l.asked) (peer_same on)
+          ∙ by_sides (λ o. (peer_of taken o).asked ≡ (peer_of now o).asked) side keeps.count
+          (ap (λ (l : PeerState). l.asked) keeps.across) on
 
-      waits_same : (on : Which) → waiting_of (line_of after on) ≡ waiting_of (line_of now on)
+      waits_same : (on : Which) → waiting_of (peer_of after on) ≡ waiting_of (peer_of now on)
       waits_same on = ap (λ w. map outstanding_of w.items) (waiting_same on)
 
       pub listed_heard : HasHeard after heard
@@ -370,18 +370,18 @@ module _ (kept : archive.Archive) (before now : Session) (running : Running) (si
                   ∙ sym (ap (λ (p : Option Side). option_map which_of p)
                   (preferred_so ∙ keeps.preference_is));
               lawful = subst (λ n. n < 2 ^ 64) (sym (numbered_so ∙ keeps.number_is)) h.lawful;
-              line =
+              peer =
                   λ on. record {
-                    waits = (h.line on).waits ∙ sym (waits_same on);
-                    count = (h.line on).count ∙ sym (count_same on);
-                    few = subst (λ n. n ≤ 2 ^ 32) (sym (count_same on)) (h.line on).few;
-                    rising = subst AreRising (sym (waits_same on)) (h.line on).rising;
+                    waits = (h.peer on).waits ∙ sym (waits_same on);
+                    count = (h.peer on).count ∙ sym (count_same on);
+                    few = subst (λ n. n ≤ 2 ^ 32) (sym (count_same on)) (h.peer on).few;
+                    rising = subst AreRising (sym (waits_same on)) (h.peer on).rising;
                     below =
-                        subst (λ n. All (λ one. one.number < n) (waiting_of (line_of after on)))
+                        subst (λ n. All (λ one. one.number < n) (waiting_of (peer_of after on)))
                         (sym (count_same on))
-                        (subst (λ w. All (λ one. one.number < (line_of now on).asked) w)
-                        (sym (waits_same on)) (h.line on).below);
-                    may = subst MayWait (sym (waits_same on)) (h.line on).may;
+                        (subst (λ w. All (λ one. one.number < (peer_of now on).asked) w)
+                        (sym (waits_same on)) (h.peer on).below);
+                    may = subst MayWait (sym (waits_same on)) (h.peer on).may;
                   };
               once = h.once;
             };
@@ -395,9 +395,9 @@ module _ (kept : archive.Archive) (before now : Session) (running : Running) (si
 
       pub listed_found : (on : Which) → IsFoundIn (found_on after on) on heard.taken
       listed_found on =
-          subst (λ (l : Line). IsFoundIn (found_of l.scan) on heard.taken) (sym (line_same on))
+          subst (λ (l : PeerState). IsFoundIn (found_of l.scan) on heard.taken) (sym (peer_same on))
           (by_sides (λ o. IsFoundIn (found_on taken o) o heard.taken) side found
-          (subst (λ (l : Line). IsFoundIn (found_of l.scan) (other side) heard.taken)
+          (subst (λ (l : PeerState). IsFoundIn (found_of l.scan) (other side) heard.taken)
           (sym keeps.across) found_across) on)
 
       pub listed_begun : BothBegun heard.taken
@@ -405,30 +405,30 @@ module _ (kept : archive.Archive) (before now : Session) (running : Running) (si
           let was = each_lists.0 on in
           (was.0, was.1, (was.2.0, Contains-append_left running.taken _ _ was.2.1))
 
-      across_same : line_of after (other side) ≡ line_of before (other side)
-      across_same = line_same (other side) ∙ (keeps.across ∙ answers.across)
+      across_same : peer_of after (other side) ≡ peer_of before (other side)
+      across_same = peer_same (other side) ∙ (keeps.across ∙ answers.across)
 
       -- what waits on the side still waited there, under another number
-      waits_here : waiting_of (line_of after side)
-          ≡ without number (waiting_of (line_of before side))
+      waits_here : waiting_of (peer_of after side)
+          ≡ without number (waiting_of (peer_of before side))
       waits_here = waits_same side ∙ left_now
 
-      out_here : out_of (line_of after side).scan
-          ≡ without_path (out_of (line_of before side).scan) path
+      out_here : out_of (peer_of after side).scan
+          ≡ without_path (out_of (peer_of before side).scan) path
       out_here =
-          ap (λ (l : Line). out_of l.scan) (line_same side)
+          ap (λ (l : PeerState). out_of l.scan) (peer_same side)
           ∙ (out ∙ ap (λ s. without_path (out_of s) path) answers.scan)
 
       -- no other listing that waits is of that directory
       other_directory : (one : Outstanding) (q : Path) →
-          Contains (waiting_of (line_of before side)) one → one.request ≡ ListAt q →
+          Contains (waiting_of (peer_of before side)) one → one.request ≡ ListAt q →
           (one.number == number) ≡ false → q ≢ path
       other_directory one q has asked off same =
-          let here = asked_waits (waiting_of (line_of before side)) number request answers.asked in
+          let here = asked_waits (waiting_of (peer_of before side)) number request answers.asked in
           let was_one : WasAsked running side one.number one.request =
-          inr (one.resent, subst (λ w. Contains w one) (sym (is.line side).waits) has) in
+          inr (one.resent, subst (λ w. Contains w one) (sym (is.peer side).waits) has) in
           let was_it : WasAsked running side here.0.number here.0.request =
-          inr (here.0.resent, subst (λ w. Contains w here.0) (sym (is.line side).waits) here.1) in
+          inr (here.0.resent, subst (λ w. Contains w here.0) (sym (is.peer side).waits) here.1) in
           let repeat : IsRepeat one.request here.0.request =
           subst (λ r. IsRepeat r here.0.request) (sym asked)
           (subst (IsRepeat (ListAt q)) (sym (here.3 ∙ listing)) same) in
@@ -438,18 +438,18 @@ module _ (kept : archive.Archive) (before now : Session) (running : Running) (si
 
       list_here : IsToList after side
       list_here r has =
-          let one = from_map (λ (one : Outstanding). one.request) (waiting_of (line_of after side))
+          let one = from_map (λ (one : Outstanding). one.request) (waiting_of (peer_of after side))
           r has in
           let was = in_filter (λ one. not (one.number == number))
-          (waiting_of (line_of before side)) one.0
+          (waiting_of (peer_of before side)) one.0
           (subst (λ w. Contains w one.0) waits_here one.1) in
-          let it = each_lists.1 side r (subst (Contains (requests_on (line_of before side))) one.2
-          (in_map (λ (one : Outstanding). one.request) (waiting_of (line_of before side)) one.0
+          let it = each_lists.1 side r (subst (Contains (requests_on (peer_of before side))) one.2
+          (in_map (λ (one : Outstanding). one.request) (waiting_of (peer_of before side)) one.0
           was.0)) in (
             it.0,
             it.1,
             subst (λ ps. is_out ps it.0 ≡ true) (sym out_here)
-                (out_still (out_of (line_of before side).scan) path it.0
+                (out_still (out_of (peer_of before side).scan) path it.0
                 (other_directory one.0 it.0 was.0 (one.2 ∙ it.1)
                 (not_true (one.0.number == number) was.1)) it.2),
           )
@@ -460,36 +460,37 @@ module _ (kept : archive.Archive) (before now : Session) (running : Running) (si
           across : IsToList after (other side)
           across r has =
               let it = each_lists.1 (other side) r
-              (subst (λ (l : Line). Contains (requests_on l) r) across_same has) in
-              (it.0, it.1, subst (λ (l : Line). WaitsFor l.scan it.0) (sym across_same) it.2)
+              (subst (λ (l : PeerState). Contains (requests_on l) r) across_same has) in
+              (it.0, it.1, subst (λ (l : PeerState). WaitsFor l.scan it.0) (sym across_same) it.2)
 
-      out_waits : (q : Path) → WaitsFor (line_of after side).scan q →
-          Contains (requests_on (line_of after side)) (ListAt q)
+      out_waits : (q : Path) → WaitsFor (peer_of after side).scan q →
+          Contains (requests_on (peer_of after side)) (ListAt q)
       out_waits q waits =
-          let was = out_before (out_of (line_of before side).scan) path q
+          let was = out_before (out_of (peer_of before side).scan) path q
           (subst (λ ps. is_out ps q ≡ true) out_here waits) in
           let one = from_map (λ (one : Outstanding). one.request)
-          (waiting_of (line_of before side)) (ListAt q) (scanning.out side q was.0) in
+          (waiting_of (peer_of before side)) (ListAt q) (scanning.out side q was.0) in
           let off : (one.0.number == number) ≡ false =
           other_number one.0.number number (λ same. was.1 (same_directory q path
-          (sym one.2 ∙ (same_Some _ _ (sym (first_is (waiting_of (line_of before side)) one.0
-          (is.line side).rising one.1) ∙ (ap (asked_in (waiting_of (line_of before side))) same
+          (sym one.2 ∙ (same_Some _ _ (sym (first_is (waiting_of (peer_of before side)) one.0
+          (is.peer side).rising one.1) ∙ (ap (asked_in (waiting_of (peer_of before side))) same
           ∙ answers.asked)) ∙ listing)))) in
           subst (λ w. Contains (map (λ (one : Outstanding). one.request) w) (ListAt q))
           (sym waits_here) (subst (Contains (map (λ (one : Outstanding). one.request)
-          (without number (waiting_of (line_of before side))))) one.2
+          (without number (waiting_of (peer_of before side))))) one.2
           (in_map (λ (one : Outstanding). one.request)
-          (without number (waiting_of (line_of before side))) one.0
-          (still_in-filter (λ one. not (one.number == number)) (waiting_of (line_of before side))
+          (without number (waiting_of (peer_of before side))) one.0
+          (still_in-filter (λ one. not (one.number == number)) (waiting_of (peer_of before side))
           one.0 one.1 (ap not off))))
 
-      pub listed_out : (on : Which) (q : Path) → WaitsFor (line_of after on).scan q →
-          Contains (requests_on (line_of after on)) (ListAt q)
-      listed_out = by_sides (λ on. (q : Path) → WaitsFor (line_of after on).scan q →
-          Contains (requests_on (line_of after on)) (ListAt q)) side out_waits
-          (λ q waits. subst (λ (l : Line). Contains (requests_on l) (ListAt q)) (sym across_same)
+      pub listed_out : (on : Which) (q : Path) → WaitsFor (peer_of after on).scan q →
+          Contains (requests_on (peer_of after on)) (ListAt q)
+      listed_out = by_sides (λ on. (q : Path) → WaitsFor (peer_of after on).scan q →
+          Contains (requests_on (peer_of after on)) (ListAt q)) side out_waits
+          (λ q waits. subst (λ (l : PeerState). Contains (requests_on l) (ListAt q))
+          (sym across_same)
           (scanning.out (other side) q
-          (subst (λ (l : Line). WaitsFor l.scan q) across_same waits)))
+          (subst (λ (l : PeerState). WaitsFor l.scan q) across_same waits)))
 
 pub none_other : (kept : archive.Archive) (before now : Session) (running : Running) (side : Which)
     (number : ℕ) (asked : Asked) (reply : model.Reply) → IsSession kept before running →

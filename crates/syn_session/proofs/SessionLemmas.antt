@@ -16,12 +16,12 @@ use Rattle.syn_model.specs.Archive as model
 use Rattle.syn_scan.specs.Asked.{is_out}
 use Rattle.syn_session.specs.Scanning.{IsFoundIn, WaitsFor, found_of, out_of}
 use Rattle.syn_session.specs.declared.plan_progress.PlanProgress.{PlanProgress}
-use Rattle.syn_session.specs.declared.line.Line.{Line}
+use Rattle.syn_session.specs.declared.peer.PeerState.{PeerState}
 use Rattle.syn_session.specs.declared.session.Session.{Session}
-use Rattle.syn_session.specs.Sessions.{IsLine, IsSession, IsStage, asks, begin_of, begun}
+use Rattle.syn_session.specs.Sessions.{IsPeer, IsSession, IsStage, asks, begin_of, begun}
 use Rattle.syn_session.specs.Sessions.{once_later, resent_once}
 use Rattle.syn_session.specs.Stages.{IsBeginningOrListing, IsToBegin, IsToList, Reached, begins}
-use Rattle.syn_session.specs.Stages.{lists, line_of, reached_by, requests_on, waiting_of}
+use Rattle.syn_session.specs.Stages.{lists, peer_of, reached_by, requests_on, waiting_of}
 use Rattle.syn_session.proofs.WaitingLemmas.{from_map}
 use Rattle.std.proofs.Common.{option_map}
 use Rattle.syn_path.specs.Sides.{which_of}
@@ -29,23 +29,23 @@ use Rattle.syn_path.specs.declared.side.Side.{Side}
 
 -- ---- a session that begins
 
-module _ (preference : Option Which) (line : Line) (number pair : ℕ)
-    (waits : waiting_of line ≡ begin_of pair)
-    (asked : line.asked ≡ 1) where
-  rising : AreRising (waiting_of line)
+module _ (preference : Option Which) (peer : PeerState) (number pair : ℕ)
+    (waits : waiting_of peer ≡ begin_of pair)
+    (asked : peer.asked ≡ 1) where
+  rising : AreRising (waiting_of peer)
   rising = subst AreRising (sym waits) (λ i j d before less. absurd (omega (arith, before, less)))
 
-  below : All (λ one. one.number < line.asked) (waiting_of line)
+  below : All (λ one. one.number < peer.asked) (waiting_of peer)
   below =
-      subst (λ w. All (λ one. one.number < line.asked) w) (sym waits)
-      (All-cons (λ one. one.number < line.asked) (asks 0 (Begin pair)) [] (omega (arith, asked))
-      (All-nil (λ one. one.number < line.asked)))
+      subst (λ w. All (λ one. one.number < peer.asked) w) (sym waits)
+      (All-cons (λ one. one.number < peer.asked) (asks 0 (Begin pair)) [] (omega (arith, asked))
+      (All-nil (λ one. one.number < peer.asked)))
 
-  may : MayWait (waiting_of line)
+  may : MayWait (waiting_of peer)
   may = subst MayWait (sym waits) (inl (omega arith))
 
-  begins_line : (side : Which) → IsLine line (begun preference number pair) side
-  begins_line Left =
+  begins_peer : (side : Which) → IsPeer peer (begun preference number pair) side
+  begins_peer Left =
       record {
         waits = sym waits;
         count = sym asked;
@@ -54,7 +54,7 @@ module _ (preference : Option Which) (line : Line) (number pair : ℕ)
         below = below;
         may = may;
       }
-  begins_line Right =
+  begins_peer Right =
       record {
         waits = sym waits;
         count = sym asked;
@@ -88,16 +88,16 @@ module _ (archive : model.Archive) (session : Session) (preference : Option Whic
     (numbered : session.number ≡ number)
     (preferred : option_map which_of session.preference ≡ preference) (lawful : number < 2 ^ 64)
     (stable : session.is_unstable ≡ false) (scans : session.progress ≡ None)
-    (waits : (side : Which) → waiting_of (line_of session side) ≡ begin_of pair)
-    (asked : (side : Which) → (line_of session side).asked ≡ 1)
-    (found : (side : Which) → IsFoundIn (found_of (line_of session side).scan) side [])
-    (out : (side : Which) → out_of (line_of session side).scan ≡ []) where
+    (waits : (side : Which) → waiting_of (peer_of session side) ≡ begin_of pair)
+    (asked : (side : Which) → (peer_of session side).asked ≡ 1)
+    (found : (side : Which) → IsFoundIn (found_of (peer_of session side).scan) side [])
+    (out : (side : Which) → out_of (peer_of session side).scan ≡ []) where
   pub session_begins : IsSession archive session (begun preference number pair)
   session_begins = record {
     number = sym numbered;
     preference = sym preferred;
     lawful = subst (λ n. n < 2 ^ 64) (sym numbered) lawful;
-    line = λ side. begins_line preference (line_of session side) number pair (waits side)
+    peer = λ side. begins_peer preference (peer_of session side) number pair (waits side)
         (asked side) side;
     once =
         λ side m n a b was_m was_n _. only_begin preference number pair side m a was_m
@@ -125,8 +125,8 @@ module _ (archive : model.Archive) (session : Session) (preference : Option Whic
 
 -- what waits stays, and what was found
 module _ (archive : model.Archive) (old new : Session) (taken : List Exchange) (reached : Reached)
-    (same : (side : Which) → requests_on (line_of new side) ≡ requests_on (line_of old side))
-    (scan : (side : Which) → (line_of new side).scan ≡ (line_of old side).scan) where
+    (same : (side : Which) → requests_on (peer_of new side) ≡ requests_on (peer_of old side))
+    (scan : (side : Which) → (peer_of new side).scan ≡ (peer_of old side).scan) where
   begins_still : (side : Which) → IsToBegin old taken side → IsToBegin new taken side
   begins_still side (inl (pair, is)) = inl (pair, same side ∙ is)
   begins_still side (inr (is, pair, position, was)) = inr (same side ∙ is, pair, position, was)
@@ -172,8 +172,8 @@ module _ (archive : model.Archive) (old new : Session) (taken : List Exchange) (
   stage_goes_on progress is =
       subst (λ c. IsStage archive new c taken reached) (sym progress) (stage_still old.progress is)
 
--- a line whose requests were sent once more
-pub record SentAgain (old new : Line) : Type 0 where
+-- a side whose requests were sent once more
+pub record SentAgain (old new : PeerState) : Type 0 where
   pub waits : waiting_of new ≡ once_more (waiting_of old)
   pub asked : new.asked ≡ old.asked
   pub scan : new.scan ≡ old.scan
@@ -201,36 +201,36 @@ module _ (archive : model.Archive) (old new : Session) (running : Running)
     (is : IsSession archive old running) (number : new.number ≡ old.number)
     (preferred : new.preference ≡ old.preference)
     (unstable : new.is_unstable ≡ old.is_unstable) (progress : new.progress ≡ old.progress)
-    (again : (side : Which) → SentAgain (line_of old side) (line_of new side)) where
+    (again : (side : Which) → SentAgain (peer_of old side) (peer_of new side)) where
   waits_again : (side : Which) →
-      outstanding (resent_once running) side ≡ waiting_of (line_of new side)
-  waits_again Left = ap once_more (is.line Left).waits ∙ sym (again Left).waits
-  waits_again Right = ap once_more (is.line Right).waits ∙ sym (again Right).waits
+      outstanding (resent_once running) side ≡ waiting_of (peer_of new side)
+  waits_again Left = ap once_more (is.peer Left).waits ∙ sym (again Left).waits
+  waits_again Right = ap once_more (is.peer Right).waits ∙ sym (again Right).waits
 
-  count_again : (side : Which) → asked_count (resent_once running) side ≡ (line_of new side).asked
+  count_again : (side : Which) → asked_count (resent_once running) side ≡ (peer_of new side).asked
   count_again Left =
       ap (λ n. count_by (λ exchange. is_side Left exchange.side) running.taken + n)
-      (length-map running.left _) ∙ ((is.line Left).count ∙ sym (again Left).asked)
+      (length-map running.left _) ∙ ((is.peer Left).count ∙ sym (again Left).asked)
   count_again Right =
       ap (λ n. count_by (λ exchange. is_side Right exchange.side) running.taken + n)
-      (length-map running.right _) ∙ ((is.line Right).count ∙ sym (again Right).asked)
+      (length-map running.right _) ∙ ((is.peer Right).count ∙ sym (again Right).asked)
 
   was_asked : (side : Which) (n : ℕ) (a : Request) → WasAsked (resent_once running) side n a →
       WasAsked running side n a
   was_asked side n a (inl taken) = inl taken
   was_asked side n a (inr (k, has)) =
-      let was = was_once (waiting_of (line_of old side)) n a k
+      let was = was_once (waiting_of (peer_of old side)) n a k
       (subst (λ l. Contains l (waits_as n a k)) (waits_again side ∙ (again side).waits) has) in
-      inr (was.0, subst (λ l. Contains l (waits_as n a was.0)) (sym (is.line side).waits) was.1)
+      inr (was.0, subst (λ l. Contains l (waits_as n a was.0)) (sym (is.peer side).waits) was.1)
 
   still_below : (side : Which) →
-      All (λ one. one.number < (line_of new side).asked) (waiting_of (line_of new side))
+      All (λ one. one.number < (peer_of new side).asked) (waiting_of (peer_of new side))
   still_below side =
-      subst (λ w. All (λ one. one.number < (line_of new side).asked) w) (sym (again side).waits)
-      (All-map (λ one. one.number < (line_of new side).asked) once_later
-      (waiting_of (line_of old side)) (λ k d less. subst (λ n. (get_or (waiting_of
-      (line_of old side)) k d).number < n) (sym (again side).asked)
-      ((is.line side).below k d less)))
+      subst (λ w. All (λ one. one.number < (peer_of new side).asked) w) (sym (again side).waits)
+      (All-map (λ one. one.number < (peer_of new side).asked) once_later
+      (waiting_of (peer_of old side)) (λ k d less. subst (λ n. (get_or (waiting_of
+      (peer_of old side)) k d).number < n) (sym (again side).asked)
+      ((is.peer side).below k d less)))
 
   pub resent_so : IsSession archive new (resent_once running)
   resent_so = record {
@@ -238,18 +238,18 @@ module _ (archive : model.Archive) (old new : Session) (running : Running)
     preference =
         is.preference ∙ sym (ap (λ (p : Option Side). option_map which_of p) preferred);
     lawful = subst (λ n. n < 2 ^ 64) (sym number) is.lawful;
-    line =
+    peer =
         λ side. record {
           waits = waits_again side;
           count = count_again side;
-          few = subst (λ n. n ≤ 2 ^ 32) (sym (again side).asked) (is.line side).few;
+          few = subst (λ n. n ≤ 2 ^ 32) (sym (again side).asked) (is.peer side).few;
           rising =
               subst AreRising (sym (again side).waits)
-              (once_more-rising (waiting_of (line_of old side)) (is.line side).rising);
+              (once_more-rising (waiting_of (peer_of old side)) (is.peer side).rising);
           below = still_below side;
           may =
               subst MayWait (sym (again side).waits)
-              (may_wait_again (waiting_of (line_of old side)) (is.line side).may);
+              (may_wait_again (waiting_of (peer_of old side)) (is.peer side).may);
         };
     once =
         λ side m n a b was_m was_n repeat. is.once side m n a b (was_asked side m a was_m)
@@ -258,6 +258,6 @@ module _ (archive : model.Archive) (old new : Session) (running : Running)
     stage =
         stage_goes_on archive old new running.taken (reached_by running) (λ side.
         ap (map (λ (one : Outstanding). one.request)) (again side).waits
-        ∙ same_requests (waiting_of (line_of old side)))
+        ∙ same_requests (waiting_of (peer_of old side)))
         (λ side. (again side).scan) progress is.stage;
   }

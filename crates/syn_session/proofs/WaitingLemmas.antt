@@ -1,4 +1,4 @@
--- What waits on a line, and which directories are out, as answers are taken and more is asked for.
+-- What waits on a side, and which directories are out, as answers are taken and more is asked for.
 use Rattle.std.proofs.Common.{◌≡◌, ◌≢◌, ◌≤◌, ◌<◌, ◌+◌, ◌⊎◌, ◌==◌, ◌||◌, ℕ, zero, suc, Bool, true}
 use Rattle.std.proofs.Common.{false, true≢false, not, cond, if◌then◌else◌, nat_le, nat_lt, List, []}
 use Rattle.std.proofs.Common.{◌∷◌, ◌++◌, length, get_or, map, take, drop, Some, None, refl, sym}
@@ -31,7 +31,7 @@ use Rattle.syn_scan.specs.Asked as scan
 use Rattle.syn_session.specs.Sessions.{once_later}
 use Rattle.syn_session.specs.Answering.{IsAskedOn}
 use Rattle.syn_session.specs.Stages.{outstanding_of, waiting_of}
-use Rattle.syn_session.specs.declared.line.Line.{Line}
+use Rattle.syn_session.specs.declared.peer.PeerState.{PeerState}
 use Rattle.syn_session.specs.declared.requests.Waiting.{Waiting}
 
 -- Lists
@@ -280,7 +280,7 @@ below_more waiting count requests below =
     (λ k d less. (number_within count requests (get_or (numbered count requests) k d)
     (All-contains_itself (numbered count requests) k d less)).1)
 
--- a request that waits is among those of the line
+-- a request that waits is among those of the side
 pub asked_has : (waiting : List Outstanding) (number : ℕ) (request : Request) →
     asked_in waiting number ≡ Some request →
     Contains (map (λ (one : Outstanding). one.request) waiting) request
@@ -364,7 +364,7 @@ written_back n now was long whole =
     take-append-le n now (drop (length now) was) (omega (arith, long, whole))
     ∙ take_all n now (omega (arith, long, whole))
 
--- What is asked for on a line
+-- What is asked for on a side
 
 numbered-append : (count : ℕ) (requests more : List Request) → numbered count (requests ++ more)
     ≡ numbered count requests ++ numbered (count + length requests) more
@@ -376,7 +376,7 @@ numbered-append count (request ∷ requests) more =
     ∙ ap (λ n. numbered (suc count) requests ++ numbered n more)
     (let e : suc count + length requests ≡ count + suc (length requests) = omega arith in e))
 
-pub asked_more : (old between new : Line) (first second : List Request) →
+pub asked_more : (old between new : PeerState) (first second : List Request) →
     IsAskedOn old between first → IsAskedOn between new second →
     IsAskedOn old new (first ++ second)
 asked_more old between new first second a b = record {

@@ -7,9 +7,9 @@ use Rattle.syn_headline.specs.Network.{Message, Which, Left, Right, other}
 use Rattle.syn_headline.specs.Side.{ListAt, Reply, Request}
 use Rattle.syn_message.specs.Requests.{request_of}
 use Rattle.syn_path.specs.declared.side.Side.TheVariants as to
-use Rattle.syn_session.specs.Sessions.{IsLine}
-use Rattle.syn_session.specs.Stages.{HasTaken, line_of, waiting_of}
-use Rattle.syn_session.specs.declared.line.Line.{Line}
+use Rattle.syn_session.specs.Sessions.{IsPeer}
+use Rattle.syn_session.specs.Stages.{HasTaken, peer_of, waiting_of}
+use Rattle.syn_session.specs.declared.peer.PeerState.{PeerState}
 use Rattle.syn_session.specs.declared.session.Asks.{Asks}
 use Rattle.syn_session.specs.declared.session.Asks.TheVariants.{Listings, One}
 use Rattle.syn_session.specs.declared.session.Session.{Session}
@@ -18,11 +18,11 @@ use Rattle.syn_path.specs.Sides.{which_of}
 -- this request waited on the line of the side, and waits no more; all else stays
 pub record IsAnswering (old new : Session) (side : Which) (number : ℕ) (request : Request)
     : Type 0 where
-  pub asked : asked_in (waiting_of (line_of old side)) number ≡ Some request
-  pub waits : HasTaken (line_of old side) (line_of new side) number
-  pub count : (line_of new side).asked ≡ (line_of old side).asked
-  pub scan : (line_of new side).scan ≡ (line_of old side).scan
-  pub across : line_of new (other side) ≡ line_of old (other side)
+  pub asked : asked_in (waiting_of (peer_of old side)) number ≡ Some request
+  pub waits : HasTaken (peer_of old side) (peer_of new side) number
+  pub count : (peer_of new side).asked ≡ (peer_of old side).asked
+  pub scan : (peer_of new side).scan ≡ (peer_of old side).scan
+  pub across : peer_of new (other side) ≡ peer_of old (other side)
   pub number_is : new.number ≡ old.number
   pub preference_is : new.preference ≡ old.preference
   pub unstable : new.is_unstable ≡ old.is_unstable
@@ -33,7 +33,7 @@ pub record IsHeard (session : Session) (running : Running) : Type 0 where
   pub number : running.session ≡ session.number
   pub preference : running.preference ≡ option_map which_of session.preference
   pub lawful : session.number < 2 ^ 64
-  pub line : (side : Which) → IsLine (line_of session side) running side
+  pub peer : (side : Which) → IsPeer (peer_of session side) running side
   pub once : AsksOnce running
 
 -- what is asked of a side
@@ -50,8 +50,8 @@ abbrev pub exchange_of : Which → ℕ → Request → Reply → Exchange
 exchange_of side number request reply =
     record { side = side; number = number; request = request; reply = reply }
 
--- the line asks for what comes now
-pub record IsAskedOn (old new : Line) (requests : List Request) : Type 0 where
+-- the side is asked for what comes now
+pub record IsAskedOn (old new : PeerState) (requests : List Request) : Type 0 where
   pub waits : waiting_of new ≡ waiting_of old ++ numbered old.asked requests
   pub count : new.asked ≡ old.asked + length requests
   pub few : (requests ≡ []) ⊎ (new.asked ≤ 2 ^ 32)

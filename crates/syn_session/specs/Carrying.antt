@@ -15,8 +15,8 @@ use Rattle.syn_refusal.specs.Refusals.{cause_of}
 use Rattle.syn_refusal.specs.declared.refusal.Refusal.{Refusal}
 use Rattle.syn_scan.specs.Found.{Found}
 use Rattle.syn_session.specs.Stages.{AreAskedBefore, Carries, IsPlanProgress, Reached, plan_in}
-use Rattle.syn_session.specs.declared.answering.Carrying.{Carrying}
-use Rattle.syn_session.specs.declared.answering.Carrying.TheVariants as has
+use Rattle.syn_session.specs.declared.answering.ItemProgress.{ItemProgress}
+use Rattle.syn_session.specs.declared.answering.ItemProgress.TheVariants as has
 use Rattle.syn_session.specs.declared.plan_progress.PlanProgress.{PlanProgress}
 use Rattle.syn_session.specs.declared.session.Asks.{Asks}
 use Rattle.syn_session.specs.declared.session.Asks.TheVariants.{Listings, One}
@@ -40,7 +40,7 @@ AsksOne transfer taken (One side request) =
 module _ (archive : Archive) (left right : Found) (all : List Exchange) (before : Reached)
     (taken : Exchange) (progress : PlanProgress) where
   -- what the answer comes to
-  abbrev pub ComesTo : Carrying → Type 0
+  abbrev pub ComesTo : ItemProgress → Type 0
   ComesTo (has.Asks asks) = (is_last taken.reply ≡ false)
       × Carries archive progress left right (all ++ taken ∷ []) before
       (λ transfer. AsksOne transfer (all ++ taken ∷ []) asks)
@@ -53,7 +53,7 @@ module _ (archive : Archive) (left right : Found) (all : List Exchange) (before 
       × IsFor progress.cursor planned taken.request
 
   -- it ends the session, or what it comes to follows
-  abbrev pub TakesAnswer : Result Carrying Refusal → Type 0
+  abbrev pub TakesAnswer : Result ItemProgress Refusal → Type 0
   TakesAnswer (Ok next) =
       (fault_of all taken.side taken.request taken.reply ≡ None) × ComesTo next
   TakesAnswer (Err why) =

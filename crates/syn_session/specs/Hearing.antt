@@ -14,7 +14,7 @@ use Rattle.syn_scan.specs.Found.{IsWhole}
 use Rattle.syn_session.specs.Answering.{IsAskedOn, IsHeard, asks_of, exchange_of}
 use Rattle.syn_session.specs.Scanning.{IsFoundIn}
 use Rattle.syn_session.specs.Sessions.{IsStage, Tells}
-use Rattle.syn_session.specs.Stages.{AreOfScan, found_on, line_of, nothing_reached, reached_by}
+use Rattle.syn_session.specs.Stages.{AreOfScan, found_on, peer_of, nothing_reached, reached_by}
 use Rattle.syn_session.specs.Stages.{waiting_of}
 use Rattle.syn_session.specs.declared.session.Asks.{Asks}
 use Rattle.syn_session.specs.declared.session.Session.{Session}
@@ -26,21 +26,21 @@ IsFresh heard side request = (n : ℕ) (before : Request) → WasAsked heard sid
 
 -- it asks for this on both lines
 pub record IsAsking (old new : Session) (asks : Asks) : Type 0 where
-  pub line : (side : Which) → IsAskedOn (line_of old side) (line_of new side) (asks_of asks side)
+  pub peer : (side : Which) → IsAskedOn (peer_of old side) (peer_of new side) (asks_of asks side)
   pub progress : new.progress ≡ old.progress
 
 -- what is asked next may be, for the first time, beside what waits; and something waits then
 pub record MayGoOn (archive : model.Archive) (session : Session) (heard : Running) (asks : Asks)
     : Type 0 where
-  pub may_wait : (side : Which) → MayWait (waiting_of (line_of session side)
-      ++ numbered (line_of session side).asked (asks_of asks side))
+  pub may_wait : (side : Which) → MayWait (waiting_of (peer_of session side)
+      ++ numbered (peer_of session side).asked (asks_of asks side))
   pub fresh : (side : Which) (request : Request) → Contains (asks_of asks side) request
       → IsFresh heard side request
   pub apart : (side : Which) → AllPairs (λ one other. ¬ IsRepeat one other) (asks_of asks side)
   pub may : (side : Which) (request : Request) → Contains (asks_of asks side) request
       → MayAsk archive heard side request × IsLawfulBody request
   pub some : (side : Which)
-      × (1 ≤ length (waiting_of (line_of session side)) + length (asks_of asks side))
+      × (1 ≤ length (waiting_of (peer_of session side)) + length (asks_of asks side))
   pub stage : (next : Session) → IsAsking session next asks
       → IsStage archive next next.progress heard.taken (reached_by heard)
 
@@ -49,7 +49,7 @@ pub record IsScanned (session : Session) (heard : Running) : Type 0 where
   pub begun : BothBegun heard.taken
   pub found : (side : Which) → IsFoundIn (found_on session side) side heard.taken
   pub whole : (side : Which) → IsWhole (found_on session side)
-  pub silent : (side : Which) → waiting_of (line_of session side) ≡ []
+  pub silent : (side : Which) → waiting_of (peer_of session side) ≡ []
 
 abbrev pub ScansOn : Session → Running → Option Asks → Type 0
 ScansOn session heard None = IsScanned session heard

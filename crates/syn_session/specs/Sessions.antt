@@ -12,10 +12,10 @@ use Rattle.syn_headline.specs.Side.{Request, Begin}
 use Rattle.syn_model.specs.Archive as model
 use Rattle.syn_model.specs.Refusal.{Refusal}
 use Rattle.syn_scan.specs.Found.{Found}
-use Rattle.syn_session.specs.Stages.{IsCarrying, IsPlanProgress, IsScanning, Reached, line_of}
+use Rattle.syn_session.specs.Stages.{IsCarrying, IsPlanProgress, IsScanning, Reached, peer_of}
 use Rattle.syn_session.specs.Stages.{nothing_reached, reached_by, waiting_of}
 use Rattle.syn_session.specs.declared.plan_progress.PlanProgress.{PlanProgress}
-use Rattle.syn_session.specs.declared.line.Line.{Line}
+use Rattle.syn_session.specs.declared.peer.PeerState.{PeerState}
 use Rattle.syn_session.specs.declared.session.Session.{Session}
 use Rattle.std.specs.Prelude.{option_map}
 use Rattle.syn_path.specs.Sides.{which_of}
@@ -32,14 +32,14 @@ once_later one = record one { resent = suc one.resent }
 abbrev pub is_worn_out : List Outstanding → Bool
 is_worn_out waiting = list_any (λ one. nat_le most_resends one.resent) waiting
 
--- what waits on the side is what the line has, and so many requests were sent there
-pub record IsLine (line : Line) (running : Running) (side : Which) : Type 0 where
-  pub waits : outstanding running side ≡ waiting_of line
-  pub count : asked_count running side ≡ line.asked
-  pub few : line.asked ≤ 2 ^ 32
-  pub rising : AreRising (waiting_of line)
-  pub below : All (λ one. one.number < line.asked) (waiting_of line)
-  pub may : MayWait (waiting_of line)
+-- what waits on the side is what its state has, and so many requests were sent there
+pub record IsPeer (peer : PeerState) (running : Running) (side : Which) : Type 0 where
+  pub waits : outstanding running side ≡ waiting_of peer
+  pub count : asked_count running side ≡ peer.asked
+  pub few : peer.asked ≤ 2 ^ 32
+  pub rising : AreRising (waiting_of peer)
+  pub below : All (λ one. one.number < peer.asked) (waiting_of peer)
+  pub may : MayWait (waiting_of peer)
 
 -- it scans both sides, or it goes through its plan
 abbrev pub IsStage : model.Archive → Session → Option PlanProgress → List Exchange → Reached →
@@ -54,7 +54,7 @@ pub record IsSession (archive : model.Archive) (session : Session) (running : Ru
   pub number : running.session ≡ session.number
   pub preference : running.preference ≡ option_map which_of session.preference
   pub lawful : session.number < 2 ^ 64
-  pub line : (side : Which) → IsLine (line_of session side) running side
+  pub peer : (side : Which) → IsPeer (peer_of session side) running side
   pub once : AsksOnce running
   pub unstable : is_unstable running ≡ session.is_unstable
   pub stage : IsStage archive session session.progress running.taken (reached_by running)

@@ -26,7 +26,7 @@ use Rattle.syn_session.specs.Plans.{AreRecordedBefore, Plan, planned_all, record
 use Rattle.syn_session.specs.Scanning.{IsFoundIn, WaitsFor, found_of}
 use Rattle.syn_session.specs.declared.plan_progress.Carried.{Carried}
 use Rattle.syn_session.specs.declared.plan_progress.PlanProgress.{PlanProgress}
-use Rattle.syn_session.specs.declared.line.Line.{Line}
+use Rattle.syn_session.specs.declared.peer.PeerState.{PeerState}
 use Rattle.syn_session.specs.declared.requests.Waiting.{Waiting}
 use Rattle.syn_session.specs.declared.session.Session.{Session}
 use Rattle.syn_image.specs.Archives.{kept_for}
@@ -38,25 +38,25 @@ outstanding_of waiting = record {
   resent = waiting.resent;
 }
 
--- what waits on a line
-abbrev pub waiting_of : Line → List Outstanding
-waiting_of line = map outstanding_of line.waiting.items
+-- what waits on a side
+abbrev pub waiting_of : PeerState → List Outstanding
+waiting_of peer = map outstanding_of peer.waiting.items
 
-abbrev pub requests_on : Line → List Request
-requests_on line = map (λ one. one.request) (waiting_of line)
+abbrev pub requests_on : PeerState → List Request
+requests_on peer = map (λ one. one.request) (waiting_of peer)
 
 -- the request of that number waits no more, where no other has it
-abbrev pub HasTaken : Line → Line → ℕ → Type 0
+abbrev pub HasTaken : PeerState → PeerState → ℕ → Type 0
 HasTaken old new number =
     AreRising (waiting_of old) → waiting_of new ≡ without number (waiting_of old)
 
-abbrev pub line_of : Session → Which → Line
-line_of session Left = session.left
-line_of session Right = session.right
+abbrev pub peer_of : Session → Which → PeerState
+peer_of session Left = session.left
+peer_of session Right = session.right
 
 -- what was found on a side so far
 abbrev pub found_on : Session → Which → Found
-found_on session side = found_of (line_of session side).scan
+found_on session side = found_of (peer_of session side).scan
 
 -- How far a session came: its plan, the item that it has come to, and what it recorded and refused
 pub record Reached : Type 0 where
@@ -82,15 +82,15 @@ nothing_reached = record { plan = None; cursor = 0; kept = []; refused = [] }
 -- the side is to begin the session, or did
 abbrev pub IsToBegin : Session → List Exchange → Which → Type 0
 IsToBegin session taken side =
-    ((pair : ℕ) × (requests_on (line_of session side) ≡ Begin pair ∷ []))
-    ⊎ ((requests_on (line_of session side) ≡ []) × (pair : ℕ) × (position : ℕ)
+    ((pair : ℕ) × (requests_on (peer_of session side) ≡ Begin pair ∷ []))
+    ⊎ ((requests_on (peer_of session side) ≡ []) × (pair : ℕ) × (position : ℕ)
     × WasTaken taken side (Begin pair) (Begun position))
 
 -- what waits on the side are the listings of directories that are out
 abbrev pub IsToList : Session → Which → Type 0
 IsToList session side = (request : Request) →
-    Contains (requests_on (line_of session side)) request →
-    (path : Path) × (request ≡ ListAt path) × WaitsFor (line_of session side).scan path
+    Contains (requests_on (peer_of session side)) request →
+    (path : Path) × (request ≡ ListAt path) × WaitsFor (peer_of session side).scan path
 
 -- no directory is listed before both sides have begun
 pub data IsBeginningOrListing (session : Session) (taken : List Exchange) : Type 0 where
@@ -113,8 +113,8 @@ pub record IsScanning (session : Session) (taken : List Exchange) (reached : Rea
   pub of_scan : AreOfScan taken
   pub found : (side : Which) → IsFoundIn (found_on session side) side taken
   pub at : IsBeginningOrListing session taken
-  pub out : (side : Which) (path : Path) → WaitsFor (line_of session side).scan path →
-      Contains (requests_on (line_of session side)) (ListAt path)
+  pub out : (side : Which) (path : Path) → WaitsFor (peer_of session side).scan path →
+      Contains (requests_on (peer_of session side)) (ListAt path)
 
 -- While it carries out its plan
 
@@ -184,7 +184,7 @@ pub record IsCarrying (archive : model.Archive) (session : Session) (progress : 
     (taken : List Exchange) (reached : Reached) : Type 0 where
   pub to : Which
   pub request : Request
-  pub waits : requests_on (line_of session to) ≡ request ∷ []
-  pub alone : requests_on (line_of session (other to)) ≡ []
+  pub waits : requests_on (peer_of session to) ≡ request ∷ []
+  pub alone : requests_on (peer_of session (other to)) ≡ []
   pub carries : Carries archive progress (found_on session Left) (found_on session Right) taken
       reached (λ transfer. TransferWaitsFor transfer taken to request)

@@ -19,7 +19,7 @@ use syn_refusal::Refusal;
 
 /// What an answer for the item that is carried comes to.
 #[derive(Debug, Drop)]
-pub enum Carrying {
+pub enum ItemProgress {
     /// This is to be asked next.
     Asks(Asks),
     /// The item is in its place on the other side, and the archive is to have this.
@@ -34,7 +34,7 @@ impl PlanProgress {
 
     /// Takes the answer for the item that is carried. Refused 23 where it does not belong to what
     /// was asked, and 11 where memory is refused.
-    pub fn take_answer(&mut self, alloc: Global, reply: Reply) -> Result<Carrying, Refusal>
+    pub fn take_answer(&mut self, alloc: Global, reply: Reply) -> Result<ItemProgress, Refusal>
         ensures step { (archive : Keeping) (left right : Found) (all : List Exchange)
             (before : Reached) (to : Which) (number : ℕ) (request : Asked)
             → Carries archive self.old left right all before
@@ -51,14 +51,14 @@ impl PlanProgress {
         match transfer.step(alloc, Some(reply)) {
             Ok(Next::Ask(side, request)) => {
                 self.carried = Some(Carried { transfer, kept });
-                Ok(Carrying::Asks(Asks::One(side, request)))
+                Ok(ItemProgress::Asks(Asks::One(side, request)))
             }
             // By calls, or the prover would look here at all that each holds.
             Ok(Next::Done) => {
                 drop(transfer);
-                Ok(Carrying::Done(kept))
+                Ok(ItemProgress::Done(kept))
             }
-            Ok(Next::Refused(why)) => Ok(Carrying::Refused(why)),
+            Ok(Next::Refused(why)) => Ok(ItemProgress::Refused(why)),
             Err(error) => {
                 drop(transfer);
                 drop(kept);

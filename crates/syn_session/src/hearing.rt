@@ -14,7 +14,7 @@ ghost use Rattle.syn_session.specs.Scanning.{Exchanges};
 ghost use Rattle.syn_session.specs.inner.Listing.{is_silent};
 
 use crate::error::SessionError;
-use crate::line::Line;
+use crate::peer::PeerState;
 use crate::session::{Asks, Session, is_no_directory};
 use std::alloc::Global;
 use syn_message::{Reply, Request};
@@ -25,7 +25,7 @@ impl Session {
     ghost use Rattle.syn_session.specs.Answering.{IsAnswering};
     ghost use Rattle.syn_session.specs.Hearing.{Hears};
     ghost use Rattle.syn_session.specs.Sessions.{IsSession};
-    ghost use Rattle.syn_session.specs.Stages.{line_of, waiting_of};
+    ghost use Rattle.syn_session.specs.Stages.{peer_of, waiting_of};
     ghost use Rattle.syn_session.specs.declared.session.Session.{Session as Ran};
     ghost use Rattle.syn_session.specs.inner.Listing.{IsListed, KeepsFound, ListsOn};
 
@@ -100,7 +100,7 @@ impl Session {
 
     /// Whether a request waits on the other side.
     fn waits_across(&self, side: Side) -> bool
-        ensures { result ≡ nat_lt 0 (length (waiting_of (line_of self.now
+        ensures { result ≡ nat_lt 0 (length (waiting_of (peer_of self.now
             (other (which_of side))))) }
     {
         match side {
@@ -150,9 +150,9 @@ fn check_begun(reply: Reply) -> Result<(), Refusal>
     }
 }
 
-/// Nothing waits on the line, and none of these is to be listed.
-fn is_silent(line: &Line, next: &[Path]) -> bool
-    ensures { result ≡ is_silent line.now next.now }
+/// Nothing waits on the side, and none of these is to be listed.
+fn is_silent(peer: &PeerState, next: &[Path]) -> bool
+    ensures { result ≡ is_silent peer.now next.now }
 {
-    !line.is_waiting() && next.is_empty()
+    !peer.is_waiting() && next.is_empty()
 }

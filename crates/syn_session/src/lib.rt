@@ -11,7 +11,7 @@
 //!   both lines, left first and in rising number, and `count_resend` counts that each is sent
 //!   again. `is_worn` says whether one may be sent again no more. `waits_on` says whether a request
 //!   waits on a side.
-//! - What waits on a line may wait there, and its numbers rise (`IsLine`: `may`, `rising`).
+//! - What waits on a side may wait there, and its numbers rise (`IsPeer`: `may`, `rising`).
 //! - `answered` gives the request that waits for the answer of that number, which waits no more
 //!   (`some`: `HasTaken`). Where none does, nothing changes (`none`).
 //! - `hear` takes the answer to a begin or to a listing (`step`: `Hears`). It gives the listings
@@ -44,8 +44,8 @@ mod carried;
 mod doing;
 mod error;
 mod hearing;
-mod line;
 mod passing;
+mod peer;
 mod plan_progress;
 mod report;
 mod requests;
@@ -53,10 +53,10 @@ mod sending;
 mod session;
 mod side_scan;
 
-pub use answering::Carrying;
+pub use answering::ItemProgress;
 pub use doing::Doing;
 pub use error::SessionError;
-pub use line::Line;
+pub use peer::PeerState;
 pub use plan_progress::{Carried, PlanProgress};
 pub use report::{End, Report};
 pub use requests::Waiting;

@@ -7,7 +7,7 @@ ghost use Rattle.syn_message.specs.Requests.{request_of};
 ghost use Rattle.syn_session.specs.Stages.{outstanding_of};
 
 use std::alloc::{AllocError, Global};
-use syn_message::{Asked, Request};
+use syn_message::{Request, RequestMessage};
 
 /// How often a request is sent again at most.
 const MOST_RESENDS: u8 = 8;
@@ -37,14 +37,14 @@ impl Waiting {
     }
 
     /// The request, with its session and its number in it. Refused 11 where memory is refused.
-    pub(crate) fn message(&self, alloc: Global, session: u64) -> Result<Asked, AllocError>
+    pub(crate) fn message(&self, alloc: Global, session: u64) -> Result<RequestMessage, AllocError>
         ensures session { IfOk result (λ asked. asked.session ≡ session) }
         ensures number { IfOk result (λ asked. asked.number ≡ self.now.number) }
         ensures request { IfOk result (λ asked. request_of asked.request
             ≡ request_of self.now.request) }
     {
         let request = self.request.copy(alloc)?;
-        Ok(Asked {
+        Ok(RequestMessage {
             session,
             number: self.number,
             request,

@@ -1,11 +1,11 @@
 //! What a coordinator sends.
 
-use syn_message::Asked;
+use syn_message::RequestMessage;
 use syn_path::Side;
 
 /// A request that is to be sent to a side.
 #[derive(Debug, Drop)]
 pub struct Sending {
     pub to: Side,
-    pub asked: Asked,
+    pub asked: RequestMessage,
 }

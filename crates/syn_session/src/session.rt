@@ -19,7 +19,7 @@ ghost use Rattle.syn_session.specs.Sendings.{messages_of};
 ghost use Rattle.syn_session.specs.Sessions.{end_by};
 
 use crate::error::SessionError;
-use crate::line::Line;
+use crate::peer::PeerState;
 use crate::plan_progress::PlanProgress;
 use crate::report::{End, Report};
 use crate::sending::Sending;
@@ -34,8 +34,8 @@ pub struct Session {
     pub number: u64,
     /// The side that goes to the other where both changed.
     pub preference: Option<Side>,
-    pub left: Line,
-    pub right: Line,
+    pub left: PeerState,
+    pub right: PeerState,
     /// A path changed its kind under the scan: it was answered as no directory.
     pub is_unstable: bool,
     /// Its plan, once both scans are whole.
@@ -58,7 +58,7 @@ impl Session {
     ghost use Rattle.syn_session.specs.Sessions.{IsSession, Tells, begin_messages, begun};
     ghost use Rattle.syn_session.specs.Sessions.{is_worn_now, messages_now, resent_once};
     ghost use Rattle.syn_session.specs.Scanning.{out_of};
-    ghost use Rattle.syn_session.specs.Stages.{found_on, line_of, waiting_of};
+    ghost use Rattle.syn_session.specs.Stages.{found_on, peer_of, waiting_of};
     ghost use Rattle.syn_session.specs.inner.Listing.{KeepsRequests};
 
     /// Both sides of the pair are to begin the session, which prefers a side or none. Refused 11
@@ -78,8 +78,8 @@ impl Session {
         ensures lawful { number < 2 ^ 64 }
         ensures memory { IfErr result (λ e. e ≡ SessionError.Memory) }
     {
-        let left = Line::new(alloc, pair)?;
-        let right = Line::new(alloc, pair)?;
+        let left = PeerState::new(alloc, pair)?;
+        let right = PeerState::new(alloc, pair)?;
         Ok(Session {
             number,
             preference,
@@ -134,7 +134,7 @@ impl Session {
         ensures some { IfSome result (λ request. (self.old.number ≡ session)
             × IsAnswering self.old self.new (which_of from) number (request_of request)) }
         ensures none { result ≡ None → (self.new ≡ self.old) × (self.old.number ≡ session
-            → asked_in (waiting_of (line_of self.old (which_of from))) number ≡ None) }
+            → asked_in (waiting_of (peer_of self.old (which_of from))) number ≡ None) }
     {
         if self.number != session {
             return None;
@@ -155,7 +155,7 @@ impl Session {
     ) -> Result<(), Refusal>
         requires lawful { IsLawfulReply (reply_of reply) }
         ensures step { (taken : Exchanges) (number : ℕ)
-            → WaitsFor (line_of self.old (which_of from)).scan path.now
+            → WaitsFor (peer_of self.old (which_of from)).scan path.now
             → IsFoundIn (found_on self.old (which_of from)) (which_of from) taken
             → MatchResult result
             (λ _. (fault_of taken (which_of from) (ListAt path.now) (reply_of reply) ≡ None)
@@ -163,8 +163,8 @@ impl Session {
             (with_listing_answered taken (which_of from) number path.now (reply_of reply)))
             (λ e. (cause_of e ≡ Memory) ⊎ (fault_of taken (which_of from) (ListAt path.now)
             (reply_of reply) ≡ Some (cause_of e))) }
-        ensures out { OnOk result (out_of (line_of self.new (which_of from)).scan
-            ≡ without (out_of (line_of self.old (which_of from)).scan) path.now) }
+        ensures out { OnOk result (out_of (peer_of self.new (which_of from)).scan
+            ≡ without (out_of (peer_of self.old (which_of from)).scan) path.now) }
         ensures keeps { KeepsRequests self.old self.new (which_of from) }
         ensures unstable { self.new.is_unstable ≡ self.old.is_unstable }
     {
@@ -188,7 +188,7 @@ impl Session {
 
     /// Whether a request waits on the side.
     pub fn waits_on(&self, side: Side) -> bool
-        ensures { result ≡ nat_lt 0 (length (waiting_of (line_of self.now (which_of side)))) }
+        ensures { result ≡ nat_lt 0 (length (waiting_of (peer_of self.now (which_of side)))) }
     {
         match side {
             Side::Left => self.left.is_waiting(),
@@ -251,17 +251,17 @@ impl Session {
         side: Side,
         request: Request,
     ) -> Result<Vec<Sending>, SessionError>
-        ensures line { OnOk result (IsAskedOn (line_of self.old (which_of side))
-            (line_of self.new (which_of side)) (request_of request ∷ [])) }
-        ensures across { line_of self.new (other (which_of side))
-            ≡ line_of self.old (other (which_of side)) }
+        ensures peer { OnOk result (IsAskedOn (peer_of self.old (which_of side))
+            (peer_of self.new (which_of side)) (request_of request ∷ [])) }
+        ensures across { peer_of self.new (other (which_of side))
+            ≡ peer_of self.old (other (which_of side)) }
         ensures number { self.new.number ≡ self.old.number }
         ensures preference { self.new.preference ≡ self.old.preference }
         ensures unstable { self.new.is_unstable ≡ self.old.is_unstable }
         ensures progress { self.new.progress ≡ self.old.progress }
         ensures sends { IfOk result (λ sends. messages_of sends.items
             ≡ messages_to self.old.number (which_of side)
-            (numbered (line_of self.old (which_of side)).asked (request_of request ∷ []))) }
+            (numbered (peer_of self.old (which_of side)).asked (request_of request ∷ []))) }
         ensures memory { IfErr result (λ e. e ≡ SessionError.Memory) }
     {
         let mut sends = Vec::new(alloc);

@@ -26,7 +26,7 @@ use std::alloc::Global;
 use std::io::{Read, Write};
 use syn_coordinator::Coordinator;
 use syn_disk::Disk;
-use syn_message::Answered;
+use syn_message::ReplyMessage;
 use syn_path::Side;
 use syn_refusal::Refusal;
 use syn_session::{Sending, SessionError};
@@ -177,7 +177,7 @@ impl<R: Read, W: Write> Driver<R, W> {
     }
 
     /// The next reply of the side; none where its link is closed, or comes to be.
-    fn receive(&mut self, alloc: Global, from: Side) -> Option<Answered>
+    fn receive(&mut self, alloc: Global, from: Side) -> Option<ReplyMessage>
         ensures heard { IfSome result (λ answered. (side : Which)
             → HearsAll (lines_of R.remaining self.old side)
             (answer_in side (Takes (which_of from) (answering_of answered)))
@@ -243,7 +243,7 @@ fn hear<D: Disk>(
     alloc: Global,
     coordinator: &mut Coordinator<D>,
     from: Side,
-    answered: Answered,
+    answered: ReplyMessage,
 ) -> Vec<Sending>
     requires { IsLawfulAnswering (answering_of answered) }
     ensures { (pair : ℕ) (machine : CoordinatorMachine) → Stands coordinator.old pair machine
@@ -251,7 +251,7 @@ fn hear<D: Disk>(
         (step_of pair machine (Takes (which_of from) (answering_of answered)))
         (written coordinator.new) (messages_of result.items) }
 {
-    let Answered {
+    let ReplyMessage {
         session,
         number,
         reply,

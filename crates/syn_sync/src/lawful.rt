@@ -3,13 +3,13 @@ ghost use Rattle.std.specs.Prelude.{◌≡◌, true};
 ghost use Rattle.syn_headline.specs.Side.{IsLawfulBody, IsPieceBytes};
 ghost use Rattle.syn_message.specs.Requests.{IsLawfulAsking, asking_of, request_of};
 
-use syn_message::{Asked, LONGEST_PIECE, Request};
+use syn_message::{LONGEST_PIECE, Request, RequestMessage};
 use syn_model::{is_long, is_short};
 use syn_path::is_path;
 
 /// Whether the request can be sent: sessions count from 1, and a piece has 1 to `LONGEST_PIECE`
 /// bytes. A coordinator sends no other.
-pub(crate) fn has_body(asked: &Asked) -> bool
+pub(crate) fn has_body(asked: &RequestMessage) -> bool
     ensures { result ≡ true → IsLawfulAsking (asking_of asked.now) }
 {
     is_long(asked.session);

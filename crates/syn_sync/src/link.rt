@@ -10,7 +10,7 @@ use crate::lawful::has_body;
 use std::alloc::Global;
 use std::io::{Read, Write};
 use syn_link::Connection;
-use syn_message::{Answered, Asked, decode_reply, encode_request};
+use syn_message::{ReplyMessage, RequestMessage, decode_reply, encode_request};
 
 /// A connection to a side, from which replies are read and to which requests are written, and
 /// whether it goes on.
@@ -59,7 +59,7 @@ impl<R: Read, W: Write> Link<R, W> {
 
     /// Writes the request as a frame, and flushes. Where that fails, or memory is refused, the
     /// connection is closed. On a closed one nothing is written.
-    pub fn send(&mut self, alloc: Global, asked: &Asked)
+    pub fn send(&mut self, alloc: Global, asked: &RequestMessage)
         ensures written { Writes (outlet_of W.contents self.old) (outlet_of W.contents self.new)
             (frame_of (asking_spelling (asking_of asked.now))) (is_open self.new) }
         ensures line { line_of R.remaining self.new ≡ line_of R.remaining self.old }
@@ -70,7 +70,7 @@ impl<R: Read, W: Write> Link<R, W> {
     }
 
     /// Writes the request as a frame, and answers whether it is written whole.
-    fn write(&mut self, alloc: Global, asked: &Asked) -> bool
+    fn write(&mut self, alloc: Global, asked: &RequestMessage) -> bool
         ensures written { Adds result (W.contents (writer_of self.old))
             (W.contents (writer_of self.new)) (frame_of (asking_spelling (asking_of asked.now))) }
         ensures line { line_of R.remaining self.new ≡ line_of R.remaining self.old }
@@ -85,7 +85,7 @@ impl<R: Read, W: Write> Link<R, W> {
     }
 
     /// The next reply; none where the connection is closed, or comes to be.
-    pub fn receive(&mut self, alloc: Global) -> Option<Answered>
+    pub fn receive(&mut self, alloc: Global) -> Option<ReplyMessage>
         ensures heard { IfSome result (λ answered. Hears (line_of R.remaining self.old)
             (line_of R.remaining self.new) (answering_of answered)) }
         ensures closed { IfNone result (is_open self.new ≡ false) }
@@ -101,7 +101,7 @@ impl<R: Read, W: Write> Link<R, W> {
     }
 
     /// The reply in the next frame; none where no frame comes, or its body is no reply.
-    fn read(&mut self, alloc: Global) -> Option<Answered>
+    fn read(&mut self, alloc: Global) -> Option<ReplyMessage>
         ensures heard { IfSome result (λ answered. Hears (line_of R.remaining self.old)
             (line_of R.remaining self.new) (answering_of answered)) }
         ensures written { writer_of self.new ≡ writer_of self.old }

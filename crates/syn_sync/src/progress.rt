@@ -7,7 +7,7 @@ use crate::watch::{Watch, tell_unreached};
 use std::alloc::{AllocError, Global};
 use std::io::{self, Write};
 use syn_image::Kept;
-use syn_message::{Answered, Reply, Request};
+use syn_message::{Reply, ReplyMessage, Request};
 use syn_path::{Path, Side};
 use syn_refusal::Refusal;
 use syn_session::{Report, Sending};
@@ -124,7 +124,7 @@ impl<W: Write> Progress<W> {
     }
 
     /// Whether this answers what the item waits for, and whether that was the replacement.
-    fn take_waiting(&mut self, from: Side, answered: &Answered) -> Option<bool> {
+    fn take_waiting(&mut self, from: Side, answered: &ReplyMessage) -> Option<bool> {
         let waiting = self.waiting?;
         let answers = waiting.to == from
             && waiting.session == answered.session
@@ -211,7 +211,7 @@ impl<W: Write> Watch for Progress<W> {
         }
     }
 
-    fn heard(&mut self, from: Side, answered: &Answered) {
+    fn heard(&mut self, from: Side, answered: &ReplyMessage) {
         let Some(replaces) = self.take_waiting(from, answered) else {
             return;
         };

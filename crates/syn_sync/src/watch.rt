@@ -2,7 +2,7 @@
 
 use std::io::{self, Write};
 use syn_image::Kept;
-use syn_message::Answered;
+use syn_message::ReplyMessage;
 use syn_path::Side;
 use syn_session::Sending;
 
@@ -16,7 +16,7 @@ pub trait Watch {
     fn sent(&mut self, sending: &Sending);
 
     /// The side replied. The coordinator takes the reply after this call.
-    fn heard(&mut self, from: Side, answered: &Answered);
+    fn heard(&mut self, from: Side, answered: &ReplyMessage);
 
     /// The plan of the session has so many items. It is told after each reply that the coordinator
     /// took and that did not end the session, once there is a plan.
@@ -44,7 +44,7 @@ impl Watch for Unwatched {
 
     fn sent(&mut self, _sending: &Sending) {}
 
-    fn heard(&mut self, _from: Side, _answered: &Answered) {}
+    fn heard(&mut self, _from: Side, _answered: &ReplyMessage) {}
 
     fn planned(&mut self, _items: usize) {}
 

@@ -18,7 +18,7 @@ use crate::pair::Pair;
 use std::alloc::{AllocError, Global};
 use std::marker::Model;
 use syn_path::{Key, Path};
-use syn_placed::Standing;
+use syn_placed::EntryKind;
 use syn_placed::ranges::{are_rising, count_children, count_children_at, is_directory};
 
 /// What stands below a directory, in path order: 256 entries a directory, 16,384 bytes a file, and

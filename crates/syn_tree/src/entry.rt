@@ -4,12 +4,12 @@ ghost use Rattle.syn_tree.specs.Contents.{content_of, found_content};
 
 use crate::content::{Content, Found};
 use std::alloc::{AllocError, Global};
-use syn_placed::{Keyed, Standing};
+use syn_placed::{EntryKind, Keyed};
 
 /// An entry of a tree.
 pub type Entry = Keyed<Content>;
 
-impl Standing for Content {
+impl EntryKind for Content {
     ghost content = { content_of };
 
     fn is_directory(&self) -> bool {

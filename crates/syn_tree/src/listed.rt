@@ -10,7 +10,7 @@ use crate::{Content, Found};
 use std::alloc::{AllocError, Global};
 use syn_path::Name;
 use syn_placed::list::entry_at;
-use syn_placed::{Placed, Standing};
+use syn_placed::{EntryKind, Placed};
 
 /// An entry of a plain tree: a path with a file or a directory.
 pub(crate) type Entry = Placed<Content>;

@@ -13,7 +13,7 @@ use crate::error::TreeError;
 use crate::lawful::is_path;
 use std::alloc::{AllocError, Global};
 use syn_path::{Key, Name};
-use syn_placed::Standing;
+use syn_placed::EntryKind;
 
 /// Puts the entries after those that are there, each with the path before its own.
 ///

@@ -15,7 +15,7 @@ use crate::reply::reply_to;
 use std::alloc::Global;
 use std::io::{Read, Write};
 use syn_link::Connection;
-use syn_message::{AskedByUser, UserReply, UserRequest, decode_user_reply, message_laws};
+use syn_message::{UserReply, UserRequest, UserRequestMessage, decode_user_reply, message_laws};
 use syn_path::Path;
 use syn_tree::{Content, Edit};
 
@@ -130,7 +130,7 @@ impl<R: Read, W: Write> UserConnection<R, W> {
         if !self.open {
             return Err(UserError::Device);
         }
-        let asked = AskedByUser {
+        let asked = UserRequestMessage {
             number: self.next,
             request,
         };
@@ -145,7 +145,11 @@ impl<R: Read, W: Write> UserConnection<R, W> {
 
     /// Sends the request, and answers the reply to it. Where that is refused, the connection is not
     /// closed yet.
-    fn exchange(&mut self, alloc: Global, asked: &AskedByUser) -> Result<UserReply, UserError>
+    fn exchange(
+        &mut self,
+        alloc: Global,
+        asked: &UserRequestMessage,
+    ) -> Result<UserReply, UserError>
         requires { asked.now.number ≡ next_of self.old }
         ensures told { IfOk result (λ reply.
             IsAnswered (line_of R.remaining W.contents self.old)
@@ -165,7 +169,7 @@ impl<R: Read, W: Write> UserConnection<R, W> {
     }
 
     /// The reply to the request, in the next frame.
-    fn hear(&mut self, alloc: Global, asked: &AskedByUser) -> Result<UserReply, UserError>
+    fn hear(&mut self, alloc: Global, asked: &UserRequestMessage) -> Result<UserReply, UserError>
         requires { IsLawfulWished (wished_of asked.now) }
         ensures heard { IfOk result (λ reply.
             IsHeard (line_of R.remaining W.contents self.old)

@@ -14,14 +14,14 @@ ghost use Rattle.syn_wire.specs.Events.{IsSpelledEvent};
 use crate::error::UserError;
 use std::alloc::Global;
 use syn_link::MAX_BODY;
-use syn_message::{AskedByUser, UserRequest, encode_user_request};
+use syn_message::{UserRequest, UserRequestMessage, encode_user_request};
 use syn_path::is_path;
 use syn_refusal::Refusal;
 use syn_tree::{Edit, is_mode};
 
 /// The body of the request. Refused 7 where a frame takes no body of its length, and 11 where
 /// memory is refused.
-pub(crate) fn body_of(alloc: Global, asked: &AskedByUser) -> Result<Vec<u8>, UserError>
+pub(crate) fn body_of(alloc: Global, asked: &UserRequestMessage) -> Result<Vec<u8>, UserError>
     ensures lawful { IfOk result (λ body. IsLawfulWished (wished_of asked.now)) }
     ensures body { IfOk result (λ body. body.items ≡ wished_spelling (wished_of asked.now)) }
     ensures framed { IfOk result (λ body. IsBody body.items) }
@@ -38,7 +38,7 @@ pub(crate) fn body_of(alloc: Global, asked: &AskedByUser) -> Result<Vec<u8>, Use
 }
 
 /// Whether the request can be spelled: it puts no more bytes than a frame takes.
-fn has_body(asked: &AskedByUser) -> bool
+fn has_body(asked: &UserRequestMessage) -> bool
     ensures lawful { result ≡ true → IsLawfulWished (wished_of asked.now) }
     ensures long { result ≡ false → IsTooLong (wished_of asked.now) }
 {

@@ -5,10 +5,10 @@ ghost use Rattle.syn_message.specs.Users.{wish_of, wished_of};
 ghost use Rattle.syn_user.specs.Exchanges.{Answers};
 ghost use Rattle.syn_user.specs.inner.Parts.{IsForeign, IsReplyTo};
 
-use syn_message::{AnsweredToUser, AskedByUser, UserReply, UserRequest};
+use syn_message::{UserReply, UserReplyMessage, UserRequest, UserRequestMessage};
 
 /// What is replied, where it is a reply to this request.
-pub(crate) fn reply_to(asked: &AskedByUser, answered: AnsweredToUser) -> Option<UserReply>
+pub(crate) fn reply_to(asked: &UserRequestMessage, answered: UserReplyMessage) -> Option<UserReply>
     ensures some { IfSome result (λ reply. IsReplyTo (wished_of asked.now) (telling_of answered)
         (told_of reply)) }
     ensures none { IfNone result (IsForeign (wished_of asked.now) (telling_of answered)) }

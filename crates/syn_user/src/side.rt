@@ -18,7 +18,7 @@ use crate::gathered::Gathered;
 use std::alloc::Global;
 use std::io::{Read, Write};
 use syn_link::Connection;
-use syn_message::{Asked, Reply, Request, decode_reply, encode_request, message_laws};
+use syn_message::{Reply, Request, RequestMessage, decode_reply, encode_request, message_laws};
 use syn_path::Path;
 use syn_refusal::Refusal;
 use syn_tree::Tree;
@@ -232,7 +232,7 @@ fn body_of(alloc: Global, number: u32, request: Request) -> Result<Vec<u8>, User
     ensures memory { IfErr result (λ error. error ≡ UserError.Memory) }
     ensures refused { IfErr result (λ error. is_refusal error ≡ false) }
 {
-    let asked = Asked {
+    let asked = RequestMessage {
         session: SESSION,
         number,
         request,

@@ -10,11 +10,11 @@ use crate::error::WireError;
 use crate::version::Version;
 use std::alloc::Global;
 use syn_mark::Mark;
-use syn_placed::Standing;
+use syn_placed::EntryKind;
 use syn_tree::Content;
 
 /// What may stand at a path, as it is read.
-pub(crate) trait Readable: Standing {
+pub(crate) trait Readable: EntryKind {
     ghost use Rattle.syn_model.specs.Version.{Version};
     ghost use Rattle.syn_wire.specs.inner.Kinds.{Kind};
 

@@ -9,7 +9,7 @@ ghost use Rattle.syn_world.specs.Worlds.{message_of, report_in, told_in, told_ke
 
 use crate::{CoordinatorOutcome, Outcome};
 use syn_image::Kept;
-use syn_message::{Answered, Reply};
+use syn_message::{Reply, ReplyMessage};
 use syn_path::Side;
 use syn_refusal::Refusal;
 use syn_session::{Report, Sending};
@@ -20,7 +20,7 @@ pub enum Message {
     /// A request to a side.
     Asks(Sending),
     /// The side's reply, with the session and number of the request.
-    Answers(Side, Answered),
+    Answers(Side, ReplyMessage),
 }
 
 /// What was acknowledged, or recovered by an opening.
@@ -73,7 +73,7 @@ impl Lists {
         match reply {
             None => true,
             Some(reply) => {
-                let answered = Answered {
+                let answered = ReplyMessage {
                     session,
                     number,
                     reply,

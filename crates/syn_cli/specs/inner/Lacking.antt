@@ -1,18 +1,18 @@
--- Why a command and its values are no line.
+-- Why a word and its values are no command.
 use Rattle.std.specs.Prelude.{◌≡◌, ◌≢◌, ◌⊎◌, List, [], ◌∷◌, None}
 use Rattle.clap.specs.Words.{Row, Text, first_of}
 use Rattle.syn_cli.specs.Reads.{HasValues, IsWrong, verb_of}
 use Rattle.syn_cli.specs.Verbs.{name_of, values_of, word_of}
 use Rattle.syn_cli.specs.declared.error.LineError.{LineError}
 use Rattle.syn_cli.specs.declared.error.LineError.TheVariants.{Value}
-use Rattle.syn_cli.specs.declared.line.Line.{Line}
+use Rattle.syn_cli.specs.declared.command.Command.{Command}
 use Rattle.syn_cli.specs.declared.value.ValueName.{ValueName}
-use Rattle.syn_cli.specs.declared.value.ValueName.TheVariants.{Command}
+use Rattle.syn_cli.specs.declared.value.ValueName.TheVariants as value
 use Rattle.syn_cli.specs.declared.verb.Verb.{Verb}
 
--- the line is one of the command, with the values that are given
-abbrev pub IsLineOf : Verb → List Row → Line → Type 0
-IsLineOf verb rows line = (verb_of line ≡ verb) × HasValues rows line
+-- the command is this one, with the values that are given
+abbrev pub IsCommandOf : Verb → List Row → Command → Type 0
+IsCommandOf verb rows command = (verb_of command ≡ verb) × HasValues rows command
 
 abbrev pub IsOneOf : ValueName → List ValueName → Type 0
 IsOneOf told [] = ⊥
@@ -35,7 +35,7 @@ IsUnknown name = (verb : Verb) → name ≢ word_of verb
 
 -- the same of a name: it is no command's, or that of the command that lacks the value
 abbrev pub LacksIn : Text → List Row → ValueName → Type 0
-LacksIn name rows told = ((told ≡ Command) × IsUnknown name)
+LacksIn name rows told = ((told ≡ value.Command) × IsUnknown name)
     ⊎ ((verb : Verb) × (name ≡ word_of verb) × IsLacking verb rows told)
 
 abbrev pub IsLackOf : Text → List Row → LineError → Type 0

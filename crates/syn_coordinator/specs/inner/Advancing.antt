@@ -15,10 +15,11 @@ use Rattle.syn_headline.specs.Machine.{Down, Halted, Status, Up}
 use Rattle.syn_headline.specs.Planning.{Planned}
 use Rattle.syn_coordinator.specs.Machines.{IsMachine, Journal, LeavesMachine}
 use Rattle.syn_coordinator.specs.Tries.{Tries}
-use Rattle.syn_coordinator.specs.declared.due.Due.{Due}
-use Rattle.syn_coordinator.specs.declared.due.Due.TheVariants.{Recorded, Refused, Ends, Unsent}
-use Rattle.syn_coordinator.specs.declared.due.Due.TheVariants as due
-use Rattle.syn_coordinator.specs.declared.tried.Tried.{Tried}
+use Rattle.syn_coordinator.specs.declared.due.RecordOutcome.{RecordOutcome}
+use Rattle.syn_coordinator.specs.declared.due.RecordOutcome.TheVariants.{Recorded, Refused}
+use Rattle.syn_coordinator.specs.declared.due.RecordOutcome.TheVariants.{Ends, Unsent}
+use Rattle.syn_coordinator.specs.declared.due.RecordOutcome.TheVariants as due
+use Rattle.syn_coordinator.specs.declared.tried.Unconfirmed.{Unconfirmed}
 use Rattle.syn_model.specs.Archive.{Kept}
 use Rattle.syn_model.specs.Refusal.{Refusal as Why, Device}
 use Rattle.syn_refusal.specs.Refusals.{cause_of}
@@ -31,32 +32,33 @@ ended_by (Early why) = Some (cause_of why)
 ended_by Failed = Some Device
 
 -- it ends so where what was due ends so
-abbrev pub EndsAs : Due → Ended → Type 0
+abbrev pub EndsAs : RecordOutcome → Ended → Type 0
 EndsAs (Ends why) how = how ≡ Early why
 EndsAs Unsent how = how ≡ Failed
-EndsAs due.Tried how = how ≡ Failed
+EndsAs due.Unconfirmed how = how ≡ Failed
 EndsAs _ how = ⊥
 
 -- it remembers what was sent and not kept; and where it was up before and is halted, its session
 -- ended for that
-pub record Remembers (before : Status) (tried : Option Tried) (journal : Journal) (how : Ended)
+pub record Remembers (before : Status) (tried : Option Unconfirmed) (journal : Journal)
+    (how : Ended)
     : Type 0 where
   pub tries : Tries tried journal
   pub fails : before ≡ Up → journal.status ≡ Halted → how ≡ Failed
 
 -- what was kept then
-abbrev pub kept_by : Kept → Due → List Kept
+abbrev pub kept_by : Kept → RecordOutcome → List Kept
 kept_by what Recorded = what ∷ []
 kept_by what (Refused why) = []
 kept_by what (Ends why) = []
 kept_by what Unsent = []
-kept_by what due.Tried = []
+kept_by what due.Unconfirmed = []
 
 -- what was due breaks off only where it ends for the device
 abbrev pub BreaksBy : {D : Type 0} → {disk : Ghosts D} → Coordinator D disk → Coordinator D disk →
-    Due → Type 0
+    RecordOutcome → Type 0
 BreaksBy old new Unsent = BreaksUnsent old new
-BreaksBy old new due.Tried = BreaksOff old new
+BreaksBy old new due.Unconfirmed = BreaksOff old new
 BreaksBy old new _ = BreaksNothing old new
 
 -- and so does a session that ends
@@ -72,9 +74,9 @@ Breaks old new result = MatchResult result (λ _. BreaksNothing old new) (Breaks
 
 -- It goes past the item, whose record is kept or refused; or the session ends at it; or the machine
 -- was stopped there
-pub data Advanced {D : Type 0} {disk : Ghosts D} (new : Archive D disk) (tried : Option Tried)
+pub data Advanced {D : Type 0} {disk : Ghosts D} (new : Archive D disk) (tried : Option Unconfirmed)
     (pair : ℕ) (plan : List Planned) (taken : Exchange) (walk : Walk)
-    (planned : Planned) (what : Kept) : Due → Type 0 where
+    (planned : Planned) (what : Kept) : RecordOutcome → Type 0 where
   kept_it : (journal : Journal) → Advances pair plan taken walk (what ∷ []) (past walk journal) →
       journal.status ≡ Up → IsMachine new pair journal →
       Advanced new tried pair plan taken walk planned what Recorded
@@ -82,7 +84,7 @@ pub data Advanced {D : Type 0} {disk : Ghosts D} (new : Archive D disk) (tried :
       Advances pair plan taken walk [] (refusing walk (cause_of why) planned) →
       IsMachine new pair walk.journal →
       Advanced new tried pair plan taken walk planned what (Refused why)
-  ended : (due : Due) (how : Ended) (later : Walk) → EndsAs due how →
+  ended : (due : RecordOutcome) (how : Ended) (later : Walk) → EndsAs due how →
       Advances pair plan taken walk [] later →
       later.cursor ≡ walk.cursor → later.refused ≡ walk.refused →
       ((running : Running) → plan_of running ≡ plan →
@@ -90,7 +92,7 @@ pub data Advanced {D : Type 0} {disk : Ghosts D} (new : Archive D disk) (tried :
       IsMachine new pair later.journal →
       Remembers walk.journal.status tried later.journal how →
       Advanced new tried pair plan taken walk planned what due
-  stopped : (due : Due) (later : Walk) →
+  stopped : (due : RecordOutcome) (later : Walk) →
       Advances pair plan taken walk (kept_by what due) later → later.journal.status ≡ Down →
       is_stopped (disk.arms (disk_of new)) ≡ true →
       LeavesMachine disk (disk_of new) pair later.journal → Tries tried later.journal →

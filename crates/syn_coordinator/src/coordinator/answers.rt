@@ -15,7 +15,7 @@ ghost use Rattle.syn_session.specs.Answering.{IsAnswering, exchange_of};
 ghost use Rattle.syn_session.specs.Hearing.{HasHeard, IsScanned};
 ghost use Rattle.syn_session.specs.Sendings.{messages_of};
 ghost use Rattle.syn_session.specs.Sessions.{IsSession, Tells};
-ghost use Rattle.syn_session.specs.Stages.{line_of, waiting_of};
+ghost use Rattle.syn_session.specs.Stages.{peer_of, waiting_of};
 ghost use Rattle.syn_session.specs.declared.session.Session.{Session as Ran};
 
 use super::{Broken, Coordinator};
@@ -90,7 +90,7 @@ impl<D: Disk> Coordinator<D> {
             × IsAnswering ran it.0 (which_of from) number (request_of it.1)) }
         ensures none { result ≡ None → (self.new.running ≡ self.old.running) × ((ran : Ran)
             → self.old.running ≡ Some ran → ran.number ≡ session
-            → asked_in (waiting_of (line_of ran (which_of from))) number ≡ None) }
+            → asked_in (waiting_of (peer_of ran (which_of from))) number ≡ None) }
         ensures taken { IfSome result (λ _. self.new.running ≡ None) }
         ensures archive { self.new.archive ≡ self.old.archive }
         ensures kept { (self.new.written ≡ self.old.written) × (self.new.broke ≡ self.old.broke)

@@ -21,7 +21,7 @@ use syn_image::ItemRecord;
 use syn_message::Reply;
 use syn_refusal::Refusal;
 use syn_scan::Scan;
-use syn_session::{Asks, Carrying, PlanProgress};
+use syn_session::{Asks, ItemProgress, PlanProgress};
 
 impl<D: Disk> Coordinator<D> {
     ghost use Rattle.syn_coordinator.specs.Coordinators.{archive_of};
@@ -57,9 +57,9 @@ impl<D: Disk> Coordinator<D> {
         ensures breaks { Breaks self.old self.new result }
     {
         match progress.take_answer(alloc, reply)? {
-            Carrying::Asks(asks) => Ok(asks),
-            Carrying::Done(kept) => self.walk_after(alloc, progress, left, right, kept),
-            Carrying::Refused(why) => self.walk_past(alloc, progress, left, right, why),
+            ItemProgress::Asks(asks) => Ok(asks),
+            ItemProgress::Done(kept) => self.walk_after(alloc, progress, left, right, kept),
+            ItemProgress::Refused(why) => self.walk_past(alloc, progress, left, right, why),
         }
     }
 

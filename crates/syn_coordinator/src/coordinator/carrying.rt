@@ -7,7 +7,7 @@ ghost use Rattle.syn_headline.specs.Coordinator.{Exchange, IsDue};
 ghost use Rattle.syn_headline.specs.Planning.{Planned};
 ghost use Rattle.syn_headline.specs.Report.{conflict_at, is_carrying};
 ghost use Rattle.syn_headline.specs.Session.{record_for};
-ghost use Rattle.syn_coordinator.specs.Due.{Settles, TriesBy};
+ghost use Rattle.syn_coordinator.specs.RecordOutcome.{Settles, TriesBy};
 ghost use Rattle.syn_model.specs.Archive.{Archive as Keeping};
 ghost use Rattle.syn_coordinator.specs.Machines.{IsMachine, Journal};
 ghost use Rattle.syn_model.specs.Decision.{Conflict};
@@ -22,7 +22,7 @@ ghost use Rattle.syn_image.specs.Archives.{kept_for};
 
 use super::{Broken, Coordinator};
 use crate::ended::Ended;
-use crate::{Due, Tried, keep_due, refusal_for};
+use crate::{RecordOutcome, Unconfirmed, keep_due, refusal_for};
 use std::alloc::Global;
 use syn_disk::Disk;
 use syn_image::{ItemRecord, Kept};
@@ -66,20 +66,20 @@ impl<D: Disk> Coordinator<D> {
             return Err(Ended::Failed);
         }
         match due {
-            Due::Recorded => {
+            RecordOutcome::Recorded => {
                 progress.pass_kept(was_carried);
                 Ok(())
             }
-            Due::Refused(why) => Ok(progress.refuse(alloc, why)?),
-            Due::Ends(why) => Err(Ended::Early(why)),
-            Due::Unsent => Err(Ended::Failed),
-            Due::Tried => Err(Ended::Failed),
+            RecordOutcome::Refused(why) => Ok(progress.refuse(alloc, why)?),
+            RecordOutcome::Ends(why) => Err(Ended::Early(why)),
+            RecordOutcome::Unsent => Err(Ended::Failed),
+            RecordOutcome::Unconfirmed => Err(Ended::Failed),
         }
     }
 
     /// Keeps what is due in the archive, and tells it among what was written, or as answered 9
     /// where it was sent to the disk and not kept. The session ends 11 where memory is refused.
-    fn keep(&mut self, alloc: Global, kept: ItemRecord) -> Due
+    fn keep(&mut self, alloc: Global, kept: ItemRecord) -> RecordOutcome
         ensures settles { (pair : ℕ) (journal : Journal)
             → IsMachine (archive_of self.old) pair journal
             → Settles (archive_of self.new) pair journal (kept_for kept) result }
@@ -92,18 +92,18 @@ impl<D: Disk> Coordinator<D> {
     {
         if self.written.reserve(1).is_err() {
             drop(kept);
-            return Due::Ends(Refusal::Memory);
+            return RecordOutcome::Ends(Refusal::Memory);
         }
         let due = keep_due(alloc, &mut self.archive, &kept);
         match due {
-            Due::Recorded => self.written.push_reserved(Kept::from(kept)),
-            Due::Refused(_) => drop(kept),
-            Due::Tried => {
-                self.tried = Some(Tried::new(Kept::from(kept), &self.archive));
+            RecordOutcome::Recorded => self.written.push_reserved(Kept::from(kept)),
+            RecordOutcome::Refused(_) => drop(kept),
+            RecordOutcome::Unconfirmed => {
+                self.tried = Some(Unconfirmed::new(Kept::from(kept), &self.archive));
                 self.broke = Broken::AsTried;
             }
-            Due::Ends(_) => drop(kept),
-            Due::Unsent => drop(kept),
+            RecordOutcome::Ends(_) => drop(kept),
+            RecordOutcome::Unsent => drop(kept),
         }
         due
     }

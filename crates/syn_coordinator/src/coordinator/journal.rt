@@ -9,7 +9,7 @@ ghost use Rattle.syn_disk.specs.Disk.{SameOutcomes};
 ghost use Rattle.syn_headline.specs.Coordinator.{CoordinatorMachine, coordinator_kind};
 ghost use Rattle.syn_headline.specs.MachineSteps.{Checkpoints, Reopens};
 ghost use Rattle.syn_journal.specs.Endings.{CountsFailures, ended};
-ghost use Rattle.syn_coordinator.specs.declared.tried.Tried.{Tried};
+ghost use Rattle.syn_coordinator.specs.declared.tried.Unconfirmed.{Unconfirmed};
 ghost use Rattle.syn_model.specs.Refusal.{first_cause};
 ghost use Rattle.syn_recovery.specs.Calls.{armed_at};
 
@@ -115,7 +115,7 @@ impl<D: Disk> Coordinator<D> {
     /// What was answered 9 in the last call that could write, in memory of its own. Refused where
     /// memory is refused.
     fn copied_broken(&self, alloc: Global) -> Result<Broken, AllocError>
-        ensures { IfOk result (λ broke. (tried : Option Tried)
+        ensures { IfOk result (λ broke. (tried : Option Unconfirmed)
             → broken_by broke tried ≡ broken self.now) }
     {
         let Some(kept) = self.last_broken() else {
@@ -128,7 +128,7 @@ impl<D: Disk> Coordinator<D> {
     /// was answered 9. Where the machine is stopped it is still remembered, and nothing is
     /// answered.
     fn recovered(&mut self, broke: Broken) -> Option<Kept>
-        requires broke { (tried : Option Tried) → broken_by broke tried ≡ broken self.old }
+        requires broke { (tried : Option Unconfirmed) → broken_by broke tried ≡ broken self.old }
         ensures goes { is_stopped (D.Disk.arms (device_of self.new)) ≡ false
             → (tried_shown self.new ≡ None) × (option_map kept_of result
             ≡ found_in (tried_shown self.old) (archive_of self.new)) }

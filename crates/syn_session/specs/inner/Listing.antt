@@ -9,22 +9,22 @@ use Rattle.syn_model.specs.Path.{IsPath, Path}
 use Rattle.syn_scan.specs.Asked.{AreAllOut}
 use Rattle.syn_session.specs.Answering.{asks_of}
 use Rattle.syn_session.specs.Scanning.{IsFoundIn, WaitsFor, WasAnswered, asked_of, found_of, out_of}
-use Rattle.syn_session.specs.Stages.{found_on, line_of, waiting_of}
-use Rattle.syn_session.specs.declared.line.Line.{Line}
+use Rattle.syn_session.specs.Stages.{found_on, peer_of, waiting_of}
+use Rattle.syn_session.specs.declared.peer.PeerState.{PeerState}
 use Rattle.syn_session.specs.declared.session.Asks.{Asks}
 use Rattle.syn_session.specs.declared.session.Session.{Session}
 
 -- a listing that no other asked for: of a path that is shown
-pub record IsNextListing (old : Line) (path : Path) : Type 0 where
+pub record IsNextListing (old : PeerState) (path : Path) : Type 0 where
   pub lawful : IsPath path
   pub unanswered : ¬ WasAnswered (found_of old.scan) path
   pub unasked : ¬ WaitsFor old.scan path
   pub shown : (side : Which) (taken : List Exchange) → IsFoundIn (found_of old.scan) side taken
       → IsShown taken side path
 
--- the listings that are asked for next on a line: so many that as many wait as may, or that each
+-- the listings that are asked for next on a side: so many that as many wait as may, or that each
 -- directory was asked for
-pub record ListsNext (old new : Line) (paths : List Path) : Type 0 where
+pub record ListsNext (old new : PeerState) (paths : List Path) : Type 0 where
   pub each : All (IsNextListing old) paths
   pub apart : AllPairs (λ one other. one ≢ other) paths
   pub out : out_of new.scan ≡ out_of old.scan ++ paths
@@ -32,39 +32,39 @@ pub record ListsNext (old new : Line) (paths : List Path) : Type 0 where
   pub most : (most_listings ≤ length (waiting_of old) + length paths)
       ⊎ AreAllOut (asked_of new.scan)
 
--- nothing waits on the line, and nothing more is to be listed
-abbrev pub is_silent : Line → List Path → Bool
-is_silent line next = not (nat_lt 0 (length (waiting_of line))) && nat_eq (length next) 0
+-- nothing waits on the side, and nothing more is to be listed
+abbrev pub is_silent : PeerState → List Path → Bool
+is_silent peer next = not (nat_lt 0 (length (waiting_of peer))) && nat_eq (length next) 0
 
 -- the listings that are asked for next on both lines, and something waits then
 pub record ListsOn (old new : Session) (asks : Asks) : Type 0 where
   pub paths : Which → List Path
   pub asked : (side : Which) → asks_of asks side ≡ map ListAt (paths side)
-  pub next : (side : Which) → ListsNext (line_of old side) (line_of new side) (paths side)
+  pub next : (side : Which) → ListsNext (peer_of old side) (peer_of new side) (paths side)
   pub some : (side : Which)
-      × (1 ≤ length (waiting_of (line_of new side)) + length (asks_of asks side))
+      × (1 ≤ length (waiting_of (peer_of new side)) + length (asks_of asks side))
 
 -- nothing waits, and each directory of both sides was asked for
 pub record IsListed (old new : Session) : Type 0 where
-  pub silent : (side : Which) → waiting_of (line_of new side) ≡ []
-  pub out : (side : Which) → out_of (line_of new side).scan ≡ out_of (line_of old side).scan
-  pub all : (side : Which) → AreAllOut (asked_of (line_of new side).scan)
+  pub silent : (side : Which) → waiting_of (peer_of new side) ≡ []
+  pub out : (side : Which) → out_of (peer_of new side).scan ≡ out_of (peer_of old side).scan
+  pub all : (side : Which) → AreAllOut (asked_of (peer_of new side).scan)
 
 -- What stays of a session
 
--- what waits on the line of the side, the other line, and its plan
+-- what waits on the side, the other side, and its plan
 pub record KeepsRequests (old new : Session) (side : Which) : Type 0 where
-  pub waits : (line_of new side).waiting ≡ (line_of old side).waiting
-  pub count : (line_of new side).asked ≡ (line_of old side).asked
-  pub across : line_of new (other side) ≡ line_of old (other side)
+  pub waits : (peer_of new side).waiting ≡ (peer_of old side).waiting
+  pub count : (peer_of new side).asked ≡ (peer_of old side).asked
+  pub across : peer_of new (other side) ≡ peer_of old (other side)
   pub number_is : new.number ≡ old.number
   pub preference_is : new.preference ≡ old.preference
   pub progress : new.progress ≡ old.progress
 
 -- what waits, and what was found
 pub record KeepsFound (old new : Session) : Type 0 where
-  pub waits : (side : Which) → (line_of new side).waiting ≡ (line_of old side).waiting
-  pub count : (side : Which) → (line_of new side).asked ≡ (line_of old side).asked
+  pub waits : (side : Which) → (peer_of new side).waiting ≡ (peer_of old side).waiting
+  pub count : (side : Which) → (peer_of new side).asked ≡ (peer_of old side).asked
   pub found : (side : Which) → found_on new side ≡ found_on old side
   pub number_is : new.number ≡ old.number
   pub preference_is : new.preference ≡ old.preference

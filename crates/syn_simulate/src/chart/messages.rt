@@ -1,7 +1,7 @@
 //! What a chart says of messages.
 
 use std::alloc::{AllocError, Global};
-use syn_message::{Answered, Reply, Request};
+use syn_message::{Reply, ReplyMessage, Request};
 use syn_path::Side;
 use syn_world::{Machine, Message};
 
@@ -70,7 +70,7 @@ fn asked(alloc: Global, session: u64, request: &Request) -> Result<String, Alloc
     }
 }
 
-fn replied(alloc: Global, answered: &Answered) -> Result<String, AllocError> {
+fn replied(alloc: Global, answered: &ReplyMessage) -> Result<String, AllocError> {
     match &answered.reply {
         Reply::Begun { position } => {
             format!(in alloc; "begun {} at {position}", answered.session)

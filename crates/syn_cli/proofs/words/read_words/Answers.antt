@@ -1,9 +1,9 @@
 use Rattle.std.proofs.Common.{◌↔◌, Bool, IsTrue, map, subst, sym}
 use Rattle.std.proofs.lemmas.Result.{IfOk-weaker, IfErr-weaker}
 use Rattle.clap.specs.Words.{found_of, rows_of}
-use Rattle.syn_cli.proofs.LineLemmas.{asks_why, is_asked, is_no_line, is_no_request, no_fault}
-use Rattle.syn_cli.proofs.LineLemmas.{nothing_read, reads_found, rows_are, subcommand_is}
-use Rattle.syn_cli.proofs.LineLemmas.{subcommand_none, told_among}
+use Rattle.syn_cli.proofs.CommandLemmas.{asks_why, is_asked, is_no_command, is_no_request, no_fault}
+use Rattle.syn_cli.proofs.CommandLemmas.{nothing_read, reads_found, rows_are, subcommand_is}
+use Rattle.syn_cli.proofs.CommandLemmas.{subcommand_none, told_among}
 use Rattle.syn_cli.specs.Reads.{AsksWhy}
 use Rattle.syn_cli.proofs.WrongLemmas.{lack_nothing, lack_wrong, names_one}
 use Rattle.syn_cli.proofs.words.read_words.Goals as goal
@@ -24,7 +24,7 @@ returns-in-Err-clause-asked c request =
 pub returns-in-Err-clause-mistaken : goal.returns-in-Err-clause-mistaken
 returns-in-Err-clause-mistaken c =
     let words = map (λ word. word.now) c.args.words.now in
-    is_no_line c.told.result words c.told.ensures.value
+    is_no_command c.told.result words c.told.ensures.value
     (told_among c.told.result _ words _ c.in_ok-command.ensures c.in-Err.ensures.kinds
     c.told.ensures.usage)
 
@@ -37,7 +37,7 @@ returns-clause-ok c =
     c.in-Some.ensures.name c.in-Some.ensures.rows in
     IfOk-weaker c.asked_of.result _ _ (λ told read. record {
       taken = no_fault _ _ c.in_ok-command.ensures c.in-Ok.ensures.kinds;
-      reads = reads_found _ _ _ told.line found read;
+      reads = reads_found _ _ _ told.command found read;
     }) c.asked_of.ensures.ok
 
 pub returns-clause-verbose : goal.returns-clause-verbose
@@ -66,8 +66,8 @@ returns-clause-mistaken c =
     subcommand_is c.in-Ok.matches _ words c.in-Some.name.now
     (rows_of (found_of c.in-Some.found.now)) c.in_ok-command.ensures c.in-Ok.ensures.matches
     c.in-Some.ensures.name c.in-Some.ensures.rows in
-    IfErr-weaker c.asked_of.result _ _ (λ error lacks _ line asks.
-    nothing_read _ _ _ found (lack_nothing _ _ error lacks) line asks.reads)
+    IfErr-weaker c.asked_of.result _ _ (λ error lacks _ command asks.
+    nothing_read _ _ _ found (lack_nothing _ _ error lacks) command asks.reads)
     c.asked_of.ensures.lacks
 
 pub returns-clause-taken : goal.returns-clause-taken

@@ -4,7 +4,7 @@ use Rattle.syn_archive.specs.Refusals.{refusal_of}
 use Rattle.syn_archive.specs.Machines.{CompactsImage}
 use Rattle.syn_model.specs.Limits.{greatest}
 use Rattle.syn_model.specs.Refusal.{Device, Full}
-use Rattle.syn_coordinator.specs.declared.due.Due.TheVariants.{Unsent}
+use Rattle.syn_coordinator.specs.declared.due.RecordOutcome.TheVariants.{Unsent}
 use Rattle.syn_coordinator.specs.inner.Recording.{Checkpoints, ended_by, made, at_greatest, breaks}
 use Rattle.syn_coordinator.specs.inner.Recording.{no_memory}
 use Rattle.syn_coordinator.proofs.DueLemmas.{device_or_other, full_no_device, is_greatest}

@@ -3,7 +3,7 @@ use Rattle.std.proofs.lemmas.Bool.{true≢false}
 use Rattle.syn_headline.specs.Coordinator.{archive_layout}
 use Rattle.syn_headline.specs.Machine.{has_room}
 use Rattle.syn_model.specs.Archive.{kept_refusal}
-use Rattle.syn_coordinator.specs.Due.{archive_refuses, failed_before, has_some}
+use Rattle.syn_coordinator.specs.RecordOutcome.{archive_refuses, failed_before, has_some}
 use Rattle.syn_coordinator.proofs.DueLemmas.{is_ready, room_is, settled, when_halted, when_runs}
 use Rattle.syn_image.specs.Archives.{kept_for}
 use Rattle.syn_coordinator.proofs.due.keep_due.Goals as goal

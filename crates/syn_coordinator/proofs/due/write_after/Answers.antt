@@ -2,8 +2,8 @@ use Rattle.std.proofs.Common.{◌≡◌, ◌∙◌, true, false, Ok, sym}
 use Rattle.syn_headline.specs.Coordinator.{archive_layout}
 use Rattle.syn_headline.specs.Machine.{has_room}
 use Rattle.syn_refusal.specs.declared.refusal.Refusal.TheVariants as refusal
-use Rattle.syn_coordinator.specs.declared.due.Due.TheVariants.{Ends}
-use Rattle.syn_coordinator.specs.Due.{Settles, makes_some, no_room_left}
+use Rattle.syn_coordinator.specs.declared.due.RecordOutcome.TheVariants.{Ends}
+use Rattle.syn_coordinator.specs.RecordOutcome.{Settles, makes_some, no_room_left}
 use Rattle.syn_coordinator.specs.inner.Recording.{MakesRoomNow, has_made}
 use Rattle.syn_coordinator.proofs.DueLemmas.{ready_still, room_is, settled, when_up, without_room}
 use Rattle.syn_image.specs.Archives.{kept_for}

@@ -9,7 +9,7 @@ pub returns-in_default-clause-reads : goal.returns-in_default-clause-reads
 returns-in_default-clause-reads g c =
     let kind = g.C.Readable.kind (version_of c.args.version) in
     let none = subst (λ o. IsFileRead kind c.args.fields.now
-    (option_map (λ found. (g.C.Standing.content found.0, found.1.now)) o)) c.in_default.is
+    (option_map (λ found. (g.C.EntryKind.content found.0, found.1.now)) o)) c.in_default.is
     c.in_ok-file.ensures in
     no_file_there kind c.args.path c.args.fields.now c.args.list.now.items c.args.list.now.items
     none
@@ -18,7 +18,7 @@ pub returns-clause-reads : goal.returns-clause-reads
 returns-clause-reads g c =
     let kind = g.C.Readable.kind (version_of c.args.version) in
     let found = subst (λ o. IsFileRead kind c.args.fields.now
-    (option_map (λ found. (g.C.Standing.content found.0, found.1.now)) o)) c.in-Some.is
+    (option_map (λ found. (g.C.EntryKind.content found.0, found.1.now)) o)) c.in-Some.is
     c.in_ok-file.ensures in
     file_there kind c.args.path c.args.fields.now found.0 c.in-Some.rest.now c.args.list.now.items
     c.push.new.self.items c.new.result found.2
@@ -28,7 +28,7 @@ pub returns-clause-spelled : goal.returns-clause-spelled
 returns-clause-spelled g c =
     let kind = g.C.Readable.kind (version_of c.args.version) in
     let found = subst (λ o. IsFileRead kind c.args.fields.now
-    (option_map (λ found. (g.C.Standing.content found.0, found.1.now)) o)) c.in-Some.is
+    (option_map (λ found. (g.C.EntryKind.content found.0, found.1.now)) o)) c.in-Some.is
     c.in_ok-file.ensures in
     file_spelled kind c.args.path c.args.fields.now found.0 c.in-Some.rest.now c.args.list.now.items
     c.push.new.self.items c.new.result found.2

@@ -2,7 +2,7 @@ use Rattle.std.proofs.Common.{ap, map, ◌∙◌}
 use Rattle.syn_headline.specs.Network.{Left, Right, Which}
 use Rattle.syn_session.specs.Sendings.{messages_of}
 use Rattle.syn_session.specs.Answering.{IsAskedOn, asks_of}
-use Rattle.syn_session.specs.Stages.{line_of}
+use Rattle.syn_session.specs.Stages.{peer_of}
 use Rattle.syn_image.specs.Archives.{kept_of}
 use Rattle.syn_coordinator.proofs.ReplyLemmas.{asked_so, asks_no_more, tells_same}
 use Rattle.syn_coordinator.proofs.coordinator.Coordinator.ask.Goals as goal
@@ -15,7 +15,7 @@ returns-in-Ok-clause-step g c =
     c.in-Ok.ensures.progress untried
     c.replace.ensures.after _ c.in-Ok.ensures.sends
   where
-    asked : (side : Which) → IsAskedOn (line_of c.args.session side) (line_of c.ask.new.self side)
+    asked : (side : Which) → IsAskedOn (peer_of c.args.session side) (peer_of c.ask.new.self side)
         (asks_of c.args.asks side)
     asked Left = c.in-Ok.ensures.left
     asked Right = c.in-Ok.ensures.right

@@ -1,7 +1,7 @@
 use Rattle.std.proofs.Common.{refl, sym, ap, map, ◌∙◌}
 use Rattle.std.proofs.lemmas.List.{append-nil}
 use Rattle.syn_image.specs.Archives.{kept_of}
-use Rattle.syn_coordinator.specs.Due.{no_memory}
+use Rattle.syn_coordinator.specs.RecordOutcome.{no_memory}
 use Rattle.syn_coordinator.proofs.coordinator.Coordinator.keep.Goals as goal
 
 pub returns-then-is_err-clause-settles : goal.returns-then-is_err-clause-settles

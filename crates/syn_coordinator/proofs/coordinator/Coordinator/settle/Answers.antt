@@ -7,7 +7,7 @@ use Rattle.syn_session.proofs.CourseLemmas.{no_conflict}
 use Rattle.syn_coordinator.proofs.EndedLemmas.{match_of_memory}
 use Rattle.syn_coordinator.proofs.SettleLemmas.{ends_for_memory, is_cut_off, is_ended, is_kept}
 use Rattle.syn_coordinator.proofs.SettleLemmas.{is_refused, still_is, tries_by}
-use Rattle.syn_coordinator.specs.declared.due.Due.TheVariants as due
+use Rattle.syn_coordinator.specs.declared.due.RecordOutcome.TheVariants as due
 use Rattle.syn_image.specs.Archives.{kept_for}
 use Rattle.syn_coordinator.proofs.BreakLemmas.{cut_breaks}
 use Rattle.syn_coordinator.proofs.coordinator.Coordinator.settle.Goals as goal
@@ -106,17 +106,18 @@ returns-in-Unsent-clause-step g c pair journal left right taken before planned i
           c.keep-due.new.self.tried due.Unsent quiet.0 c.in-Unsent.ensures.tried),
     )
 
-pub returns-in-Tried-clause-step : goal.returns-in-Tried-clause-step
-returns-in-Tried-clause-step g c pair journal left right taken before planned is quiet course_is at
+pub returns-in-Unconfirmed-clause-step : goal.returns-in-Unconfirmed-clause-step
+returns-in-Unconfirmed-clause-step g c pair journal left right taken before planned is quiet
+    course_is at
     is_due carries = (
       [],
-      c.in-Tried.ensures.written,
+      c.in-Unconfirmed.ensures.written,
       is_ended c.keep-due.new.self.archive c.keep-due.new.self.tried pair taken journal before
           c.args.progress.now left right course_is planned at
-          (kept_for c.args.kept) is_due quiet.1 due.Tried Failed refl
-          (c.in-Tried.ensures.settles pair journal is)
+          (kept_for c.args.kept) is_due quiet.1 due.Unconfirmed Failed refl
+          (c.in-Unconfirmed.ensures.settles pair journal is)
           (tries_by c.keep-due.new.self.archive (kept_for c.args.kept) c.args.self.now.tried
-          c.keep-due.new.self.tried due.Tried quiet.0 c.in-Tried.ensures.tried),
+          c.keep-due.new.self.tried due.Unconfirmed quiet.0 c.in-Unconfirmed.ensures.tried),
     )
 
 pub returns-then-is_cut-clause-breaks : goal.returns-then-is_cut-clause-breaks
@@ -142,5 +143,5 @@ returns-in-Ends-clause-breaks g c = c.in-Ends.ensures.breaks
 pub returns-in-Unsent-clause-breaks : goal.returns-in-Unsent-clause-breaks
 returns-in-Unsent-clause-breaks g c = inl c.in-Unsent.ensures.breaks
 
-pub returns-in-Tried-clause-breaks : goal.returns-in-Tried-clause-breaks
-returns-in-Tried-clause-breaks g c = inr c.in-Tried.ensures.breaks
+pub returns-in-Unconfirmed-clause-breaks : goal.returns-in-Unconfirmed-clause-breaks
+returns-in-Unconfirmed-clause-breaks g c = inr c.in-Unconfirmed.ensures.breaks

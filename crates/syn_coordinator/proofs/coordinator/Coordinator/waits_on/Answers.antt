@@ -4,7 +4,7 @@ use Rattle.syn_headline.specs.Coordinator.{Running}
 use Rattle.syn_headline.specs.Network.{Which}
 use Rattle.syn_path.specs.Sides.{which_of}
 use Rattle.syn_session.specs.Sessions.{IsRunning}
-use Rattle.syn_session.specs.Stages.{line_of, waiting_of}
+use Rattle.syn_session.specs.Stages.{peer_of, waiting_of}
 use Rattle.syn_session.specs.declared.session.Session.{Session}
 use Rattle.syn_model.specs.Archive.{Archive}
 use Rattle.syn_coordinator.specs.Coordinators.{is_waiting}
@@ -13,7 +13,7 @@ use Rattle.syn_coordinator.proofs.coordinator.Coordinator.waits_on.Goals as goal
 -- the session of the model that runs waits for as much
 waits_alike : (archive : Archive) (session : Session) (running : Option Running) (side : Which) →
     IsRunning archive (Some session) running →
-    nat_lt 0 (length (waiting_of (line_of session side))) ≡ is_waiting running side
+    nat_lt 0 (length (waiting_of (peer_of session side))) ≡ is_waiting running side
 waits_alike archive session None side is = absurd is
 waits_alike archive session (Some running) side is =
     sym (ap (λ w. nat_lt 0 (length w)) (is.line side).waits)

@@ -1,6 +1,6 @@
 use Rattle.std.proofs.Common.{refl}
 use Rattle.syn_headline.specs.Network.{Which, Left, Right}
-use Rattle.syn_session.specs.Stages.{line_of}
+use Rattle.syn_session.specs.Stages.{peer_of}
 use Rattle.syn_session.proofs.SessionLemmas.{SentAgain, resent_so}
 use Rattle.syn_session.proofs.session.Session.count_resend.Goals as goal
 
@@ -8,7 +8,7 @@ pub returns : goal.returns
 returns c archive running is = resent_so archive c.args.self.now _ running is refl refl refl refl
     again
   where
-    again : (side : Which) → SentAgain (line_of c.args.self.now side) (line_of (record {
+    again : (side : Which) → SentAgain (peer_of c.args.self.now side) (peer_of (record {
       number =
           c.args.self.now.number;
       preference = c.args.self.now.preference;

@@ -1,7 +1,7 @@
 use Rattle.std.proofs.Common.{◌≡◌, [], refl, option_map}
 use Rattle.syn_headline.specs.Network.{Which, Left, Right}
 use Rattle.syn_session.specs.Scanning.{IsFoundIn, found_of, out_of}
-use Rattle.syn_session.specs.declared.line.Line.{Line}
+use Rattle.syn_session.specs.declared.peer.PeerState.{PeerState}
 use Rattle.syn_session.specs.Sessions.{begin_of}
 use Rattle.syn_session.specs.Stages.{waiting_of}
 use Rattle.syn_session.proofs.SessionLemmas.{session_begins}
@@ -14,22 +14,22 @@ returns-clause-begun c archive =
     refl c.ranges.number.fits refl refl waits
     asked found out
   where
-    line : Which → Line
-    line Left = c.in_ok-left.left
-    line Right = c.in_ok-right.right
+    peer : Which → PeerState
+    peer Left = c.in_ok-left.left
+    peer Right = c.in_ok-right.right
 
-    waits : (side : Which) → waiting_of (line side) ≡ begin_of c.args.pair
+    waits : (side : Which) → waiting_of (peer side) ≡ begin_of c.args.pair
     waits Left = c.in_ok-left.ensures.waits
     waits Right = c.in_ok-right.ensures.waits
 
-    asked : (side : Which) → (line side).asked ≡ 1
+    asked : (side : Which) → (peer side).asked ≡ 1
     asked Left = c.in_ok-left.ensures.asked
     asked Right = c.in_ok-right.ensures.asked
 
-    found : (side : Which) → IsFoundIn (found_of (line side).scan) side []
+    found : (side : Which) → IsFoundIn (found_of (peer side).scan) side []
     found Left = c.in_ok-left.ensures.found Left
     found Right = c.in_ok-right.ensures.found Right
 
-    out : (side : Which) → out_of (line side).scan ≡ []
+    out : (side : Which) → out_of (peer side).scan ≡ []
     out Left = c.in_ok-left.ensures.out
     out Right = c.in_ok-right.ensures.out

@@ -7,7 +7,7 @@ use Rattle.syn_model.specs.Refusal.{Memory}
 use Rattle.syn_refusal.specs.Refusals.{cause_of}
 use Rattle.syn_session.specs.Scanning.{IsFoundIn, WaitsFor, with_listing_answered}
 use Rattle.syn_path.specs.declared.side.Side.TheVariants.{Left, Right}
-use Rattle.syn_session.specs.Stages.{found_on, line_of}
+use Rattle.syn_session.specs.Stages.{found_on, peer_of}
 use Rattle.syn_session.specs.declared.session.Session.{Session}
 use Rattle.syn_session.proofs.session.Session.take_listing.Goals as goal
 
@@ -23,7 +23,7 @@ returns-in-Left-clause-step c taken number =
       is_unstable = self.is_unstable;
       progress = self.progress;
     } in
-    subst (λ f. WaitsFor (line_of self (which_of f)).scan path →
+    subst (λ f. WaitsFor (peer_of self (which_of f)).scan path →
     IsFoundIn (found_on self (which_of f)) (which_of f) taken → MatchResult c.take.result
     (λ _. (fault_of taken (which_of f) (ListAt path) reply ≡ None) × IsFoundIn (found_on now
     (which_of f)) (which_of f) (with_listing_answered taken (which_of f) number path reply))
@@ -46,7 +46,7 @@ returns-in-Right-clause-step c taken number =
       is_unstable = self.is_unstable;
       progress = self.progress;
     } in
-    subst (λ f. WaitsFor (line_of self (which_of f)).scan path →
+    subst (λ f. WaitsFor (peer_of self (which_of f)).scan path →
     IsFoundIn (found_on self (which_of f)) (which_of f) taken → MatchResult c.take-in-Right.result
     (λ _. (fault_of taken (which_of f) (ListAt path) reply ≡ None) × IsFoundIn (found_on now
     (which_of f)) (which_of f) (with_listing_answered taken (which_of f) number path reply))

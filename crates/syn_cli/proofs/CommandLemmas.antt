@@ -19,7 +19,7 @@ use Rattle.syn_cli.specs.Reads.{Asks, AsksHelp, AsksWhy, IfUsage, IsMistake, IsR
 use Rattle.syn_cli.specs.Reads.{IsSetIn, IsValue, NothingReads, Reads, ReadsRows}
 use Rattle.syn_cli.specs.declared.error.LineError.{LineError}
 use Rattle.syn_cli.specs.declared.error.LineError.TheVariants.{Usage, Value, Memory}
-use Rattle.syn_cli.specs.declared.line.Line.{Line}
+use Rattle.syn_cli.specs.declared.command.Command.{Command}
 use Rattle.syn_cli.specs.inner.Lacking.{IsLackOf}
 
 -- `get_str` reads the first value of a row
@@ -116,17 +116,18 @@ subcommand_none m app words same matches none =
     no_rows None f none = refl
     no_rows (Some b) f none = absurd (true≢false (sym none))
 
--- where the name and the values are no command's, no line is read
+-- where the name and the values are no verb's, no command is read
 pub nothing_read : (found : Option (Text × List Row)) (name : Text) (rows : List Row) →
     found ≡ Some (name, rows) → NothingReads (Some (name, rows)) → NothingReads found
 nothing_read found name rows same nothing =
     let P : Option (Text × List Row) → Type 0 = NothingReads in
     subst P (sym same) nothing
 
-pub reads_found : (found : Option (Text × List Row)) (name : Text) (rows : List Row) (line : Line) →
-    found ≡ Some (name, rows) → ReadsRows name rows line → Reads found line
-reads_found found name rows line same read =
-    let P : Option (Text × List Row) → Type 0 = λ f. Reads f line in
+pub reads_found : (found : Option (Text × List Row)) (name : Text) (rows : List Row)
+    (command : Command) →
+    found ≡ Some (name, rows) → ReadsRows name rows command → Reads found command
+reads_found found name rows command same read =
+    let P : Option (Text × List Row) → Type 0 = λ f. Reads f command in
     subst P (sym same) read
 
 -- what is told where the help is asked for
@@ -140,13 +141,13 @@ is_asked (Value id) words request among = absurd request
 is_asked Memory words request among = absurd request
 
 -- where `clap` refuses the words they ask for nothing
-pub is_no_line : (error : LineError) (words : List Text) → (IsValue error → ⊥)
+pub is_no_command : (error : LineError) (words : List Text) → (IsValue error → ⊥)
     → IfUsage error (λ told. IsAmong (kind_of told) (fault_of syn_app words))
-    → IsMistake error → (line : Line) → Asks words line → ⊥
-is_no_line (Usage e) words no_value among mistake line asks =
+    → IsMistake error → (command : Command) → Asks words command → ⊥
+is_no_command (Usage e) words no_value among mistake command asks =
     let P : Kinds → Type 0 = λ kinds. IsAmong (kind_of e) kinds in subst P asks.taken among
-is_no_line (Value id) words no_value among mistake line asks = no_value tt
-is_no_line Memory words no_value among mistake line asks = mistake
+is_no_command (Value id) words no_value among mistake command asks = no_value tt
+is_no_command Memory words no_value among mistake command asks = mistake
 
 -- where a value is told, no help was asked for
 pub is_no_request : (error : LineError) (name : Text) (rows : List Row) → IsLackOf name rows error →

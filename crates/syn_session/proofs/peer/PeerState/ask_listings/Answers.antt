@@ -8,7 +8,7 @@ use Rattle.syn_path.specs.Sides.{which_of}
 use Rattle.syn_session.specs.Answering.{IsAskedOn}
 use Rattle.syn_session.specs.Sendings.{messages_of}
 use Rattle.syn_session.proofs.WaitingLemmas.{asked_more, sent_more}
-use Rattle.syn_session.proofs.line.Line.ask_listings.Goals as goal
+use Rattle.syn_session.proofs.peer.PeerState.ask_listings.Goals as goal
 
 pub loop-path-preserved : goal.loop-path-preserved
 loop-path-preserved c =

@@ -4,7 +4,7 @@ use Rattle.syn_headline.specs.Side.{ListAt}
 use Rattle.syn_path.specs.Sides.{which_of}
 use Rattle.syn_session.specs.Answering.{IsAskedOn}
 use Rattle.syn_session.specs.Sendings.{messages_of}
-use Rattle.syn_session.proofs.line.Line.ask_listings.Given as goal
+use Rattle.syn_session.proofs.peer.PeerState.ask_listings.Given as goal
 
 abbrev pub invariant-loop-path : goal.invariant-loop-path
 invariant-loop-path l = record {

@@ -6,8 +6,8 @@ use Rattle.syn_message.specs.Requests.{request_of}
 use Rattle.syn_session.specs.Stages.{outstanding_of}
 use Rattle.syn_session.specs.declared.requests.Waiting.{Waiting}
 use Rattle.syn_session.proofs.WaitingLemmas.{asks_at, cond_none, none_has, removed_at}
-use Rattle.syn_session.proofs.line.Line.answered.Goals as goal
-use Rattle.syn_session.proofs.line.Line.answered.Goals.{After-remove}
+use Rattle.syn_session.proofs.peer.PeerState.answered.Goals as goal
+use Rattle.syn_session.proofs.peer.PeerState.answered.Goals.{After-remove}
 
 -- where the request stands
 place : (c : After-remove) → let d = c.remove.result in

@@ -7,13 +7,13 @@ ghost use Rattle.syn_cli.specs.Reads.{IsGiven, MayHaveFolder, TakesSeconds};
 ghost use Rattle.syn_cli.specs.Reads.{TakesPreference, kind_word};
 ghost use Rattle.syn_cli.specs.Verbs.{edit_verb, name_of};
 ghost use Rattle.syn_tree.specs.Modes.{mode_digits, mode_of};
-ghost use Rattle.syn_cli.specs.inner.Lacking.{IsLack, IsLineOf};
+ghost use Rattle.syn_cli.specs.inner.Lacking.{IsLack, IsCommandOf};
 
-use crate::error::LineError;
-use crate::line::{
-    Between, EditKind, EditLine, Existing, ExportLine, FolderLine, ImageKind, ImageLine,
-    ImportLine, KeepLine, Line, Pairing, ReconcileLine, ServeLine,
+use crate::command::{
+    Between, Command, EditCommand, EditKind, Existing, ExportCommand, FolderCommand, ImageCommand,
+    ImageKind, ImportCommand, KeepCommand, Pairing, ReconcileCommand, ServeCommand,
 };
+use crate::error::LineError;
 use crate::value::ValueName;
 use crate::values::{
     folder_side, image_kind, is_set, mode, number, optional_text, place, side, text, user,
@@ -24,36 +24,36 @@ use syn_path::Side;
 use syn_tree::Mode;
 
 /// The line of the command, or the first value of it that is missing or wrong.
-pub(crate) fn line_of<'a>(verb: Verb, found: &ArgMatches<'a>) -> Result<Line<'a>, LineError>
-    ensures ok { IfOk result (IsLineOf verb (rows_of (found_of found.now))) }
+pub(crate) fn command_of<'a>(verb: Verb, found: &ArgMatches<'a>) -> Result<Command<'a>, LineError>
+    ensures ok { IfOk result (IsCommandOf verb (rows_of (found_of found.now))) }
     ensures lacks { IfErr result (IsLack verb (rows_of (found_of found.now))) }
 {
     match verb {
-        Verb::Format => format_line(found),
-        Verb::Put | Verb::MakeDir | Verb::Remove | Verb::Chmod => edit_line(found, verb),
-        Verb::Show => show_line(found),
-        Verb::Check => check_line(found),
-        Verb::Migrate => migrate_line(found),
-        Verb::Log => log_line(found),
-        Verb::Export => export_line(found),
-        Verb::Import => import_line(found),
-        Verb::Reconcile => reconcile_line(found),
-        Verb::Serve => serve_line(found),
-        Verb::Sync => sync_line(found),
-        Verb::Run => run_line(found),
-        Verb::Plan => plan_line(found),
-        Verb::Simulate => simulate_line(found),
+        Verb::Format => format_command(found),
+        Verb::Put | Verb::MakeDir | Verb::Remove | Verb::Chmod => edit_command(found, verb),
+        Verb::Show => show_command(found),
+        Verb::Check => check_command(found),
+        Verb::Migrate => migrate_command(found),
+        Verb::Log => log_command(found),
+        Verb::Export => export_command(found),
+        Verb::Import => import_command(found),
+        Verb::Reconcile => reconcile_command(found),
+        Verb::Serve => serve_command(found),
+        Verb::Sync => sync_command(found),
+        Verb::Run => run_command(found),
+        Verb::Plan => plan_command(found),
+        Verb::Simulate => simulate_command(found),
     }
 }
 
-fn format_line<'a>(found: &ArgMatches<'a>) -> Result<Line<'a>, LineError>
-    ensures ok { IfOk result (IsLineOf Verb.Format (rows_of (found_of found.now))) }
+fn format_command<'a>(found: &ArgMatches<'a>) -> Result<Command<'a>, LineError>
+    ensures ok { IfOk result (IsCommandOf Verb.Format (rows_of (found_of found.now))) }
     ensures lacks { IfErr result (IsLack Verb.Format (rows_of (found_of found.now))) }
 {
     let kind = kind_given(found)?;
     let pair = pair_given(found)?;
     let file = text(found, ValueName::File)?;
-    Ok(Line::Image(ImageLine::Format { kind, pair, file }))
+    Ok(Command::Image(ImageCommand::Format { kind, pair, file }))
 }
 
 fn kind_given(found: &ArgMatches<'_>) -> Result<ImageKind, LineError>
@@ -74,16 +74,16 @@ fn pair_given(found: &ArgMatches<'_>) -> Result<u64, LineError>
 
 /// The edit of a command that makes one.
 #[tactic(auto, using(crate::proofs::LackLemmas::edit_missing))]
-fn edit_line<'a>(found: &ArgMatches<'a>, verb: Verb) -> Result<Line<'a>, LineError>
+fn edit_command<'a>(found: &ArgMatches<'a>, verb: Verb) -> Result<Command<'a>, LineError>
     requires { IsEdit verb }
-    ensures ok { IfOk result (IsLineOf verb (rows_of (found_of found.now))) }
+    ensures ok { IfOk result (IsCommandOf verb (rows_of (found_of found.now))) }
     ensures lacks { IfErr result (IsLack verb (rows_of (found_of found.now))) }
 {
     let place = place(found)?;
     let user = user_given(found, verb)?;
     let path = text(found, ValueName::Path)?;
     let kind = edit_kind_given(found, verb)?;
-    Ok(Line::Edit(EditLine {
+    Ok(Command::Edit(EditCommand {
         kind,
         place,
         user,
@@ -127,40 +127,40 @@ fn mode_given(found: &ArgMatches<'_>) -> Result<Mode, LineError>
 }
 
 /// What is to be printed: what stands at a path, or with no path the whole image.
-fn show_line<'a>(found: &ArgMatches<'a>) -> Result<Line<'a>, LineError>
-    ensures ok { IfOk result (IsLineOf Verb.Show (rows_of (found_of found.now))) }
+fn show_command<'a>(found: &ArgMatches<'a>) -> Result<Command<'a>, LineError>
+    ensures ok { IfOk result (IsCommandOf Verb.Show (rows_of (found_of found.now))) }
     ensures lacks { IfErr result (IsLack Verb.Show (rows_of (found_of found.now))) }
 {
     let place = place(found)?;
     match optional_text(found, ValueName::Path) {
-        Some(path) => Ok(Line::Image(ImageLine::ShowPath { place, path })),
-        None => Ok(Line::Image(ImageLine::Show { place })),
+        Some(path) => Ok(Command::Image(ImageCommand::ShowPath { place, path })),
+        None => Ok(Command::Image(ImageCommand::Show { place })),
     }
 }
 
-fn check_line<'a>(found: &ArgMatches<'a>) -> Result<Line<'a>, LineError>
-    ensures ok { IfOk result (IsLineOf Verb.Check (rows_of (found_of found.now))) }
+fn check_command<'a>(found: &ArgMatches<'a>) -> Result<Command<'a>, LineError>
+    ensures ok { IfOk result (IsCommandOf Verb.Check (rows_of (found_of found.now))) }
     ensures lacks { IfErr result (IsLack Verb.Check (rows_of (found_of found.now))) }
 {
     let file = text(found, ValueName::File)?;
-    Ok(Line::Image(ImageLine::Check { file }))
+    Ok(Command::Image(ImageCommand::Check { file }))
 }
 
-fn migrate_line<'a>(found: &ArgMatches<'a>) -> Result<Line<'a>, LineError>
-    ensures ok { IfOk result (IsLineOf Verb.Migrate (rows_of (found_of found.now))) }
+fn migrate_command<'a>(found: &ArgMatches<'a>) -> Result<Command<'a>, LineError>
+    ensures ok { IfOk result (IsCommandOf Verb.Migrate (rows_of (found_of found.now))) }
     ensures lacks { IfErr result (IsLack Verb.Migrate (rows_of (found_of found.now))) }
 {
     let file = text(found, ValueName::File)?;
-    Ok(Line::Image(ImageLine::Migrate { file }))
+    Ok(Command::Image(ImageCommand::Migrate { file }))
 }
 
-fn log_line<'a>(found: &ArgMatches<'a>) -> Result<Line<'a>, LineError>
-    ensures ok { IfOk result (IsLineOf Verb.Log (rows_of (found_of found.now))) }
+fn log_command<'a>(found: &ArgMatches<'a>) -> Result<Command<'a>, LineError>
+    ensures ok { IfOk result (IsCommandOf Verb.Log (rows_of (found_of found.now))) }
     ensures lacks { IfErr result (IsLack Verb.Log (rows_of (found_of found.now))) }
 {
     let file = text(found, ValueName::File)?;
     let lines = lines_given(found)?;
-    Ok(Line::Image(ImageLine::Log { file, lines }))
+    Ok(Command::Image(ImageCommand::Log { file, lines }))
 }
 
 fn lines_given(found: &ArgMatches<'_>) -> Result<Option<u64>, LineError>
@@ -174,15 +174,15 @@ fn lines_given(found: &ArgMatches<'_>) -> Result<Option<u64>, LineError>
     }
 }
 
-fn export_line<'a>(found: &ArgMatches<'a>) -> Result<Line<'a>, LineError>
-    ensures ok { IfOk result (IsLineOf Verb.Export (rows_of (found_of found.now))) }
+fn export_command<'a>(found: &ArgMatches<'a>) -> Result<Command<'a>, LineError>
+    ensures ok { IfOk result (IsCommandOf Verb.Export (rows_of (found_of found.now))) }
     ensures lacks { IfErr result (IsLack Verb.Export (rows_of (found_of found.now))) }
 {
     let place = place(found)?;
     let folder = text(found, ValueName::Folder)?;
     let path = optional_text(found, ValueName::Path);
     let existing = existing_given(found);
-    Ok(Line::Export(ExportLine {
+    Ok(Command::Export(ExportCommand {
         place,
         folder,
         path,
@@ -203,8 +203,8 @@ fn existing_given(found: &ArgMatches<'_>) -> Existing
     }
 }
 
-fn import_line<'a>(found: &ArgMatches<'a>) -> Result<Line<'a>, LineError>
-    ensures ok { IfOk result (IsLineOf Verb.Import (rows_of (found_of found.now))) }
+fn import_command<'a>(found: &ArgMatches<'a>) -> Result<Command<'a>, LineError>
+    ensures ok { IfOk result (IsCommandOf Verb.Import (rows_of (found_of found.now))) }
     ensures lacks { IfErr result (IsLack Verb.Import (rows_of (found_of found.now))) }
 {
     let place = place(found)?;
@@ -212,7 +212,7 @@ fn import_line<'a>(found: &ArgMatches<'a>) -> Result<Line<'a>, LineError>
     let folder = text(found, ValueName::Folder)?;
     let path = optional_text(found, ValueName::Path);
     let is_skipping = is_set(found, "skip");
-    Ok(Line::Import(ImportLine {
+    Ok(Command::Import(ImportCommand {
         place,
         user,
         folder,
@@ -221,8 +221,8 @@ fn import_line<'a>(found: &ArgMatches<'a>) -> Result<Line<'a>, LineError>
     }))
 }
 
-fn reconcile_line<'a>(found: &ArgMatches<'a>) -> Result<Line<'a>, LineError>
-    ensures ok { IfOk result (IsLineOf Verb.Reconcile (rows_of (found_of found.now))) }
+fn reconcile_command<'a>(found: &ArgMatches<'a>) -> Result<Command<'a>, LineError>
+    ensures ok { IfOk result (IsCommandOf Verb.Reconcile (rows_of (found_of found.now))) }
     ensures lacks { IfErr result (IsLack Verb.Reconcile (rows_of (found_of found.now))) }
 {
     let folder = text(found, ValueName::Folder)?;
@@ -232,7 +232,7 @@ fn reconcile_line<'a>(found: &ArgMatches<'a>) -> Result<Line<'a>, LineError>
     let preference = folder_preference_given(found)?;
     let is_dry = is_set(found, "dry-run");
     let is_emptied = is_set(found, "emptied");
-    Ok(Line::Reconcile(ReconcileLine {
+    Ok(Command::Reconcile(ReconcileCommand {
         folder,
         file,
         user,
@@ -254,15 +254,15 @@ fn folder_preference_given(found: &ArgMatches<'_>) -> Result<Option<Side>, LineE
     }
 }
 
-fn serve_line<'a>(found: &ArgMatches<'a>) -> Result<Line<'a>, LineError>
-    ensures ok { IfOk result (IsLineOf Verb.Serve (rows_of (found_of found.now))) }
+fn serve_command<'a>(found: &ArgMatches<'a>) -> Result<Command<'a>, LineError>
+    ensures ok { IfOk result (IsCommandOf Verb.Serve (rows_of (found_of found.now))) }
     ensures lacks { IfErr result (IsLack Verb.Serve (rows_of (found_of found.now))) }
 {
     let file = text(found, ValueName::File)?;
     let address = text(found, ValueName::Address)?;
     let connections = connections_given(found)?;
     let folder = served_folder_given(found)?;
-    Ok(Line::Serve(ServeLine {
+    Ok(Command::Serve(ServeCommand {
         file,
         address,
         connections,
@@ -272,7 +272,7 @@ fn serve_line<'a>(found: &ArgMatches<'a>) -> Result<Line<'a>, LineError>
 
 /// The folder that a server keeps the same as its replica, where one is given. Its user is given
 /// with it, and without it neither a user nor seconds.
-fn served_folder_given<'a>(found: &ArgMatches<'a>) -> Result<Option<FolderLine<'a>>, LineError>
+fn served_folder_given<'a>(found: &ArgMatches<'a>) -> Result<Option<FolderCommand<'a>>, LineError>
     ensures ok { IfOk result (MayHaveFolder (rows_of (found_of found.now))) }
     ensures lacks { IfErr result (IsLack Verb.Serve (rows_of (found_of found.now))) }
 {
@@ -286,7 +286,7 @@ fn served_folder_given<'a>(found: &ArgMatches<'a>) -> Result<Option<FolderLine<'
     };
     let user = folder_user_given(found)?;
     let seconds = seconds_given(found, Verb::Serve)?;
-    Ok(Some(FolderLine {
+    Ok(Some(FolderCommand {
         folder,
         user,
         seconds,
@@ -314,8 +314,8 @@ fn connections_given(found: &ArgMatches<'_>) -> Result<Option<u64>, LineError>
     }
 }
 
-fn sync_line<'a>(found: &ArgMatches<'a>) -> Result<Line<'a>, LineError>
-    ensures ok { IfOk result (IsLineOf Verb.Sync (rows_of (found_of found.now))) }
+fn sync_command<'a>(found: &ArgMatches<'a>) -> Result<Command<'a>, LineError>
+    ensures ok { IfOk result (IsCommandOf Verb.Sync (rows_of (found_of found.now))) }
     ensures lacks { IfErr result (IsLack Verb.Sync (rows_of (found_of found.now))) }
 {
     let archive = text(found, ValueName::Archive)?;
@@ -323,14 +323,14 @@ fn sync_line<'a>(found: &ArgMatches<'a>) -> Result<Line<'a>, LineError>
     let right = text(found, ValueName::Right)?;
     let preference = preference_given(found, Verb::Sync)?;
     match seconds_given(found, Verb::Sync)? {
-        Some(seconds) => Ok(Line::Keep(KeepLine {
+        Some(seconds) => Ok(Command::Keep(KeepCommand {
             left,
             right,
             archive,
             preference,
             seconds,
         })),
-        None => Ok(Line::Session(Pairing {
+        None => Ok(Command::Session(Pairing {
             between: Between::Servers { left, right },
             archive,
             preference,
@@ -351,15 +351,15 @@ fn seconds_given(found: &ArgMatches<'_>, verb: Verb) -> Result<Option<u64>, Line
     }
 }
 
-fn run_line<'a>(found: &ArgMatches<'a>) -> Result<Line<'a>, LineError>
-    ensures ok { IfOk result (IsLineOf Verb.Run (rows_of (found_of found.now))) }
+fn run_command<'a>(found: &ArgMatches<'a>) -> Result<Command<'a>, LineError>
+    ensures ok { IfOk result (IsCommandOf Verb.Run (rows_of (found_of found.now))) }
     ensures lacks { IfErr result (IsLack Verb.Run (rows_of (found_of found.now))) }
 {
     let left = text(found, ValueName::Left)?;
     let right = text(found, ValueName::Right)?;
     let archive = text(found, ValueName::Archive)?;
     let preference = preference_given(found, Verb::Run)?;
-    Ok(Line::Session(Pairing {
+    Ok(Command::Session(Pairing {
         between: Between::Files { left, right },
         archive,
         preference,
@@ -378,8 +378,8 @@ fn preference_given(found: &ArgMatches<'_>, verb: Verb) -> Result<Option<Side>, 
     }
 }
 
-fn plan_line<'a>(found: &ArgMatches<'a>) -> Result<Line<'a>, LineError>
-    ensures ok { IfOk result (IsLineOf Verb.Plan (rows_of (found_of found.now))) }
+fn plan_command<'a>(found: &ArgMatches<'a>) -> Result<Command<'a>, LineError>
+    ensures ok { IfOk result (IsCommandOf Verb.Plan (rows_of (found_of found.now))) }
     ensures lacks { IfErr result (IsLack Verb.Plan (rows_of (found_of found.now))) }
 {
     let left = text(found, ValueName::Left)?;
@@ -391,18 +391,18 @@ fn plan_line<'a>(found: &ArgMatches<'a>) -> Result<Line<'a>, LineError>
         Between::Files { left, right }
     };
     let preference = preference_given(found, Verb::Plan)?;
-    Ok(Line::Plan(Pairing {
+    Ok(Command::Plan(Pairing {
         between,
         archive,
         preference,
     }))
 }
 
-fn simulate_line<'a>(found: &ArgMatches<'a>) -> Result<Line<'a>, LineError>
-    ensures ok { IfOk result (IsLineOf Verb.Simulate (rows_of (found_of found.now))) }
+fn simulate_command<'a>(found: &ArgMatches<'a>) -> Result<Command<'a>, LineError>
+    ensures ok { IfOk result (IsCommandOf Verb.Simulate (rows_of (found_of found.now))) }
     ensures lacks { IfErr result (IsLack Verb.Simulate (rows_of (found_of found.now))) }
 {
     let script = text(found, ValueName::Script)?;
     let is_traced = is_set(found, "trace");
-    Ok(Line::Simulate { script, is_traced })
+    Ok(Command::Simulate { script, is_traced })
 }

@@ -10,7 +10,7 @@ use Rattle.syn_scan.specs.Asked.{handed_out, is_out}
 use Rattle.syn_session.specs.Scanning.{IsFoundIn, WaitsFor, WasAnswered, found_of, out_of}
 use Rattle.syn_session.specs.inner.Listing.{IsNextListing}
 use Rattle.syn_session.proofs.WaitingLemmas.{contains_out, out_contains}
-use Rattle.syn_session.proofs.line.Line.next_listings.Goals as goal
+use Rattle.syn_session.proofs.peer.PeerState.next_listings.Goals as goal
 
 pub window-preserved : goal.window-preserved
 window-preserved c =

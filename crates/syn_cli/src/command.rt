@@ -61,7 +61,7 @@ pub enum Existing {
 
 /// An edit of a replica at a path, by a user.
 #[derive(Clone, Copy, Debug, PartialEq, Eq)]
-pub struct EditLine<'a> {
+pub struct EditCommand<'a> {
     pub kind: EditKind,
     pub place: ReplicaPlace<'a>,
     pub user: u32,
@@ -70,7 +70,7 @@ pub struct EditLine<'a> {
 
 /// An export of a directory of a replica into a folder. With no path it is the root.
 #[derive(Clone, Copy, Debug, PartialEq, Eq)]
-pub struct ExportLine<'a> {
+pub struct ExportCommand<'a> {
     pub place: ReplicaPlace<'a>,
     pub folder: &'a str,
     pub path: Option<&'a str>,
@@ -79,7 +79,7 @@ pub struct ExportLine<'a> {
 
 /// An import of a folder into a directory of a replica, by a user. With no path it is the root.
 #[derive(Clone, Copy, Debug, PartialEq, Eq)]
-pub struct ImportLine<'a> {
+pub struct ImportCommand<'a> {
     pub place: ReplicaPlace<'a>,
     pub user: u32,
     pub folder: &'a str,
@@ -89,7 +89,7 @@ pub struct ImportLine<'a> {
 
 /// A folder and a replica that are to be the same.
 #[derive(Clone, Copy, Debug, PartialEq, Eq)]
-pub struct ReconcileLine<'a> {
+pub struct ReconcileCommand<'a> {
     pub folder: &'a str,
     /// The file that has the replica.
     pub file: &'a str,
@@ -126,7 +126,7 @@ pub struct Pairing<'a> {
 
 /// Two servers that are to be kept the same.
 #[derive(Clone, Copy, Debug, PartialEq, Eq)]
-pub struct KeepLine<'a> {
+pub struct KeepCommand<'a> {
     /// The address of each, HOST:PORT. A text is looked at when it is used.
     pub left: &'a str,
     pub right: &'a str,
@@ -139,7 +139,7 @@ pub struct KeepLine<'a> {
 
 /// A replica that is to be served.
 #[derive(Clone, Copy, Debug, PartialEq, Eq)]
-pub struct ServeLine<'a> {
+pub struct ServeCommand<'a> {
     /// The file that has the replica.
     pub file: &'a str,
     /// HOST:PORT to listen at. The text is looked at when it is used.
@@ -147,12 +147,12 @@ pub struct ServeLine<'a> {
     /// The server ends when so many connections were served; with none it goes on.
     pub connections: Option<u64>,
     /// The folder that is kept the same as the replica meanwhile, if one is.
-    pub folder: Option<FolderLine<'a>>,
+    pub folder: Option<FolderCommand<'a>>,
 }
 
 /// A folder that is kept the same as a replica.
 #[derive(Clone, Copy, Debug, PartialEq, Eq)]
-pub struct FolderLine<'a> {
+pub struct FolderCommand<'a> {
     pub folder: &'a str,
     /// Whose edits the folder's changes are.
     pub user: u32,
@@ -162,7 +162,7 @@ pub struct FolderLine<'a> {
 
 /// What is done about an image.
 #[derive(Clone, Copy, Debug, PartialEq, Eq)]
-pub enum ImageLine<'a> {
+pub enum ImageCommand<'a> {
     /// Makes the file an image of the kind, for the pair.
     Format {
         kind: ImageKind,
@@ -195,23 +195,23 @@ pub enum ImageLine<'a> {
 
 /// A command with its values.
 #[derive(Clone, Copy, Debug, PartialEq, Eq)]
-pub enum Line<'a> {
+pub enum Command<'a> {
     /// Makes, prints or migrates an image.
-    Image(ImageLine<'a>),
+    Image(ImageCommand<'a>),
     /// Edits a replica.
-    Edit(EditLine<'a>),
+    Edit(EditCommand<'a>),
     /// Writes what a directory of a replica has into a folder.
-    Export(ExportLine<'a>),
+    Export(ExportCommand<'a>),
     /// Makes a directory of a replica what a folder is.
-    Import(ImportLine<'a>),
+    Import(ImportCommand<'a>),
     /// Makes a folder and a replica the same.
-    Reconcile(ReconcileLine<'a>),
+    Reconcile(ReconcileCommand<'a>),
     /// Serves the replica in a file.
-    Serve(ServeLine<'a>),
+    Serve(ServeCommand<'a>),
     /// Runs a session.
     Session(Pairing<'a>),
     /// Runs a session of two servers, and others whenever one of them has changed.
-    Keep(KeepLine<'a>),
+    Keep(KeepCommand<'a>),
     /// Prints what a session would do.
     Plan(Pairing<'a>),
     /// Runs the steps of a script on a world of three machines in memory, and tells each of them
@@ -221,7 +221,7 @@ pub enum Line<'a> {
 
 /// A command, and whether a refusal of it is to be explained.
 #[derive(Clone, Copy, Debug, PartialEq, Eq)]
-pub struct Asked<'a> {
-    pub line: Line<'a>,
+pub struct Arguments<'a> {
+    pub command: Command<'a>,
     pub is_verbose: bool,
 }

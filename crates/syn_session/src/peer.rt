@@ -26,7 +26,7 @@ const MOST_LISTINGS: usize = 8;
 /// What a session asks of one side: one request at a time, or up to eight listings; and the scan
 /// that the answers give.
 #[derive(Debug, Drop)]
-pub struct Line {
+pub struct PeerState {
     /// In rising number.
     pub waiting: Vec<Waiting>,
     /// How many requests were sent there, resends aside.
@@ -34,7 +34,7 @@ pub struct Line {
     pub scan: SideScan,
 }
 
-impl Line {
+impl PeerState {
     ghost use Rattle.syn_session.specs.Answering.{IsAskedOn};
     ghost use Rattle.syn_session.specs.Sessions.{begin_of, is_worn_out};
     ghost use Rattle.syn_session.specs.Stages.{HasTaken, waiting_of};
@@ -42,17 +42,17 @@ impl Line {
 
     /// The side is to begin the session. Room for all that may wait is taken here. Refused 11 where
     /// memory is refused.
-    pub(crate) fn new(alloc: Global, pair: u64) -> Result<Line, AllocError>
-        ensures waits { IfOk result (λ line. waiting_of line ≡ begin_of pair) }
-        ensures asked { IfOk result (λ line. line.asked ≡ 1) }
+    pub(crate) fn new(alloc: Global, pair: u64) -> Result<PeerState, AllocError>
+        ensures waits { IfOk result (λ peer. waiting_of peer ≡ begin_of pair) }
+        ensures asked { IfOk result (λ peer. peer.asked ≡ 1) }
         ensures found { (side : Which)
-            → IfOk result (λ line. IsFoundIn (found_of line.scan) side []) }
-        ensures out { IfOk result (λ line. out_of line.scan ≡ []) }
+            → IfOk result (λ peer. IsFoundIn (found_of peer.scan) side []) }
+        ensures out { IfOk result (λ peer. out_of peer.scan ≡ []) }
     {
         let mut waiting = Vec::with_capacity(alloc, MOST_LISTINGS)?;
         waiting.push(Waiting::begin(pair))?;
         let scan = SideScan::new(alloc)?;
-        Ok(Line {
+        Ok(PeerState {
             waiting,
             asked: 1,
             scan,

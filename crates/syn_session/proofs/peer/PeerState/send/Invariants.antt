@@ -3,7 +3,7 @@ use Rattle.syn_headline.specs.Coordinator.{messages_to}
 use Rattle.syn_path.specs.Sides.{which_of}
 use Rattle.syn_session.specs.Sendings.{messages_of}
 use Rattle.syn_session.specs.Stages.{outstanding_of}
-use Rattle.syn_session.proofs.line.Line.send.Given as goal
+use Rattle.syn_session.proofs.peer.PeerState.send.Given as goal
 
 abbrev pub invariant-loop-one : goal.invariant-loop-one
 invariant-loop-one l = messages_of l.sends.items ≡ messages_of l.fn.sends.items

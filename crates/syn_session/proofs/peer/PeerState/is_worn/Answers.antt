@@ -4,7 +4,7 @@ use Rattle.std.specs.Prelude.{nat_le}
 use Rattle.syn_headline.specs.Coordinator.{most_resends}
 use Rattle.syn_session.specs.declared.requests.Waiting.{Waiting}
 use Rattle.syn_session.proofs.WaitingLemmas.{worn_same}
-use Rattle.syn_session.proofs.line.Line.is_worn.Goals as goal
+use Rattle.syn_session.proofs.peer.PeerState.is_worn.Goals as goal
 
 pub returns : goal.returns
 returns c =

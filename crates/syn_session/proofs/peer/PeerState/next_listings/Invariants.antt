@@ -2,7 +2,7 @@ use Rattle.std.proofs.Common.{◌≡◌, ◌≢◌, ◌≤◌, ◌+◌, ◌-◌,
 use Rattle.std.specs.Prelude.{All, AllPairs}
 use Rattle.syn_session.specs.Scanning.{found_of, out_of}
 use Rattle.syn_session.specs.inner.Listing.{IsNextListing}
-use Rattle.syn_session.proofs.line.Line.next_listings.Given as goal
+use Rattle.syn_session.proofs.peer.PeerState.next_listings.Given as goal
 
 abbrev pub invariant-window : goal.invariant-window
 invariant-window l = record {
