@@ -4,3 +4,5 @@ pub mod ImportLemmas
 mod MigrateLemmas
 mod MomentLemmas
 mod SentLemmas
+mod AskedLemmas
+mod ShownLemmas

@@ -6,3 +6,5 @@ pub mod Printed
 pub mod Shown
 pub mod Status
 pub mod Sent
+pub mod Listings
+pub mod inner

@@ -1,8 +1,9 @@
 //! What a command does with a disk, why it is refused, and the status that it ends with.
 //!
-//! An image on a disk is opened, made, shown and checked, and an edit of a replica is made as a
-//! line asks for it. How a command came out is told on standard error, and is the exit status.
-//! Which disk it is, is the caller's to say: nothing here opens a file or a connection.
+//! An image on a disk is opened, made, shown and checked, an edit of a replica is made as a line
+//! asks for it, and of two sides it is told what a session would do. How a command came out is told
+//! on standard error, and is the exit status. Which disk it is, is the caller's to say: nothing
+//! here opens a file or a connection.
 //!
 //! # What it promises
 //!
@@ -45,6 +46,14 @@
 //! - `send_edits` asks a server for such edits. Where it succeeds, they were asked for one after
 //!   another, and each was answered with the position after the one before (`made`). Else some of
 //!   them were, and at most the next one was asked for besides (`stopped`).
+//! - `plan_between` answers what a session would do. It lists both sides as a session lists them:
+//!   replicas that are open, or connections (`ListedSide`). It answers the plan of the two scans and
+//!   the marks, by a session's own plan (`items`). Nothing begins, nothing is carried, and nothing
+//!   is recorded. Each scan is by what its side replied, one listing after another (`left`, `right`:
+//!   `IsScanned`). It is refused for lack of memory, or where a side was not scanned (`cause`:
+//!   `NotScanned`). Then a listing was refused, or the reply to it ends a session, or more were
+//!   asked for than a scan has nodes. `plan_of_replicas` does so with two replicas, whose plan is
+//!   that of their trees, and whose replies are by their histories (`NotShown`).
 #![tactic(auto)]
 
 mod check;
@@ -57,6 +66,7 @@ mod image;
 mod import;
 mod outcome;
 mod planning;
+mod preview;
 mod sending;
 mod show;
 mod status;
@@ -72,6 +82,7 @@ pub use image::{Image, format_image, migrate_image, open_image};
 pub use import::{import_folder, import_part, part_of};
 pub use outcome::{Outcome, outcome_of, outcome_planned};
 pub use planning::plan_import;
+pub use preview::{ListedSide, Planned, plan_between, plan_of_replicas};
 pub use sending::send_edits;
 pub use show::{show_image, show_path};
 pub use status::Status;

@@ -8,12 +8,14 @@ use std::net::{Net, TcpStream};
 use std::thread::Threads;
 use syn_archive::Archive;
 use syn_cli::{Between, Pairing};
-use syn_command::{CommandError, Outcome, outcome_planned};
+use syn_command::{
+    CommandError, Outcome, Planned, outcome_planned, plan_between, plan_of_replicas,
+};
 use syn_daemon::reach;
 use syn_disk::{Access, Disk, OpenError};
 use syn_mark::MarkTree;
 use syn_path::Side;
-use syn_print::{Planned, counts_of, plan_between, plan_of_replicas, show_plan};
+use syn_print::{counts_of, show_plan};
 use syn_refusal::Refusal;
 use syn_replica::{Replica, ReplicaError};
 use syn_user::SideConnection;

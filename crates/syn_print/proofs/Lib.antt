@@ -2,5 +2,3 @@ mod CollectLemmas
 mod OrderLemmas
 mod KnownLemmas
 mod DamageLemmas
-mod AskedLemmas
-mod ShownLemmas

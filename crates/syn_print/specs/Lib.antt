@@ -4,6 +4,5 @@ pub mod Reports
 pub mod Known
 pub mod Events
 pub mod Counting
-pub mod Listings
 pub mod Plans
 pub mod inner

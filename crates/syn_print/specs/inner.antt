@@ -1,4 +1,3 @@
 -- Definitions that no public clause reaches.
-pub mod Asking
 pub mod Damages
 pub mod Named

@@ -1,5 +1,4 @@
-//! What is printed of an image, of its last events, of a session that ended, and of what a session
-//! would do.
+//! What is printed of an image, of its last events, of a session that ended, and of a plan.
 //!
 //! # What it promises
 //!
@@ -23,15 +22,7 @@
 //!   before, the image has which path each changed, for the last 4,096 of them. It is refused only
 //!   for a cause for which the disk is opened as no replica (`cause`: `IsOpenRefusal`). `show_log`
 //!   prints the last of them, so many at most, the newest first.
-//! - **What a session would do**: `plan_between` lists both sides as a session lists them: replicas
-//!   that are open, or connections (`ListedSide`). It answers the plan of the two scans and the
-//!   marks, by a session's own plan (`items`). Nothing begins, nothing is carried, and nothing is
-//!   recorded. Each scan is by what its side replied, one listing after another (`left`, `right`:
-//!   `IsScanned`). It is refused for lack of memory, or where a side was not scanned (`cause`:
-//!   `NotScanned`). Then a listing was refused, or the reply to it ends a session, or more were
-//!   asked for than a scan has nodes. `plan_of_replicas` does so with two replicas, whose plan is
-//!   that of their trees, and whose replies are by their histories (`NotShown`). `counts_of` counts
-//!   a plan's items, and `show_plan` prints its counts and its items.
+//! - **A plan**: `counts_of` counts its items, and `show_plan` prints its counts and its items.
 #![tactic(auto)]
 
 mod error;
@@ -43,5 +34,5 @@ mod report;
 pub use error::PrintError;
 pub use image::{show_archive, show_below, show_replica, show_served};
 pub use log::{Logged, What, read_log, show_log};
-pub use plan::{Counts, ListedSide, Planned, counts_of, plan_between, plan_of_replicas, show_plan};
+pub use plan::{Counts, counts_of, show_plan};
 pub use report::show_report;

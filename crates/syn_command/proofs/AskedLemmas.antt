@@ -10,11 +10,12 @@ use Rattle.syn_headline.specs.Side.{ListAt, Reply}
 use Rattle.syn_model.specs.Dirty.{IsScanBy}
 use Rattle.syn_model.specs.Path.{Path}
 use Rattle.syn_model.proofs.PathLemmas.{path_itself}
-use Rattle.syn_print.specs.Listings.{GaveReplies, IsScanned, Replies, SaysListed, SaysNone}
+use Rattle.syn_command.specs.Listings.{GaveReplies, IsScanned, Replies, SaysListed, SaysNone}
 use Rattle.syn_model.specs.Limits.{most_nodes}
 use Rattle.syn_model.specs.Refusal.{Refusal, Memory, TooLarge}
-use Rattle.syn_print.specs.Listings.{NotScanned, endless, ended, exchanges_of, fault_after, refused}
-use Rattle.syn_print.specs.inner.Asking.{IsAsked}
+use Rattle.syn_command.specs.Listings.{NotScanned, endless, ended}
+use Rattle.syn_command.specs.Listings.{exchanges_of, fault_after, refused}
+use Rattle.syn_command.specs.inner.Asking.{IsAsked}
 use Rattle.syn_scan.specs.Asked.{handed_out, without}
 use Rattle.syn_scan.specs.Found.{Found, position_of, scan_of}
 use Rattle.syn_session.specs.Scanning.{Exchanges, IsFoundIn, WaitsFor, WasListedAt}

@@ -3,7 +3,7 @@ use Rattle.std.specs.Prelude.{◌≡◌, []}
 use Rattle.syn_headline.specs.Network.{Which}
 use Rattle.syn_headline.specs.Side.{Reply}
 use Rattle.syn_model.specs.Path.{Path}
-use Rattle.syn_print.specs.Listings.{GaveReplies, Replies, exchanges_of}
+use Rattle.syn_command.specs.Listings.{GaveReplies, Replies, exchanges_of}
 use Rattle.syn_session.specs.Scanning.{IsFoundIn, found_of, out_of}
 use Rattle.syn_session.specs.declared.side_scan.SideScan.{SideScan}
 

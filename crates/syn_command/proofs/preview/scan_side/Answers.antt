@@ -1,9 +1,9 @@
 use Rattle.std.proofs.Common.{arith, inr, refl}
 use Rattle.std.proofs.lemmas.Result.{err_from_is_err_and}
 use Rattle.syn_headline.specs.Network.{Left}
-use Rattle.syn_print.proofs.AskedLemmas.{ended_so, endless_so, none_asked, one_asked, refused_so}
-use Rattle.syn_print.specs.Listings.{exchanges_of}
-use Rattle.syn_print.proofs.plan.scan_side.Goals as goal
+use Rattle.syn_command.proofs.AskedLemmas.{ended_so, endless_so, none_asked, one_asked, refused_so}
+use Rattle.syn_command.specs.Listings.{exchanges_of}
+use Rattle.syn_command.proofs.preview.scan_side.Goals as goal
 
 pub loop-init : goal.loop-init
 loop-init g c =

@@ -55,7 +55,7 @@ impl<'a, D: Disk> ReplicaSide<'a, D> {
 
 impl<D: Disk> ListedSide for ReplicaSide<'_, D> {
     ghost use Rattle.syn_model.specs.History.{History};
-    ghost use Rattle.syn_print.specs.Listings.{RepliesBy};
+    ghost use Rattle.syn_command.specs.Listings.{RepliesBy};
     ghost use Rattle.syn_replica.specs.Replica.{Stands};
 
     /// It stays as it is, and replies by its history.
@@ -72,7 +72,7 @@ impl<D: Disk> ListedSide for ReplicaSide<'_, D> {
 
 /// A replica that a server has.
 impl<R: Read, W: Write> ListedSide for SideConnection<R, W> {
-    ghost use Rattle.syn_print.specs.Listings.{IsUnlisted};
+    ghost use Rattle.syn_command.specs.Listings.{IsUnlisted};
     ghost use Rattle.syn_user.specs.Sides.{IsReplied, side_line};
 
     /// The path was asked for over the connection, and the reply came.

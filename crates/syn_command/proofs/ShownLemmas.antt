@@ -22,9 +22,9 @@ use Rattle.syn_model.proofs.HistoryLemmas.{history-is_tree}
 use Rattle.syn_model.proofs.MarkLemmas.{get-mark}
 use Rattle.syn_model.proofs.QuietLemmas.{directory_of_mark, nothing_below, same_child}
 use Rattle.syn_model.proofs.TreeLemmas.{same_tree}
-use Rattle.syn_print.specs.Listings.{GaveReplies, IsScanned, NotScanned, NotShown, Replies}
-use Rattle.syn_print.specs.Listings.{RepliesBy, ended, ended_by, endless, endless_by, refused}
-use Rattle.syn_print.specs.declared.plan.side.ReplicaSide.{ReplicaSide}
+use Rattle.syn_command.specs.Listings.{GaveReplies, IsScanned, NotScanned, NotShown, Replies}
+use Rattle.syn_command.specs.Listings.{RepliesBy, ended, ended_by, endless, endless_by, refused}
+use Rattle.syn_command.specs.declared.preview.side.ReplicaSide.{ReplicaSide}
 use Rattle.syn_replica.specs.Replica.{Stands, pair_of}
 use Rattle.syn_replica.specs.declared.replica.Replica.{Replica}
 use Rattle.syn_scan.specs.Found.{scan_of}

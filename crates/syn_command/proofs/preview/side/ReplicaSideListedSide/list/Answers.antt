@@ -1,6 +1,6 @@
 use Rattle.std.proofs.Common.{refl}
-use Rattle.syn_print.proofs.ShownLemmas.{replies_by}
-use Rattle.syn_print.proofs.plan.side.ReplicaSideListedSide.list.Goals as goal
+use Rattle.syn_command.proofs.ShownLemmas.{replies_by}
+use Rattle.syn_command.proofs.preview.side.ReplicaSideListedSide.list.Goals as goal
 
 pub returns-clause-listed : goal.returns-clause-listed
 returns-clause-listed g c = (

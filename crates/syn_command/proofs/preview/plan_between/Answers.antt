@@ -2,9 +2,9 @@ use Rattle.std.proofs.Common.{◌∙◌, ap₂, inl, inr, option_map, refl}
 use Rattle.std.proofs.lemmas.Result.{err_from_is_err_and}
 use Rattle.syn_path.specs.Sides.{which_of}
 use Rattle.syn_model.specs.Plan.{plan}
-use Rattle.syn_print.proofs.AskedLemmas.{scanned}
+use Rattle.syn_command.proofs.AskedLemmas.{scanned}
 use Rattle.syn_scan.specs.Found.{Found, scan_of}
-use Rattle.syn_print.proofs.plan.plan_between.Goals as goal
+use Rattle.syn_command.proofs.preview.plan_between.Goals as goal
 
 pub returns-clause-items : goal.returns-clause-items
 returns-clause-items g c =

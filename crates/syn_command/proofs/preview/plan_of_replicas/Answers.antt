@@ -5,15 +5,15 @@ use Rattle.syn_refusal.specs.Refusals.{cause_of}
 use Rattle.syn_model.specs.Dirty.{Scan}
 use Rattle.syn_model.specs.History.{tree_of}
 use Rattle.syn_model.specs.Plan.{plan, scan_of as scan_of_tree}
-use Rattle.syn_print.proofs.ShownLemmas.{ListsByHistory, cause_so, not_shown_replica, planned_so}
-use Rattle.syn_print.proofs.ShownLemmas.{shows_each, shows_replica}
-use Rattle.syn_print.specs.Listings.{IsScanned}
-use Rattle.syn_print.specs.declared.plan.Planned.{Planned}
+use Rattle.syn_command.proofs.ShownLemmas.{ListsByHistory, cause_so, not_shown_replica, planned_so}
+use Rattle.syn_command.proofs.ShownLemmas.{shows_each, shows_replica}
+use Rattle.syn_command.specs.Listings.{IsScanned}
+use Rattle.syn_command.specs.declared.preview.Planned.{Planned}
 use Rattle.syn_recon.specs.Items.{items_of}
 use Rattle.syn_replica.specs.Replica.{Stands}
 use Rattle.syn_scan.specs.Found.{scan_of}
 use Rattle.syn_session.specs.Scanning.{found_of}
-use Rattle.syn_print.proofs.plan.plan_of_replicas.Goals as goal
+use Rattle.syn_command.proofs.preview.plan_of_replicas.Goals as goal
 
 pub returns-clause-items : goal.returns-clause-items
 returns-clause-items g c on_left on_right left_stands right_stands =
