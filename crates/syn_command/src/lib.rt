@@ -46,14 +46,15 @@
 //! - `send_edits` asks a server for such edits. Where it succeeds, they were asked for one after
 //!   another, and each was answered with the position after the one before (`made`). Else some of
 //!   them were, and at most the next one was asked for besides (`stopped`).
-//! - `plan_between` answers what a session would do. It lists both sides as a session lists them:
-//!   replicas that are open, or connections (`ListedSide`). It answers the plan of the two scans
-//!   and the marks, by a session's own plan (`items`). Nothing begins, nothing is carried, and
-//!   nothing is recorded. Each scan is by what its side replied, one listing after another (`left`,
-//!   `right`: `IsScanned`). It is refused for lack of memory, or where a side was not scanned (`cause`:
-//!   `NotScanned`). Then a listing was refused, or the reply to it ends a session, or more were
-//!   asked for than a scan has nodes. `plan_of_replicas` does so with two replicas, whose plan is
-//!   that of their trees, and whose replies are by their histories (`NotShown`).
+//! - `plan_between` answers what a session would do. It lists both sides as a session lists
+//!   them: replicas that are open, or connections (`ListedSide`). It answers the plan of the two
+//!   scans and the marks, by a session's own plan (`items`). Nothing begins, nothing is carried,
+//!   and nothing is recorded. Each scan is by what its side replied, one listing after another
+//!   (`left`, `right`: `IsScanned`). It is refused for lack of memory, or where a side was not
+//!   scanned (`cause`: `NotScanned`). Then a listing was refused, or the reply to it ends a
+//!   session, or more were asked for than a scan has nodes. `plan_of_replicas` does so with two
+//!   replicas, whose plan is that of their trees, and whose replies are by their histories
+//!   (`NotShown`).
 #![tactic(auto)]
 
 mod check;

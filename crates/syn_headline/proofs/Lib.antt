@@ -5,6 +5,7 @@ pub mod WorldLemmas
 pub mod SideLemmas
 pub mod FormattedLemmas
 pub mod PlanLemmas
+pub mod ShownLemmas
 pub mod GrownLemmas
 pub mod SoundLemmas
 pub mod HeldLemmas

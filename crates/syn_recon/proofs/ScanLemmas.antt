@@ -14,7 +14,7 @@ use Rattle.syn_scan.specs.Asked.{AreAllOut, Asked, ListsOnly, handed_out, nothin
 use Rattle.syn_scan.specs.Asked.{with_listing, without}
 use Rattle.syn_scan.specs.Found.{Found, IsWhole, Positions, WasListedIn, WasNoDirectoryIn}
 use Rattle.syn_scan.specs.Found.{is_open, position_of, scan_of}
-use Rattle.syn_recon.proofs.ShownLemmas.{scan_is_tree}
+use Rattle.syn_headline.proofs.ShownLemmas.{scan_is_tree}
 
 -- nothing waits, nothing was answered as no directory, and each listing is one of the tree
 pub record IsScannedSo (tree : Tree) (asked : Asked) : Type 0 where
