@@ -176,7 +176,7 @@ true-grow old new a session (Replace item path since size) Done t =
     let x = extends old new a in
     let grows : length old ≤ length new = length_grows old new x in
     (omega (arith, t.0, grows), still_touched old new x since path t.0 t.1)
-true-grow old new a session request reply t = tt
+true-grow old new a session request reply t = t
 
 -- and so does what it says of its item
 borne-grow : (old new : History) → AddsAllowed old new → (plan : List Planned) (from : Which)

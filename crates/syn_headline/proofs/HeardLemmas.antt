@@ -3,22 +3,25 @@
 use Rattle.std.proofs.Common.{◌≡◌, ◌≢◌, ℕ, zero, suc, Bool, true, false, not, ◌&&◌, nat_lt}
 use Rattle.std.proofs.Common.{true≢false, if◌then◌else◌, List, ◌∷◌, ◌++◌, map, filter_map, length}
 use Rattle.std.proofs.Common.{fold, refl, sym, ap, ◌∙◌, subst, Option, Some, None, is_some}
-use Rattle.std.proofs.Common.{append-nil, append_assoc, arith, inl, inr, slice_get, []}
+use Rattle.std.proofs.Common.{append-nil, append_assoc, arith, inl, inr, slice_get, [], ◌<◌}
 use Rattle.std.specs.Prelude.{Contains, All, Any}
+use Rattle.std.specs.List.{cons_option}
 use Rattle.std.specs.Option.{option_map_or}
-use Rattle.std.proofs.lemmas.Bool.{and_parts, not-true}
+use Rattle.std.specs.Ordering.{eq_by_cmp}
+use Rattle.std.proofs.lemmas.Bool.{and_parts, eqb-true, not-true}
 use Rattle.std.proofs.lemmas.Bool.Decides.{nat_tests}
 use Rattle.std.proofs.lemmas.List.Sums.{fold-append}
 use Rattle.std.proofs.lemmas.List.Elements.{All-nil, All-cons, All-head, All-tail}
 use Rattle.std.proofs.lemmas.List.Elements.{All-contains_itself, Contains-push}
-use Rattle.std.proofs.lemmas.List.Elements.{Contains-append_left, filter_map-append}
-use Rattle.std.proofs.lemmas.Option.{none-some}
-use Rattle.syn_model.specs.Path.{Path}
+use Rattle.std.proofs.lemmas.List.Elements.{Contains-append_left, Contains-append_right}
+use Rattle.std.proofs.lemmas.List.Elements.{filter_map-append}
+use Rattle.std.proofs.lemmas.Option.{none-some, same_Some}
+use Rattle.syn_model.specs.Path.{Path, path_cmp}
 use Rattle.syn_model.specs.Refusal.{Refusal}
 use Rattle.syn_model.specs.Archive.{Archive, Kept}
 use Rattle.syn_model.specs.Decision.{Item, ToLeft, ToRight, MarkSame, MarkDir, Conflict, path_of}
-use Rattle.syn_headline.specs.Side.{Request, Begin, ListAt, Fetch, Stage, Replace, Reply}
-use Rattle.syn_headline.specs.Network.{Which, other, Message, Asks, Sent}
+use Rattle.syn_headline.specs.Side.{Request, Begin, ListAt, Fetch, Stage, Replace, Reply, Piece}
+use Rattle.syn_headline.specs.Network.{Which, other, Message, Asks, Answers, Sent}
 use Rattle.syn_headline.specs.Network.{AsksNothingTwice, WasAnswered}
 use Rattle.syn_headline.specs.Acknowledged.{Ack, Kept_by, kept_in, kept_in_session, since_start}
 use Rattle.syn_headline.specs.Planning.{Planned, SessionPlan, Log, HasBegun, IsPlanOf}
@@ -27,9 +30,11 @@ use Rattle.syn_headline.specs.Coordinator.{Exchange, Running, Walk, WasTaken, Bo
 use Rattle.syn_headline.specs.Coordinator.{MayAsk, asked_of, numbered, messages_to, plan_of}
 use Rattle.syn_headline.specs.Coordinator.{report_of, is_whole, is_unstable, IsDue}
 use Rattle.syn_headline.specs.Coordinator as fine
-use Rattle.syn_headline.specs.Picture.{IsSettled, HasPlan, IsOfPlan}
+use Rattle.syn_headline.specs.Picture.{IsSettled, HasPlan, IsOfPlan, IsWanted}
+use Rattle.syn_headline.specs.Session.{first_total, is_wanted, piece_total}
 use Rattle.syn_headline.specs.Picture as picture
 use Rattle.syn_headline.specs.Runs.{session_picture}
+use Rattle.syn_model.proofs.PathLemmas.{same_path}
 use Rattle.syn_headline.proofs.Walks.{IsItems, of_item, IsSettledBy, as_conflict, as_kept}
 use Rattle.syn_headline.proofs.Walks.{as_refused}
 use Rattle.syn_headline.proofs.Heard.{TakenWas}
@@ -103,6 +108,72 @@ has_plan sent archive log running _ _ m in_order repeats fresh (fine.makes made 
 
 -- What is asked for
 
+-- the total that a piece gives is that of a piece of the path
+is_piece : (path : Path) (request : Request) (reply : Reply) (total : ℕ) →
+    piece_total path request reply ≡ Some total →
+    (since : ℕ) × (offset : ℕ) × (bytes : List ℕ) × (request ≡ Fetch path since offset)
+    × (reply ≡ Piece total bytes)
+is_piece path (Fetch at since offset) (Piece all bytes) total is =
+    elim (eq_by_cmp path_cmp at path) as (λ b. eq_by_cmp path_cmp at path ≡ b →
+    (if b then Some all else None) ≡ Some total → (s : ℕ) × (o : ℕ) × (w : List ℕ)
+    × (Fetch at since offset ≡ Fetch path s o) × (Piece all bytes ≡ Piece total w)) [
+      | true ↦ λ same e. (
+          since,
+          offset,
+          bytes,
+          ap (λ p. Fetch p since offset) (same_path at path same),
+          ap (λ n. Piece n bytes) (same_Some all total e),
+        )
+      | false ↦ λ _ e. absurd (none-some total e)
+    ] refl is
+is_piece path request reply total is = absurd (none-some total is)
+
+-- where a total is known, a piece that was taken gave it
+pub first_piece_of : (taken : List Exchange) (path : Path) (total : ℕ) →
+    first_total taken path ≡ Some total →
+    (exchange : Exchange) × Contains taken exchange
+    × (piece_total path exchange.request exchange.reply ≡ Some total)
+first_piece_of [] path total is = absurd (none-some total is)
+first_piece_of (first ∷ more) path total is =
+    let gives = λ (exchange : Exchange). piece_total path exchange.request exchange.reply in
+    elim (gives first) as (λ o. gives first ≡ o →
+    slice_get (cons_option o (filter_map gives more)) 0 ≡ Some total →
+    (exchange : Exchange) × Contains (first ∷ more) exchange × (gives exchange ≡ Some total)) [
+      | Some one ↦ λ here e.
+          (first, (0, omega arith, refl), here ∙ ap (λ n. Some n) (same_Some one total e))
+      | None ↦ λ _ e. let later = first_piece_of more path total e in
+          (later.0, Contains-append_right (first ∷ []) more later.0 later.1, later.2)
+    ] refl is
+
+-- what a session wants next is from the beginning, or below the total that it knows
+is_wanted_so : (sent : Sent) (session : ℕ) (taken : List Exchange) → TakenWas sent session taken →
+    (path : Path) (offset : ℕ) → is_wanted offset (first_total taken path) ≡ true →
+    IsWanted sent session path offset
+is_wanted_so sent session taken was path offset wanted =
+    elim (first_total taken path) as (λ o. first_total taken path ≡ o → is_wanted offset o ≡ true →
+    IsWanted sent session path offset) [
+      | None ↦ λ _ zero. inl (eqb-true offset 0 zero)
+      | Some total ↦ λ known below.
+          let one = first_piece_of taken path total known in
+          let piece = is_piece path one.0.request one.0.reply total one.2 in
+          let both = was one.0 one.1 in
+          inr (
+            one.0.side,
+            piece.0,
+            piece.1,
+            total,
+            piece.2,
+            grind (arith, nat_tests, below),
+            record {
+              number = one.0.number;
+              asked = subst (λ q. Contains sent (Asks one.0.side session one.0.number q)) piece.3
+                  both.0;
+              answered = subst (λ r. Contains sent (Answers one.0.side session one.0.number r))
+                  piece.4 both.1;
+            },
+          )
+    ] refl wanted
+
 pub request_of_plan : (pair : ℕ) (sent : Sent) (archive : Archive) (running : Running) (to : Which)
     (request : Request) → TakenWas sent running.session running.taken →
     MayAsk archive running to request →
@@ -111,7 +182,8 @@ request_of_plan pair sent archive running to (Begin asked) was may = absurd may
 request_of_plan pair sent archive running to (ListAt path) was may =
     begun_of sent running.session running.taken was may.1 to
 request_of_plan pair sent archive running to (Fetch path since offset) was may =
-    (running.cursor, may.0, may.1, may.2.0, may.2.1)
+    (running.cursor, may.0, may.1, may.2.0, may.2.1,
+      is_wanted_so sent running.session running.taken was path offset may.2.4)
 request_of_plan pair sent archive running to (Stage item offset bytes) was may =
     let at = may.1 in (
       at.0,

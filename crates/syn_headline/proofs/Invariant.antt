@@ -1,11 +1,12 @@
 -- What each step of a run keeps.
 use Rattle.std.specs.Prelude.{ℕ, ◌≡◌, ◌≢◌, ◌≤◌, ◌==◌, if◌then◌else◌, true, false, List, [], ◌∷◌}
 use Rattle.std.specs.Prelude.{◌++◌, length, take, drop, slice_get, Some, None, All, AllPairs}
-use Rattle.std.specs.Prelude.{Contains, IfSome, Option}
+use Rattle.std.specs.Prelude.{Bool, Contains, IfSome, Option}
 use Rattle.std.specs.FinMap.{get}
 use Rattle.syn_model.specs.Path.{Bytes, Name, Path}
 use Rattle.syn_model.specs.Tree.{Tree, Content, Directory, IsTree, subtree, is_directory}
 use Rattle.syn_model.specs.Limits.{children, fits_replica}
+use Rattle.syn_model.specs.Refusal.{Refusal, BadMessage}
 use Rattle.syn_model.specs.Spelling.{spelling}
 use Rattle.syn_model.specs.Mark.{mark}
 use Rattle.syn_model.specs.Event.{Token, Event, Edited, Began, Replaced}
@@ -14,7 +15,8 @@ use Rattle.syn_model.specs.History.{is_quiet}
 use Rattle.syn_model.specs.Archive.{Archive, Kept, Session, Recorded, RecordedDir, CanKeep}
 use Rattle.syn_model.specs.Archive.{after_kept, Held}
 use Rattle.syn_headline.specs.Side.{Request, Begin, ListAt, Fetch, Replace, IsLawfulRequest, Reply}
-use Rattle.syn_headline.specs.Side.{Begun, Listed, NotDir, Piece, Done, Staging}
+use Rattle.syn_headline.specs.Side.{Begun, Listed, NotDir, Piece, Staged, Done, Refused}
+use Rattle.syn_headline.specs.Side.{Stage, Staging}
 use Rattle.syn_headline.specs.Network.{Which, other, Asks, Answers, Sent, NumbersTell}
 use Rattle.syn_headline.specs.Network.{AsksNothingTwice}
 use Rattle.syn_model.specs.Decision.{path_of}
@@ -80,7 +82,12 @@ pub record IsTrueNotDir (history : History) (path : Path) (position : ℕ) : Typ
   pub reached : position ≤ length history
   pub no_directory : is_directory (tree_at history position) path ≡ false
 
--- a reply that stays true as the history goes on
+-- it does not say that a message belongs to nothing
+abbrev pub belongs : Refusal → Bool
+belongs BadMessage = false
+belongs _ = true
+
+-- a reply that stays true as the history goes on, and is one to the request
 abbrev pub IsTrue : History → ℕ → Request → Reply → Type 0
 IsTrue history session (Begin pair) (Begun position) = session ≤ last_session history
 IsTrue history session (ListAt path) (Listed position entries) =
@@ -90,7 +97,9 @@ IsTrue history session (Fetch path since offset) (Piece total bytes) =
     IsTruePiece history path since offset total bytes
 IsTrue history session (Replace item path since size) Done =
     (since ≤ length history) × (is_quiet history since (length history) path ≡ false)
-IsTrue history session request reply = Unit {0}
+IsTrue history session (Stage item offset bytes) Staged = Unit {0}
+IsTrue history session request (Refused why) = belongs why ≡ true
+IsTrue history session request reply = ⊥
 
 -- at some moment the side had a part with these marks at the path
 pub record HadMarks (history : History) (path : Path) (marks : Tree) : Type 0 where

@@ -23,6 +23,7 @@ use Rattle.syn_headline.specs.Network.{Which, other, Sent, Asks}
 use Rattle.syn_model.specs.Decision.{path_of}
 use Rattle.syn_headline.specs.Planning.{Planned, seen_on, WritesTo, IsPlanOf}
 use Rattle.syn_headline.proofs.Invariant.{Plans, plan_in, Histories, IsSound, IsSoundStaging}
+use Rattle.syn_headline.proofs.Invariant.{belongs}
 use Rattle.syn_headline.proofs.Invariant.{IsSoundReplacement, IsSoundEvent, IsTrue, IsBorne}
 use Rattle.syn_headline.proofs.Invariant.{HadMarks, IsTruePiece, IsTrueListing, source_of, part_at}
 use Rattle.syn_model.proofs.HistoryLemmas.{first_cause-none}
@@ -55,14 +56,14 @@ refused_borne plan history from (Fetch path since offset) reason = tt
 refused_borne plan history from (Stage item offset bytes) reason = tt
 refused_borne plan history from (Replace item path since size) reason = tt
 
--- a refusal tells nothing
+-- a refusal tells nothing, but that it belongs
 pub refused_true : (history : History) (n : ℕ) (request : Request) (reason : Refusal) →
-    IsTrue history n request (Refused reason)
-refused_true history n (Begin pair) reason = tt
-refused_true history n (ListAt path) reason = tt
-refused_true history n (Fetch path since offset) reason = tt
-refused_true history n (Stage item offset bytes) reason = tt
-refused_true history n (Replace item path since size) reason = tt
+    belongs reason ≡ true → IsTrue history n request (Refused reason)
+refused_true history n (Begin pair) reason known = known
+refused_true history n (ListAt path) reason known = known
+refused_true history n (Fetch path since offset) reason known = known
+refused_true history n (Stage item offset bytes) reason known = known
+refused_true history n (Replace item path since size) reason known = known
 
 module _ (plans : Plans) (archive : Archive) (sent : Sent) (histories : Histories)
     (sound : IsSound plans histories archive sent) (which : Which) (side : Side)
@@ -143,7 +144,7 @@ module _ (plans : Plans) (archive : Archive) (sent : Sent) (histories : Historie
       (served.side.history ≡ side.history)
       ⊎ ((event : Event) × IsAllowed side.history event × IsSoundEvent plans histories archive which
       event × (served.side.history ≡ side.history ++ event ∷ []))
-  outcome_moves request served asked (refuses r reason) = inl refl
+  outcome_moves request served asked (refuses r reason known) = inl refl
   outcome_moves _ served asked (begins_again pair e) = inl refl
   outcome_moves _ served asked (begins pair a) =
       inr (
@@ -185,8 +186,8 @@ module _ (plans : Plans) (archive : Archive) (sent : Sent) (histories : Historie
   pub outcome_true : (request : Request) (served : Served) →
       Contains sent (Asks which session number request) → Outcome side session request served →
       IsTrue served.side.history session request served.reply
-  outcome_true request served asked (refuses r reason) =
-      refused_true side.history session request reason
+  outcome_true request served asked (refuses r reason known) =
+      refused_true side.history session request reason known
   outcome_true _ served asked (begins_again pair e) = subst (λ n. session ≤ n) e (omega arith)
   outcome_true _ served asked (begins pair a) =
       subst (λ n. session ≤ n) (sym (fold_one 0 side.history (Began session))) (omega arith)
@@ -244,7 +245,7 @@ module _ (plans : Plans) (archive : Archive) (sent : Sent) (histories : Historie
   pub outcome_borne : (request : Request) (served : Served) →
       Contains sent (Asks which session number request) → Outcome side session request served →
       IsBorne (plan_in plans session) served.side.history which request served.reply
-  outcome_borne request served asked (refuses r reason) =
+  outcome_borne request served asked (refuses r reason known) =
       refused_borne (plan_in plans session) side.history which request reason
   outcome_borne _ served asked (begins_again pair e) = tt
   outcome_borne _ served asked (begins pair a) = tt
@@ -305,7 +306,7 @@ module _ (plans : Plans) (archive : Archive) (sent : Sent) (histories : Historie
   pub outcome_staging : (request : Request) (served : Served) →
       Contains sent (Asks which session number request) → Outcome side session request served →
       IfSome served.side.staging (IsSoundStaging plans histories which)
-  outcome_staging request served asked (refuses r reason) = staged
+  outcome_staging request served asked (refuses r reason known) = staged
   outcome_staging _ served asked (begins_again pair e) = staged
   outcome_staging _ served asked (begins pair a) = staged
   outcome_staging _ served asked (lists path there) = staged

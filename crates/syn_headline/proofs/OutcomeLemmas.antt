@@ -12,7 +12,7 @@ use Rattle.syn_model.specs.Limits.{children, greatest_spelling}
 use Rattle.syn_model.specs.Mark.{mark}
 use Rattle.syn_model.specs.Spelling.{spelling}
 use Rattle.syn_model.specs.Refusal.{Refusal, first_cause, Memory, OldSession, WrongPair}
-use Rattle.syn_model.specs.Refusal.{NotStaged, BadStage, BelowFloor, Touched}
+use Rattle.syn_model.specs.Refusal.{NotStaged, BadStage, BelowFloor, Touched, Cause}
 use Rattle.syn_model.specs.Refusal as why
 use Rattle.syn_model.specs.Event.{IsLawfulToken, is_below, is_same_token, Event, Began, Replaced}
 use Rattle.syn_model.specs.History.{History, tree_of, IsAllowed, last_session, last_token}
@@ -28,10 +28,11 @@ use Rattle.syn_headline.specs.Laws.{PiecesAreUntouched}
 use Rattle.syn_headline.specs.Machine.{Status, Up, Halted, Down}
 use Rattle.syn_headline.specs.SideMachine.{serve_halted, CannotStage, ServesAs}
 use Rattle.syn_model.proofs.HistoryLemmas.{first_cause-none, none-append}
+use Rattle.syn_headline.proofs.Invariant.{belongs}
 use Rattle.syn_headline.proofs.SideLemmas.{IsOfStaged, began_allowed, replaced_allowed, served_so}
 
 pub data Outcome (side : Side) (session : ℕ) : Request → Served → Type 0 where
-  refuses : (request : Request) (reason : Refusal) →
+  refuses : (request : Request) (reason : Refusal) → belongs reason ≡ true →
       Outcome side session request (answer side (Refused reason))
   begins_again : (pair : ℕ) → session ≡ last_session side.history →
       Outcome side session (Begin pair) (answer side (Begun (length side.history)))
@@ -75,6 +76,24 @@ unless : (P : Served → Type 0) (side : Side) (reason : Option Refusal) (served
 unless P side None served h k = k refl
 unless P side (Some r) served h k = h r
 
+-- none of these causes is that a message belongs to nothing
+abbrev all_belong : List Cause → Bool
+all_belong [] = true
+all_belong (cause ∷ causes) = belongs cause.1 && all_belong causes
+
+unless_any : (P : Served → Type 0) (side : Side) (causes : List Cause) (served : Served) →
+    all_belong causes ≡ true →
+    ((r : Refusal) → belongs r ≡ true → P (answer side (Refused r))) →
+    (first_cause causes ≡ None → P served) → P (unless_refused side (first_cause causes) served)
+unless_any P side [] served known h k = k refl
+unless_any P side (cause ∷ causes) served known h k =
+    let each = and_parts (belongs cause.1) (all_belong causes) known in
+    elim cause.0 as (λ b. ((if b then Some cause.1 else first_cause causes) ≡ None → P served)
+    → P (unless_refused side (if b then Some cause.1 else first_cause causes) served)) [
+      | true ↦ λ _. h cause.1 each.0
+      | false ↦ λ rest. unless_any P side causes served each.1 h rest
+    ] k
+
 choose : (P : Served → Type 0) (b : Bool) (x y : Served) → (b ≡ true → P x) → (b ≡ false → P y) →
     P (if b then x else y)
 choose P true x y h k = h refl
@@ -98,8 +117,8 @@ since_holds history path since e =
 first_outcome : (side : Side) (session item offset : ℕ) (bytes : Bytes) → Outcome side session
     (Stage item offset bytes) (stage_first side (token_of session item) offset bytes)
 first_outcome side session item offset bytes =
-    unless (Outcome side session (Stage item offset bytes)) side
-    (first_cause (first_causes offset bytes)) _ (refuses _) (λ e.
+    unless_any (Outcome side session (Stage item offset bytes)) side
+    (first_causes offset bytes) _ refl (refuses _) (λ e.
     stages_first item offset bytes
     (eqb-true offset 0 (not-false _ (first_cause-none (not (offset == 0), NotStaged)
     ((not (nat_le (length bytes) greatest_spelling), BadStage) ∷ []) e).0)))
@@ -111,7 +130,7 @@ stage_outcome side None session item offset bytes e = first_outcome side session
 stage_outcome side (Some staging) session item offset bytes e =
     let P = Outcome side session (Stage item offset bytes) in
     let token = token_of session item in
-    choose P (is_below token staging.token) _ _ (λ _. refuses _ OldSession) (λ _.
+    choose P (is_below token staging.token) _ _ (λ _. refuses _ OldSession refl) (λ _.
     choose P (is_same_token token staging.token) _ _
     (λ same. choose P
     (offset == length staging.bytes && nat_le (length staging.bytes + length bytes) 526336) _ _
@@ -120,7 +139,7 @@ stage_outcome side (Some staging) session item offset bytes e =
     (nat_le (length staging.bytes + length bytes) 526336) fits).0))
     (λ _. choose P (bytes_eq (take (length bytes) (drop offset staging.bytes)) bytes
     && nat_le (offset + length bytes) (length staging.bytes)) _ _
-    (λ _. stages_again item offset bytes) (λ _. refuses _ BadStage)))
+    (λ _. stages_again item offset bytes) (λ _. refuses _ BadStage refl)))
     (λ _. first_outcome side session item offset bytes))
 
 with_outcome : (has_room : Event → Bool) (side : Side) (session item : ℕ) (path : Path)
@@ -133,12 +152,12 @@ with_outcome : (has_room : Event → Bool) (side : Side) (session item : ℕ) (p
     length (staged_bytes side.staging) ≡ size → Outcome side session (Replace item path since size)
     (replace_with has_room side (token_of session item) path since read)
 with_outcome has_room side session item path since size None lawful reads fresh alive staged long =
-    refuses _ BadStage
+    refuses _ BadStage refl
 with_outcome has_room side session item path since size
     (Some new) lawful reads fresh alive staged long =
     let token = token_of session item in
-    unless (Outcome side session (Replace item path since size)) side
-    (first_cause (replace_causes has_room side token path since new)) _ (refuses _) (λ e.
+    unless_any (Outcome side session (Replace item path since size)) side
+    (replace_causes has_room side token path since new) _ refl (refuses _) (λ e.
     let tree = tree_of side.history in
     let s = since_holds side.history path since (none-append (since_causes side.history path since)
     (place_causes tree path ++ (full_causes (replace tree path new) ++ (position_causes
@@ -168,19 +187,19 @@ serve_outcome pair has_room side session (ListAt path) read reads lawful =
     (children (mark (tree_of side.history)) path) else NotDir (length side.history))))
     [ true ↦ λ there. lists path there | false ↦ λ none. lists_none path none ] refl
 serve_outcome pair has_room side session (Fetch path since offset) read reads lawful =
-    unless (Outcome side session (Fetch path since offset)) side
-    (first_cause (since_causes side.history path since)) _ (refuses _)
+    unless_any (Outcome side session (Fetch path since offset)) side
+    (since_causes side.history path since) _ refl (refuses _)
     (λ e. let s = since_holds side.history path since e in fetches path since offset s.0 s.1)
 serve_outcome pair has_room side session (Stage item offset bytes) read reads lawful =
     stage_outcome side side.staging session item offset bytes refl
 serve_outcome pair has_room side session (Begin asked) read reads lawful =
     let P = Outcome side session (Begin asked) in
-    unless P side (first_cause ((not (asked == pair), WrongPair)
-    ∷ (nat_lt session (last_session side.history), OldSession) ∷ [])) _ (refuses _) (λ e.
+    unless_any P side ((not (asked == pair), WrongPair)
+    ∷ (nat_lt session (last_session side.history), OldSession) ∷ []) _ refl (refuses _) (λ e.
     choose P (session == last_session side.history) _ _
     (λ k. begins_again asked (eqb-true session (last_session side.history) k)) (λ k.
-    unless P side (first_cause
-    (position_causes side.history ++ room_causes has_room (Began session))) _ (refuses _) (λ f.
+    unless_any P side
+    (position_causes side.history ++ room_causes has_room (Began session)) _ refl (refuses _) (λ f.
     let second = first_cause-none (nat_lt session (last_session side.history), OldSession)
     [] (first_cause-none (not (asked == pair), WrongPair)
     ((nat_lt session (last_session side.history), OldSession) ∷ []) e).1 in
@@ -191,9 +210,9 @@ serve_outcome pair has_room side session (Replace item path since size) read rea
     let P = Outcome side session (Replace item path since size) in
     choose P (option_map_or (λ last. is_same_token last token) (last_token side.history) false) _ _
     (done_again item path since size) (λ fresh.
-    unless P side (first_cause
+    unless_any P side
     ((is_dead_token side token, OldSession) ∷ (not (is_staged side.staging token), NotStaged)
-    ∷ (not (length (staged_bytes side.staging) == size), BadStage) ∷ [])) _ (refuses _) (λ e.
+    ∷ (not (length (staged_bytes side.staging) == size), BadStage) ∷ []) _ refl (refuses _) (λ e.
     let one = first_cause-none (is_dead_token side token, OldSession)
     ((not (is_staged side.staging token), NotStaged)
     ∷ (not (length (staged_bytes side.staging) == size), BadStage) ∷ []) e in
@@ -214,16 +233,16 @@ outcome pair has_room side session request served lawful (inl s) =
     subst (Outcome side session request) (sym so.2)
     (serve_outcome pair has_room side session request so.0 so.1 lawful)
 outcome pair has_room side session request served lawful (inr none) =
-    subst (Outcome side session request) (sym none.1) (refuses request why.Memory)
+    subst (Outcome side session request) (sym none.1) (refuses request why.Memory refl)
 
 pub halted_outcome : (side : Side) (session : ℕ) (request : Request) →
     Outcome side session request (serve_halted side session request)
 halted_outcome side session (Stage item offset bytes) =
     stage_outcome side side.staging session item offset bytes refl
-halted_outcome side session (Begin pair) = refuses _ why.Halted
-halted_outcome side session (ListAt path) = refuses _ why.Halted
-halted_outcome side session (Fetch path since offset) = refuses _ why.Halted
-halted_outcome side session (Replace item path since size) = refuses _ why.Halted
+halted_outcome side session (Begin pair) = refuses _ why.Halted refl
+halted_outcome side session (ListAt path) = refuses _ why.Halted refl
+halted_outcome side session (Fetch path since offset) = refuses _ why.Halted refl
+halted_outcome side session (Replace item path since size) = refuses _ why.Halted refl
 
 -- lack of memory to stage changes nothing
 cannot_stage : (side : Side) (request : Request) (served : Served) →
@@ -244,13 +263,13 @@ any_outcome Halted pair has_room side session request served lawful (inl s) =
     subst (Outcome side session request) (sym s) (halted_outcome side session request)
 any_outcome Halted pair has_room side session request served lawful (inr none) =
     subst (Outcome side session request) (sym (cannot_stage side request served none))
-    (refuses request why.Memory)
+    (refuses request why.Memory refl)
 any_outcome Down pair has_room side session request served lawful s = absurd s
 
 -- a side that is not up adds no event
 stage_same : (side : Side) (session item offset : ℕ) (bytes : List ℕ) (served : Served) →
     Outcome side session (Stage item offset bytes) served → served.side.history ≡ side.history
-stage_same side session item offset bytes _ (refuses _ reason) = refl
+stage_same side session item offset bytes _ (refuses _ reason known) = refl
 stage_same side session item offset bytes _ (stages_first _ _ _ z) = refl
 stage_same side session item offset bytes _ (stages_more _ _ _ staging s t at) = refl
 stage_same side session item offset bytes _ (stages_again _ _ _) = refl

@@ -28,7 +28,7 @@ use Rattle.syn_headline.specs.Network.{Which, Left, Right, other, Sent, Asks, An
 use Rattle.syn_model.specs.Archive.{Archive}
 use Rattle.syn_headline.specs.Planning.{Planned, seen_on, HasBegun, IsScanOf, SeesBoth, SessionPlan}
 use Rattle.syn_headline.specs.Planning.{IsPlanOf, WritesTo}
-use Rattle.syn_headline.specs.Picture.{IsOfPlan}
+use Rattle.syn_headline.specs.Picture.{IsOfPlan, IsWanted}
 use Rattle.syn_headline.proofs.Invariant.{Plans, Scans, IsPlanFrom, Histories, IsSound}
 use Rattle.syn_headline.proofs.Invariant.{IsTrueListing, IsTrueNotDir}
 use Rattle.syn_model.proofs.PathLemmas.{parent-append, same_name, name_itself}
@@ -52,12 +52,19 @@ pub begun-more : (sent more : Sent) (side : Which) (session : ℕ) → HasBegun 
 begun-more sent more side session b =
     record { pair = b.pair; position = b.position; begun = answered-more sent more _ _ _ _ b.begun }
 
+wanted-more : (sent more : Sent) (session : ℕ) (path : Path) (offset : ℕ) →
+    IsWanted sent session path offset → IsWanted (sent ++ more) session path offset
+wanted-more sent more session path offset (inl zero) = inl zero
+wanted-more sent more session path offset (inr (from, since, before, total, bytes, below, was)) =
+    inr (from, since, before, total, bytes, below, answered-more sent more _ _ _ _ was)
+
 pub of_plan-more : (pair : ℕ) (sent more : Sent) (session : ℕ) (plan : List Planned) (to : Which)
     (request : Request) → IsOfPlan pair sent session plan to request →
     IsOfPlan pair (sent ++ more) session plan to request
 of_plan-more pair sent more session plan to (Begin asked) h = h
 of_plan-more pair sent more session plan to (ListAt path) h = begun-more sent more to session h
-of_plan-more pair sent more session plan to (Fetch path since offset) h = h
+of_plan-more pair sent more session plan to (Fetch path since offset) h =
+    (h.0, h.1, h.2, h.3, h.4, wanted-more sent more session path offset h.5)
 of_plan-more pair sent more session plan to (Stage item offset bytes) h =
     (h.0, h.1, (h.2.0, answered-more sent more _ _ _ _ h.2.1))
 of_plan-more pair sent more session plan to (Replace item path since size) h =

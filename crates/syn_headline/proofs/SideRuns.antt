@@ -379,7 +379,7 @@ module _ (plans : Plans) (old : Picture) (k : IsKept plans old) (which : Which) 
       [] new (no_event refl) (k.sides which).staged
       (halted_not_up, would_sound event would, refl)
       (reply session number request (Refused Device) asked
-      (refused_true (histories_of old which) session request Device)
+      (refused_true (histories_of old which) session request Device refl)
       (refused_borne (plan_in plans session) (histories_of old which) which request Device))
       (e ∙ (next_sent old which _ _ ∙ ap (λ a. next old which
       (record (side_of old which) { status = Halted; writing = Some event }) (old.sent ++ Answers

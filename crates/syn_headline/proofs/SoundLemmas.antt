@@ -215,7 +215,7 @@ of_plan-grow : (old new : Plans) → PlansGrow old new → (pair : ℕ) (sent : 
 of_plan-grow old new grows pair sent session to (Begin asked) h = h
 of_plan-grow old new grows pair sent session to (ListAt path) h = h
 of_plan-grow old new grows pair sent session to (Fetch path since offset) h =
-    (h.0, h.1, item-grow old new grows session h.0 h.1 h.2, h.3, h.4)
+    (h.0, h.1, item-grow old new grows session h.0 h.1 h.2, h.3, h.4, h.5)
 of_plan-grow old new grows pair sent session to (Stage item offset bytes) h =
     (h.0, item-grow old new grows session item h.0 h.1, h.2)
 of_plan-grow old new grows pair sent session to (Replace item path since size) h =

@@ -259,7 +259,7 @@ said_up reply Down e = absurd (down_not_up e)
 adding_keeps : (side : Side) (session : ℕ) (request : Request) (served : Served) (event : Event) →
     Outcome side session request served → served.side.history ≡ side.history ++ event ∷ [] →
     served.side.staging ≡ side.staging
-adding_keeps side session request _ event (refuses _ reason) e = refl
+adding_keeps side session request _ event (refuses _ reason known) e = refl
 adding_keeps side session request _ event (begins_again pair last) e = refl
 adding_keeps side session request _ event (begins pair allowed) e = refl
 adding_keeps side session request _ event (lists path there) e = refl

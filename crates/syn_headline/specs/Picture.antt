@@ -2,7 +2,7 @@
 -- step of the world is one of it, with what its user is refused.
 use Rattle.std.specs.Option.{option_map_or}
 use Rattle.std.specs.List.{count_by}
-use Rattle.std.specs.Prelude.{ℕ, zero, suc, true, not, nat_le, ◌≤◌, ◌+◌, filter_map, ◌≡◌, ◌≢◌}
+use Rattle.std.specs.Prelude.{◌<◌, ℕ, zero, suc, true, not, nat_le, ◌≤◌, ◌+◌, filter_map, ◌≡◌, ◌≢◌}
 use Rattle.std.specs.Prelude.{◌⊎◌, ◌&&◌, Bool, List, [], ◌∷◌, ◌++◌, slice_get, map, Option, Some}
 use Rattle.std.specs.Prelude.{None, is_some, Contains, IfSome, IsSome, IsSomeAnd, All, Any, length}
 use Rattle.syn_model.specs.Path.{Path}
@@ -168,6 +168,13 @@ abbrev pub IsTotal : Sent → Which → ℕ → Planned → ℕ → Type 0
 IsTotal sent to session planned total =
     (offset : ℕ) × (bytes : List ℕ) × IsPiece sent to session planned offset total bytes
 
+-- a piece is fetched from the beginning, or from below the length that a piece of the path gave
+abbrev pub IsWanted : Sent → ℕ → Path → ℕ → Type 0
+IsWanted sent session path offset = (offset ≡ 0)
+    ⊎ ((from : Which) × (since : ℕ) × (before : ℕ) × (total : ℕ) × (bytes : List ℕ)
+    × (offset < total)
+    × WasAnswered sent from session (Fetch path since before) (Piece total bytes))
+
 -- a session may be begun with any number of a pair, a side is listed once it has begun it, and what
 -- else is asked of it is by an item of the plan: a piece of what it is to give, a piece that was
 -- fetched, or its replacement, once the length of the whole is known
@@ -177,6 +184,7 @@ IsOfPlan pair sent session plan to (ListAt path) = HasBegun sent to session
 IsOfPlan pair sent session plan to (Fetch path since offset) =
     (item : ℕ) × (planned : Planned) × (slice_get plan item ≡ Some planned)
     × WritesTo planned.item (other to) path × (since ≡ (seen_on planned to).since)
+    × IsWanted sent session path offset
 IsOfPlan pair sent session plan to (Stage item offset bytes) =
     (planned : Planned) × (slice_get plan item ≡ Some planned)
     × IsFetched sent to session planned offset bytes
