@@ -1,5 +1,6 @@
 -- What is proved of whole runs, of the world itself.
-use Rattle.std.proofs.Common.{List, refl, sym, ap, subst, Option, Some, option_map, ◌≡◌, ◌∙◌, ◌++◌}
+use Rattle.std.proofs.Common.{List, refl, sym, ap, subst, Option, Some, option_map, ◌≡◌, ◌≢◌}
+use Rattle.std.proofs.Common.{◌∙◌, ◌++◌, ◌∷◌, [], zero, suc, arith}
 use Rattle.std.specs.Prelude.{IfSome, All}
 use Rattle.syn_headline.specs.Network.{Which}
 use Rattle.syn_headline.specs.World.{World, Step, Runs}
@@ -16,7 +17,7 @@ use Rattle.syn_headline.specs.Picture as picture
 use Rattle.syn_headline.specs.Headline as promised
 use Rattle.syn_headline.proofs.Sessions.{IsHeard}
 use Rattle.syn_headline.proofs.Simulation.{RunFollows, runs_follow}
-use Rattle.syn_headline.proofs.WholeRuns.{no_plans, start_kept, runs_replace_legally}
+use Rattle.syn_headline.proofs.WholeRuns.{no_plans, run_kept, start_kept, runs_replace_legally}
 use Rattle.syn_headline.proofs.WholeRuns.{runs_use_tokens_once, runs_owe}
 use Rattle.syn_headline.proofs.LoggedRuns.{runs_log}
 use Rattle.syn_headline.proofs.ArchiveLemmas.{runs_hold_archive, runs_leave_pair}
@@ -24,8 +25,23 @@ use Rattle.syn_headline.proofs.SessionRuns.{runs_synchronize, runs_reconcile, ru
 use Rattle.syn_headline.proofs.SessionRuns.{runs_count_items}
 use Rattle.syn_headline.proofs.FetchedLemmas.{runs_mark_carried}
 use Rattle.syn_headline.proofs.CarriedLemmas.{runs_mark_held}
-use Rattle.syn_headline.specs.Reported.{EachReportTells}
+use Rattle.syn_headline.specs.Reported.{AnswersBelong, EachReportTells, EndsSo, IsReportOf}
+use Rattle.syn_headline.specs.Reported.{at_record}
+use Rattle.syn_headline.specs.Reported.{out_of_memory, through, unanswered, with_answer}
 use Rattle.syn_headline.proofs.ReportedRuns.{IsTold}
+use Rattle.syn_headline.proofs.FaultLemmas.{all_belong}
+use Rattle.syn_headline.proofs.Invariant.{IsKept, Plans, belongs, histories_of}
+use Rattle.syn_headline.specs.Acknowledged.{kept_in_session}
+use Rattle.syn_headline.specs.Coordinator.{Running, report_of}
+use Rattle.syn_headline.specs.Report.{Report}
+use Rattle.syn_headline.specs.Planning.{Log}
+use Rattle.syn_headline.specs.Picture.{Picture}
+use Rattle.syn_model.specs.Archive.{Kept}
+use Rattle.syn_model.specs.Refusal.{BadMessage, Device, Halted, JournalFull, Memory, NoAnswer}
+use Rattle.syn_model.specs.Refusal.{Refusal}
+use Rattle.std.proofs.lemmas.Option.{none-some, same_Some}
+use Rattle.std.proofs.Common.{ℕ, take, true, true≢false}
+use Rattle.std.specs.Prelude.{Contains}
 use Rattle.std.proofs.lemmas.List.Elements.{All-nil, All-weaker}
 use Rattle.syn_headline.proofs.EarlyLemmas.{entry_is}
 use Rattle.syn_model.proofs.EqualLemmas.{preference_settles}
@@ -138,6 +154,42 @@ tell_reports old new steps s g =
     All-weaker (IsTold new) _ (λ told is. is.1) new.reports
     ((follows old new steps s g).tells (subst (All (IsTold old)) (sym s.nothing_yet.2)
     (All-nil (IsTold old))))
+
+known_at_record : (why : Refusal) → Contains (Device ∷ Halted ∷ JournalFull ∷ []) why →
+    belongs why ≡ true
+known_at_record why (zero, within, is) = ap belongs (sym is)
+known_at_record why (suc zero, within, is) = ap belongs (sym is)
+known_at_record why (suc (suc zero), within, is) = ap belongs (sym is)
+known_at_record why (suc (suc (suc i)), within, is) = absurd (omega (arith, within))
+
+-- a session's end has another cause than an answer that does not belong
+belongs_so : (plans : Plans) (world : Picture) → IsKept plans world → (log : Log)
+    (kept : List Kept) (running : Running) (ended : Option Refusal) →
+    IsReportOf world.sent log kept running ended → ended ≢ Some BadMessage
+belongs_so plans world k log kept running ended is = by ended is.ends
+  where
+    by : (why : Option Refusal) → EndsSo world.sent running why → why ≢ Some BadMessage
+    by _ (through some settled) bad = none-some _ bad
+    by _ (with_answer exchange why was fault) bad =
+        all_belong plans (histories_of world) world.coordinator.archive world.sent k.sound
+        running.session running.taken is.taken exchange.side exchange.number exchange.request
+        exchange.reply was.0 was.1 (fault ∙ bad)
+    by _ (at_record planned exchange what why at was due among) bad =
+        true≢false (sym (known_at_record why among) ∙ ap belongs (same_Some _ _ bad))
+    by _ (unanswered resent) bad = let x : Some NoAnswer ≡ Some BadMessage = bad in cc
+    by _ out_of_memory bad = let x : Some Memory ≡ Some BadMessage = bad in cc
+
+pub belong : OfEachRun AnswersBelong
+belong old new steps s g =
+    let kept = run_kept no_plans (picture_of old) (picture_of new)
+    (start_kept (picture_of old) (start_view old s)) (follows old new steps s g).follows in
+    All-weaker (λ told. (running : Running) × (ended : Option Refusal)
+    × (told.0 ≡ report_of running ended)
+    × IsReportOf new.sent new.log (kept_in_session (take told.1 new.acknowledged)) running ended)
+    (λ (told : Report × ℕ). told.0.ended ≢ Some BadMessage)
+    (λ told is bad. belongs_so kept.0 (picture_of new) kept.1 new.log _ is.0 is.1 is.3
+    (sym (ap (λ (report : Report). report.ended) is.2) ∙ bad)) new.reports
+    (tell_reports old new steps s g)
 
 pub mark_held : OfEachRun HeldIsMarked
 mark_held old new steps s g =

@@ -3,7 +3,7 @@
 use Rattle.std.proofs.Common.{◌≡◌, ◌≢◌, ℕ, zero, suc, Bool, true, false, not, ◌&&◌, nat_lt}
 use Rattle.std.proofs.Common.{true≢false, if◌then◌else◌, List, ◌∷◌, ◌++◌, map, filter_map, length}
 use Rattle.std.proofs.Common.{fold, refl, sym, ap, ◌∙◌, subst, Option, Some, None, is_some}
-use Rattle.std.proofs.Common.{append-nil, append_assoc, arith, inl, inr, slice_get, [], ◌<◌}
+use Rattle.std.proofs.Common.{append-nil, append_assoc, arith, inl, inr, slice_get, []}
 use Rattle.std.specs.Prelude.{Contains, All, Any}
 use Rattle.std.specs.List.{cons_option}
 use Rattle.std.specs.Option.{option_map_or}
@@ -109,7 +109,7 @@ has_plan sent archive log running _ _ m in_order repeats fresh (fine.makes made 
 -- What is asked for
 
 -- the total that a piece gives is that of a piece of the path
-is_piece : (path : Path) (request : Request) (reply : Reply) (total : ℕ) →
+pub is_piece : (path : Path) (request : Request) (reply : Reply) (total : ℕ) →
     piece_total path request reply ≡ Some total →
     (since : ℕ) × (offset : ℕ) × (bytes : List ℕ) × (request ≡ Fetch path since offset)
     × (reply ≡ Piece total bytes)
@@ -118,12 +118,12 @@ is_piece path (Fetch at since offset) (Piece all bytes) total is =
     (if b then Some all else None) ≡ Some total → (s : ℕ) × (o : ℕ) × (w : List ℕ)
     × (Fetch at since offset ≡ Fetch path s o) × (Piece all bytes ≡ Piece total w)) [
       | true ↦ λ same e. (
-          since,
-          offset,
-          bytes,
-          ap (λ p. Fetch p since offset) (same_path at path same),
-          ap (λ n. Piece n bytes) (same_Some all total e),
-        )
+        since,
+        offset,
+        bytes,
+        ap (λ p. Fetch p since offset) (same_path at path same),
+        ap (λ n. Piece n bytes) (same_Some all total e),
+      )
       | false ↦ λ _ e. absurd (none-some total e)
     ] refl is
 is_piece path request reply total is = absurd (none-some total is)
@@ -181,9 +181,14 @@ pub request_of_plan : (pair : ℕ) (sent : Sent) (archive : Archive) (running : 
 request_of_plan pair sent archive running to (Begin asked) was may = absurd may
 request_of_plan pair sent archive running to (ListAt path) was may =
     begun_of sent running.session running.taken was may.1 to
-request_of_plan pair sent archive running to (Fetch path since offset) was may =
-    (running.cursor, may.0, may.1, may.2.0, may.2.1,
-      is_wanted_so sent running.session running.taken was path offset may.2.4)
+request_of_plan pair sent archive running to (Fetch path since offset) was may = (
+  running.cursor,
+  may.0,
+  may.1,
+  may.2.0,
+  may.2.1,
+  is_wanted_so sent running.session running.taken was path offset may.2.4,
+)
 request_of_plan pair sent archive running to (Stage item offset bytes) was may =
     let at = may.1 in (
       at.0,

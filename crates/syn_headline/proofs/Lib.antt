@@ -67,3 +67,4 @@ pub mod AlikeLemmas
 pub mod CarriedLemmas
 pub mod FetchedLemmas
 mod RecoveredLemmas
+pub mod FaultLemmas

@@ -1,9 +1,10 @@
 -- What each report of a run says: which session it is of, why that ended, and why its items were
 -- refused.
-use Rattle.std.specs.Prelude.{ℕ, ◌≡◌, ◌++◌, true, List, [], ◌∷◌, take, slice_get, Option, Some}
+use Rattle.std.specs.Prelude.{ℕ, ◌≡◌, ◌≢◌, ◌++◌, true, List, [], ◌∷◌, take, slice_get, Option, Some}
 use Rattle.std.specs.Prelude.{None, IsSome, IfSome, All, Contains}
 use Rattle.syn_model.specs.Path.{Path}
 use Rattle.syn_model.specs.Refusal.{Refusal, Memory, Full, NoAnswer, Device, Halted, JournalFull}
+use Rattle.syn_model.specs.Refusal.{BadMessage}
 use Rattle.syn_model.specs.Archive.{Archive, Kept, archive_of, kept_refusal}
 use Rattle.syn_model.specs.Decision.{Conflict, path_of}
 use Rattle.syn_headline.specs.Side.{Refused}
@@ -103,3 +104,8 @@ EachReportTells before world =
     × (told.0 ≡ report_of running ended)
     × IsReportOf world.sent world.log (kept_in_session (take told.1 world.acknowledged)) running
     ended) world.reports
+
+-- No report tells of an answer that does not belong to what was asked: each side of a run answers
+-- what it was asked
+abbrev pub AnswersBelong : Stores → Picture → Type 0
+AnswersBelong before world = All (λ told. told.0.ended ≢ Some BadMessage) world.reports

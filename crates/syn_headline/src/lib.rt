@@ -57,7 +57,8 @@
 //! From these steps follows what is proved of runs (`run_laws`, `session_laws`). Each replacement
 //! is legal, each archive entry was held, nothing was asked twice, and each plan is logged. Each
 //! report is that of a session of the run, with the causes of its end and of its refusals
-//! (`EachReportTells`). An answer that a session waits for is taken (`TakesExpected`). A
+//! (`EachReportTells`), and no session ends 23: each side answers what it was asked
+//! (`AnswersBelong`). An answer that a session waits for is taken (`TakesExpected`). A
 //! replacement that a side has is answered done as long as it is the last, and old after that
 //! (`RepeatsAreAnswered`). So does what a complete session leaves, reports, counts and marks. What
 //! it leaves on the two sides (`synchronized`) has one premise. No two files that the session found
@@ -74,7 +75,7 @@ ghost use Rattle.syn_headline.specs.Headline.{LogsPlans, Owes, CompleteSessionsS
 ghost use Rattle.syn_headline.specs.Headline.{CompleteSessionsReconcile, ReportsItsConflicts};
 ghost use Rattle.syn_headline.specs.Headline.{PreferenceLeavesOne, CountsItsItems, CarriedIsMarked};
 ghost use Rattle.syn_headline.specs.Headline.{HeldIsMarked};
-ghost use Rattle.syn_headline.specs.Reported.{EachReportTells};
+ghost use Rattle.syn_headline.specs.Reported.{AnswersBelong, EachReportTells};
 ghost use Rattle.syn_headline.specs.Delivered.{RepeatsAreAnswered, TakesExpected};
 
 /// A step of a side leaves its history or adds one allowed event, and is the one that its staged
@@ -91,7 +92,7 @@ pub fn side_laws()
 
 /// Every run, with stops and failing devices, is one of the picture by the same steps. In it the
 /// machines stand for what was acknowledged, each replacement is legal, each plan is logged, and
-/// each report tells of its session.
+/// each report tells of its session, which no answer ends that does not belong to what was asked.
 pub fn run_laws()
     ensures formatted { IsPair formatted }
     ensures pictured { RunsArePictured }
@@ -104,6 +105,7 @@ pub fn run_laws()
     ensures logged { OfEachRun LogsPlans }
     ensures owe { OfEachRun Owes }
     ensures reports { OfEachRun EachReportTells }
+    ensures belong { OfEachRun AnswersBelong }
     ensures taken { TakesExpected }
     ensures repeats { RepeatsAreAnswered }
 {}

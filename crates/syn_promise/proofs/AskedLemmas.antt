@@ -92,7 +92,7 @@ one_added steps which history events event asked e =
 served_asked : (steps : List Step) (which : Which) (side : Side) (session : ℕ) (request : Request)
     (served : Served) (events : History) → Outcome side session request served →
     served.side.history ≡ side.history ++ events → All (IsAskedEvent steps which) events
-served_asked steps which side session request _ events (refuses _ reason) e =
+served_asked steps which side session request _ events (refuses _ reason _) e =
     nothing_added steps which side.history events e
 served_asked steps which side session request _ events (begins_again pair last) e =
     nothing_added steps which side.history events e

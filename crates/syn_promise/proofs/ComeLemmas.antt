@@ -253,7 +253,7 @@ served_so : (which : Which) (side : Side) (session : ℕ) (request : Request) (s
     (events : History) → Outcome side session request served →
     served.side.history ≡ side.history ++ events →
     All IsOfSession (map (λ event. Happened which event) events)
-served_so which side session request _ events (refuses _ reason) e =
+served_so which side session request _ events (refuses _ reason _) e =
     no_event which side.history events e
 served_so which side session request _ events (begins_again pair last) e =
     no_event which side.history events e

@@ -22,7 +22,7 @@ use Rattle.syn_headline.specs.Acknowledged.{Ack, Happened, Stores, history_of, s
 use Rattle.syn_headline.specs.Acknowledged.{ArchiveGrown, kept_in, kept_in_session}
 use Rattle.syn_headline.specs.Planning.{Log}
 use Rattle.syn_headline.specs.Report.{Report}
-use Rattle.syn_headline.specs.Reported.{EachReportTells}
+use Rattle.syn_headline.specs.Reported.{AnswersBelong, EachReportTells}
 use Rattle.syn_headline.specs.Headline.{EachReplacementIsLegal, RecoveredIsLegal, LeavesPair}
 use Rattle.syn_headline.specs.Headline.{LogsPlans, CompleteSessionsSynchronize, IsPair, PlansWith}
 use Rattle.syn_headline.specs.Headline.{CompleteSessionsReconcile, ReportsItsConflicts, HasCounts}
@@ -60,6 +60,7 @@ pub record Laws : Type 0 where
   pub counts : OfEachRun CountsItsItems
   pub held : OfEachRun HeldIsMarked
   pub tell : OfEachRun EachReportTells
+  pub belong : OfEachRun AnswersBelong
   pub edits : EditsAreAsked
   pub preferences : PreferencesAreAsked
   pub records : RecordsAreDue
@@ -250,6 +251,7 @@ module _ (laws : Laws) (old new : World) (steps : List Step) (now : Stores) (s :
         tells = subst (Tells new.log (kept_in_session (take at.1 acks))) (sym told.2)
             (report_tells new.sent new.log (kept_in_session (take at.1 acks)) told.0 told.1
             told.3);
+        belong = laws.belong old new steps s runs i one within;
       }
 
   edits_asked : All (IsAsked steps) acks

@@ -1,10 +1,11 @@
 -- What is promised of a run, in one record.
-use Rattle.std.specs.Prelude.{ℕ, ◌≡◌, ◌≢◌, ◌⊎◌, List, [], ◌∷◌, ◌++◌, Option, take, All}
+use Rattle.std.specs.Prelude.{ℕ, ◌≡◌, ◌≢◌, ◌⊎◌, List, [], ◌∷◌, ◌++◌, Option, Some, take, All}
 use Rattle.std.specs.Prelude.{AllPairs, Contains, filter_map}
 use Rattle.syn_model.specs.Path.{Path}
 use Rattle.syn_model.specs.Tree.{Tree}
 use Rattle.syn_model.specs.Event.{Token, Event, Replaced}
 use Rattle.syn_model.specs.History.{History}
+use Rattle.syn_model.specs.Refusal.{BadMessage}
 use Rattle.syn_model.specs.Archive.{Kept, Session, after_kept, BothHeld}
 use Rattle.syn_headline.specs.Network.{Which}
 use Rattle.syn_headline.specs.World.{Machine, Step}
@@ -35,10 +36,12 @@ pub record Stand (sessions : Log) (steps : List Step) (acknowledged now : Stores
       ⊎ ((kept : Kept) × IsDue sessions steps acknowledged.archive kept
       × (now.archive ≡ after_kept acknowledged.archive kept))
 
--- a report, which came after so much was acknowledged
+-- a report, which came after so much was acknowledged; no answer ended its session that did not
+-- belong to what was asked
 pub record Reports (sessions : Log) (acknowledged : List Ack) (one : Report × ℕ) : Type 0 where
   pub started : Contains (take one.1 acknowledged) (Kept_by (Session one.0.session))
   pub tells : Tells sessions (kept_in_session (take one.1 acknowledged)) one.0
+  pub belong : one.0.ended ≢ Some BadMessage
 
 -- A run by these steps began as the disks stood for `before`, and told this. A stop of all machines
 -- after it left disks that stand for `now`

@@ -17,6 +17,7 @@ returns c = record {
     counts = c.session_laws.ensures.counts;
     held = c.session_laws.ensures.held;
     tell = c.run_laws.ensures.reports;
+    belong = c.run_laws.ensures.belong;
     edits = c.asked.ensures.edits;
     preferences = c.asked.ensures.preferences;
     records = c.asked.ensures.records;
