@@ -25,7 +25,8 @@ use Rattle.syn_model.specs.Archive.{Archive}
 use Rattle.syn_model.proofs.MarkLemmas.{there_of}
 use Rattle.syn_model.proofs.PathLemmas.{name_itself, same_path}
 use Rattle.syn_model.proofs.QuietLemmas.{get-children}
-use Rattle.syn_headline.specs.Side.{Begin, Begun, Done, Fetch, ListAt, Listed, NotDir, Piece, Refused}
+use Rattle.syn_headline.specs.Side.{Begin, Begun, Done, Fetch}
+use Rattle.syn_headline.specs.Side.{ListAt, Listed, NotDir, Piece, Refused}
 use Rattle.syn_headline.specs.Side.{Replace, Reply, Request, Stage, Staged}
 use Rattle.syn_headline.specs.Network.{Answers, Asks, Left, Right, Sent, WasAnswered, Which, other}
 use Rattle.syn_headline.specs.Planning.{Planned, WritesTo, seen_on}

@@ -1,7 +1,8 @@
 use Rattle.syn_headline.proofs.StandLemmas.{runs_stand}
 use Rattle.syn_headline.proofs.FormattedLemmas.{formatted_is_pair}
 use Rattle.syn_headline.proofs.FineRuns.{replace_legally, use_tokens_once, hold_archive, leave_pair}
-use Rattle.syn_headline.proofs.FineRuns.{belong, is_pictured, log_plans, owe, recover_legally, tell_reports}
+use Rattle.syn_headline.proofs.FineRuns.{belong, is_pictured, log_plans}
+use Rattle.syn_headline.proofs.FineRuns.{owe, recover_legally, tell_reports}
 use Rattle.syn_headline.proofs.TakenAnswers.{take_expected}
 use Rattle.syn_headline.proofs.RepeatRuns.{answer_repeats}
 use Rattle.syn_headline.proofs.run_laws.Goals as goal
