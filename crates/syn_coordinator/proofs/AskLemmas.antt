@@ -95,7 +95,7 @@ module _ (heard : Running) (old new : Session) (asks : Asks) (is : IsHeard old h
   waits_on : (side : Which) → outstanding heard side ++ numbered (asked_count heard side)
       (asks_of asks side) ≡ waiting_of (peer_of new side)
   waits_on side =
-      ap₂ (λ w n. w ++ numbered n (asks_of asks side)) (is.line side).waits (is.line side).count
+      ap₂ (λ w n. w ++ numbered n (asks_of asks side)) (is.peer side).waits (is.peer side).count
       ∙ sym (asked side).waits
 
   outstanding_on : (side : Which) → outstanding then_asking side
@@ -118,22 +118,22 @@ module _ (heard : Running) (old new : Session) (asks : Asks) (is : IsHeard old h
   count_on : (side : Which) → asked_count then_asking side ≡ (peer_of new side).asked
   count_on Left =
       sum_on Left (count_by (λ one. is_side Left one.side) heard.taken)
-      ∙ (ap (λ n. n + length (asks_of asks Left)) (is.line Left).count ∙ sym (asked Left).count)
+      ∙ (ap (λ n. n + length (asks_of asks Left)) (is.peer Left).count ∙ sym (asked Left).count)
   count_on Right =
       sum_on Right (count_by (λ one. is_side Right one.side) heard.taken) ∙ (ap
-      (λ n. n + length (asks_of asks Right)) (is.line Right).count ∙ sym (asked Right).count)
+      (λ n. n + length (asks_of asks Right)) (is.peer Right).count ∙ sym (asked Right).count)
 
   few_on : (side : Which) → (peer_of new side).asked ≤ 2 ^ 32
   few_on side = elim (asked side).few as (λ _. (peer_of new side).asked ≤ 2 ^ 32) [
     | inl none ↦ let same = (asked side).count
-        ∙ ap (λ l. (peer_of old side).asked + length l) none in let was = (is.line side).few in
+        ∙ ap (λ l. (peer_of old side).asked + length l) none in let was = (is.peer side).few in
         omega (arith, same, was)
     | inr few ↦ few
   ]
 
-  pub line_asked : (side : Which) → IsPeer (peer_of new side) then_asking side
-  line_asked side =
-      let was = is.line side in
+  pub peer_asked : (side : Which) → IsPeer (peer_of new side) then_asking side
+  peer_asked side =
+      let was = is.peer side in
       record {
         waits = outstanding_on side ∙ waits_on side;
         count = count_on side;
@@ -238,7 +238,7 @@ module _ (heard : Running) (old new : Session) (asks : Asks) (is : IsHeard old h
               is.preference ∙ sym (ap (λ (p : Option Side). option_map which_of p) preferred);
           lawful =
               subst (λ n. n < 2 ^ 64) (sym number) is.lawful;
-          line = line_asked;
+          peer = peer_asked;
           once = asks_once;
         }
 
@@ -260,13 +260,13 @@ module _ (heard : Running) (old new : Session) (asks : Asks) (is : IsHeard old h
           ]
 
       may_on : (side : Which) → MayWait (outstanding then_asking side)
-      may_on side = subst MayWait (sym (line_asked side).waits) (line_asked side).may
+      may_on side = subst MayWait (sym (peer_asked side).waits) (peer_asked side).may
 
       some_on : (side : Which) →
           1 ≤ length (waiting_of (peer_of old side)) + length (asks_of asks side) →
           1 ≤ length (outstanding then_asking side)
       some_on side more =
-          let long = ap length ((line_asked side).waits ∙ (asked side).waits) in
+          let long = ap length ((peer_asked side).waits ∙ (asked side).waits) in
           let both = length-append (waiting_of (peer_of old side))
           (numbered (peer_of old side).asked (asks_of asks side)) in
           let same = length-numbered (asks_of asks side) (peer_of old side).asked in
@@ -301,4 +301,4 @@ module _ (heard : Running) (old new : Session) (asks : Asks) (is : IsHeard old h
           ≡ messages_to heard.session side (numbered (asked_count heard side) (asks_of asks side))
       on side =
           ap₂ (λ n c. messages_to n side (numbered c (asks_of asks side))) (sym is.number)
-          (sym (is.line side).count)
+          (sym (is.peer side).count)

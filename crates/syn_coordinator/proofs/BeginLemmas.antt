@@ -59,14 +59,14 @@ heard_with session progress heard h =
       number = h.number;
       preference = h.preference;
       lawful = h.lawful;
-      line = line;
+      peer = peer;
       once = h.once;
     }
   where
-    line : (side : Which) → IsPeer (peer_of (record session { progress = progress }) side) heard
+    peer : (side : Which) → IsPeer (peer_of (record session { progress = progress }) side) heard
         side
-    line Left = h.line Left
-    line Right = h.line Right
+    peer Left = h.peer Left
+    peer Right = h.peer Right
 
 silent_with : (session : Session) (progress : Option PlanProgress) →
     ((side : Which) → waiting_of (peer_of session side) ≡ []) → (side : Which) →
@@ -256,7 +256,7 @@ module _ (pair : ℕ) (journal : Journal) (before session : Session) (running : 
 
   pub silent_now : (on : Which) → waiting_of (peer_of session on) ≡ []
   silent_now = by_sides (λ on. waiting_of (peer_of session on) ≡ []) side
-      (answers.waits (is.line side).rising
+      (answers.waits (is.peer side).rising
       ∙ alone_is (waiting_of (peer_of before side)) number request few answers.asked)
       (ap waiting_of answers.across ∙ none_waits (waiting_of (peer_of before (other side)))
       (subst (λ w. requests_on (peer_of before (other w)) ≡ []) asked_side carrying_then.alone))

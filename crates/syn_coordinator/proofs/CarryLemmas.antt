@@ -146,28 +146,28 @@ heard_reaching session running taken after h =
       number = h.number;
       preference = h.preference;
       lawful = h.lawful;
-      line = line;
+      peer = peer;
       once = once;
     }
   where
-    line : (side : Which) → IsPeer (peer_of session side) (reaching running taken after) side
-    line Left =
+    peer : (side : Which) → IsPeer (peer_of session side) (reaching running taken after) side
+    peer Left =
         record {
-          waits = (h.line Left).waits;
-          count = (h.line Left).count;
-          few = (h.line Left).few;
-          rising = (h.line Left).rising;
-          below = (h.line Left).below;
-          may = (h.line Left).may;
+          waits = (h.peer Left).waits;
+          count = (h.peer Left).count;
+          few = (h.peer Left).few;
+          rising = (h.peer Left).rising;
+          below = (h.peer Left).below;
+          may = (h.peer Left).may;
         }
-    line Right =
+    peer Right =
         record {
-          waits = (h.line Right).waits;
-          count = (h.line Right).count;
-          few = (h.line Right).few;
-          rising = (h.line Right).rising;
-          below = (h.line Right).below;
-          may = (h.line Right).may;
+          waits = (h.peer Right).waits;
+          count = (h.peer Right).count;
+          few = (h.peer Right).few;
+          rising = (h.peer Right).rising;
+          below = (h.peer Right).below;
+          may = (h.peer Right).may;
         }
 
     once : AsksOnce (reaching running taken after)
@@ -264,11 +264,11 @@ module _ {D : Type 0} {disk : Ghosts D} (new : Archive D disk) (pair : ℕ) (jou
     fresh_so Left n was (inr (k, contains_it)) repeat =
         no_such _
         (subst (λ l. let waits : Outstanding = record { number = n; request = was; resent = k } in
-        Contains l waits) ((heard.line Left).waits ∙ silent Left) contains_it)
+        Contains l waits) ((heard.peer Left).waits ∙ silent Left) contains_it)
     fresh_so Right n was (inr (k, contains_it)) repeat =
         no_such _
         (subst (λ l. let waits : Outstanding = record { number = n; request = was; resent = k } in
-        Contains l waits) ((heard.line Right).waits ∙ silent Right) contains_it)
+        Contains l waits) ((heard.peer Right).waits ∙ silent Right) contains_it)
 
     asks_own : (to : Side) → asks_of (One to wants) (which_of to) ≡ request_of wants ∷ []
     asks_own side_is.Left = refl
@@ -281,7 +281,7 @@ module _ {D : Type 0} {disk : Ghosts D} (new : Archive D disk) (pair : ℕ) (jou
     now_asks : (side : Which) (later : Session) → IsAsking session later (One asker wants) →
         requests_on (peer_of later side) ≡ asks_of (One asker wants) side
     now_asks side later asking =
-        ap (map (λ (one : Outstanding). one.request)) ((asking.line side).waits
+        ap (map (λ (one : Outstanding). one.request)) ((asking.peer side).waits
         ∙ ap (λ w. w ++ numbered (peer_of session side).asked
         (asks_of (One asker wants) side)) (silent side))
         ∙ numbered_requests (peer_of session side).asked (asks_of (One asker wants) side)
@@ -321,11 +321,11 @@ module _ {D : Type 0} {disk : Ghosts D} (new : Archive D disk) (pair : ℕ) (jou
         subst (λ r. Carries comes.journal.value progress (found_on later Left) (found_of r)
         (running.taken ++ taken ∷ []) comes.after (λ transfer. TransferWaitsFor transfer
         (running.taken ++ taken ∷ []) (which_of asker) (request_of wants)))
-        (sym (asking.line Right).scan)
+        (sym (asking.peer Right).scan)
         (subst (λ l. Carries comes.journal.value progress (found_of l) (found_on session Right)
         (running.taken ++ taken ∷ []) comes.after (λ transfer. TransferWaitsFor transfer
         (running.taken ++ taken ∷ []) (which_of asker) (request_of wants)))
-        (sym (asking.line Left).scan) (record {
+        (sym (asking.peer Left).scan) (record {
           course_is = comes.carries.course_is;
           carried = comes.carries.carried;
           is_carried = comes.carries.is_carried;

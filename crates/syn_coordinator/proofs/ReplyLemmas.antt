@@ -76,7 +76,7 @@ module _ (pair : ℕ) (machine : CoordinatorMachine) (running : Running) (taken 
     heard = reaching running taken on.after
 
     abbrev asks_it : IsAsking session next asks
-    asks_it = record { line = asked; progress = progress }
+    asks_it = record { peer = asked; progress = progress }
 
     abbrev says : model.Running → model.Running
     says r = asking r (asks_of asks Left) (asks_of asks Right)
@@ -93,7 +93,7 @@ module _ (pair : ℕ) (machine : CoordinatorMachine) (running : Running) (taken 
           number = h.number;
           preference = h.preference;
           lawful = h.lawful;
-          line = h.line;
+          peer = h.peer;
           once = h.once;
           unstable = on.tells.unstable ∙ sym unstable;
           stage = on.may.stage next asks_it;
@@ -269,7 +269,7 @@ module _ {D : Type 0} {disk : Ghosts D} (old new : Coordinator D disk) (pair : �
       let same = some_is (sym is.1 ∙ expected.runs) in
       let session_is = subst (λ r. IsSession machine.journal.value ran r) same is.2 in
       none-some _ (sym (silent (sym session_is.number ∙ sym expected.of_session))
-      ∙ (ap (λ l. asked_in l number) (sym (session_is.line from).waits) ∙ expected.asked))
+      ∙ (ap (λ l. asked_in l number) (sym (session_is.peer from).waits) ∙ expected.asked))
     where
       some_is : {a b : Running} → Some a ≡ Some b → a ≡ b
       some_is {a} e = ap (λ o. unwrap_or o a) e
@@ -298,7 +298,7 @@ module _ {D : Type 0} {disk : Ghosts D} (old new : Coordinator D disk) (pair : �
         record {
           runs = is.1;
           of_session = sym numbered ∙ sym is.2.number;
-          asked = ap (λ l. asked_in l number) (is.2.line from).waits ∙ answers.asked;
+          asked = ap (λ l. asked_in l number) (is.2.peer from).waits ∙ answers.asked;
         },
         is.2,
       )

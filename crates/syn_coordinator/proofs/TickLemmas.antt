@@ -33,7 +33,7 @@ pub worn_so : (archive : model.Archive) (session : Session) (running : Running) 
     IsSession archive session running → is_resent running ≡ is_worn_now session
 worn_so archive session running is =
     list_any-append (λ one. nat_le most_resends one.resent) running.left running.right
-    ∙ ap₂ (λ l r. is_worn_out l || is_worn_out r) (is.line Left).waits (is.line Right).waits
+    ∙ ap₂ (λ l r. is_worn_out l || is_worn_out r) (is.peer Left).waits (is.peer Right).waits
 
 -- what a session tells of how far it came
 pub tells_now : (archive : model.Archive) (session : Session) (running : Running) →
@@ -113,9 +113,9 @@ module _ {D : Type 0} {disk : Ghosts D} (old new : Coordinator D disk) (pair : �
         (subst (λ s. IsRunning machine.journal.value s (Some (resent_once running))) (sym is)
         (resent machine.journal.value running session_is)) (λ _. ap is_some now.1)) refl
         (ap₂ (λ n m. messages_to n Left m ++ messages_to n Right running.right) session_is.number
-        (session_is.line Left).waits
+        (session_is.peer Left).waits
         ∙ (ap (λ m. messages_to session.number Left (waiting_of session.left)
-        ++ messages_to session.number Right m) (session_is.line Right).waits ∙ sym sent))
+        ++ messages_to session.number Right m) (session_is.peer Right).waits ∙ sym sent))
         (sym (ended_by true true (ap is_some was) (ap is_some is)))
 
     pub tick_ends : (why : Refusal) → ((is_worn_now session ≡ true) × (why ≡ NoAnswer))

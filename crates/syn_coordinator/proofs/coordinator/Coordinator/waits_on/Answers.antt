@@ -16,7 +16,7 @@ waits_alike : (archive : Archive) (session : Session) (running : Option Running)
     nat_lt 0 (length (waiting_of (peer_of session side))) ≡ is_waiting running side
 waits_alike archive session None side is = absurd is
 waits_alike archive session (Some running) side is =
-    sym (ap (λ w. nat_lt 0 (length w)) (is.line side).waits)
+    sym (ap (λ w. nat_lt 0 (length w)) (is.peer side).waits)
 
 waits_not : (archive : Archive) (running : Option Running) (side : Which) →
     IsRunning archive None running → false ≡ is_waiting running side
