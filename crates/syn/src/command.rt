@@ -15,11 +15,11 @@ use std::sync::Wait;
 use std::thread::Threads;
 use std::time::Clock;
 use syn_cli::{Command, ImageCommand, LineError, read_words};
-use syn_command::{CommandError, EditsTold, Failure, Outcome, Status, print_meanings, report};
+use syn_command::{CommandError, Failure, Outcome, ProgressMode, Status, print_meanings, report};
 use syn_disk::OsFile;
 use syn_files::{
-    NamedDisks, ProgressMode, edit, export, import, keep_servers, migrate, plan_named, print_image,
-    print_log, print_numbers, print_plan, reconcile_named, run_session, serve_named, show,
+    NamedDisks, edit, export, import, keep_servers, migrate, plan_named, print_image, print_log,
+    print_numbers, print_plan, reconcile_named, run_session, serve_named, show,
 };
 
 /// Carries out what the words ask for, of which the first is the program's own name. What is asked
@@ -67,8 +67,7 @@ where
         alloc,
         files,
         disks: &DisksInFiles(files),
-        telling: telling_of(arguments.is_verbose, is_terminal),
-        told: EditsTold {
+        telling: ProgressMode {
             each: arguments.is_verbose,
             counts: is_terminal,
         },
@@ -90,7 +89,6 @@ struct Context<'c, H, F, N> {
     files: &'c F,
     disks: &'c N,
     telling: ProgressMode,
-    told: EditsTold,
 }
 
 /// Tells why the words are no command, or the help or the version where the words ask for it.
@@ -129,15 +127,6 @@ fn help<O: Write>(asked: &clap::Error, output: &mut O) -> Result<Outcome, Failur
     Ok(Outcome::Done)
 }
 
-/// How much is told of a session.
-fn telling_of(is_verbose: bool, is_terminal: bool) -> ProgressMode {
-    match (is_verbose, is_terminal) {
-        (false, _) => ProgressMode::Nothing,
-        (true, false) => ProgressMode::Items,
-        (true, true) => ProgressMode::ItemsAndCounts,
-    }
-}
-
 /// Carries out the command, and answers what it came to.
 fn carry_out<H, F, N, I, O, E>(
     context: &Context<'_, H, F, N>,
@@ -168,9 +157,9 @@ where
         Command::Plan(pairing) => print_plan(rt, alloc, disks, *pairing, output)?,
         Command::Edit(given) => done_at(edit(rt, alloc, given, disks, input)?, output)?,
         Command::Import(given) => {
-            let (files, told) = (context.files, context.told);
+            let (files, telling) = (context.files, context.telling);
             done_at(
-                import(rt, alloc, disks, files, given, told, errors)?,
+                import(rt, alloc, disks, files, given, telling, errors)?,
                 output,
             )?
         }

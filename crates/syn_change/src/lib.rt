@@ -8,7 +8,8 @@
 //! what is wanted, no edit is planned (`none`). `puts` plans those that add to a tree what another
 //! has: then each path of that one has what it has there, and every other path what it had
 //! (`IsOverlaid`). `changes_at` plans those that put a tree in the place of what is at and below a
-//! path. All plan on a copy (`copy_part`), and make nothing.
+//! path, and `changes_with` those that put a file there, or take out what is there. All plan on a
+//! copy (`copy_part`), and make nothing.
 //!
 //! Removals come first, then the files that become shorter, then the rest in path order. So no tree
 //! on the way takes more bytes than the larger of the old and the wanted one. No public clause says
@@ -24,4 +25,4 @@ mod plan;
 mod removals;
 mod shorter;
 
-pub use plan::{changes, changes_at, copy_part, puts, with_part};
+pub use plan::{changes, changes_at, changes_with, copy_part, puts};

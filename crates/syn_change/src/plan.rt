@@ -5,6 +5,7 @@ ghost use Rattle.syn_model.specs.Path.{is_root};
 ghost use Rattle.syn_model.specs.Tree.{is_directory, replace, subtree};
 ghost use Rattle.syn_tree.specs.Edits.{edit_of};
 ghost use Rattle.syn_tree.specs.Lists.{replace_refusal};
+ghost use Rattle.syn_tree.specs.Nodes.{part_of};
 ghost use Rattle.syn_tree.specs.Refusals.{refusal_of};
 ghost use Rattle.syn_change.specs.Changes.{AreChanges, GoesOn, IsAddition, IsNeeded, IsOverlaid};
 ghost use Rattle.syn_change.specs.Changes.{IsRefusedAmong, after_edits, are_alike};
@@ -58,7 +59,35 @@ pub fn changes_at(
         ⊎ IsRefusedAmong (IsNeeded old.now (replace old.now path.now part.now)) old.now
         (refusal_of e)) }
 {
-    let wanted = with_part(alloc, old, path, part)?;
+    if path.names().is_empty() {
+        return changes(alloc, old, part);
+    }
+    let part = part.subtree(alloc, &Path::root(alloc))?;
+    changes_with(alloc, old, path, part)
+}
+
+/// The edits that put what is given in the place of what is at and below the path, or take that
+/// out. Each of them is needed, and where it is so already, none is.
+///
+/// Refused 6 at the root, 2 where the path's parent is no directory, 7 where the result would pass
+/// a limit, and 11 where memory is refused. Refused as `changes` refuses them, too.
+pub fn changes_with(
+    alloc: Global,
+    old: &Tree,
+    path: &Path,
+    new: Option<Node>,
+) -> Result<Vec<Edit>, TreeError>
+    ensures changes { IfOk result (λ edits.
+        AreChanges old.now (replace old.now path.now (part_of new)) (map edit_of edits.items)) }
+    ensures none { subtree old.now path.now ≡ part_of new
+        → IfOk result (λ edits. edits.items ≡ []) }
+    ensures refused { IfErr result (λ e. e ≢ TreeError.Memory
+        → (replace_refusal old.now path.now (part_of new) ≡ Some (refusal_of e))
+        ⊎ IsRefusedAmong (IsNeeded old.now (replace old.now path.now (part_of new))) old.now
+        (refusal_of e)) }
+{
+    let mut wanted = copy_whole(alloc, old)?;
+    wanted.replace(alloc, path, new)?;
     changes(alloc, old, &wanted)
 }
 
@@ -103,25 +132,6 @@ fn put_all(
 {
     put_shorter(alloc, work, edits, added)?;
     put_missing(alloc, work, edits, added)
-}
-
-/// The tree with the other in the place of what is at and below the path.
-///
-/// Refused 2 where the path's parent is no directory, 7 where the result would pass a limit, and 11
-/// where memory is refused.
-pub fn with_part(alloc: Global, tree: &Tree, path: &Path, part: &Tree) -> Result<Tree, TreeError>
-    ensures whole { IfOk result (λ whole. whole ≡ replace tree.now path.now part.now) }
-    ensures refused { IfErr result (λ e. e ≢ TreeError.Memory
-        → (is_root path.now ≡ false)
-        × (replace_refusal tree.now path.now part.now ≡ Some (refusal_of e))) }
-{
-    if path.names().is_empty() {
-        return copy_whole(alloc, part);
-    }
-    let mut whole = copy_whole(alloc, tree)?;
-    let part = part.subtree(alloc, &Path::root(alloc))?;
-    whole.replace(alloc, path, part)?;
-    Ok(whole)
 }
 
 /// What is at and below the path, as a tree of its own.

@@ -1,6 +1,6 @@
 -- What the edits of an import leave.
-use Rattle.std.proofs.Common.{◌≡◌, ◌∙◌, ◌++◌, ◌∷◌, [], List, ℕ, map, fold, refl, ap, subst, inl}
-use Rattle.std.proofs.Common.{inr, Result, Ok, Err, MatchResult}
+use Rattle.std.proofs.Common.{◌≡◌, ◌∙◌, ◌++◌, ◌∷◌, [], List, ℕ, map, fold, refl, ap, subst}
+use Rattle.std.proofs.Common.{inl, inr}
 use Rattle.syn_change.specs.Changes.{AreChanges, after_edits}
 use Rattle.syn_model.specs.Event.{Edit, Edited, after_event}
 use Rattle.syn_model.specs.History.{History, tree_of}
@@ -8,17 +8,17 @@ use Rattle.syn_model.specs.Path.{Path}
 use Rattle.syn_model.specs.Standing.{Standing}
 use Rattle.syn_model.specs.Tree.{Tree, empty_directory, replace, subtree}
 use Rattle.syn_model.proofs.TreeLemmas.{subtree-replace}
+use Rattle.syn_disk.specs.Stops.{LeavesOnly}
 use Rattle.syn_disk.specs.declared.disk.Disk.{Ghosts}
 use Rattle.syn_journal.proofs.Moments.{weakened}
 use Rattle.syn_replica.specs.Edits.{event_by}
 use Rattle.syn_replica.specs.Disks.{DiskStands}
 use Rattle.syn_replica.specs.Replica.{Stands, disk_of, pair_of, tree_shown}
+use Rattle.syn_replica.specs.WithRoom.{NoneOrAll}
 use Rattle.syn_replica.specs.declared.replica.Replica.{Replica}
 use Rattle.syn_tree.specs.Edits.{edit_of}
 use Rattle.syn_tree.specs.declared.edit.Edit.{Edit as Planned}
-use Rattle.syn_command.proofs.MomentLemmas.{Leaves}
-use Rattle.syn_command.specs.Imports.{IsImported, LeavesImport, NoneOrAll, after, before}
-use Rattle.syn_command.specs.Imports.{disk_left}
+use Rattle.syn_command.specs.Imports.{IsImported, LeavesImport, after, before}
 
 -- the tree of a history with edits of a user after it
 edits_after : (tree : Tree) (user : ℕ) (edits : List Edit) →
@@ -77,12 +77,9 @@ module _ {D : Type 0} {disk : Ghosts D} (old new : Replica D disk) (user : ℕ) 
       ∙ (tree_of-edits history user (map edit_of edits) ∙ made.make)) in
       ap (λ (t : Tree). subtree t path) now ∙ subtree-replace (tree_of history) path part
 
--- what holds of the disk on either way out holds of the one that is left
-pub left_of : {D E : Type 0} {disk : Ghosts D} (result : Result (Replica D disk) (E × D))
-    (P : D → Type 0) → MatchResult result (λ replica. P (disk_of replica)) (λ refused. P refused.1)
-    → P (disk_left result)
-left_of (Ok replica) P met = met
-left_of (Err refused) P met = met
+-- what a stop leaves from the one disk to the other
+abbrev pub Leaves : {D : Type 0} → Ghosts D → D → D → (List ℕ → Type 0) → Type 0
+Leaves disk old new P = LeavesOnly disk.moment disk.left_since old new P
 
 module _ {D : Type 0} {disk : Ghosts D} (old : Replica D disk) (left : D) (user : ℕ)
     (path : Path) (part : Tree) (history : History) (stood : Stands old history) where

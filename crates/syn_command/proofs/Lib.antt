@@ -2,7 +2,6 @@ pub mod InputLemmas
 pub mod EditLemmas
 pub mod ImportLemmas
 mod MigrateLemmas
-mod MomentLemmas
 mod SentLemmas
 mod AskedLemmas
 mod ShownLemmas

@@ -23,11 +23,6 @@ abbrev pub disk_left : {D E : Type 0} → {disk : Ghosts D} → Result (Replica 
 disk_left (Ok replica) = disk_of replica
 disk_left (Err refused) = refused.1
 
--- a stop leaves the history, or that with all of the events after it
-abbrev pub NoneOrAll : ℕ → History → History → List ℕ → Type 0
-NoneOrAll pair history events bytes =
-    DiskStands pair bytes history ⊎ DiskStands pair bytes (history ++ events)
-
 -- a stop leaves the history, or that with edits of the user after it, each of which is needed and
 -- which all together put the part in its place
 pub data LeavesImport (pair : ℕ) (history : History) (user : ℕ) (path : Path) (part : Tree)
@@ -45,14 +40,6 @@ pub record IsImported {D : Type 0} {disk : Ghosts D} (history : History) (user :
   pub edits : List Edit
   pub changes : AreChanges (tree_of history) (replace (tree_of history) path part) edits
   pub stands : Stands new (history ++ map (Edited user) edits)
-
--- A call that is refused otherwise than 9 has made no edit: whenever the machine stops, the disk
--- has the history alone. A checkpoint may have been made.
-abbrev pub IsUnmade : {D : Type 0} → {disk : Ghosts D} → Replica D disk → History → Refusal → D
-    → Type 0
-IsUnmade {disk = disk} replica history refusal left = (refusal ≡ Device)
-    ⊎ LeavesOnly disk.moment disk.left_since (disk_of replica) left
-    (λ bytes. DiskStands (pair_of replica) bytes history)
 
 -- Why a plan to put the part in its place is refused: the tree refuses the part there, or one of
 -- the needed edits after some of the others, or memory is refused.

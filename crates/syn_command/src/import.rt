@@ -5,29 +5,22 @@ ghost use Rattle.syn_folder.specs.Strangers.{directory_at, skipped};
 ghost use Rattle.syn_model.specs.History.{History};
 ghost use Rattle.syn_model.specs.Tree.{subtree};
 ghost use Rattle.syn_replica.specs.Edits.{event_by};
-ghost use Rattle.syn_replica.specs.Refusals.{IsOneOf, edit_refusals};
 ghost use Rattle.syn_disk.specs.Stops.{LeavesOnly};
-ghost use Rattle.syn_replica.specs.Disks.{DiskStands};
 ghost use Rattle.syn_replica.specs.Replica.{Stands, disk_of, pair_of, tree_shown};
-ghost use Rattle.syn_replica.specs.ErrorRefusals.{refusal_of as of_replica};
+ghost use Rattle.syn_replica.specs.WithRoom.{IsUnmade, NoneOrAll};
 ghost use Rattle.syn_command.specs.Errors.{IsOfEdits, IsOfFolder, refusal_of};
-ghost use Rattle.syn_command.specs.Imports.{IsImported, IsPlanRefusal, IsUnmade, LeavesImport};
-ghost use Rattle.syn_command.specs.Imports.{NoneOrAll, disk_left};
+ghost use Rattle.syn_command.specs.Imports.{IsImported, IsPlanRefusal, LeavesImport, disk_left};
 
-use crate::edits_told::{EditsTold, lines_of};
 use crate::error::CommandError;
 use crate::planning::plan_import;
+use crate::progress_mode::{ProgressMode, lines_of};
 use std::alloc::Global;
 use std::io::Write;
 use syn_disk::Disk;
 use syn_folder::{Folder, FolderError, all_known, skipping};
 use syn_path::Path;
-use syn_replica::{Replica, ReplicaError};
+use syn_replica::Replica;
 use syn_tree::{Edit, Tree};
-
-/// The bytes of the records of the longest import, and some more: each of them is needed, so that
-/// they have no more than the names and the bytes of a replica that is full, twice.
-const LONGEST_IMPORT: usize = 1_400_000;
 
 /// Makes what is at and below the path what stands in the folder, by edits of the user, all of them
 /// or none. Where it is that already, no edit is made. What can stand in no replica is left out
@@ -43,7 +36,7 @@ pub fn import_folder<D: Disk, F: Folder, E: Write>(
     path: &Path,
     folder: &F,
     is_skipping: bool,
-    told: EditsTold,
+    told: ProgressMode,
     errors: &mut E,
 ) -> Result<Replica<D>, (CommandError, D)>
     ensures known { is_skipping ≡ false → OnOk result (F.strangers folder.now ≡ []) }
@@ -119,7 +112,7 @@ pub fn import_part<D: Disk, E: Write>(
     user: u32,
     path: &Path,
     part: &Tree,
-    told: EditsTold,
+    told: ProgressMode,
     errors: &mut E,
 ) -> Result<Replica<D>, (CommandError, D)>
     ensures part { (history : History) → Stands replica history
@@ -160,7 +153,7 @@ fn make_edits<D: Disk, E: Write>(
     replica: Replica<D>,
     user: u32,
     edits: Vec<Edit>,
-    told: EditsTold,
+    told: ProgressMode,
     errors: &mut E,
 ) -> Result<Replica<D>, (CommandError, D)>
     ensures made { (history : History) → Stands replica history
@@ -177,55 +170,11 @@ fn make_edits<D: Disk, E: Write>(
         Ok(lines) => lines,
         Err(error) => return Err((CommandError::from(error), replica.into_disk())),
     };
-    match edit_with_room(alloc, replica, user, edits) {
+    match replica.edit_all_with_room(alloc, user, edits) {
         Ok(edited) => {
             let _ = errors.write_all(lines.as_bytes());
             Ok(edited)
         }
         Err((error, disk)) => Err((CommandError::from(error), disk)),
-    }
-}
-
-/// Makes the edits, and room for them in the journal first where there may be too little.
-fn edit_with_room<D: Disk>(
-    alloc: Global,
-    replica: Replica<D>,
-    user: u32,
-    edits: Vec<Edit>,
-) -> Result<Replica<D>, (ReplicaError, D)>
-    ensures made { (history : History) → Stands replica history
-        → IfOk result (λ new. Stands new (history ++ map (event_by user) edits.items)) }
-    ensures any_moment { (history : History) → Stands replica history
-        → LeavesOnly D.moment D.left_since (disk_of replica) (disk_left result)
-        (NoneOrAll (pair_of replica) history (map (event_by user) edits.items)) }
-    ensures unmade { (history : History) → Stands replica history → IfErr result
-        (λ refused. IsUnmade replica history (of_replica refused.0) refused.1) }
-    ensures refusals { IfErr result (λ refused. IsOneOf edit_refusals refused.0) }
-{
-    if edits.is_empty() {
-        return Ok(replica);
-    }
-    with_room(alloc, replica)?.edit_all(alloc, user, edits)
-}
-
-/// The replica with room in its journal for the edits of any import.
-fn with_room<D: Disk>(
-    alloc: Global,
-    mut replica: Replica<D>,
-) -> Result<Replica<D>, (ReplicaError, D)>
-    ensures made { (history : History) → Stands replica history
-        → IfOk result (λ new. Stands new history) }
-    ensures any_moment { (history : History) → Stands replica history
-        → LeavesOnly D.moment D.left_since (disk_of replica) (disk_left result)
-        (λ bytes. DiskStands (pair_of replica) bytes history) }
-    ensures pair { IfOk result (λ new. pair_of new ≡ pair_of replica) }
-    ensures refusals { IfErr result (λ refused. IsOneOf edit_refusals refused.0) }
-{
-    if replica.room() >= LONGEST_IMPORT {
-        return Ok(replica);
-    }
-    match replica.checkpoint(alloc) {
-        Ok(()) => Ok(replica),
-        Err(error) => Err((error, replica.into_disk())),
     }
 }

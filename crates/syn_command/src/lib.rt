@@ -59,7 +59,6 @@
 
 mod check;
 mod edit;
-mod edits_told;
 mod error;
 mod export;
 mod failure;
@@ -68,6 +67,7 @@ mod import;
 mod outcome;
 mod planning;
 mod preview;
+mod progress_mode;
 mod sending;
 mod show;
 mod status;
@@ -75,7 +75,6 @@ mod telling;
 
 pub use check::check_image;
 pub use edit::{make_edit, read_edit};
-pub use edits_told::EditsTold;
 pub use error::CommandError;
 pub use export::export_part;
 pub use failure::Failure;
@@ -84,6 +83,7 @@ pub use import::{import_folder, import_part, part_of};
 pub use outcome::{Outcome, outcome_of, outcome_planned};
 pub use planning::plan_import;
 pub use preview::{ListedSide, Planned, plan_between, plan_of_replicas};
+pub use progress_mode::ProgressMode;
 pub use sending::send_edits;
 pub use show::{show_image, show_path};
 pub use status::Status;

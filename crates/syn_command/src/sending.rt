@@ -4,8 +4,8 @@ ghost use Rattle.syn_command.specs.Sent.{AreMadeInPart, AreMadeInTurn};
 ghost use Rattle.syn_tree.specs.Edits.{edit_of};
 ghost use Rattle.syn_user.specs.Lines.{line_of};
 
-use crate::edits_told::{EditsTold, edit_line};
 use crate::error::CommandError;
+use crate::progress_mode::{ProgressMode, edit_line};
 use std::alloc::Global;
 use std::io::{Read, Write};
 use syn_refusal::Refusal;
@@ -24,7 +24,7 @@ pub fn send_edits<R: Read, W: Write, E: Write>(
     user: u32,
     position: u64,
     edits: Vec<Edit>,
-    told: EditsTold,
+    told: ProgressMode,
     errors: &mut E,
 ) -> Result<u64, CommandError>
     ensures last { IfOk result (λ last. last ≡ position + length edits.items) }
@@ -47,7 +47,7 @@ fn send_each<R: Read, W: Write, E: Write>(
     user: u32,
     position: u64,
     edits: Vec<Edit>,
-    told: EditsTold,
+    told: ProgressMode,
     errors: &mut E,
 ) -> Result<u64, CommandError>
     ensures last { IfOk result (λ last. last ≡ position + length edits.items) }
@@ -65,7 +65,7 @@ fn send_each<R: Read, W: Write, E: Write>(
         let line = edit_line(alloc, &edit)?;
         let made = connection.edit(alloc, user, edit)?;
         count = count.saturating_add(1);
-        told.tell(&line, count, all, errors);
+        told.tell(&line, count, all, "edits are made", errors);
         last = next_position(last, made)?;
     }
     Ok(last)

@@ -13,7 +13,7 @@ use std::net::{Net, TcpStream};
 use std::thread::Threads;
 use syn_cli::{ExportCommand, ImportCommand, ReplicaPlace};
 use syn_command::{
-    CommandError, EditsTold, export_part, import_folder, part_of, plan_import, send_edits,
+    CommandError, ProgressMode, export_part, import_folder, part_of, plan_import, send_edits,
 };
 use syn_daemon::reach;
 use syn_folder::{ExportedFolder, Folder, FolderError, SystemFolder};
@@ -68,7 +68,7 @@ pub fn import<H: Net<Stream = TcpStream>, N: NamedDisks, F: Files, E: Write>(
     disks: &N,
     files: &F,
     line: &ImportCommand<'_>,
-    told: EditsTold,
+    told: ProgressMode,
     errors: &mut E,
 ) -> Result<u64, CommandError>
     ensures { IfSome line.now.path (λ path.
@@ -131,7 +131,7 @@ fn import_over<F: Folder, E: Write>(
     path: &Path,
     folder: &F,
     is_skipping: bool,
-    told: EditsTold,
+    told: ProgressMode,
     errors: &mut E,
 ) -> Result<u64, CommandError> {
     let (position, tree) = tree_over(alloc, stream)?;

@@ -1,7 +1,7 @@
 //! Two servers that are kept the same: a session runs whenever one of them has changed.
 
 use crate::named::{NamedDisks, archive_in};
-use crate::sessions::{ProgressMode, Told};
+use crate::sessions::Told;
 use crate::upkeep::shorten_archive;
 use std::alloc::Global;
 use std::io::{self, ErrorKind, Write};
@@ -9,7 +9,7 @@ use std::net::{Net, TcpListener, TcpStream};
 use std::thread;
 use std::time::{Clock, Duration};
 use syn_cli::KeepCommand;
-use syn_command::{CommandError, Outcome};
+use syn_command::{CommandError, Outcome, ProgressMode};
 use syn_coordinator::Coordinator;
 use syn_daemon::{reach, sync};
 use syn_disk::Disk;
@@ -46,14 +46,11 @@ where
 {
     let archive = archive_in(alloc, disks, line.archive)?;
     let coordinator = Coordinator::new(alloc, archive);
-    match telling {
-        ProgressMode::Nothing => keep(rt, alloc, coordinator, line, &mut Lost(errors), output),
-        ProgressMode::Items | ProgressMode::ItemsAndCounts => {
-            let counts = telling == ProgressMode::ItemsAndCounts;
-            let mut progress = Progress::new(alloc, errors, counts);
-            keep(rt, alloc, coordinator, line, &mut progress, output)
-        }
+    if !telling.each {
+        return keep(rt, alloc, coordinator, line, &mut Lost(errors), output);
     }
+    let mut progress = Progress::new(alloc, errors, telling.counts);
+    keep(rt, alloc, coordinator, line, &mut progress, output)
 }
 
 /// Tells which side cannot be reached, and nothing else.

@@ -33,4 +33,4 @@ pub use named::NamedDisks;
 pub use network::serve_named;
 pub use plans::print_plan;
 pub use reconciling::{plan_named, reconcile_named};
-pub use sessions::{ProgressMode, run_session};
+pub use sessions::run_session;

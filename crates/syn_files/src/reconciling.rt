@@ -1,23 +1,25 @@
 //! A folder and the replica of a name, which are made the same.
 
 use crate::named::{NamedDisks, archive_on, replica_in, replica_to_read};
-use crate::sessions::ProgressMode;
 use std::alloc::{AllocError, Global};
 use std::fs::Files;
 use std::io::{self, ErrorKind, Write};
 use syn_archive::Archive;
 use syn_cli::ReconcileCommand;
-use syn_command::{CommandError, Outcome, outcome_planned};
+use syn_command::{CommandError, Outcome, ProgressMode, outcome_planned};
 use syn_disk::{Access, Disk, MemDisk, OpenError};
 use syn_folder::{EditedFolder, SystemFolder};
 use syn_path::Side;
 use syn_print::{counts_of, show_plan};
-use syn_reconcile::{Outcome as Settlement, ReconcileError, Report, WhenEmpty, plan, reconcile};
+use syn_reconcile::{
+    Outcome as Settlement, ReconcileError, Report, Settled, Watch, WhenEmpty, plan, reconcile,
+};
 use syn_replica::Replica;
 
 /// Makes the line's folder and its replica the same, by what both last agreed on, prints a report,
 /// and answers what it came to. What no replica can have is told to `errors`, and left alone on
-/// both sides; each item that is carried or marked is told, too, unless nothing is to be.
+/// both sides; each item that is carried or marked is told, too, and how many are settled, where
+/// `telling` says so.
 ///
 /// Refused as the replica and the archive are opened, 9 and 13 as the folder is read, and as
 /// `reconcile` is: what was carried before stands then, and the same line goes on.
@@ -35,6 +37,13 @@ pub fn reconcile_named<N: NamedDisks, F: Files, O: Write, E: Write>(
     let mut archive = archive_or_new(alloc, disks, &name, replica.pair())?;
     let mut folder = SystemFolder::open_or_missing(alloc, files, line.folder)?;
     tell_strangers(&folder, errors);
+    let mut watch = ItemsTold {
+        alloc,
+        telling,
+        planned: 0,
+        settled: 0,
+        errors: &mut *errors,
+    };
     let settled = reconcile(
         alloc,
         &mut folder,
@@ -43,12 +52,11 @@ pub fn reconcile_named<N: NamedDisks, F: Files, O: Write, E: Write>(
         line.user,
         line.preference,
         when_empty(line),
+        &mut watch,
     );
+    telling.end(errors);
     match settled {
         Ok((_, report)) => {
-            if telling != ProgressMode::Nothing {
-                tell_items(&report, errors);
-            }
             print_report(&report, output)?;
             Ok(outcome_of(&report))
         }
@@ -173,15 +181,39 @@ fn tell_strangers<F: EditedFolder, E: Write>(folder: &F, errors: &mut E) {
     }
 }
 
-/// Tells each item that was carried or marked.
-fn tell_items<E: Write>(report: &Report, errors: &mut E) {
-    for settled in &report.settled {
-        let path = settled.path();
-        let _ = match settled.outcome() {
-            Settlement::Done => writeln!(errors, "carried {path}"),
-            Settlement::Marked => writeln!(errors, "marked {path}"),
-            Settlement::Conflict | Settlement::Refused(_) => Ok(()),
+/// Tells each item that was carried or marked, and counts all. What finds no memory is left out.
+#[derive(Drop)]
+struct ItemsTold<'e, E> {
+    alloc: Global,
+    telling: ProgressMode,
+    planned: usize,
+    settled: usize,
+    errors: &'e mut E,
+}
+
+impl<E: Write> Watch for ItemsTold<'_, E> {
+    fn planned(&mut self, items: usize) {
+        self.planned = items;
+    }
+
+    fn settled(&mut self, one: &Settled) {
+        self.settled = self.settled.saturating_add(1);
+        let Ok(line) = item_line(self.alloc, one) else {
+            return;
         };
+        let (count, all) = (self.settled, self.planned);
+        self.telling
+            .tell(&line, count, all, "items are settled", self.errors);
+    }
+}
+
+/// What is told of an item: nothing where the report has it.
+fn item_line(alloc: Global, one: &Settled) -> Result<String, AllocError> {
+    let path = one.path();
+    match one.outcome() {
+        Settlement::Done => format!(in alloc; "carried {path}\n"),
+        Settlement::Marked => format!(in alloc; "marked {path}\n"),
+        Settlement::Conflict | Settlement::Refused(_) => Ok(String::new(alloc)),
     }
 }
 

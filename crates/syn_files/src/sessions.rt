@@ -13,7 +13,7 @@ use std::thread::Threads;
 use std::time::Clock;
 use syn_archive::Archive;
 use syn_cli::{Between, Pairing};
-use syn_command::{CommandError, Outcome, outcome_of};
+use syn_command::{CommandError, Outcome, ProgressMode, outcome_of};
 use syn_coordinator::Coordinator;
 use syn_daemon::{OpenGates, run, sync};
 use syn_disk::{Access, Disk};
@@ -25,19 +25,8 @@ use syn_session::Report;
 use syn_shared::SharedReplica;
 use syn_sync::{Progress, Unwatched, Watch};
 
-/// How much is told of a session as it goes.
-#[derive(Clone, Copy, Debug, PartialEq, Eq)]
-pub enum ProgressMode {
-    /// Nothing but its report.
-    Nothing,
-    /// Each item, as it is settled.
-    Items,
-    /// Each item, and a line with counts that is written again in its place.
-    ItemsAndCounts,
-}
-
 /// Runs a session of the replicas and their archive, prints its report, and answers what it came
-/// to. What is told of it goes to `errors`.
+/// to. Each item is told to `errors` where `telling` says so, and with the items their counts.
 ///
 /// Refused as an opening of a disk is, left first and the archive last; 9 where an address cannot
 /// be reached; and as the start of a session is.
@@ -56,11 +45,10 @@ where
     O: Write,
     E: Write,
 {
-    if let ProgressMode::Nothing = telling {
+    if !telling.each {
         return drive(rt, alloc, disks, pairing, &mut Unwatched, output);
     }
-    let counts = telling == ProgressMode::ItemsAndCounts;
-    let mut progress = Progress::new(alloc, errors, counts);
+    let mut progress = Progress::new(alloc, errors, telling.counts);
     drive(rt, alloc, disks, pairing, &mut progress, output)
 }
 

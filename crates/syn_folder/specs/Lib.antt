@@ -1,3 +1,4 @@
 pub mod Looks
 pub mod Refusals
 pub mod Strangers
+pub mod Glimpses

@@ -19,6 +19,9 @@
 //! An `EditedFolder` is one that people go on editing. It shows the tree that was read of it, and
 //! has one call that changes it: `replace`, which puts a part in the place of another only where
 //! that is still what was read. That `SystemFolder` looks is taken as given, too.
+//!
+//! A `Glimpse` is how a folder of the system looks from outside. Two are the same exactly where the
+//! same names were listed and what stood there looked the same (`is_same`).
 #![tactic(auto)]
 
 mod edited;

@@ -15,7 +15,7 @@ use Rattle.syn_model.specs.Tree.{Tree}
 use Rattle.syn_refusal.specs.declared.refusal.Refusal.{Refusal}
 use Rattle.syn_replica.specs.Replica.{Stands, disk_of, pair_of, tree_shown}
 use Rattle.syn_replica.specs.declared.replica.Replica.{Replica}
-use Rattle.syn_reconcile.proofs.EditLemmas.{Leaves}
+use Rattle.syn_replica.proofs.WithRoomLemmas.{Leaves}
 use Rattle.syn_reconcile.proofs.SettleLemmas.{has_now, leaves_still, left_now, stays}
 use Rattle.syn_reconcile.specs.Settlings.{GoesOn, IsCarried, IsCutOff, IsLeft, after_settled, here}
 use Rattle.syn_reconcile.specs.Settlings.{trees_of}

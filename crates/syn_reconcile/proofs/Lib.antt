@@ -1,5 +1,4 @@
 mod MarkLemmas
-mod EditLemmas
 mod SettleLemmas
 mod StrangerLemmas
 mod CarryLemmas

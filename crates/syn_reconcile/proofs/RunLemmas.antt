@@ -26,7 +26,7 @@ use Rattle.syn_refusal.specs.declared.refusal.Refusal.{Refusal}
 use Rattle.syn_replica.specs.Disks.{DiskStands}
 use Rattle.syn_replica.specs.Replica.{Stands, disk_of, pair_of, tree_shown}
 use Rattle.syn_replica.specs.declared.replica.Replica.{Replica}
-use Rattle.syn_reconcile.proofs.EditLemmas.{still as replica_still}
+use Rattle.syn_replica.proofs.WithRoomLemmas.{still as replica_still}
 use Rattle.syn_reconcile.proofs.MarkLemmas.{still as marks_still, was}
 use Rattle.syn_reconcile.proofs.SettleLemmas.{has_now, left_now, shown_is}
 use Rattle.syn_reconcile.specs.Settlings.{GoesOn, IsCutOff, NoneRefused, after_all, after_one}

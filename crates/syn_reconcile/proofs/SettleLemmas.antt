@@ -18,12 +18,13 @@ use Rattle.syn_replica.proofs.StandLemmas.{keeps_now, keeps_stands}
 use Rattle.syn_replica.specs.Disks.{DiskStands}
 use Rattle.syn_replica.specs.Edits.{event_by}
 use Rattle.syn_replica.specs.Replica.{Stands, disk_of, pair_of, tree_shown}
+use Rattle.syn_replica.specs.WithRoom.{NoneOrAll}
 use Rattle.syn_replica.specs.declared.replica.Replica.{Replica}
 use Rattle.syn_tree.specs.Edits.{edit_of}
 use Rattle.syn_tree.specs.declared.edit.Edit.{Edit as Planned}
-use Rattle.syn_reconcile.proofs.EditLemmas.{Leaves, still}
+use Rattle.syn_replica.proofs.WithRoomLemmas.{Leaves, still}
 use Rattle.syn_reconcile.specs.Settlings.{GoesOn, KeepsMarks, here, trees_of}
-use Rattle.syn_reconcile.specs.Stops.{HasEitherTree, HasTree, NoneOrAll}
+use Rattle.syn_reconcile.specs.Stops.{HasEitherTree, HasTree}
 
 -- the tree of a history with edits of a user after it
 edits_after : (tree : Tree) (user : ℕ) (edits : List Planned)

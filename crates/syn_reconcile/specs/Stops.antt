@@ -7,11 +7,6 @@ use Rattle.syn_model.specs.History.{History, tree_of}
 use Rattle.syn_model.specs.Tree.{Tree}
 use Rattle.syn_replica.specs.Disks as replica
 
--- a replica's disk has the history, or that with all of the events
-abbrev pub NoneOrAll : ℕ → History → History → List ℕ → Type 0
-NoneOrAll pair history events bytes = replica.DiskStands pair bytes history
-    ⊎ replica.DiskStands pair bytes (history ++ events)
-
 -- a replica's disk has the history with edits of the user after it, which leave this tree
 pub record HasTree (pair user : ℕ) (history : History) (tree : Tree) (bytes : List ℕ)
     : Type 0 where

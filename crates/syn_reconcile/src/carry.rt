@@ -16,7 +16,7 @@ ghost use Rattle.syn_reconcile.specs.Settlings.{after_settled, here, trees_of};
 ghost use Rattle.syn_reconcile.specs.Stops.{HasEitherMarks, HasEitherTree};
 ghost use Rattle.syn_reconcile.specs.Strangers.{LeavesAlone};
 
-use crate::edits::{make_edits, plan_part};
+use crate::edits::plan_part;
 use crate::error::ReconcileError;
 use crate::marks::{marked_part, record, record_dir};
 use crate::strangers::leaves_alone;
@@ -181,7 +181,7 @@ fn to_replica<R: Disk, A: Disk>(
         Ok(planned) => planned,
         Err(error) => return Ok((replica, Some(error.refusal()))),
     };
-    let replica = match make_edits(alloc, replica, user, planned.edits) {
+    let replica = match replica.edit_all_with_room(alloc, user, planned.edits) {
         Ok(replica) => replica,
         Err((error, disk)) => return Err((ReconcileError::Replica(error), disk)),
     };

@@ -13,25 +13,26 @@ ghost use Rattle.syn_reconcile.specs.UnderWay.{AreApart, IsStopped, ReachesMarks
 use crate::carry::carry;
 use crate::error::ReconcileError;
 use crate::report::Settled;
+use crate::watch::Watch;
 use std::alloc::Global;
 use syn_archive::Archive;
 use syn_disk::Disk;
 use syn_folder::EditedFolder;
 use syn_recon::Item;
-use syn_refusal::Refusal;
 use syn_replica::Replica;
 
-/// Carries out each of the items in turn, and answers what came of each.
+/// Carries out each of the items in turn, and answers what came of each. Each is told to `watch`.
 ///
 /// Refused as the replica or the archive refuses it, and 11 where memory is refused: what was
 /// carried out before stands then. The replica's disk comes back.
-pub(crate) fn carry_all<F: EditedFolder, R: Disk, A: Disk>(
+pub(crate) fn carry_all<F: EditedFolder, R: Disk, A: Disk, W: Watch>(
     alloc: Global,
     folder: &mut F,
     replica: Replica<R>,
     archive: &mut Archive<A>,
     user: u32,
     items: Vec<Item>,
+    watch: &mut W,
 ) -> Result<(Replica<R>, Vec<Settled>), (ReconcileError, R)>
     ensures items { IfOk result (λ done. items_in done.1.items ≡ items_of items.items) }
     ensures carried { (history : History) (kept : Kept) → Stands replica history
@@ -66,7 +67,9 @@ pub(crate) fn carry_all<F: EditedFolder, R: Disk, A: Disk>(
     for item in items {
         let (now, refused) = carry(alloc, folder, replica, archive, user, &item)?;
         replica = now;
-        match note(&mut settled, item, refused) {
+        let one = Settled { item, refused };
+        watch.settled(&one);
+        match note(&mut settled, one) {
             Ok(()) => {}
             Err(error) => return Err((error, replica.into_disk())),
         }
@@ -74,15 +77,10 @@ pub(crate) fn carry_all<F: EditedFolder, R: Disk, A: Disk>(
     Ok((replica, settled))
 }
 
-/// Notes what came of the item. Refused where memory is refused.
-pub(crate) fn note(
-    settled: &mut Vec<Settled>,
-    item: Item,
-    refused: Option<Refusal>,
-) -> Result<(), ReconcileError>
-    ensures { OnOk result (settled.new.items
-        ≡ settled.old.items ++ record { item = item; refused = refused } ∷ []) }
+/// Notes what came of an item. Refused where memory is refused.
+pub(crate) fn note(settled: &mut Vec<Settled>, one: Settled) -> Result<(), ReconcileError>
+    ensures { OnOk result (settled.new.items ≡ settled.old.items ++ one ∷ []) }
 {
-    settled.push(Settled { item, refused })?;
+    settled.push(one)?;
     Ok(())
 }

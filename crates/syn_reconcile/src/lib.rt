@@ -66,9 +66,11 @@ mod report;
 mod run;
 mod shared;
 mod strangers;
+mod watch;
 
 pub use checks::WhenEmpty;
 pub use error::ReconcileError;
 pub use report::{Outcome, Report, Settled};
 pub use run::{plan, reconcile};
 pub use shared::reconcile_shared;
+pub use watch::Watch;

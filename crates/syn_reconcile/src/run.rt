@@ -21,6 +21,7 @@ use crate::checks::{WhenEmpty, check_empty, check_pair, check_whole};
 use crate::error::ReconcileError;
 use crate::items::carry_all;
 use crate::report::Report;
+use crate::watch::Watch;
 use std::alloc::Global;
 use syn_archive::Archive;
 use syn_disk::Disk;
@@ -99,12 +100,12 @@ pub(crate) fn plan_seen<F: EditedFolder, A: Disk>(
 
 /// Makes the folder, which is the left side, and the replica, which is the right, the same, as far
 /// as both were not changed at one path: it carries out what `plan` gives. It answers what came of
-/// each item.
+/// each item, and tells `watch` of each as it is settled.
 ///
 /// Refused as `plan` is, before anything is changed, and as the replica or the archive refuses a
 /// change: what was carried out before stands then, and the same call goes on. The replica's disk
 /// comes back.
-pub fn reconcile<F: EditedFolder, R: Disk, A: Disk>(
+pub fn reconcile<F: EditedFolder, R: Disk, A: Disk, W: Watch>(
     alloc: Global,
     folder: &mut F,
     replica: Replica<R>,
@@ -112,6 +113,7 @@ pub fn reconcile<F: EditedFolder, R: Disk, A: Disk>(
     user: u32,
     preference: Option<Side>,
     when_empty: WhenEmpty,
+    watch: &mut W,
 ) -> Result<(Replica<R>, Report), (ReconcileError, R)>
     ensures plan { IfOk result (λ done. items_in done.1.settled.items
         ≡ planned (option_map which_of preference)
@@ -185,7 +187,9 @@ pub fn reconcile<F: EditedFolder, R: Disk, A: Disk>(
         Ok(compared) => compared,
         Err(error) => return Err((error, replica.into_disk())),
     };
-    let (replica, settled) = carry_all(alloc, folder, replica, archive, user, compared.items)?;
+    let items = compared.items;
+    watch.planned(items.len());
+    let (replica, settled) = carry_all(alloc, folder, replica, archive, user, items, watch)?;
     Ok((replica, Report { settled }))
 }
 

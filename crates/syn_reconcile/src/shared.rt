@@ -134,7 +134,7 @@ fn carry_each<H: Wait, F: EditedFolder, R: Disk, A: Disk>(
     let mut settled = Vec::new(alloc);
     for item in items {
         let refused = carry_one(rt, alloc, folder, shared, pass, archive, user, seen, &item)?;
-        note(&mut settled, item, refused)?;
+        note(&mut settled, Settled { item, refused })?;
     }
     Ok(settled)
 }

@@ -1,5 +1,6 @@
 pub mod RoomLemmas
 pub mod StandLemmas
+pub mod WithRoomLemmas
 pub mod RefusalLemmas
 pub mod MeaningLemmas
 mod VersionLemmas

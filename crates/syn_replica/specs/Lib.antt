@@ -3,6 +3,7 @@ pub mod Edits
 pub mod Steps
 pub mod Batches
 pub mod Replica
+pub mod WithRoom
 pub mod Growth
 pub mod Calls
 pub mod Machines

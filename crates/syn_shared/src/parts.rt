@@ -18,13 +18,13 @@ use crate::laws::step_laws;
 use crate::shared::SharedReplica;
 use std::alloc::Global;
 use std::sync::Wait;
-use syn_change::{changes, copy_part};
+use syn_change::{changes_with, copy_part};
 use syn_disk::Disk;
 use syn_journal::JournalError;
 use syn_lock::Pass;
 use syn_path::Path;
 use syn_replica::{Replica, ReplicaError};
-use syn_tree::{Edit, Node, Tree, TreeError};
+use syn_tree::{Edit, Node, Tree};
 
 /// What a replica has at one moment.
 #[derive(Debug, Drop)]
@@ -129,7 +129,7 @@ fn put_within<D: Disk>(
 /// The edits that put what is given in the place of what the replica has at and below the path.
 ///
 /// Refused 13 where an event touched the path since, 15 where it is not told, 10 while the replica
-/// is halted, and as `edits_for` is.
+/// is halted, and as `changes_with` is.
 fn planned_within<D: Disk>(
     alloc: Global,
     replica: &Replica<D>,
@@ -147,25 +147,7 @@ fn planned_within<D: Disk>(
 {
     // A fetch is refused where the path was touched. Past the end of a part there are no bytes.
     replica.fetch(alloc, path, since, usize::MAX)?;
-    Ok(edits_for(alloc, replica.tree(), path, new)?)
-}
-
-/// The edits that put what is given in the place of what the tree has at and below the path.
-///
-/// Refused 2 where the parent of the path is no directory, 6 at the root, 7 where the tree would
-/// pass a limit, and 11 where memory is refused.
-fn edits_for(
-    alloc: Global,
-    tree: &Tree,
-    path: &Path,
-    new: Option<Node>,
-) -> Result<Vec<Edit>, TreeError>
-    ensures { IfOk result (λ edits. AreChanges tree.now
-        (replace tree.now path.now (part_of new)) (map edit_of edits.items)) }
-{
-    let mut wanted = copy_part(alloc, tree, &Path::root(alloc))?;
-    wanted.replace(alloc, path, new)?;
-    changes(alloc, tree, &wanted)
+    Ok(changes_with(alloc, replica.tree(), path, new)?)
 }
 
 /// Makes the edits of the user one after the other, and answers the position.

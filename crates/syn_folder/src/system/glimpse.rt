@@ -1,4 +1,6 @@
 //! How a folder of the system looks from outside: what its metadata tells, and no contents.
+ghost use Rattle.std.specs.Prelude.{◌≡◌, ◌↔◌, IsTrue};
+ghost use Rattle.syn_folder.specs.Glimpses.{LookSame};
 
 use crate::error::FolderError;
 use crate::system::listing::is_listed;
@@ -22,12 +24,26 @@ pub struct Glimpse {
 }
 
 impl Glimpse {
-    /// Nothing was written, made, moved or removed between the two, as far as the system's clock
+    /// The same names were listed, and what stood there looked the same.
+    ///
+    /// So nothing was written, made, moved or removed between the two, as far as the system's clock
     /// tells: it takes two changes that are very close for one. Of a folder with very much in it
     /// this is never said.
-    pub fn is_same(&self, other: &Glimpse) -> bool {
-        self.looks.len() <= MOST_LOOKED && self.names == other.names && self.looks == other.looks
+    pub fn is_same(&self, other: &Glimpse) -> bool
+        ensures { IsTrue result ↔ LookSame self.now other.now }
+    {
+        if self.looks.len() > MOST_LOOKED || self.names != other.names {
+            return false;
+        }
+        are_alike(self.looks.as_slice(), other.looks.as_slice())
     }
+}
+
+/// Each looks as the other one in its place, and there are as many.
+fn are_alike(looks: &[Look], others: &[Look]) -> bool
+    ensures { IsTrue result ↔ (looks.now ≡ others.now) }
+{
+    looks == others
 }
 
 /// Looks at the folder of this name and at all that stands in it. A folder that is missing looks as

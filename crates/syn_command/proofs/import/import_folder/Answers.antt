@@ -2,11 +2,11 @@ use Rattle.std.proofs.Common.{◌≡◌, ◌∙◌, IfOk, ap, inr, subst, sym}
 use Rattle.std.proofs.lemmas.Result.{IfOk-weaker}
 use Rattle.syn_folder.specs.Strangers.{directory_at, skipped}
 use Rattle.syn_model.specs.Tree.{Tree, subtree}
+use Rattle.syn_replica.proofs.WithRoomLemmas.{still}
 use Rattle.syn_replica.specs.Disks.{DiskStands}
 use Rattle.syn_replica.specs.Replica.{Stands, disk_of, pair_of, tree_shown}
 use Rattle.syn_command.specs.Imports.{IsImported, LeavesImport, disk_left}
-use Rattle.syn_command.proofs.ImportLemmas.{leaves_before}
-use Rattle.syn_command.proofs.MomentLemmas.{Leaves, still}
+use Rattle.syn_command.proofs.ImportLemmas.{Leaves, leaves_before}
 use Rattle.syn_command.proofs.import.import_folder.Goals as goal
 
 pub returns-in-Ok-clause-part : goal.returns-in-Ok-clause-part

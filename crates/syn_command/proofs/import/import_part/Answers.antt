@@ -2,13 +2,13 @@ use Rattle.std.proofs.Common.{◌++◌, ap, inr, map, subst, append-nil, ◌∙�
 use Rattle.std.proofs.lemmas.Result.{IfOk-weaker}
 use Rattle.syn_model.specs.Event.{Event}
 use Rattle.syn_model.specs.Tree.{Tree, subtree}
+use Rattle.syn_replica.proofs.WithRoomLemmas.{still}
 use Rattle.syn_replica.specs.Edits.{event_by}
 use Rattle.syn_replica.specs.Disks.{DiskStands}
 use Rattle.syn_replica.specs.Replica.{Stands, disk_of, pair_of, tree_shown}
 use Rattle.syn_command.specs.Imports.{IsPlanRefusal, LeavesImport, disk_left}
-use Rattle.syn_command.proofs.ImportLemmas.{has_part, is_imported, leaves_before, leaves_import}
-use Rattle.syn_command.proofs.ImportLemmas.{planned_over}
-use Rattle.syn_command.proofs.MomentLemmas.{Leaves, still}
+use Rattle.syn_command.proofs.ImportLemmas.{Leaves, has_part, is_imported, leaves_before}
+use Rattle.syn_command.proofs.ImportLemmas.{leaves_import, planned_over}
 use Rattle.syn_tree.specs.declared.edit.Edit.{Edit}
 use Rattle.syn_command.proofs.import.import_part.Goals as goal
 

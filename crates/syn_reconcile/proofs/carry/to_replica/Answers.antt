@@ -33,8 +33,9 @@ returns-in-Err-clause-any_mark g c kept keeps =
     still g.met.A.Disk.only_now old kept (replace (marks_shown old) c.args.path.now
     (mark (subtree c.args.folder.now c.args.path.now))) keeps
 
-pub returns-in-Err-make_edits-clause-any_moment : goal.returns-in-Err-make_edits-clause-any_moment
-returns-in-Err-make_edits-clause-any_moment g c history stands =
+pub returns-in-Err-edit_all_with_room-clause-any_moment :
+    goal.returns-in-Err-edit_all_with_room-clause-any_moment
+returns-in-Err-edit_all_with_room-clause-any_moment g c history stands =
     let old = c.args.replica in
     let path = c.args.path.now in
     let part = subtree c.args.folder.now path in
@@ -42,10 +43,11 @@ returns-in-Err-make_edits-clause-any_moment g c history stands =
     let changes = subst (λ (t : Tree). AreChanges t (replace t path part) (map edit_of edits))
     c.tree.ensures c.in-Ok.ensures.changes in
     leaves_either old history stands c.args.user (replace (tree_shown old) path part) edits changes
-    c.in-Err-make_edits.disk (c.in-Err-make_edits.ensures.any_moment history stands)
+    c.in-Err-edit_all_with_room.disk (c.in-Err-edit_all_with_room.ensures.any_moment history stands)
 
-pub returns-in-Err-make_edits-clause-any_mark : goal.returns-in-Err-make_edits-clause-any_mark
-returns-in-Err-make_edits-clause-any_mark g c kept keeps =
+pub returns-in-Err-edit_all_with_room-clause-any_mark :
+    goal.returns-in-Err-edit_all_with_room-clause-any_mark
+returns-in-Err-edit_all_with_room-clause-any_mark g c kept keeps =
     let old = c.args.archive.now in
     still g.met.A.Disk.only_now old kept (replace (marks_shown old) c.args.path.now
     (mark (subtree c.args.folder.now c.args.path.now))) keeps
@@ -58,10 +60,10 @@ returns-in-Ok-record-clause-carried g c history kept stands keeps =
     let edits = c.in-Ok.planned.edits.items in
     let changes = subst (λ (t : Tree). AreChanges t (replace t path part) (map edit_of edits))
     c.tree.ensures c.in-Ok.ensures.changes in
-    edited c.args.user history c.args.folder.now old c.in-Ok-make_edits.replica
+    edited c.args.user history c.args.folder.now old c.in-Ok-edit_all_with_room.replica
     c.record.new.archive (replace (tree_shown old) path part)
     (replace (marks_shown c.args.archive.now) path (mark part)) edits stands changes
-    (c.in-Ok-make_edits.ensures.made history stands)
+    (c.in-Ok-edit_all_with_room.ensures.acknowledged history stands)
     (keeps_with c.args.archive.now c.record.new.archive path (or_absent c.in-Ok.planned.marks)
     (mark part) c.in-Ok.ensures.marks (c.in-Ok-record.ensures.recorded kept keeps))
 
@@ -74,7 +76,8 @@ returns-in-Ok-record-clause-any_moment g c history stands =
     let changes = subst (λ (t : Tree). AreChanges t (replace t path part) (map edit_of edits))
     c.tree.ensures c.in-Ok.ensures.changes in
     leaves_either old history stands c.args.user (replace (tree_shown old) path part) edits changes
-    (disk_of c.in-Ok-make_edits.replica) (c.in-Ok-make_edits.ensures.any_moment history stands)
+    (disk_of c.in-Ok-edit_all_with_room.replica)
+    (c.in-Ok-edit_all_with_room.ensures.any_moment history stands)
 
 pub returns-in-Ok-record-clause-any_mark : goal.returns-in-Ok-record-clause-any_mark
 returns-in-Ok-record-clause-any_mark g c kept keeps =
@@ -85,7 +88,7 @@ returns-in-Ok-record-clause-any_mark g c kept keeps =
 pub returns-in-Err-record-clause-stopped : goal.returns-in-Err-record-clause-stopped
 returns-in-Err-record-clause-stopped g c history kept stands keeps =
     let old = c.args.replica in
-    let new = c.in-Ok-make_edits.replica in
+    let new = c.in-Ok-edit_all_with_room.replica in
     let path = c.args.path.now in
     let part = subtree c.args.folder.now path in
     let edits = c.in-Ok.planned.edits.items in
@@ -94,9 +97,9 @@ returns-in-Err-record-clause-stopped g c history kept stands keeps =
     let wanted = replace (tree_shown old) path part in
     done refl (λ bytes left. has_then old history stands c.args.user wanted edits changes
     (pair_of old) bytes (subst (λ n. DiskStands n bytes
-    (history ++ map (event_by c.args.user) edits)) c.in-Ok-make_edits.ensures.pair
+    (history ++ map (event_by c.args.user) edits)) c.in-Ok-edit_all_with_room.ensures.pair
     (left_now new (history ++ map (event_by c.args.user) edits)
-    (c.in-Ok-make_edits.ensures.made history stands) bytes
+    (c.in-Ok-edit_all_with_room.ensures.acknowledged history stands) bytes
     (subst (λ d. g.R.Disk.may_leave d bytes) c.into_disk.ensures left))))
 
 pub returns-in-Err-record-clause-any_moment : goal.returns-in-Err-record-clause-any_moment
@@ -112,7 +115,8 @@ returns-in-Err-record-clause-any_moment g c history stands =
     (HasEitherTree (pair_of old) c.args.user history (tree_shown old) wanted))
     (sym c.into_disk.ensures)
     (leaves_either old history stands c.args.user wanted edits changes
-    (disk_of c.in-Ok-make_edits.replica) (c.in-Ok-make_edits.ensures.any_moment history stands))
+    (disk_of c.in-Ok-edit_all_with_room.replica)
+    (c.in-Ok-edit_all_with_room.ensures.any_moment history stands))
 
 pub returns-in-Err-record-clause-any_mark : goal.returns-in-Err-record-clause-any_mark
 returns-in-Err-record-clause-any_mark g c kept keeps =

@@ -15,4 +15,5 @@ returns-in_err-fetch-clause-touched g c history why stands some =
 pub returns-clause-changes : goal.returns-clause-changes
 returns-clause-changes g c =
     subst (λ (t : Tree). AreChanges t (replace t c.args.path.now (part_of c.args.new))
-    (map edit_of c.in_ok-edits_for.field-0.items)) c.tree.ensures c.in_ok-edits_for.ensures
+    (map edit_of c.in_ok-changes_with.field-0.items)) c.tree.ensures
+    c.in_ok-changes_with.ensures.changes

@@ -1,4 +1,4 @@
-//! What is told of the edits of an import.
+//! What is told of a command's work as it goes on.
 
 use std::alloc::{AllocError, Global};
 use std::io::Write;
@@ -7,19 +7,28 @@ use syn_tree::Edit;
 /// What a terminal takes for: back to the beginning of the line, and nothing in it.
 const CLEARED: &str = "\r\x1b[K";
 
-/// How much is told of the edits of an import. What cannot be written is left out.
+/// How much is told of the edits of an import, or of the items of a session or of a folder. What
+/// cannot be written is left out.
 #[derive(Clone, Copy, Debug, PartialEq, Eq)]
-pub struct EditsTold {
-    /// Each edit has a line, once it is made.
+pub struct ProgressMode {
+    /// Each edit or item has a line, once it is made or settled.
     pub each: bool,
-    /// A last line says how many of all a server has made. It is written again in its place, so it
-    /// wants a terminal.
+    /// A last line says how many of all are. It is written again in its place, so it wants a
+    /// terminal.
     pub counts: bool,
 }
 
-impl EditsTold {
-    /// Tells that an edit is made, by its line and by how many of all are made now.
-    pub(crate) fn tell<E: Write>(self, line: &str, made: usize, all: usize, errors: &mut E) {
+impl ProgressMode {
+    /// Tells that one more was done, by its line, and how many of all were done now: `of_what` says
+    /// what they are.
+    pub fn tell<E: Write>(
+        self,
+        line: &str,
+        count: usize,
+        all: usize,
+        of_what: &str,
+        errors: &mut E,
+    ) {
         if self.counts {
             let _ = errors.write_all(CLEARED.as_bytes());
         }
@@ -27,13 +36,13 @@ impl EditsTold {
             let _ = errors.write_all(line.as_bytes());
         }
         if self.counts {
-            let _ = write!(errors, "{made} of {all} edits are made");
+            let _ = write!(errors, "{count} of {all} {of_what}");
             let _ = errors.flush();
         }
     }
 
     /// Takes the line of the counts away.
-    pub(crate) fn end<E: Write>(self, errors: &mut E) {
+    pub fn end<E: Write>(self, errors: &mut E) {
         if self.counts {
             let _ = errors.write_all(CLEARED.as_bytes());
             let _ = errors.flush();
@@ -55,7 +64,7 @@ pub(crate) fn edit_line(alloc: Global, edit: &Edit) -> Result<String, AllocError
 pub(crate) fn lines_of(
     alloc: Global,
     edits: &[Edit],
-    told: EditsTold,
+    told: ProgressMode,
 ) -> Result<String, AllocError> {
     let mut lines = String::new(alloc);
     if told.each {
