@@ -31,6 +31,8 @@ pub(crate) struct Digests {
     kept: BTreeMap<Vec<u8>, [u8; 32]>,
     /// No fewer bytes than these files have in all.
     size: usize,
+    /// How often the root was listed, which each session does once.
+    rounds: u64,
 }
 
 impl Model for Digests {
@@ -55,11 +57,12 @@ impl Digests {
         Digests {
             kept: BTreeMap::new(alloc),
             size: 0,
+            rounds: 0,
         }
     }
 
     /// The names in the directory, in byte order, each with the mark of what stands there. A file
-    /// is hashed where its digest is not kept.
+    /// is hashed where its digest is not kept, which it is from the second listing of the root on.
     ///
     /// Refused 5 where no directory is there, and 11 where memory is refused.
     pub(crate) fn list_marks(
@@ -75,7 +78,17 @@ impl Digests {
             ↔ (is_directory tree.now path.now ≡ false) }
         ensures refusals { IfErr result (λ e. (e ≡ TreeError.Absent) ⊎ (e ≡ TreeError.Memory)) }
     {
+        self.count_round(path);
         self.marks_at(alloc, tree.children(alloc, path)?)
+    }
+
+    /// Counts it where the root is listed.
+    fn count_round(&mut self, path: &Path)
+        ensures { self.new ≡ self.old }
+    {
+        if path.names().is_empty() {
+            self.rounds = self.rounds.saturating_add(1);
+        }
     }
 
     /// The names, each with the mark of what stands there. Refused 11 where memory is refused.
@@ -105,7 +118,8 @@ impl Digests {
         }
     }
 
-    /// The digest of the bytes. Where none is kept, it is made, and kept if memory is there.
+    /// The digest of the bytes. Where none is kept, it is made. It is kept if memory is there, but
+    /// not as long as the root was listed once alone: `run` lists all once, and would gain nothing.
     fn digest(&mut self, alloc: Global, bytes: &[u8]) -> [u8; 32]
         ensures { result ≡ sha256 bytes.now }
     {
@@ -113,8 +127,10 @@ impl Digests {
             return digest;
         }
         let digest = Sha256::digest(bytes);
-        // Where memory is refused, it is made anew the next time.
-        let _ = self.keep(alloc, bytes, digest);
+        if self.rounds > 1 {
+            // Where memory is refused, it is made anew the next time.
+            let _ = self.keep(alloc, bytes, digest);
+        }
         digest
     }
 
@@ -135,12 +151,23 @@ impl Digests {
         ensures unchanged { OnErr result (self.new ≡ self.old) }
     {
         if self.kept.len() >= MOST_FILES || bytes.len() > MOST_BYTES - self.size {
-            *self = Digests::new(alloc);
+            *self = self.emptied(alloc);
             return Ok(());
         }
         let copy = Vec::from_slice(alloc, bytes)?;
         self.kept.insert(copy, digest)?;
         self.size += bytes.len();
         Ok(())
+    }
+
+    /// No digests, after as many listings of the root.
+    fn emptied(&self, alloc: Global) -> Digests
+        ensures { result ≡ [] }
+    {
+        Digests {
+            kept: BTreeMap::new(alloc),
+            size: 0,
+            rounds: self.rounds,
+        }
     }
 }

@@ -51,8 +51,9 @@
 //!   spelling of what stands at a path (`piece`), where no event touched the path since; else it is
 //!   refused 15 or 13 (`refused`, `cause`).
 //! - `listing` gives the names in a directory in byte order, each with its mark, and the position
-//!   (`marks`, `position`); 5 exactly where no directory is. It keeps each digest that it makes
-//!   with the bytes that it is of, in a cell that no clause sees (`Digests`).
+//!   (`marks`, `position`); 5 exactly where no directory is. From the second listing of the root on
+//!   it keeps each digest that it makes with the bytes that it is of, in a cell that no clause sees
+//!   (`Digests`).
 //! - `get` gives what the tree holds at the path, and `list` the names of a directory. `tree` is
 //!   the tree itself, without a copy.
 //! - `format` gives a replica that stands for no events, of the given pair.

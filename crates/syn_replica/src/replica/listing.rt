@@ -31,8 +31,9 @@ impl<D: Disk> Replica<D> {
     /// The marks of what stands in the directory, with the position. The work grows with what is at
     /// and below the path, and not with the whole tree.
     ///
-    /// A file is hashed when it is first listed. Its digest is then kept with a copy of its bytes,
-    /// where there is memory for them: of at most 1,024 files with 526,336 bytes in all.
+    /// A file is hashed when it is listed. From the second listing of the root on its digest is
+    /// then kept with a copy of its bytes, where there is memory for them: of at most 1,024 files
+    /// with 526,336 bytes in all.
     ///
     /// Refused 10 while the replica is halted, 5 where no directory is there, and 11 where memory
     /// is refused.
