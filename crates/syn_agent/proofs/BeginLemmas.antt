@@ -9,7 +9,7 @@ use Rattle.syn_agent.proofs.ReplicaLemmas.{stays}
 use Rattle.syn_agent.specs.Agents.{side_of}
 use Rattle.syn_agent.specs.Answers.{Answers, keeps, adds, breaks, IsUnchanged, room_for}
 use Rattle.syn_agent.specs.declared.agent.Agent.{Agent}
-use Rattle.syn_agent.specs.Answers.{BreaksOff}
+use Rattle.syn_agent.specs.Answers.{BreaksOff, WritesFor}
 use Rattle.syn_disk.specs.Stops.{LeavesOnly}
 use Rattle.syn_disk.specs.declared.disk.Disk.{Ghosts}
 use Rattle.syn_headline.specs.Machine.{record_size}
@@ -157,10 +157,11 @@ module _ {D : Type 0} {disk : Ghosts D} (old new : Replica D disk) (agent : Agen
   )
 
   -- what is written, by whether the session was begun before
-  writes_if : (again : Bool) → (session == last_session history) ≡ again → (ended : Option Refusal)
-      → Writes old new (unless (session == (standing_shown old).session) (Began session)) ended
-      → Writes old new (unless again (Began session)) ended
-  writes_if again is ended writes = subst (λ b. Writes old new (unless b (Began session)) ended)
+  writes_if : (Written : Option Event → Type 0) → (again : Bool)
+      → (session == last_session history) ≡ again
+      → Written (unless (session == (standing_shown old).session) (Began session))
+      → Written (unless again (Began session))
+  writes_if Written again is writes = subst (λ b. Written (unless b (Began session)))
       (ap (λ n. session == n) last_is ∙ is) writes
 
   -- the replica answers a position
@@ -168,10 +169,12 @@ module _ {D : Type 0} {disk : Ghosts D} (old new : Replica D disk) (agent : Agen
       → (position ≡ length (begun history session)) × Stands new (begun history session)
       → (begin_refusal (room_shown old) (pair_of old) history pair session ≡ None)
       → Writes old new (unless (session == (standing_shown old).session) (Began session)) None
+      → WritesFor old new (unless (session == (standing_shown old).session) (Began session)) None
       → LeavesOnly disk.moment disk.left_since (disk_of old) (disk_of new)
       (KeepsBeforeOrAfter old history (Began session))
       → Answers old new agent agent history session (Begin pair) (Begun position)
-  begun_answers position given none writes any_moment = by (session == last_session history) refl
+  begun_answers position given none writes world any_moment =
+      by (session == last_session history) refl
     where
       after : (again : Bool) → (session == last_session history) ≡ again
           → begun history session ≡ (if again then history else history ++ Began session ∷ [])
@@ -180,7 +183,7 @@ module _ {D : Type 0} {disk : Ghosts D} (old new : Replica D disk) (agent : Agen
       by : (again : Bool) → (session == last_session history) ≡ again
           → Answers old new agent agent history session (Begin pair) (Begun position)
       by true is =
-          let q = (writes_if true is None writes).written in
+          let q = (writes_if (λ event. Writes old new event None) true is writes).written in
           subst (λ n. Answers old new agent agent history session (Begin pair) (Begun n))
           (sym (given.0 ∙ ap length (after true is)))
           (keeps (answer (side_of history agent) (Begun (length history))) (serves true is none)
@@ -197,13 +200,14 @@ module _ {D : Type 0} {disk : Ghosts D} (old new : Replica D disk) (agent : Agen
           ∙ length-append history (Began session ∷ []))))
           (adds (answer (add_event (side_of history agent) (Began session))
           (Begun (length history + 1))) (Began session) (serves false is none) refl refl
-          (let made = writes_if false is None writes in
+          (let made = writes_if (λ event. Writes old new event None) false is writes in
           record {
             stands = subst (Stands new) (after false is) given.1;
             has = made.written;
             sends = record { tried = made.tried; any_moment = any_moment };
             calls = made.device.arms;
             failures = made.device.failures;
+            world = writes_if (λ event. WritesFor old new event None) false is world;
           }))
 
   -- memory is refused only where the session would begin
@@ -244,10 +248,12 @@ module _ {D : Type 0} {disk : Ghosts D} (old new : Replica D disk) (agent : Agen
       → ((pair ≡ pair_of old) → (session ≡ (standing_shown old).session) → ¬ IsHalted old → ⊥)
       → Writes old new (unless (session == (standing_shown old).session) (Began session))
       (Some (refusal_of e))
+      → WritesFor old new (unless (session == (standing_shown old).session) (Began session))
+      (Some (refusal_of e))
       → LeavesOnly disk.moment disk.left_since (disk_of old) (disk_of new)
       (KeepsBeforeOrAfter old history (Began session))
       → Answers old new agent agent history session (Begin pair) (Refused (refusal_of e))
-  begun_refused e cause refused again writes any_moment =
+  begun_refused e cause refused again writes world any_moment =
       elim writes.unchanged [
         | inl device ↦ broken device
         | inr same ↦ elim cause [
@@ -299,7 +305,7 @@ module _ {D : Type 0} {disk : Ghosts D} (old new : Replica D disk) (agent : Agen
           → BreaksOff old new history (Began session)
       off device is =
           let sent = subst (λ w. Writes old new (Some (Began session)) (Some w)) device
-          (writes_if false is _ writes) in
+          (writes_if (λ event. Writes old new event (Some (refusal_of e))) false is writes) in
           record {
             halted = sent.halts refl;
             readings = sent.readings;
@@ -313,6 +319,9 @@ module _ {D : Type 0} {disk : Ghosts D} (old new : Replica D disk) (agent : Agen
             seen = sent.seen history stands;
             calls = sent.device.arms;
             failures = sent.device.failures;
+            world = subst (λ w. WritesFor old new (Some (Began session)) (Some w)) device
+                (writes_if (λ event. WritesFor old new event (Some (refusal_of e))) false is
+                world);
           }
 
       broken_if : refusal_of e ≡ why.Device

@@ -8,7 +8,8 @@ use Rattle.std.specs.Prelude.{◌||◌, ◌&&◌, ◌==◌, nat_lt, if◌then◌
 use Rattle.syn_agent.proofs.CauseLemmas.{Never, never_first, outside, rooms}
 use Rattle.syn_agent.proofs.ReplicaLemmas.{as_was, stays}
 use Rattle.syn_agent.specs.Agents.{side_of, staging_of}
-use Rattle.syn_agent.specs.Answers.{Answers, BreaksOff, IsUnchanged, keeps, adds, breaks, room_for}
+use Rattle.syn_agent.specs.Answers.{Answers, BreaksOff, IsUnchanged, WritesFor, keeps, adds}
+use Rattle.syn_agent.specs.Answers.{breaks, room_for}
 use Rattle.syn_agent.specs.Causes.{staging_causes}
 use Rattle.syn_agent.specs.declared.agent.Agent.{Agent}
 use Rattle.syn_disk.specs.Stops.{LeavesOnly}
@@ -227,21 +228,21 @@ module _ {D : Type 0} {disk : Ghosts D} (old : Replica D disk) (agent : Agent)
     )
 
     -- the event is written, since the token is not done
-    writes_it : (ended : Option Refusal)
-        → Writes old new (unless (is_done_at (standing_shown old) token) event) ended
-        → Writes old new (Some event) ended
-    writes_it ended writes = subst (λ b. Writes old new (unless b event) ended)
+    writes_it : (Written : Option Event → Type 0)
+        → Written (unless (is_done_at (standing_shown old) token) event) → Written (Some event)
+    writes_it Written writes = subst (λ b. Written (unless b event))
         (ap (λ s. is_done_at s token) stands.remembers.standing ∙ fresh) writes
 
     -- the replica makes it
     pub made_answers : Stands new (replaced history token path since tree)
         → replace_refusal (room_shown old) history token path since tree ≡ None
         → Writes old new (unless (is_done_at (standing_shown old) token) event) None
+        → WritesFor old new (unless (is_done_at (standing_shown old) token) event) None
         → LeavesOnly disk.moment disk.left_since (disk_of old) (disk_of new)
         (KeepsBeforeOrAfter old history event)
         → Answers old new agent agent history session (Replace item path since size) Done
-    made_answers after allowed writes any_moment =
-        let made = writes_it None writes in
+    made_answers after allowed writes world any_moment =
+        let made = writes_it (λ event. Writes old new event None) writes in
         adds (answer (add_event side event) Done) event (serves allowed) refl refl (record {
           stands = subst (Stands new)
               (ap (λ b. if b then history else history ++ event ∷ []) fresh) after;
@@ -249,6 +250,7 @@ module _ {D : Type 0} {disk : Ghosts D} (old : Replica D disk) (agent : Agent)
           sends = record { tried = made.tried; any_moment = any_moment };
           calls = made.device.arms;
           failures = made.device.failures;
+          world = writes_it (λ event. WritesFor old new event None) world;
         })
 
     -- the replica refuses it
@@ -260,11 +262,13 @@ module _ {D : Type 0} {disk : Ghosts D} (old : Replica D disk) (agent : Agent)
         → (refusal_of e ≡ refusal) ⊎ (refusal_of e ≡ why.Memory))
         → Writes old new (unless (is_done_at (standing_shown old) token) event)
         (Some (refusal_of e))
+        → WritesFor old new (unless (is_done_at (standing_shown old) token) event)
+        (Some (refusal_of e))
         → LeavesOnly disk.moment disk.left_since (disk_of old) (disk_of new)
         (KeepsBeforeOrAfter old history event)
         → Answers old new agent agent history session (Replace item path since size)
         (Refused (refusal_of e))
-    unmade_answers e cause refused writes any_moment =
+    unmade_answers e cause refused writes world any_moment =
         elim writes.unchanged [
           | inl device ↦ broken device
           | inr same ↦ elim cause [
@@ -333,7 +337,7 @@ module _ {D : Type 0} {disk : Ghosts D} (old : Replica D disk) (agent : Agent)
         off : refusal_of e ≡ why.Device → BreaksOff old new history event
         off device =
             let sent = subst (λ w. Writes old new (Some event) (Some w)) device
-            (writes_it _ writes) in
+            (writes_it (λ event. Writes old new event (Some (refusal_of e))) writes) in
             record {
               halted = sent.halts refl;
               readings = sent.readings;
@@ -347,6 +351,8 @@ module _ {D : Type 0} {disk : Ghosts D} (old : Replica D disk) (agent : Agent)
               seen = sent.seen history stands;
               calls = sent.device.arms;
               failures = sent.device.failures;
+              world = subst (λ w. WritesFor old new (Some event) (Some w)) device
+                  (writes_it (λ event. WritesFor old new event (Some (refusal_of e))) world);
             }
 
         broken : refusal_of e ≡ why.Device

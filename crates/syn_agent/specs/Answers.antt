@@ -1,5 +1,5 @@
 -- What a side answers from its replica, and what becomes of that.
-use Rattle.std.specs.Prelude.{◌≡◌, ◌<◌, ℕ, Bool, nat_le, [], ◌∷◌, ◌++◌, Some}
+use Rattle.std.specs.Prelude.{◌≡◌, ◌<◌, ℕ, Bool, nat_le, [], ◌∷◌, ◌++◌, Option, Some, None}
 use Rattle.syn_agent.specs.Agents.{side_of, staging_of}
 use Rattle.syn_agent.specs.declared.agent.Agent.{Agent}
 use Rattle.syn_disk.specs.Calls.{Breaks, Makes}
@@ -9,8 +9,9 @@ use Rattle.syn_headline.specs.Machine.{record_size}
 use Rattle.syn_headline.specs.Side.{Request, Reply, Refused, Served, Serves}
 use Rattle.syn_model.specs.Event.{Event}
 use Rattle.syn_model.specs.History.{History}
-use Rattle.syn_model.specs.Refusal.{Device}
+use Rattle.syn_model.specs.Refusal.{Refusal, Device}
 use Rattle.syn_model.specs.Spelling.{event_spelling}
+use Rattle.syn_replica.specs.Machines.{IsMachine, Journal, WritesUnlessDone}
 use Rattle.syn_replica.specs.Replica.{Stands, SameMemory, KeepsReadings, KeepsBeforeOrAfter}
 use Rattle.syn_replica.specs.Replica.{HasRecord, IsHalted}
 use Rattle.syn_replica.specs.Replica.{disk_of, journal_of, left_shown, pair_of, tried_shown}
@@ -34,6 +35,12 @@ pub record Sends {D : Type 0} {disk : Ghosts D} (old new : Replica D disk) (hist
   pub any_moment : LeavesOnly disk.moment disk.left_since (disk_of old) (disk_of new)
       (KeepsBeforeOrAfter old history event)
 
+-- what the writing of the event is to each machine of the model that the replica is
+abbrev pub WritesFor : {D : Type 0} → {disk : Ghosts D} → Replica D disk → Replica D disk →
+    Option Event → Option Refusal → Type 0
+WritesFor old new event why = (number : ℕ) (machine : Journal) → IsMachine old number machine →
+    WritesUnlessDone new number machine event why
+
 -- the record of an event is written
 pub record Adds {D : Type 0} {disk : Ghosts D} (old new : Replica D disk) (history : History)
     (event : Event) : Type 0 where
@@ -42,6 +49,7 @@ pub record Adds {D : Type 0} {disk : Ghosts D} (old new : Replica D disk) (histo
   pub sends : Sends old new history event
   pub calls : Makes 4 (disk.arms (disk_of old)) (disk.arms (disk_of new))
   pub failures : disk.failures (disk_of new) ≡ disk.failures (disk_of old)
+  pub world : WritesFor old new (Some event) None
 
 -- the device failed as it was written
 pub record BreaksOff {D : Type 0} {disk : Ghosts D} (old new : Replica D disk) (history : History)
@@ -52,6 +60,7 @@ pub record BreaksOff {D : Type 0} {disk : Ghosts D} (old new : Replica D disk) (
   pub seen : KeepsBeforeOrAfter old history event (disk.seen (disk_of new))
   pub calls : Breaks 4 (disk.arms (disk_of old)) (disk.arms (disk_of new))
   pub failures : disk.failures (disk_of old) < disk.failures (disk_of new)
+  pub world : WritesFor old new (Some event) (Some Device)
 
 -- One answer of a side that runs: nothing is added to its history, or one event; or an event should
 -- be added, and the device failed. What is staged stays where an event is, or should be, added

@@ -18,7 +18,6 @@ use std::alloc::Global;
 use syn_disk::Disk;
 use syn_history::Token;
 use syn_message::{Reply, Request};
-use syn_recovery::device_laws;
 use syn_replica::Replica;
 
 impl Agent {
@@ -60,7 +59,6 @@ impl Agent {
         ensures failures { CountsFailures (reply_of result) (D.failures (disk_of replica.old))
             (D.failures (disk_of replica.new)) }
     {
-        device_laws();
         self.serve(alloc, replica, session, request)
     }
 

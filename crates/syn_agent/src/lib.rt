@@ -10,18 +10,17 @@
 //!   is `SideTakes`, which a delivery of the world uses. After it they are the next machine's; or
 //!   the disk is stopped, the machine is down and nothing is heard. Whatever a stop may then leave
 //!   on the disk may be the machine's (`left`).
-//! - `IsOf` says that an up machine's replica stands for its history, with the same room and
-//!   generation, and of a halted one that it remembers it. Arms and staging are the same in both.
+//! - `IsOf` says that the replica keeps the machine's journal (`IsMachine` of `syn_replica`), and
+//!   the agent what the machine has staged.
 //! - `machine_laws`: a replica that stands for the history of an up machine, with its room,
-//!   generation and arms, is that machine's (`up`). What any call of a replica leaves on its disk
-//!   may be the machine's that was making it: an event's (`written`), or a checkpoint's
-//!   (`compacted`).
+//!   generation and arms, is that machine's.
 //! - An event that a step adds is what was sent to the disk last (`Takes`: `added`). So is one that
 //!   is being written after it and was not before (`writing`).
 //! - For every history that the replica stands for (`answers`), the answer is in one of three cases
 //!   (`Answers`). Nothing is added, and the replica stays as it was. Or one event is added, stands,
 //!   and took four device calls. Or an event should be added and the device failed, which is
-//!   answered 9 and halts the replica.
+//!   answered 9 and halts the replica. What that is to the model's machine it says as the replica
+//!   does (`world`).
 //! - Where an event was sent to the disk, it is what was tried. A stop at any moment of the call
 //!   then leaves the history with it or without it (`Sends`). In the other case the disk is as it
 //!   was.
@@ -52,5 +51,5 @@ mod replace;
 mod staging;
 
 pub use agent::Agent;
-pub use laws::{machine_laws, replica_laws};
+pub use laws::machine_laws;
 pub use staging::{MAX_STAGED, Staging};

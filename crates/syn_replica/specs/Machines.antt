@@ -2,11 +2,12 @@
 use Rattle.std.specs.Prelude.{◌≡◌, ◌≢◌, ◌≤◌, ℕ, true, false, List, Option, Some, None}
 use Rattle.syn_disk.specs.Arms.{is_stopped}
 use Rattle.syn_disk.specs.declared.disk.Disk.{Ghosts}
-use Rattle.syn_headline.specs.Machine.{Arms, Compacts, Journaled, Meets, Opens, Status, Up, Halted}
-use Rattle.syn_headline.specs.Machine.{Down, after_device, unarmed}
+use Rattle.syn_headline.specs.Machine.{Arms, Journaled, Meets, Opens, Status, Up, Halted, Down}
+use Rattle.syn_headline.specs.Machine.{after_device, unarmed, with_image, with_record}
 use Rattle.syn_headline.specs.SideMachine.{side_layout}
 use Rattle.syn_journal.specs.Calls.{armed_at}
 use Rattle.syn_journal.specs.Keepings.{of_side}
+use Rattle.syn_journal.specs.Machines.{compacting, writing}
 use Rattle.syn_journal.specs.Meaning.{IsOpened, MayBeOf}
 use Rattle.syn_model.specs.Event.{Event}
 use Rattle.syn_model.specs.History.{History, IsAllowed}
@@ -50,22 +51,42 @@ module _ {D : Type 0} {disk : Ghosts D} (replica : Replica D disk) (pair : ℕ)
     pub stopped : is_stopped (disk.arms (disk_of replica)) ≡ true
     pub left : LeavesMachine
 
--- The machine moved so: it goes on with this status, or it is down
-pub data Moves {D : Type 0} {disk : Ghosts D} (new : Replica D disk) (pair : ℕ)
-    (Moved : Journal → Type 0) (status : Status) : Type 0 where
-  moves_on : (next : Journal) → Moved next → next.status ≡ status → IsMachine new pair next →
-      Moves new pair Moved status
-  moves_down : (next : Journal) → Moved next → IsDown new pair next → Moves new pair Moved status
-
 module _ {D : Type 0} {disk : Ghosts D} (new : Replica D disk) (pair : ℕ) (machine : Journal) where
-  -- It writes an image, its device fails at that, or it stays the machine that it was, as the call
-  -- ended
-  pub data CompactsImage : Option Refusal → Type 0 where
-    compacts : Moves new pair (Compacts (side_layout pair) machine) Up → CompactsImage None
-    breaks : Moves new pair (Compacts (side_layout pair) machine) Halted →
-        CompactsImage (Some Device)
-    stays : (why : Refusal) → why ≢ Device → IsMachine new pair machine →
-        CompactsImage (Some why)
+  -- A machine that is up writes the record of an event by four device calls; its device fails at
+  -- that; or it stops among them or right after them, and nobody hears whether the event is on the
+  -- disk. Where the call is refused otherwise, the machine stays as it was
+  pub data WritesRecord (event : Event) : Option Refusal → Type 0 where
+    written : (arms : Arms) → machine.status ≡ Up → Meets machine.arms 4 Up arms 0 →
+        IsMachine new pair (with_record (side_layout pair) machine event arms) →
+        WritesRecord event None
+    stopped_after : machine.status ≡ Up → Meets machine.arms 4 Down unarmed 0 →
+        IsDown new pair (writing machine event Down unarmed 0) → WritesRecord event None
+    failed : (arms : Arms) → machine.status ≡ Up → Meets machine.arms 4 Halted arms 1 →
+        IsMachine new pair (writing machine event Halted arms 1) →
+        WritesRecord event (Some Device)
+    stopped : machine.status ≡ Up → Meets machine.arms 4 Down unarmed 0 →
+        IsDown new pair (writing machine event Down unarmed 0) →
+        WritesRecord event (Some Device)
+    refused : (why : Refusal) → why ≢ Device → IsMachine new pair machine →
+        WritesRecord event (Some why)
+
+  -- an event that was done before is not written, and the machine stays
+  abbrev pub WritesUnlessDone : Option Event → Option Refusal → Type 0
+  WritesUnlessDone None why = IsMachine new pair machine
+  WritesUnlessDone (Some event) why = WritesRecord event why
+
+  -- It writes an image by six device calls, and the rest is as of a record
+  pub data WritesImage : Option Refusal → Type 0 where
+    image_written : (arms : Arms) → machine.status ≡ Up → Meets machine.arms 6 Up arms 0 →
+        IsMachine new pair (with_image (side_layout pair) machine arms) → WritesImage None
+    stopped_after_image : machine.status ≡ Up → Meets machine.arms 6 Down unarmed 0 →
+        IsDown new pair (compacting machine Down unarmed 0) → WritesImage None
+    image_failed : (arms : Arms) → machine.status ≡ Up → Meets machine.arms 6 Halted arms 1 →
+        IsMachine new pair (compacting machine Halted arms 1) → WritesImage (Some Device)
+    image_stopped : machine.status ≡ Up → Meets machine.arms 6 Down unarmed 0 →
+        IsDown new pair (compacting machine Down unarmed 0) → WritesImage (Some Device)
+    image_refused : (why : Refusal) → why ≢ Device → IsMachine new pair machine →
+        WritesImage (Some why)
 
   -- It is opened again by at least one device call: that gives what the disk may mean; or the
   -- machine stopped in it, its device failed, or memory was refused after the device calls

@@ -22,9 +22,9 @@
 //! - At any moment of such a call the disk stands for the history, or for the history with the
 //!   event (`any_moment`: `KeepsBeforeOrAfter`). Both come with the generation and with the bytes
 //!   that are then left for records.
-//! - What `checkpoint` and `reopen` are to the model's machine that the replica is (`IsMachine`) is
-//!   one clause of each, `world` (`CompactsImage`, `ReadsDisk`), also where its device fails or
-//!   stops.
+//! - What `edit`, `begin`, `replace`, `checkpoint` and `reopen` are to the model's machine that the
+//!   replica is (`IsMachine`) is one clause of each, `world` (`WritesRecord`, `WritesImage`,
+//!   `ReadsDisk`), also where its device fails or stops.
 //! - `checkpoint` leaves the same history standing, and its image alone in the journal
 //!   (`acknowledged`). At any moment of it the disk stands for that history, as it was kept or by
 //!   the image alone with the next generation (`any_moment`: `KeepsOrCompacts`).

@@ -69,6 +69,7 @@ impl<D: Disk> Replica<D> {
     ghost use Rattle.syn_replica.specs.Replica.{generation_shown, IsHalted, Stands};
     ghost use Rattle.syn_replica.specs.Replica.{KeepsBeforeOrAfter, tried_shown};
     ghost use Rattle.syn_replica.specs.Calls.{Writes};
+    ghost use Rattle.syn_replica.specs.Machines.{IsMachine, Journal as Machine, WritesRecord};
 
     /// Formats the disk as a replica of the pair, with no events.
     ///
@@ -295,6 +296,11 @@ impl<D: Disk> Replica<D> {
             → IfErr result (λ e. (refusal_of e ≡ Device) ⊎ Stands self.new history) }
         ensures machine { Writes self.old self.new (Some (event_by user edit))
             (ended refusal_of result) }
+
+        // What it is to the model's machine, also where its device fails or stops.
+        ensures world { (number : ℕ) (machine : Machine) → IsMachine self.old number machine
+            → WritesRecord self.new number machine (event_by user edit)
+            (ended refusal_of result) }
     {
         opening_laws();
         if self.is_halted() {
@@ -343,6 +349,10 @@ impl<D: Disk> Replica<D> {
         ensures machine { (event : model.Event)
             → Adds (standing_shown self.old) event payload.items update
             → Writes self.old self.new (Some event) (ended refusal_of result) }
+        ensures world { (number : ℕ) (machine : Machine) (event : model.Event)
+            → IsMachine self.old number machine
+            → Adds (standing_shown self.old) event payload.items update
+            → WritesRecord self.new number machine event (ended refusal_of result) }
     {
         history_laws();
         layout_laws();

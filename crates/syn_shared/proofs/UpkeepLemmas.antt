@@ -1,53 +1,34 @@
 -- A checkpoint and another opening in a hold are those of the world's side, as the replica says
 -- them of its machine.
-use Rattle.std.proofs.Common.{◌≡◌, ◌≢◌, ℕ, refl, sym, subst, None, Some, Result, Ok, Err}
+use Rattle.std.proofs.Common.{◌≡◌, ◌≢◌, ℕ, refl, sym, subst, None, Some, Result, Ok, Err, inl, inr}
 use Rattle.syn_agent.specs.Agents.{staging_of}
-use Rattle.syn_agent.specs.Machines.{IsLeftAs, IsOf, StandsAs, goes_on, stops}
+use Rattle.syn_agent.specs.Machines.{IsOf, goes_on, stops}
 use Rattle.syn_agent.specs.declared.agent.Agent.{Agent}
 use Rattle.syn_disk.specs.declared.disk.Disk.{Ghosts}
-use Rattle.syn_headline.specs.Machine.{Status, Up, Halted, Down, after_device, unarmed}
+use Rattle.syn_headline.specs.Machine.{Status, Up, Halted, Down, after_device, compacted}
+use Rattle.syn_headline.specs.Machine.{not_compacted, unarmed, with_image}
 use Rattle.syn_headline.specs.MachineSteps.{full_generation}
-use Rattle.syn_headline.specs.SideMachine.{SideMachine, staging_after, with_journal}
+use Rattle.syn_headline.specs.SideMachine.{SideMachine, side_layout, staging_after, with_journal}
 use Rattle.syn_journal.specs.Endings.{ended}
+use Rattle.syn_journal.specs.Machines.{compacting}
 use Rattle.syn_model.specs.Refusal.{Refusal}
 use Rattle.syn_model.specs.Refusal as why
 use Rattle.syn_replica.specs.ErrorRefusals.{refusal_of}
-use Rattle.syn_replica.specs.Machines.{CompactsImage, IsDown, IsMachine, Journal, ReadsDisk}
-use Rattle.syn_replica.specs.Machines.{breaks, compacts, failed_reading, moves_down, moves_on, read}
-use Rattle.syn_replica.specs.Machines.{stays, stopped_reading, unread}
+use Rattle.syn_replica.specs.Machines.{IsMachine, Journal, ReadsDisk, StandsAs, WritesImage}
+use Rattle.syn_replica.specs.Machines.{failed_reading, image_failed, image_refused, image_stopped}
+use Rattle.syn_replica.specs.Machines.{image_written, read, stopped_after_image, stopped_reading}
+use Rattle.syn_replica.specs.Machines.{unread}
 use Rattle.syn_replica.specs.declared.error.ReplicaError.{ReplicaError}
 use Rattle.syn_replica.specs.declared.replica.Replica.{Replica}
-use Rattle.syn_shared.specs.Machines.{CompactsSide, IsMade, ReopensSide, Says, fails}
+use Rattle.syn_shared.specs.Machines.{CompactsSide, IsMade, ReopensSide, Says, compacts, fails}
 use Rattle.syn_shared.specs.Machines.{has_no_memory, opens, stops_within}
-use Rattle.syn_shared.specs.Machines as side
 
 module _ {D : Type 0} {disk : Ghosts D} (pair : ℕ) (found left : Replica D disk) (agent : Agent)
     (machine : SideMachine) (is : IsOf pair found agent machine) where
-  -- without its agent
-  pub alone : IsMachine found pair machine.journal
-  alone = record {
-    pair_is = is.pair_is;
-    stands = is.stands;
-    room = is.room;
-    generation = is.generation;
-    armed = is.armed;
-    runs = is.runs;
-    left = is.left;
-  }
-
-  -- with it, whose staging stays as long as the machine is not down
-  on : (next : Journal) → IsMachine left pair next →
+  -- it goes on with its journal so, and what is staged stays
+  pub on : (next : Journal) → IsMachine left pair next →
       IsOf pair left agent (with_journal machine next)
-  on next now = record {
-    pair_is = now.pair_is;
-    stands = now.stands;
-    room = now.room;
-    generation = now.generation;
-    armed = now.armed;
-    runs = now.runs;
-    staging = by next.status now.stands;
-    left = now.left;
-  }
+  on next now = record { keeps = now; staging = by next.status now.stands }
     where
       by : (status : Status) → StandsAs status left next.value →
           staging_after status machine.staging ≡ staging_of agent
@@ -55,53 +36,41 @@ module _ {D : Type 0} {disk : Ghosts D} (pair : ℕ) (found left : Replica D dis
       by Halted stands = is.staging
       by Down none = absurd none
 
-  down : (next : Journal) → IsDown left pair next →
-      IsLeftAs pair left agent (with_journal machine next)
-  down next now =
-      stops (record {
-        pair_is = now.pair_is;
-        down = now.down;
-        stopped = now.stopped;
-        left = now.left;
-      })
+  -- or its journal is as it was
+  pub stays : IsMachine left pair machine.journal → IsOf pair left agent machine
+  stays now = record { keeps = now; staging = is.staging }
 
   -- ---- a checkpoint
 
   pub compacts_ok : IsMade machine (full_generation machine.journal.generation) →
-      CompactsImage left pair machine.journal None → CompactsSide pair left agent machine (Ok tt)
-  compacts_ok allowed (compacts (moves_on next did up now)) =
-      side.compacts (Ok tt) next allowed did (subst (λ s. Says s tt (Ok tt)) (sym up) refl)
-      (goes_on (on next now))
-  compacts_ok allowed (compacts (moves_down next did now)) =
-      side.compacts (Ok tt) next allowed did (subst (λ s. Says s tt (Ok tt)) (sym now.down) tt)
-      (down next now)
+      WritesImage left pair machine.journal None → CompactsSide pair left agent machine (Ok tt)
+  compacts_ok allowed (image_written arms up meets now) =
+      let next = with_image (side_layout pair) machine.journal arms in
+      compacts (Ok tt) next allowed (compacted arms meets)
+      (subst (λ s. Says s tt (Ok tt)) (sym up) refl) (goes_on (on next now))
+  compacts_ok allowed (stopped_after_image up meets now) =
+      compacts (Ok tt) (compacting machine.journal Down unarmed 0) allowed
+      (not_compacted Down unarmed 0 (inr refl) meets) tt (stops now)
 
   pub compacts_not : IsMade machine (full_generation machine.journal.generation) →
       (e : ReplicaError) → refusal_of e ≡ why.Device →
-      CompactsImage left pair machine.journal (Some why.Device) →
+      WritesImage left pair machine.journal (Some why.Device) →
       CompactsSide pair left agent machine (Err e)
-  compacts_not allowed e device (breaks (moves_on next did halted now)) =
-      side.compacts (Err e) next allowed did (subst (λ s. Says s tt (Err e)) (sym halted) device)
+  compacts_not allowed e device (image_failed arms up meets now) =
+      let next = compacting machine.journal Halted arms 1 in
+      compacts (Err e) next allowed (not_compacted Halted arms 1 (inl refl) meets) device
       (goes_on (on next now))
-  compacts_not allowed e device (breaks (moves_down next did now)) =
-      side.compacts (Err e) next allowed did (subst (λ s. Says s tt (Err e)) (sym now.down) tt)
-      (down next now)
-  compacts_not allowed e device (stays refusal other now) = absurd (other refl)
+  compacts_not allowed e device (image_stopped up meets now) =
+      compacts (Err e) (compacting machine.journal Down unarmed 0) allowed
+      (not_compacted Down unarmed 0 (inr refl) meets) tt (stops now)
+  compacts_not allowed e device (image_refused refusal other now) = absurd (other refl)
 
   -- any other refusal leaves the machine
   pub keeps_on : (refusal : Refusal) → refusal ≢ why.Device →
-      CompactsImage left pair machine.journal (Some refusal) → IsOf pair left agent machine
-  keeps_on refusal other (breaks moves) = absurd (other refl)
-  keeps_on refusal other (stays same differs now) = record {
-    pair_is = now.pair_is;
-    stands = now.stands;
-    room = now.room;
-    generation = now.generation;
-    armed = now.armed;
-    runs = now.runs;
-    staging = is.staging;
-    left = now.left;
-  }
+      WritesImage left pair machine.journal (Some refusal) → IsOf pair left agent machine
+  keeps_on refusal other (image_failed arms up meets now) = absurd (other refl)
+  keeps_on refusal other (image_stopped up meets now) = absurd (other refl)
+  keeps_on refusal other (image_refused same differs now) = stays now
 
   -- ---- another opening
 
@@ -109,8 +78,7 @@ module _ {D : Type 0} {disk : Ghosts D} (pair : ℕ) (found left : Replica D dis
       ReadsDisk left pair machine.journal (Some refusal) →
       ReopensSide pair left agent machine (Err e)
   refused_so e refusal so (stopped_reading ended calls meets now) =
-      stops_within (Err e) calls 0 unarmed meets
-      (down (after_device machine.journal Down unarmed 0) now)
+      stops_within (Err e) calls 0 unarmed meets (stops now)
   refused_so e refusal so (failed_reading calls arms meets now) =
       fails e calls 1 arms so meets (on (after_device machine.journal Halted arms 1) now)
   refused_so e refusal so (unread calls arms some meets now) =
@@ -123,6 +91,5 @@ module _ {D : Type 0} {disk : Ghosts D} (pair : ℕ) (found left : Replica D dis
   reopen_world (Ok x) (read calls next events some did opened now) =
       opens calls next events some did (on next now)
   reopen_world (Ok x) (stopped_reading refusal calls meets now) =
-      stops_within (Ok tt) calls 0 unarmed meets
-      (down (after_device machine.journal Down unarmed 0) now)
+      stops_within (Ok tt) calls 0 unarmed meets (stops now)
   reopen_world (Err e) told = refused_so e (refusal_of e) refl told

@@ -4,7 +4,7 @@ use Rattle.std.proofs.Common.{true, false, Bool, if◌then◌else◌, None, Some
 use Rattle.std.proofs.Common.{◌<◌, ◌^◌, true≢false, []}
 use Rattle.std.specs.Prelude.{IfErr, nat_le}
 use Rattle.std.proofs.lemmas.Bool.Decides.{leb_tells}
-use Rattle.syn_agent.specs.Machines.{IsOf, StandsAs}
+use Rattle.syn_agent.specs.Machines.{IsOf}
 use Rattle.syn_agent.specs.declared.agent.Agent.{Agent}
 use Rattle.syn_agent.proofs.CauseLemmas.{of_checkpoint}
 use Rattle.syn_disk.specs.declared.disk.Disk.{Ghosts}
@@ -19,7 +19,7 @@ use Rattle.syn_model.specs.Refusal.{Refusal, first_cause}
 use Rattle.syn_model.specs.Refusal as why
 use Rattle.syn_replica.specs.Calls.{Compacts}
 use Rattle.syn_replica.specs.ErrorRefusals.{refusal_of}
-use Rattle.syn_replica.specs.Machines.{CompactsImage}
+use Rattle.syn_replica.specs.Machines.{StandsAs, WritesImage}
 use Rattle.syn_replica.specs.Refusals.{IsOneOf, checkpoint_refusals}
 use Rattle.syn_replica.specs.Replica.{IsHalted, Stands, generation_shown}
 use Rattle.syn_replica.specs.declared.error.ReplicaError.{ReplicaError}
@@ -51,7 +51,7 @@ module _ {D : Type 0} {disk : Ghosts D} (pair : ℕ) (found left : Replica D dis
   made_of up few =
       subst (λ s. first_cause
       ((is_halted s, why.Halted) ∷ full_generation machine.journal.generation) ≡ None) (sym up)
-      (subst (λ g. first_cause (full_generation g) ≡ None) (sym (is.generation up))
+      (subst (λ g. first_cause (full_generation g) ≡ None) (sym (is.keeps.generation up))
       (ap (λ (b : Bool). if b then Some why.Full else None) few))
 
   refused_of : machine.journal.status ≡ Up → (e : ReplicaError) →
@@ -61,7 +61,7 @@ module _ {D : Type 0} {disk : Ghosts D} (pair : ℕ) (found left : Replica D dis
       subst (λ s. first_cause ((is_halted s, why.Halted) ∷ full_generation
       machine.journal.generation ++ (true, why.Memory) ∷ []) ≡ Some (refusal_of e)) (sym up)
       (subst (λ g. first_cause (full_generation g ++ (true, why.Memory) ∷ []) ≡ Some (refusal_of e))
-      (sym (is.generation up)) some)
+      (sym (is.keeps.generation up)) some)
 
   by_full : (b : Bool) (e : ReplicaError) → b ≡ true → refusal_of e ≡ why.Full →
       (if b then Some why.Full else Some why.Memory) ≡ Some (refusal_of e)
@@ -80,7 +80,7 @@ module _ {D : Type 0} {disk : Ghosts D} (pair : ℕ) (found left : Replica D dis
       (generation_shown found + 1 ≡ 2 ^ 64 → answer ≡ Err (Journal journal_error.Full)) →
       IfErr answer (IsOneOf checkpoint_refusals) → ¬ IsHalted found →
       Compacts found left (ended refusal_of answer) →
-      CompactsImage left pair machine.journal (ended refusal_of answer) →
+      WritesImage left pair machine.journal (ended refusal_of answer) →
       CompactsSide pair left agent machine answer
   checkpoint_up up (Ok x) full first refusals running told world =
       compacts_ok pair found left agent machine is
@@ -107,7 +107,7 @@ module _ {D : Type 0} {disk : Ghosts D} (pair : ℕ) (found left : Replica D dis
             (made_of up (not_greatest (generation_shown found) fits (λ g. not_full e why.Device
             device (λ w. cc w) (first g))))
             e device
-            (subst (λ w. CompactsImage left pair machine.journal (Some w)) device world)
+            (subst (λ w. WritesImage left pair machine.journal (Some w)) device world)
       ]
     where
       not_full : (e : ReplicaError) (refusal : Refusal) → refusal_of e ≡ refusal →
@@ -124,10 +124,10 @@ module _ {D : Type 0} {disk : Ghosts D} (pair : ℕ) (found left : Replica D dis
       (generation_shown found + 1 ≡ 2 ^ 64 → ¬ IsHalted found →
       answer ≡ Err (Journal journal_error.Full)) → IfErr answer (IsOneOf checkpoint_refusals) →
       Compacts found left (ended refusal_of answer) →
-      CompactsImage left pair machine.journal (ended refusal_of answer) →
+      WritesImage left pair machine.journal (ended refusal_of answer) →
       CompactsSide pair left agent machine answer
   checkpoint_world answer full first refusals told world =
-      by machine.journal.status refl is.stands
+      by machine.journal.status refl is.keeps.stands
     where
       by : (status : Status) → machine.journal.status ≡ status →
           StandsAs status found machine.journal.value → CompactsSide pair left agent machine answer
@@ -142,5 +142,5 @@ module _ {D : Type 0} {disk : Ghosts D} (pair : ℕ) (found left : Replica D dis
           (subst (λ s. first_cause ((is_halted s, why.Halted) ∷ full_generation
           machine.journal.generation ++ (true, why.Memory) ∷ []) ≡ Some why.Halted) (sym at) refl)
           (keeps_on pair found left agent machine is why.Halted (λ e. cc)
-          (subst (λ w. CompactsImage left pair machine.journal w) same world)))
+          (subst (λ w. WritesImage left pair machine.journal w) same world)))
       by Down at stands = absurd stands

@@ -1,37 +1,35 @@
 -- What a hold's call answers and leaves, as a step of the machine that the replica is.
-use Rattle.std.proofs.Common.{◌≡◌, ◌≢◌, ◌⊎◌, ◌+◌, ◌-◌, ◌≤◌, ℕ, ◌∷◌, ◌++◌, List, length, refl, sym}
+use Rattle.std.proofs.Common.{◌≡◌, ◌≢◌, ◌⊎◌, ◌+◌, ◌-◌, ℕ, ◌∷◌, ◌++◌, List, length, refl, sym}
 use Rattle.std.proofs.Common.{ap, ◌∙◌, subst, inl, inr, true, false, Bool, if◌then◌else◌, Option}
 use Rattle.std.proofs.Common.{None, Some, Result, Ok, Err, arith, []}
 use Rattle.std.specs.Prelude.{IfOk, IfErr, IsErrAnd}
 use Rattle.std.specs.Result.{MatchResult}
 use Rattle.std.proofs.lemmas.List.{length-append}
-use Rattle.syn_agent.specs.Machines.{IsOf, StandsAs, UpIsOf, WrittenIsOf}
+use Rattle.syn_agent.specs.Machines.{IsOf}
 use Rattle.syn_agent.specs.declared.agent.Agent.{Agent}
 use Rattle.syn_journal.specs.Endings.{ended}
-use Rattle.syn_disk.specs.Stops.{LeavesOnly}
 use Rattle.syn_disk.specs.declared.disk.Disk.{Ghosts}
 use Rattle.syn_headline.specs.Machine.{Status, Up, Halted, Down}
 use Rattle.syn_headline.specs.SideMachine.{SideMachine, causes_of}
 use Rattle.syn_headline.specs.MachineSteps.{is_halted}
 use Rattle.syn_journal.specs.declared.error.JournalError.TheVariants as journal_error
 use Rattle.syn_model.specs.Event.{Edit, Event, Edited, Replaced, Token}
-use Rattle.syn_model.specs.History.{History}
+use Rattle.syn_model.specs.History.{History, standing_of}
 use Rattle.syn_model.specs.Path.{Path}
 use Rattle.syn_model.specs.Refusal.{Refusal, Cause, first_cause}
 use Rattle.syn_model.specs.Refusal as why
-use Rattle.syn_recovery.specs.Calls.{BrokenCallsMeet, MadeCallsMeet}
 use Rattle.syn_replica.specs.ErrorRefusals.{refusal_of}
 use Rattle.syn_replica.specs.Calls.{Writes, unless}
 use Rattle.syn_replica.specs.Refusals.{IsOneOf, outside_refusals}
-use Rattle.syn_replica.specs.Replica.{Stands, KeepsBeforeOrAfter, disk_of, room_shown, left_shown}
-use Rattle.syn_replica.specs.Replica.{standing_shown}
+use Rattle.syn_replica.specs.Machines.{StandsAs, WritesRecord, WritesUnlessDone}
+use Rattle.syn_replica.specs.Replica.{Stands, left_shown, room_shown, standing_shown}
 use Rattle.syn_replica.specs.Steps.{add_refusal, replace_refusal, replaced, is_done, is_done_at}
 use Rattle.syn_shared.proofs.AnswerLemmas.{halted_answer}
 use Rattle.syn_replica.specs.declared.error.ReplicaError.{ReplicaError}
 use Rattle.syn_replica.specs.declared.error.ReplicaError.TheVariants.{Journal}
 use Rattle.syn_replica.specs.declared.replica.Replica.{Replica}
 use Rattle.syn_shared.proofs.CauseLemmas.{memory_last, replace_never, same_causes}
-use Rattle.syn_shared.proofs.EventLemmas.{event_up, event_halted}
+use Rattle.syn_shared.proofs.EventLemmas.{event_refused, event_written}
 use Rattle.syn_shared.specs.Machines.{EditsSide, IsMade, IsRefused, IsRefusedEarly, WritesEvent}
 use Rattle.syn_agent.proofs.CauseLemmas.{edit_never, outside as memory_or_device}
 use Rattle.syn_replica.proofs.CauseLemmas.{first_stays}
@@ -80,16 +78,27 @@ refused_so e causes None is not (inl outside) refused =
 refused_so e causes (Some other) is not (inl outside) refused =
     first_stays causes _ (refusal_of e) (is ∙ ap (λ r. Some r) (sym (refused other refl)))
 
+-- a halted replica writes nothing
+halted : {D : Type 0} {disk : Ghosts D} (pair : ℕ) (found left : Replica D disk) (agent : Agent)
+    (machine : SideMachine) → IsOf pair found agent machine → (event : Event) (Allowed : Type 0)
+    (Refused : ReplicaError → Type 0) (answer : Result ℕ ReplicaError) →
+    ended refusal_of answer ≡ Some why.Halted → Refused (Journal journal_error.Halted) →
+    WritesRecord left pair machine.journal event (ended refusal_of answer) →
+    WritesEvent pair left agent machine event Allowed Refused answer
+halted pair found left agent machine is event Allowed Refused answer same caused told =
+    subst (λ a. WritesEvent pair left agent machine event Allowed Refused a)
+    (sym (halted_answer answer same))
+    (event_refused pair found left agent machine is event Allowed Refused
+    (Journal journal_error.Halted) why.Halted refl (λ e. cc) (λ _. caused)
+    (subst (λ w. WritesRecord left pair machine.journal event w) same told))
+
 module _ {D : Type 0} {disk : Ghosts D} (pair : ℕ) (found left : Replica D disk) (agent : Agent)
-    (machine : SideMachine) (is : IsOf pair found agent machine)
-    (counts_now : (d : D) (t : ℕ) (c : List ℕ) → t ≤ disk.moment d → disk.may_leave d c →
-    disk.left_since d t c) (up_law : UpIsOf found) (law : WrittenIsOf) (made : MadeCallsMeet)
-    (broken : BrokenCallsMeet) where
+    (machine : SideMachine) (is : IsOf pair found agent machine) where
   abbrev pub value : History
   value = machine.journal.value
 
   room_is : machine.journal.status ≡ Up → room_shown found ≡ machine.journal.room - 5
-  room_is up = half ∙ ap (λ n. n - 5) (sym (is.room up))
+  room_is up = half ∙ ap (λ n. n - 5) (sym (is.keeps.room up))
     where
       half : room_shown found ≡ left_shown found - 5
       half = omega arith
@@ -132,24 +141,22 @@ module _ {D : Type 0} {disk : Ghosts D} (pair : ℕ) (found left : Replica D dis
 
     pub edit_world : ((history : History) → Stands found history → IfOk answer
         (λ position. (position ≡ length history + 1) × Stands left (history ++ event ∷ []))) →
-        ((history : History) → Stands found history → LeavesOnly disk.moment disk.left_since
-        (disk_of found) (disk_of left) (KeepsBeforeOrAfter found history event)) →
         ((history : History) → Stands found history → IfErr answer (λ e. IsOneOf outside_refusals e
         ⊎ (add_refusal (room_shown found) history event ≡ Some (refusal_of e)))) →
         ((history : History) (other : Refusal) → Stands found history →
         add_refusal (room_shown found) history event ≡ Some other →
         IsErrAnd answer (λ e. refusal_of e ≡ other)) →
         Writes found left (Some event) (ended refusal_of answer) →
+        WritesRecord left pair machine.journal event (ended refusal_of answer) →
         EditsSide pair left agent machine event answer
-    edit_world acknowledged moments cause refused writes =
-        by machine.journal.status refl is.stands
+    edit_world acknowledged cause refused writes told =
+        by machine.journal.status refl is.keeps.stands
       where
         by : (status : Status) → machine.journal.status ≡ status → StandsAs status found value →
             EditsSide pair left agent machine event answer
         by Up up stands =
-            event_up pair found left agent machine is counts_now event (IsMade machine causes)
-            (IsRefused machine causes) up_law law made broken up stands (moments value stands)
-            answer (acknowledged value stands) writes
+            event_written pair found left agent machine is event (IsMade machine causes)
+            (IsRefused machine causes) answer (acknowledged value stands) told
             (match_map answer (add_refusal (room_shown found) value event ≡ None)
             (IsMade machine causes) (λ none. made_up up causes
             (sym (same_causes pair (room_shown found) machine event (room_is up)) ∙ none))
@@ -159,14 +166,9 @@ module _ {D : Type 0} {disk : Ghosts D} (pair : ℕ) (found left : Replica D dis
             (edit_refused up stands answer (cause value stands)
             (λ other some. refused value other stands some))
         by Halted at stands =
-            let same = writes.halted.1 stands.0 in
-            let refused = subst (λ w. Writes found left (Some event) w) same writes in
-            subst (λ a. EditsSide pair left agent machine event a)
-            (sym (halted_answer answer same))
-            (event_halted pair found left agent machine is counts_now event (IsMade machine causes)
-            (IsRefused machine causes) up_law law made broken
-            (Journal journal_error.Halted) refl (refused_halted at causes) refused.unchanged
-            refused.readings)
+            halted pair found left agent machine is event (IsMade machine causes)
+            (IsRefused machine causes) answer (writes.halted.1 stands.0)
+            (refused_halted at causes) told
         by Down at stands = absurd stands
 
   module _ (token : Token) (path : Path) (since : ℕ) (new : Model)
@@ -205,8 +207,6 @@ module _ {D : Type 0} {disk : Ghosts D} (pair : ℕ) (found left : Replica D dis
     pub replace_world : ((history : History) → Stands found history →
         let after = replaced history token path since new in
         IfOk answer (λ position. (position ≡ length after) × Stands left after)) →
-        ((history : History) → Stands found history → LeavesOnly disk.moment disk.left_since
-        (disk_of found) (disk_of left) (KeepsBeforeOrAfter found history replacement)) →
         ((history : History) → Stands found history →
         IfErr answer (λ e. IsOneOf outside_refusals e ⊎ (replace_refusal
         (room_shown found) history token path since new ≡ Some (refusal_of e)))) →
@@ -215,32 +215,31 @@ module _ {D : Type 0} {disk : Ghosts D} (pair : ℕ) (found left : Replica D dis
         IsErrAnd answer (λ e. (refusal_of e ≡ other) ⊎ (refusal_of e ≡ why.Memory))) →
         Writes found left (unless (is_done_at (standing_shown found) token) replacement)
         (ended refusal_of answer) →
+        WritesUnlessDone left pair machine.journal
+        (unless (is_done_at (standing_shown found) token) replacement) (ended refusal_of answer) →
         WritesEvent pair left agent machine replacement (cause_now ≡ None)
         (IsRefusedEarly machine cause_now) answer
-    replace_world acknowledged moments cause refused writes =
-        by machine.journal.status refl is.stands
+    replace_world acknowledged cause refused writes told =
+        by machine.journal.status refl is.keeps.stands
       where
+        written : standing_shown found ≡ standing_of value →
+            WritesRecord left pair machine.journal replacement (ended refusal_of answer)
+        written same =
+            subst (λ (b : Bool). WritesUnlessDone left pair machine.journal (unless b replacement)
+            (ended refusal_of answer)) (ap (λ s. is_done_at s token) same ∙ open_is) told
+
         by : (status : Status) → machine.journal.status ≡ status → StandsAs status found value →
             WritesEvent pair left agent machine replacement (cause_now ≡ None)
             (IsRefusedEarly machine cause_now) answer
         by Up up stands =
-            event_up pair found left agent machine is counts_now replacement (cause_now ≡ None)
-            (IsRefusedEarly machine cause_now) up_law law made broken up stands
-            (moments value stands) answer (replaced_ok answer (acknowledged value stands))
-            (subst (λ (b : Bool). Writes found left (unless b replacement)
-            (ended refusal_of answer))
-            (ap (λ s. is_done_at s token) stands.remembers.standing ∙ open_is) writes)
+            event_written pair found left agent machine is replacement (cause_now ≡ None)
+            (IsRefusedEarly machine cause_now) answer
+            (replaced_ok answer (acknowledged value stands)) (written stands.remembers.standing)
             (no_cause answer cause_now (replace_never (room_shown found) value token path since new)
             (λ other some. refused value other stands open_is some))
             (refused_early up answer (cause value stands))
         by Halted at stands =
-            let same = writes.halted.1 stands.0 in
-            let refused = subst (λ w. Writes found left
-            (unless (is_done_at (standing_shown found) token) replacement) w) same writes in
-            subst (λ a. WritesEvent pair left agent machine replacement (cause_now ≡ None)
-            (IsRefusedEarly machine cause_now) a) (sym (halted_answer answer same))
-            (event_halted pair found left agent machine is counts_now replacement (cause_now ≡ None)
-            (IsRefusedEarly machine cause_now) up_law law made broken
-            (Journal journal_error.Halted) refl (inl (at, refl)) refused.unchanged
-            refused.readings)
+            halted pair found left agent machine is replacement (cause_now ≡ None)
+            (IsRefusedEarly machine cause_now) answer (writes.halted.1 stands.0)
+            (inl (at, refl)) (written stands.1.standing)
         by Down at stands = absurd stands

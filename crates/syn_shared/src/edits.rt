@@ -5,7 +5,6 @@ ghost use Rattle.syn_shared.specs.Edits.{Edits};
 ghost use Rattle.syn_shared.specs.Refusals.{answer_in};
 
 use crate::error::{SharedError, answered};
-use crate::laws::step_laws;
 use crate::shared::SharedReplica;
 use std::alloc::Global;
 use std::sync::Wait;
@@ -38,7 +37,6 @@ impl<D: Disk> SharedReplica<D> {
         let Ok(mut guard) = pass.try_enter(own) else {
             return Err(SharedError::Busy);
         };
-        step_laws(&guard);
         let answer = guard.edit(alloc, user, edit);
         own.leave(guard);
         answered(answer)
@@ -63,7 +61,6 @@ impl<D: Disk> SharedReplica<D> {
     {
         let own = self.own();
         let mut guard = pass.enter(rt, own);
-        step_laws(&guard);
         let made = guard.edit(alloc, user, edit);
         own.leave(guard);
         made

@@ -14,7 +14,6 @@ ghost use Rattle.syn_tree.specs.Nodes.{part_of};
 ghost use Rattle.syn_shared.specs.Edits.{Edits};
 ghost use Rattle.syn_shared.specs.Parts.{EndsWith, IsSnapshot, Puts, Takes};
 
-use crate::laws::step_laws;
 use crate::shared::SharedReplica;
 use std::alloc::Global;
 use std::sync::Wait;
@@ -178,6 +177,5 @@ fn edit_once<D: Disk>(
     ensures edits { Edits (event_by user edit) result replica.old replica.new }
     ensures grown { IsGrown replica.old replica.new }
 {
-    step_laws(replica);
     replica.edit(alloc, user, edit)
 }

@@ -6,7 +6,6 @@ ghost use Rattle.syn_shared.specs.Refusals.{answer_in};
 ghost use Rattle.syn_shared.specs.Replacements.{Replaces};
 
 use crate::error::{SharedError, answered};
-use crate::laws::step_laws;
 use crate::shared::SharedReplica;
 use std::alloc::Global;
 use syn_disk::Disk;
@@ -45,7 +44,6 @@ impl<D: Disk> SharedReplica<D> {
         let Ok(mut guard) = pass.try_enter(own) else {
             return Err(SharedError::Busy);
         };
-        step_laws(&guard);
         let answer = guard.replace(alloc, token, path, since, new);
         own.leave(guard);
         answered(answer)

@@ -25,7 +25,7 @@ use Rattle.syn_model.specs.Refusal.{Refusal}
 use Rattle.syn_model.specs.Spelling.{event_spelling}
 use Rattle.syn_replica.specs.Replica.{IsHalted, disk_of, position_shown, tried_shown}
 use Rattle.syn_replica.specs.declared.replica.Replica.{Replica}
-use Rattle.syn_world.proofs.EditLemmas.{failed_by, side_of}
+use Rattle.syn_world.proofs.SideLemmas.{failed_by, side_of}
 use Rattle.syn_world.proofs.SideLemmas.{halted_not_down, halted_not_up, none_not_some, not_down}
 use Rattle.syn_world.proofs.SideLemmas.{position_is, state, up_not_down}
 
@@ -146,7 +146,7 @@ module _ {D : Type 0} {disk : Ghosts D} (pair : ℕ) (old new : Replica D disk)
   answer_cut position position_now call settles stopped = elim takes_so.leaves
       as (λ _. AnswerIsStep pair machine (failed_by old) session request
       (record { call = call; reply = None })) [
-        | goes_on goes ↦ absurd (false≢true (sym goes.runs ∙ stopped))
+        | goes_on goes ↦ absurd (false≢true (sym goes.keeps.runs ∙ stopped))
         | stops rests ↦
             let down = becomes.down rests.down in
             let settling = settles.stops stopped in (

@@ -1,6 +1,5 @@
 -- A side whose device alone changed.
 use Rattle.std.proofs.Common.{◌≡◌, ◌∙◌, ℕ, false}
-use Rattle.syn_agent.specs.Machines.{StandsAs}
 use Rattle.syn_agent.specs.declared.agent.Agent.{Agent}
 use Rattle.syn_disk.specs.Arms.{is_stopped}
 use Rattle.syn_disk.specs.Disk.{NothingNew}
@@ -11,10 +10,11 @@ use Rattle.syn_headline.specs.SideMachine.{SideMachine, side_kind}
 use Rattle.syn_world.specs.Sides.{RunsAs}
 use Rattle.syn_model.specs.History.{History}
 use Rattle.syn_recovery.specs.Calls.{armed_at}
+use Rattle.syn_replica.specs.Machines.{StandsAs}
 use Rattle.syn_replica.specs.Replica.{IsHalted, SameMemory, Stands, disk_of, generation_shown}
 use Rattle.syn_replica.specs.Replica.{left_shown, tried_shown}
 use Rattle.syn_replica.specs.declared.replica.Replica.{Replica}
-use Rattle.syn_world.proofs.EditLemmas.{side_of}
+use Rattle.syn_world.proofs.SideLemmas.{side_of}
 use Rattle.syn_world.proofs.SideLemmas.{not_down, still_staged}
 use Rattle.syn_journal.proofs.DiskLemmas.{may_be_still}
 use Rattle.syn_recovery.specs.Machines.{of_side}
@@ -45,16 +45,18 @@ pub still_runs : {D : Type 0} {disk : Ghosts D} (pair : ℕ) (old new : Replica 
 still_runs pair old new agent machine arms failed runs same stands room generation armed goes tried
     nothing_new = record {
       is = record {
-        pair_is = same.pair ∙ runs.is.pair_is;
-        stands = stands;
-        room = room;
-        generation = generation;
-        armed = armed;
-        runs = goes;
+        keeps = record {
+          pair_is = same.pair ∙ runs.is.keeps.pair_is;
+          stands = stands;
+          room = room;
+          generation = generation;
+          armed = armed;
+          runs = goes;
+          left = λ bytes may. may_be_still (of_side pair) machine.journal machine.journal.status
+              arms failed bytes (runs.is.keeps.left bytes (nothing_new bytes may));
+        };
         staging = still_staged machine.journal.status machine.staging
             (not_down pair (side_of old agent) machine runs) ∙ runs.is.staging;
-        left = λ bytes may. may_be_still (of_side pair) machine.journal
-            machine.journal.status arms failed bytes (runs.is.left bytes (nothing_new bytes may));
       };
       idle = runs.idle;
       tries = λ told writing. tried ∙ runs.tries told writing;

@@ -41,7 +41,7 @@ module _ {D : Type 0} {disk : Ghosts D} (pair : ℕ) where
   side_left : (side : SideHost D disk) (model : SideMachine) → IsHost pair side model
       → (bytes : Bytes) → disk.may_leave (side_disk side) bytes
       → MayBeOf (of_side pair) model.journal bytes
-  side_left (host.Up side) model runs bytes left = runs.is.left bytes left
+  side_left (host.Up side) model runs bytes left = runs.is.keeps.left bytes left
   side_left (host.Down side) model rests bytes left = rests.leaves bytes left
 
   archive_left : (coordinator : CoordinatorHost D disk) (model : CoordinatorMachine)

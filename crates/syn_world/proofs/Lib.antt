@@ -14,6 +14,7 @@ mod PromiseLemmas
 mod CauseLemmas
 mod StopLemmas
 mod SideLemmas
+mod MovedLemmas
 mod EditLemmas
 mod CheckpointLemmas
 mod ArmLemmas

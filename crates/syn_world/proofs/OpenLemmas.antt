@@ -39,7 +39,7 @@ use Rattle.syn_replica.specs.Disks.{DiskStands}
 use Rattle.syn_replica.specs.Replica.{Stands, disk_of, generation_shown, left_shown, pair_of}
 use Rattle.syn_replica.specs.Replica.{position_shown}
 use Rattle.syn_replica.specs.declared.replica.Replica.{Replica}
-use Rattle.syn_world.proofs.EditLemmas.{failed_by, side_of}
+use Rattle.syn_world.proofs.SideLemmas.{failed_by, side_of}
 use Rattle.syn_world.proofs.SideLemmas.{none_not_some, still_staged, up_not_down}
 use Rattle.syn_coordinator.proofs.DownLemmas.{never_stops, still_unarmed}
 use Rattle.syn_journal.proofs.DiskLemmas.{may_be_still, one_generation, one_value}

@@ -5,7 +5,7 @@ use Rattle.std.specs.Prelude.{IsSomeAnd}
 use Rattle.std.proofs.lemmas.Option.{same_Some}
 use Rattle.syn_archive.specs.Archive.{shown}
 use Rattle.syn_disk.specs.declared.disk.Disk.{Ghosts}
-use Rattle.syn_agent.specs.Machines.{StandsAs}
+use Rattle.syn_replica.specs.Machines.{StandsAs}
 use Rattle.syn_headline.specs.Acknowledged.{Stores, history_of}
 use Rattle.syn_headline.specs.Coordinator.{CoordinatorMachine}
 use Rattle.syn_headline.specs.Machine.{Up, Down}
@@ -98,7 +98,8 @@ up_stands : {D : Type 0} {disk : Ghosts D} (pair : ℕ) (side : SideHost D disk)
     (machine : SideMachine) → IsHost pair side machine → machine.journal.status ≡ Up
     → IsSomeAnd (replica_of side) (λ replica. tree_shown replica ≡ tree_of machine.journal.value)
 up_stands pair (host.Up side) machine runs up =
-    let stands = subst (λ s. StandsAs s side.replica machine.journal.value) up runs.is.stands in
+    let stands =
+    subst (λ s. StandsAs s side.replica machine.journal.value) up runs.is.keeps.stands in
     ap (λ standing. standing.tree) stands.remembers.standing
 up_stands pair (host.Down rest) machine rests up =
     absurd (let apart : Up ≡ Down = sym up ∙ rests.down in cc)

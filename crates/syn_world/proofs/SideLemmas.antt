@@ -1,18 +1,36 @@
 -- A side that runs as a machine, and what device calls leave of it.
-use Rattle.std.proofs.Common.{◌≡◌, ◌≢◌, ◌⊎◌, ◌∙◌, ℕ, Option, Some, None, refl, sym, ap}
-use Rattle.std.proofs.Common.{inl, inr, false}
+use Rattle.std.proofs.Common.{◌≡◌, ◌≢◌, ◌⊎◌, ◌∙◌, ◌+◌, ℕ, Option, Some, None, refl, sym, ap}
+use Rattle.std.proofs.Common.{arith, inl, inr, false}
 use Rattle.std.specs.Prelude.{length}
-use Rattle.syn_agent.specs.Machines.{StandsAs}
+use Rattle.syn_agent.specs.declared.agent.Agent.{Agent}
 use Rattle.syn_disk.specs.declared.disk.Disk.{Ghosts}
 use Rattle.syn_headline.specs.Machine.{Status, Up, Halted, Down}
 use Rattle.syn_headline.specs.SideMachine.{SideMachine, staging_after}
 use Rattle.syn_headline.specs.Side.{Staging}
-use Rattle.syn_world.specs.Sides.{RunsAs}
+use Rattle.syn_world.specs.Sides.{CountsFrom, RunsAs, side_disk}
+use Rattle.syn_world.specs.declared.side.SideCall.{SideCall}
+use Rattle.syn_world.specs.declared.side.SideHost.TheVariants as host
 use Rattle.syn_world.specs.declared.side.UpSide.{UpSide}
 use Rattle.syn_model.specs.Event.{Event}
 use Rattle.syn_model.specs.History.{History}
 use Rattle.syn_journal.specs.Journal as journal
-use Rattle.syn_replica.specs.Replica.{IsHalted, Remembers, Stands, position_shown}
+use Rattle.syn_replica.specs.Machines.{StandsAs}
+use Rattle.syn_replica.specs.Replica.{IsHalted, Remembers, Stands, disk_of, position_shown}
+use Rattle.syn_replica.specs.declared.replica.Replica.{Replica}
+
+-- how many calls of its disk failed
+abbrev pub failed_by : {D : Type 0} → {disk : Ghosts D} → Replica D disk → ℕ
+failed_by {D} {disk} replica = disk.failures (disk_of replica)
+
+abbrev pub side_of : {D : Type 0} → {disk : Ghosts D} → Replica D disk → Agent → UpSide D disk
+side_of replica agent = record { replica = replica; agent = agent }
+
+-- a side that stays as it was counts as it did
+pub counts_still : {D : Type 0} {disk : Ghosts D} (side : UpSide D disk) (machine : SideMachine)
+    (call : SideCall D disk) → call.side ≡ host.Up side
+    → CountsFrom (failed_by side.replica) call.side machine machine
+counts_still {D} {disk} side machine call same =
+    let is = ap (λ s. disk.failures (side_disk s)) same in omega (arith, is)
 
 pub up_not_down : Up ≢ Down
 up_not_down e = cc
@@ -42,7 +60,7 @@ module _ {D : Type 0} {disk : Ghosts D} (pair : ℕ) (side : UpSide D disk) (mac
   pub state : ((machine.journal.status ≡ Up) × Stands side.replica machine.journal.value)
       ⊎ ((machine.journal.status ≡ Halted) × IsHalted side.replica
       × Remembers side.replica machine.journal.value)
-  state = by machine.journal.status refl runs.is.stands
+  state = by machine.journal.status refl runs.is.keeps.stands
     where
       by : (status : Status) → machine.journal.status ≡ status →
           StandsAs status side.replica machine.journal.value →

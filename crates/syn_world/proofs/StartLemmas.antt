@@ -34,7 +34,7 @@ use Rattle.syn_replica.specs.declared.replica.Replica.{Replica}
 use Rattle.syn_coordinator.specs.Coordinators.{Stands as StandsAs}
 use Rattle.syn_coordinator.specs.Machines.{IsMachine, Journal}
 use Rattle.syn_coordinator.specs.declared.coordinator.Coordinator.{Coordinator}
-use Rattle.syn_world.proofs.EditLemmas.{side_of}
+use Rattle.syn_world.proofs.SideLemmas.{side_of}
 use Rattle.syn_world.proofs.OpenLemmas.{knows}
 use Rattle.syn_world.proofs.SideLemmas.{none_not_some}
 use Rattle.syn_coordinator.proofs.DownLemmas.{never_stops, still_unarmed}

@@ -1,7 +1,7 @@
 -- Which of the model's machines a side is, up or down, and what a call of it does.
 use Rattle.std.specs.Prelude.{◌≡◌, ◌<◌, ◌≤◌, ℕ, Bool, true, false, List, [], ◌∷◌, Option, Some}
 use Rattle.std.specs.Prelude.{IfSome, None, length, option_map}
-use Rattle.syn_agent.specs.Machines.{IsOf, MayLeave}
+use Rattle.syn_agent.specs.Machines.{IsOf}
 use Rattle.syn_disk.specs.Arms.{Arms, is_stopped}
 use Rattle.syn_disk.specs.declared.disk.Disk.{Ghosts}
 use Rattle.syn_headline.specs.Machine.{Up, Down, unarmed}
@@ -25,6 +25,7 @@ use Rattle.syn_recovery.specs.Calls.{CountsNoMore, armed_at}
 use Rattle.syn_recovery.specs.Machines.{of_side}
 use Rattle.syn_recovery.specs.Meaning.{MayBeOf}
 use Rattle.syn_refusal.specs.declared.refusal.Refusal.{Refusal}
+use Rattle.syn_replica.specs.Machines.{LeavesMachine}
 use Rattle.syn_replica.specs.Replica.{disk_of, position_shown, tried_shown}
 use Rattle.syn_replica.specs.declared.replica.Replica.{Replica}
 
@@ -63,7 +64,7 @@ pub record StopsAs {D : Type 0} {disk : Ghosts D} (pair position : ℕ) (tried :
   pub unstaged : machine.staging ≡ None
   pub position_is : position ≡ length machine.journal.value
   pub tries : TriesWriting machine tried
-  pub leaves : MayLeave pair replica machine
+  pub leaves : LeavesMachine replica pair machine.journal
 
 -- the side is the machine
 abbrev pub IsHost : {D : Type 0} → {disk : Ghosts D} → ℕ → SideHost D disk → SideMachine → Type 0

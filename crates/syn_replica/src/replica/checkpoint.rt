@@ -20,7 +20,7 @@ impl<D: Disk> Replica<D> {
     ghost use Rattle.syn_replica.specs.Replica.{pair_of, standing_shown, disk_of, generation_shown};
     ghost use Rattle.syn_replica.specs.Replica.{IsHalted, Stands, KeepsOrCompacts};
     ghost use Rattle.syn_replica.specs.Calls.{Compacts};
-    ghost use Rattle.syn_replica.specs.Machines.{CompactsImage, IsMachine, Journal};
+    ghost use Rattle.syn_replica.specs.Machines.{IsMachine, Journal, WritesImage};
 
     /// Takes an image of what the history leaves in the place of the journal's records, so that
     /// there is room again. No answer of another call changes, but those that tell of the journal:
@@ -50,7 +50,7 @@ impl<D: Disk> Replica<D> {
 
         // What it is to the model's machine, also where its device fails or stops.
         ensures world { (number : ℕ) (machine : Journal) → IsMachine self.old number machine
-            → CompactsImage self.new number machine (ended refusal_of result) }
+            → WritesImage self.new number machine (ended refusal_of result) }
     {
         opening_laws();
         history_laws();

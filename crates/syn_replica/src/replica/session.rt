@@ -58,6 +58,7 @@ impl<D: Disk> Replica<D> {
     ghost use Rattle.syn_replica.specs.Replica.{pair_of, standing_shown, disk_of, room_shown};
     ghost use Rattle.syn_replica.specs.Replica.{IsHalted, Remembers, Stands, KeepsBeforeOrAfter};
     ghost use Rattle.syn_replica.specs.Calls.{Writes};
+    ghost use Rattle.syn_replica.specs.Machines.{IsMachine, Journal, WritesUnlessDone};
 
     /// Begins the session, and answers the position. The session that was begun last begins again
     /// without an event.
@@ -91,6 +92,12 @@ impl<D: Disk> Replica<D> {
 
         // The event is written where the session was not begun before.
         ensures machine { Writes self.old self.new
+            (unless (session == (standing_shown self.old).session) (Began session))
+            (ended refusal_of result) }
+
+        // What it is to the model's machine, also where its device fails or stops.
+        ensures world { (number : ℕ) (machine : Journal) → IsMachine self.old number machine
+            → WritesUnlessDone self.new number machine
             (unless (session == (standing_shown self.old).session) (Began session))
             (ended refusal_of result) }
     {
@@ -219,6 +226,12 @@ impl<D: Disk> Replica<D> {
 
         // The event is written where the token is not done.
         ensures machine { Writes self.old self.new
+            (unless (is_done_at (standing_shown self.old) (token_of token))
+            (Replaced (token_of token) path.now since (part_of new))) (ended refusal_of result) }
+
+        // What it is to the model's machine, also where its device fails or stops.
+        ensures world { (number : ℕ) (machine : Journal) → IsMachine self.old number machine
+            → WritesUnlessDone self.new number machine
             (unless (is_done_at (standing_shown self.old) (token_of token))
             (Replaced (token_of token) path.now since (part_of new))) (ended refusal_of result) }
     {

@@ -8,8 +8,6 @@ use super::{SideCall, SideHost, UpSide};
 use crate::disk::SimulatedDisk;
 use crate::outcome::Outcome;
 use std::alloc::Global;
-use syn_agent::machine_laws;
-use syn_recovery::device_laws;
 use syn_refusal::Refusal;
 
 impl<D: SimulatedDisk> UpSide<D> {
@@ -41,18 +39,11 @@ impl<D: SimulatedDisk> UpSide<D> {
             → CallIsStep pair machine (D.Limit.failures (disk_of self.replica))
             (Does (side_kind pair) machine Checkpoint) result }
     {
-        device_laws();
         let mut side = self;
         let position = side.replica.position();
         match side.replica.checkpoint(alloc) {
-            Ok(()) => {
-                machine_laws(&side.replica, &side.agent);
-                side.settle(position, Outcome::Nothing)
-            }
-            Err(error) => {
-                machine_laws(&side.replica, &side.agent);
-                side.settle(position, Outcome::Refused(error.refusal()))
-            }
+            Ok(()) => side.settle(position, Outcome::Nothing),
+            Err(error) => side.settle(position, Outcome::Refused(error.refusal())),
         }
     }
 

@@ -11,11 +11,9 @@ use super::{SideAnswer, SideCall, UpSide};
 use crate::disk::SimulatedDisk;
 use crate::outcome::Outcome;
 use std::alloc::Global;
-use syn_agent::machine_laws;
 use syn_message::Request;
 use syn_model::are_bytes;
 use syn_path::is_path;
-use syn_recovery::device_laws;
 use syn_refusal::Refusal;
 use syn_tree::{Edit, is_mode};
 
@@ -44,18 +42,11 @@ impl<D: SimulatedDisk> UpSide<D> {
             → CallIsStep pair machine (D.Limit.failures (disk_of self.replica))
             (UserEdits pair machine (event_by user edit)) result }
     {
-        device_laws();
         let mut side = self;
         let position = side.replica.position();
         match side.replica.edit(alloc, user, edit) {
-            Ok(_) => {
-                machine_laws(&side.replica, &side.agent);
-                side.settle_added(position)
-            }
-            Err(error) => {
-                machine_laws(&side.replica, &side.agent);
-                side.settle(position, Outcome::Refused(error.refusal()))
-            }
+            Ok(_) => side.settle_added(position),
+            Err(error) => side.settle(position, Outcome::Refused(error.refusal())),
         }
     }
 

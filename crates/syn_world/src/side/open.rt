@@ -92,19 +92,11 @@ impl<D: SimulatedDisk> UpSide<D> {
             → CallIsStep pair machine (D.Limit.failures (disk_of self.replica))
             (Does (side_kind pair) machine Reopen) result }
     {
-        device_laws();
-        opening_laws();
         let mut side = self;
         let position = side.replica.position();
         match side.replica.reopen(alloc) {
-            Ok(()) => {
-                machine_laws(&side.replica, &side.agent);
-                side.settle_opened(position, tried)
-            }
-            Err(error) => {
-                machine_laws(&side.replica, &side.agent);
-                side.settle(position, Outcome::Refused(error.refusal()))
-            }
+            Ok(()) => side.settle_opened(position, tried),
+            Err(error) => side.settle(position, Outcome::Refused(error.refusal())),
         }
     }
 

@@ -7,12 +7,10 @@ use Rattle.syn_shared.proofs.parts.edit_once.Goals as goal
 pub returns-clause-edits : goal.returns-clause-edits
 returns-clause-edits g c = record {
   world =
-      λ pair agent machine is. edit_world pair _ c.edit.new.self agent machine is
-      g.met.D.Disk.counts_now c.step_laws.ensures.up c.step_laws.ensures.written
-      c.step_laws.ensures.made c.step_laws.ensures.broken c.args.user
-      (edit_of c.args.edit) c.edit.result c.edit.ensures.acknowledged
-      c.edit.ensures.any_moment c.edit.ensures.cause c.edit.ensures.refused
-      c.edit.ensures.machine;
+      λ pair agent machine is. edit_world pair _ c.edit.new.self agent machine is c.args.user
+      (edit_of c.args.edit) c.edit.result c.edit.ensures.acknowledged c.edit.ensures.cause
+      c.edit.ensures.refused c.edit.ensures.machine
+      (c.edit.ensures.world pair machine.journal is.keeps);
   step =
       λ history stands. step_by _ c.edit.new.self history (event_by c.args.user c.args.edit) _
       stands c.edit.result (c.edit.ensures.acknowledged history stands)

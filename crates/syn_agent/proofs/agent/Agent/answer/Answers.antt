@@ -5,7 +5,6 @@ use Rattle.syn_message.specs.Requests.{request_of}
 pub returns-clause-takes : goal.returns-clause-takes
 returns-clause-takes g c pair machine is =
     takes_so pair c.args.replica.now c.serve.new.replica c.args.self.now c.serve.new.self machine
-    c.args.session (request_of c.args.request) is g.met.D.Disk.counts_now
-    c.device_laws.ensures.made c.device_laws.ensures.broken _
+    c.args.session (request_of c.args.request) is _
     (c.serve.ensures.answers machine.journal.value)
     (c.serve.ensures.halted machine.journal.value) c.serve.ensures.unchanged

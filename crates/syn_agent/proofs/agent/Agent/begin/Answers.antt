@@ -12,7 +12,7 @@ returns-in-Ok-clause-answers g c history stands =
     let told = c.in-Ok.ensures in
     begun_answers c.args.replica.now c.begin.new.self c.args.self.now history c.args.session
     c.args.pair stands c.in-Ok.position (told.acknowledged history stands)
-    (none_of _ (λ why is. told.refused history why stands is)) told.machine
+    (none_of _ (λ why is. told.refused history why stands is)) told.machine told.world
     (told.any_moment history stands)
 
 pub returns-in-Ok-clause-memory : goal.returns-in-Ok-clause-memory
@@ -30,7 +30,8 @@ returns-in-Err-clause-answers g c history stands =
     (begun_refused c.args.replica.now c.begin.new.self c.args.self.now history c.args.session
     c.args.pair stands c.in-Err.error (told.cause history stands)
     (λ why is. told.refused history why stands is)
-    (λ p s r. let k = (told.again p s r).0 in cc) told.machine (told.any_moment history stands))
+    (λ p s r. let k = (told.again p s r).0 in cc) told.machine told.world
+    (told.any_moment history stands))
 
 pub returns-in-Err-clause-memory : goal.returns-in-Err-clause-memory
 returns-in-Err-clause-memory g c history stands is =

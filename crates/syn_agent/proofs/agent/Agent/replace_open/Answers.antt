@@ -55,7 +55,7 @@ returns-in-Ok-replace-clause-answers g c history stands fresh young =
     c.in-Ok.ensures.none (part_of c.in-Ok-Some.new) reads c.replace.new.self
     (told.acknowledged history stands).1
     (none_of _ (λ why is. told.refused history why stands fresh is))
-    told.machine (told.any_moment history stands)
+    told.machine told.world (told.any_moment history stands)
 
 pub returns-in-Err-replace-clause-answers : goal.returns-in-Err-replace-clause-answers
 returns-in-Err-replace-clause-answers g c history stands fresh young =
@@ -70,7 +70,7 @@ returns-in-Err-replace-clause-answers g c history stands fresh young =
     c.args.token.item c.args.path.now c.args.since c.args.length stands fresh young
     c.in-Ok.ensures.none (part_of c.in-Ok-Some.new) reads c.replace.new.self c.in-Err-replace.error
     (told.cause history stands) (λ why is. told.refused history why stands fresh is) told.machine
-    (told.any_moment history stands))
+    told.world (told.any_moment history stands))
 
 pub returns-in-Err-replace-clause-failures : goal.returns-in-Err-replace-clause-failures
 returns-in-Err-replace-clause-failures g c =

@@ -17,6 +17,8 @@ use Rattle.syn_model.specs.Refusal as why
 use Rattle.syn_replica.proofs.RefusalLemmas.{inner_refusals, never, early_among, inner_among}
 use Rattle.syn_replica.proofs.RefusalLemmas.{or_outside, not_full_device, not_full_halted}
 use Rattle.syn_replica.proofs.CallLemmas.{done_before, exits_early, refused_early}
+use Rattle.syn_replica.proofs.MachineLemmas.{exits_so, stays_refused}
+use Rattle.syn_replica.specs.Machines.{WritesUnlessDone}
 use Rattle.syn_replica.specs.Calls.{Writes, unless}
 use Rattle.syn_journal.specs.Endings.{ended}
 use Rattle.syn_replica.proofs.replica.Replica.begin.Goals as goal
@@ -183,3 +185,49 @@ returns-clause-machine g c =
     (sym (ne_eqb c.args.session _
     (λ same. c.if-session-last_session.false (same ∙ sym c.last_session.ensures))))
     (c.commit.ensures.machine (Began c.args.session) c.in_ok-payload.ensures.adds)
+
+-- ---- what it is to the model's machine
+
+pub returns-then-is_halted-clause-world : goal.returns-then-is_halted-clause-world
+returns-then-is_halted-clause-world g c number machine is =
+    stays_refused c.args.self.now number machine is _ why.Halted (λ is. cc)
+
+pub returns-then-pair-clause-world : goal.returns-then-pair-clause-world
+returns-then-pair-clause-world g c number machine is =
+    stays_refused c.args.self.now number machine is _ why.WrongPair (λ is. cc)
+
+pub returns-then-session-last_session-clause-world :
+    goal.returns-then-session-last_session-clause-world
+returns-then-session-last_session-clause-world g c number machine is =
+    let last = c.if-session-last_session.true ∙ c.last_session.ensures in
+    subst (λ b. WritesUnlessDone c.args.self.now number machine
+    (unless b (Began c.args.session)) None) (sym (eq-eqb c.args.session _ last)) is
+
+pub returns-in_err-check-clause-world : goal.returns-in_err-check-clause-world
+returns-in_err-check-clause-world g c number machine is =
+    exits_so c.args.self.now number machine is c.from_residual.result _ _
+    c.from_residual.ensures.1 (never inner_refusals why.Device refl _
+    (early_among (standing_shown c.args.self.now) (Began c.args.session) _
+    c.in_err-check.ensures))
+
+pub returns-in_err-check_room-clause-world : goal.returns-in_err-check_room-clause-world
+returns-in_err-check_room-clause-world g c number machine is =
+    exits_so c.args.self.now number machine is c.from_residual-in_err-check_room.result _ _
+    c.from_residual-in_err-check_room.ensures.1 (λ device. not_full_device
+    (sym (ap refusal_of c.in_err-check_room.ensures.refused.0) ∙ device))
+
+pub returns-in_err-payload-clause-world : goal.returns-in_err-payload-clause-world
+returns-in_err-payload-clause-world g c number machine is =
+    exits_so c.args.self.now number machine is c.from_residual-in_err-payload.result _ _
+    c.from_residual-in_err-payload.ensures.1 (never inner_refusals why.Device refl _
+    (inner_among (standing_shown c.args.self.now) (Began c.args.session) _
+    c.in_err-payload.ensures.refused))
+
+pub returns-clause-world : goal.returns-clause-world
+returns-clause-world g c number machine is =
+    subst (λ b. WritesUnlessDone c.commit.new.self number machine
+    (unless b (Began c.args.session)) (ended refusal_of c.commit.result))
+    (sym (ne_eqb c.args.session _
+    (λ same. c.if-session-last_session.false (same ∙ sym c.last_session.ensures))))
+    (c.commit.ensures.world number machine (Began c.args.session) is
+    c.in_ok-payload.ensures.adds)

@@ -17,7 +17,7 @@ use Rattle.syn_journal.specs.Endings.{ended}
 use Rattle.syn_replica.proofs.GrowthLemmas.{broken, kept, of_checkpoint, stands_still, unmoved}
 use Rattle.syn_replica.specs.Growth.{IsGrown}
 use Rattle.syn_replica.proofs.CallLemmas.{compacts}
-use Rattle.syn_replica.proofs.MachineLemmas.{as_machine, compacts_image, runs_up}
+use Rattle.syn_replica.proofs.MachineLemmas.{as_machine, runs_up, writes_image}
 use Rattle.syn_replica.proofs.StandLemmas.{image_stands, left_behind}
 use Rattle.syn_disk.proofs.LeftLemmas.{leaves_weaker, seen_is_left}
 use Rattle.syn_replica.proofs.StandLemmas.{stop_compacts}
@@ -112,9 +112,8 @@ returns-clause-machine g c =
 pub returns-clause-world : goal.returns-clause-world
 returns-clause-world g c number machine is =
     let old = c.args.self.now in
-    let new : Replica _ _ = record old { machine = c.checkpoint.new.self } in
-    let told = c.checkpoint.ensures.journal in
-    compacts_image new number machine (ap (λ m. m.pair) c.checkpoint.ensures.state ∙ is.pair_is) _
-    (λ none. runs_up old number machine is
-    (λ halted. none-some _ (sym none ∙ told.halted.1 halted)))
+    writes_image (record old { machine = c.checkpoint.new.self }) number machine
+    (ap (λ m. m.pair) c.checkpoint.ensures.state ∙ is.pair_is) _
+    (λ other. runs_up old number machine is
+    (λ halted. other (c.checkpoint.ensures.journal.halted.1 halted)))
     (c.checkpoint.ensures.machine number machine (as_machine old number machine is))

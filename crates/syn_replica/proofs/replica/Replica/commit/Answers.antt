@@ -1,5 +1,5 @@
-use Rattle.std.proofs.Common.{◌≡◌, ◌≤◌, ◌+◌, ◌∷◌, ◌∙◌, [], Some, ap, inl, inr, refl, subst, sym}
-use Rattle.std.proofs.Common.{true≢false}
+use Rattle.std.proofs.Common.{◌≡◌, ◌≤◌, ◌+◌, ◌∷◌, ◌∙◌, [], None, Some, ap, inl, inr, refl, subst}
+use Rattle.std.proofs.Common.{sym, true≢false}
 use Rattle.std.proofs.lemmas.Option.{none-some, same_Some}
 use Rattle.syn_journal.specs.Journal as journal
 use Rattle.syn_model.specs.Refusal as why
@@ -11,6 +11,8 @@ use Rattle.syn_replica.specs.Replica.{KeepsBeforeOrAfter, Stands, disk_of, posit
 use Rattle.syn_replica.specs.declared.replica.Replica.{Replica}
 use Rattle.syn_replica.proofs.GrowthLemmas.{added, broken, kept, of_write, one_more, stands_still}
 use Rattle.syn_disk.proofs.LeftLemmas.{seen_is_left}
+use Rattle.syn_replica.proofs.MachineLemmas.{adds_to, as_machine, left_with, runs_up, stands_up}
+use Rattle.syn_replica.proofs.MachineLemmas.{writes_record}
 use Rattle.syn_replica.proofs.StandLemmas.{allowed_after}
 use Rattle.syn_replica.proofs.WriteLemmas.{refused_call, written_call, written_moment}
 use Rattle.syn_replica.proofs.WriteLemmas.{written_stands}
@@ -54,6 +56,19 @@ returns-then-is_halted-clause-machine g c event adds =
     (refusal_of c.in-Err.error) c.in-Err.ensures.journal same
     (inl (device, ap (λ x. Some x) adds.spelled))
 
+pub returns-then-is_halted-clause-world : goal.returns-then-is_halted-clause-world
+returns-then-is_halted-clause-world g c number machine event is adds =
+    let old = c.args.self.now in
+    writes_record old number machine is event
+    (record old { machine = c.write.new.self; tried = Some c.args.payload })
+    (ap (λ m. m.pair) c.in-Err.ensures.state ∙ is.pair_is)
+    (runs_up old number machine is c.requires.running) (Some (refusal_of c.in-Err.error))
+    (λ none. absurd (none-some _ (sym none)))
+    (c.in-Err.ensures.machine number machine event (as_machine old number machine is)
+    (adds_to old number machine is event c.history_laws.ensures.goes_on
+    c.history_laws.ensures.steps c.deref.result.now _ c.args.update c.requires.running adds
+    c.deref.ensures.value))
+
 -- ---- nothing was written
 
 pub returns-else-is_halted-clause-any_moment : goal.returns-else-is_halted-clause-any_moment
@@ -89,6 +104,18 @@ returns-else-is_halted-clause-machine g c event adds =
     ] in
     refused_call old new c.deref.result.now event (c.deref.ensures.value ∙ adds.spelled) grown seen
     (refusal_of c.in-Err.error) told same (inr (not, refl))
+
+pub returns-else-is_halted-clause-world : goal.returns-else-is_halted-clause-world
+returns-else-is_halted-clause-world g c number machine event is adds =
+    let old = c.args.self.now in
+    writes_record old number machine is event (record old { machine = c.write.new.self })
+    (ap (λ m. m.pair) c.in-Err.ensures.state ∙ is.pair_is)
+    (runs_up old number machine is c.requires.running) (Some (refusal_of c.in-Err.error))
+    (λ none. absurd (none-some _ (sym none)))
+    (c.in-Err.ensures.machine number machine event (as_machine old number machine is)
+    (adds_to old number machine is event c.history_laws.ensures.goes_on
+    c.history_laws.ensures.steps c.deref.result.now _ c.args.update c.requires.running adds
+    c.deref.ensures.value))
 
 -- ---- it was written
 
@@ -131,3 +158,21 @@ returns-clause-machine g c event adds =
     (λ history stands. (returns-clause-acknowledged g c history event stands adds).1) in
     written_call old new c.deref.result.now event (c.deref.ensures.value ∙ adds.spelled) grown seen
     c.in_default.ensures.journal makes.pair (ap (λ x. Some x) (sym c.deref.ensures.value))
+
+pub returns-clause-world : goal.returns-clause-world
+returns-clause-world g c number machine event is adds =
+    let old = c.args.self.now in
+    let new : Replica _ _ =
+    record old { machine = c.write.new.self; tried = Some c.args.payload } in
+    let written = c.in_default.ensures in
+    let stands = stands_up old number machine is c.requires.running in
+    writes_record old number machine is event new (written.state.pair ∙ is.pair_is)
+    (runs_up old number machine is c.requires.running) None
+    (λ _. left_with old number machine is event new c.requires.running
+    (returns-clause-machine g c event adds).written
+    (returns-clause-acknowledged g c machine.value event stands adds).1
+    (allowed_after _ machine.value event stands.remembers.standing adds.allowed))
+    (written.machine number machine event (as_machine old number machine is)
+    (adds_to old number machine is event c.history_laws.ensures.goes_on
+    c.history_laws.ensures.steps c.deref.result.now _ c.args.update c.requires.running adds
+    c.deref.ensures.value))

@@ -12,6 +12,7 @@ use Rattle.syn_replica.proofs.RefusalLemmas.{inner_refusals, never, edit_among, 
 use Rattle.syn_replica.proofs.RefusalLemmas.{early_among, inner_among, not_full_device}
 use Rattle.syn_replica.proofs.RefusalLemmas.{not_full_halted, or_outside}
 use Rattle.syn_replica.proofs.CallLemmas.{exits_early, refused_early, still_stands}
+use Rattle.syn_replica.proofs.MachineLemmas.{exits_so, stays_refused}
 use Rattle.syn_replica.proofs.StandingLemmas.{early_at}
 use Rattle.syn_replica.proofs.RoomLemmas.{added_refusals, edited_among, refused_at, room_at}
 use Rattle.syn_replica.proofs.RoomLemmas.{room_refused, room_passed}
@@ -168,3 +169,36 @@ returns-in_err-payload-clause-machine g c =
 pub returns-clause-machine : goal.returns-clause-machine
 returns-clause-machine g c =
     c.commit.ensures.machine (event_by c.args.user c.args.edit) c.in_ok-payload.ensures.adds
+
+-- ---- what it is to the model's machine
+
+pub returns-then-is_halted-clause-world : goal.returns-then-is_halted-clause-world
+returns-then-is_halted-clause-world g c number machine is =
+    stays_refused c.args.self.now number machine is (Some (event_by c.args.user c.args.edit))
+    why.Halted (λ is. cc)
+
+pub returns-in_err-check-clause-world : goal.returns-in_err-check-clause-world
+returns-in_err-check-clause-world g c number machine is =
+    let event = event_by c.args.user c.args.edit in
+    exits_so c.args.self.now number machine is c.from_residual.result _ (Some event)
+    c.from_residual.ensures.1 (never inner_refusals why.Device refl _
+    (early_among (standing_shown c.args.self.now) event _ c.in_err-check.ensures))
+
+pub returns-in_err-check_room-clause-world : goal.returns-in_err-check_room-clause-world
+returns-in_err-check_room-clause-world g c number machine is =
+    exits_so c.args.self.now number machine is c.from_residual-in_err-check_room.result _
+    (Some (event_by c.args.user c.args.edit)) c.from_residual-in_err-check_room.ensures.1
+    (λ device. not_full_device
+    (sym (ap refusal_of c.in_err-check_room.ensures.refused.0) ∙ device))
+
+pub returns-in_err-payload-clause-world : goal.returns-in_err-payload-clause-world
+returns-in_err-payload-clause-world g c number machine is =
+    let event = event_by c.args.user c.args.edit in
+    exits_so c.args.self.now number machine is c.from_residual-in_err-payload.result _ (Some event)
+    c.from_residual-in_err-payload.ensures.1 (never inner_refusals why.Device refl _
+    (inner_among (standing_shown c.args.self.now) event _ c.in_err-payload.ensures.refused))
+
+pub returns-clause-world : goal.returns-clause-world
+returns-clause-world g c number machine is =
+    c.commit.ensures.world number machine (event_by c.args.user c.args.edit) is
+    c.in_ok-payload.ensures.adds

@@ -20,6 +20,8 @@ use Rattle.syn_replica.proofs.RefusalLemmas.{inner_among, inner_refusals, never,
 use Rattle.syn_replica.proofs.RefusalLemmas.{not_full_halted, or_outside, same_refusal}
 use Rattle.syn_model.proofs.ExitLemmas.{if_err_of_exit, is_err_of_exit}
 use Rattle.syn_replica.proofs.CallLemmas.{done_before, exits_early, exits_halted, not_refused}
+use Rattle.syn_replica.proofs.MachineLemmas.{exits_so}
+use Rattle.syn_replica.specs.Machines.{WritesRecord, WritesUnlessDone}
 use Rattle.syn_replica.specs.Calls.{Writes, unless}
 use Rattle.syn_journal.specs.Endings.{ended}
 use Rattle.syn_replica.proofs.SessionLemmas.{found_as, in_some, not_done, one_longer}
@@ -234,4 +236,46 @@ returns-clause-machine g c =
     (subst (λ q. Writes c.args.self.now c.commit.new.self
     (Some (Replaced token q c.args.since new)) (ended refusal_of c.commit.result)) found.0
     (c.commit.ensures.machine (Replaced token c.in-Some.path c.args.since new)
+    c.in_ok-payload.ensures.adds))
+
+-- ---- what it is to the model's machine
+
+pub returns-in_err-path-clause-world : goal.returns-in_err-path-clause-world
+returns-in_err-path-clause-world g c number machine is =
+    exits_so c.args.self.now number machine is c.from_residual.result _ _
+    c.from_residual.ensures.1
+    (never checking_refusals refusal.Device refl _ c.in_err-path.ensures.refusals)
+
+pub returns-in_default-clause-world : goal.returns-in_default-clause-world
+returns-in_default-clause-world g c number machine is =
+    subst (λ b. WritesUnlessDone c.args.self.now number machine (unless b
+    (Replaced (token_of c.args.token) c.args.path.now c.args.since (part_of c.args.new))) None)
+    (sym (c.in_ok-path.ensures.done c.in_default.is)) is
+
+pub returns-in_err-payload-clause-world : goal.returns-in_err-payload-clause-world
+returns-in_err-payload-clause-world g c number machine is =
+    let event = Replaced (token_of c.args.token) c.in-Some.path c.args.since
+    (part_of c.args.new) in
+    exits_so c.args.self.now number machine is c.from_residual-in_err-payload.result _ _
+    c.from_residual-in_err-payload.ensures.1 (never inner_refusals refusal.Device refl _
+    (inner_among (standing_shown c.args.self.now) event _ c.in_err-payload.ensures.refused))
+
+pub returns-in_err-check_room-clause-world : goal.returns-in_err-check_room-clause-world
+returns-in_err-check_room-clause-world g c number machine is =
+    exits_so c.args.self.now number machine is c.from_residual-in_err-check_room.result _ _
+    c.from_residual-in_err-check_room.ensures.1 (λ device. not_full_device
+    (sym (ap refusal_of c.in_err-check_room.ensures.refused.0) ∙ device))
+
+pub returns-clause-world : goal.returns-clause-world
+returns-clause-world g c number machine is =
+    let token = token_of c.args.token in
+    let new = part_of c.args.new in
+    let found =
+    in_some _ c.in_ok-path.field-0 c.in-Some.path c.in_ok-path.ensures.found c.in-Some.is in
+    subst (λ b. WritesUnlessDone c.commit.new.self number machine
+    (unless b (Replaced token c.args.path.now c.args.since new)) (ended refusal_of c.commit.result))
+    (sym found.1.not_done)
+    (subst (λ q. WritesRecord c.commit.new.self number machine
+    (Replaced token q c.args.since new) (ended refusal_of c.commit.result)) found.0
+    (c.commit.ensures.world number machine (Replaced token c.in-Some.path c.args.since new) is
     c.in_ok-payload.ensures.adds))

@@ -18,11 +18,10 @@ returns-clause-held g c = (
       c.deref_mut.ensures.value (search rules) (record {
         world =
             λ pair agent machine is. edit_world pair _ c.edit-made.new.self agent machine is
-            g.met.D.Disk.counts_now c.step_laws.ensures.up c.step_laws.ensures.written
-            c.step_laws.ensures.made c.step_laws.ensures.broken c.args.user
-            (edit_of c.args.edit) c.edit-made.result c.edit-made.ensures.acknowledged
-            c.edit-made.ensures.any_moment c.edit-made.ensures.cause
-            c.edit-made.ensures.refused c.edit-made.ensures.machine;
+            c.args.user (edit_of c.args.edit) c.edit-made.result
+            c.edit-made.ensures.acknowledged c.edit-made.ensures.cause
+            c.edit-made.ensures.refused c.edit-made.ensures.machine
+            (c.edit-made.ensures.world pair machine.journal is.keeps);
         step =
             λ history stands. step_by _ c.edit-made.new.self history
             (event_by c.args.user c.args.edit) _ stands c.edit-made.result

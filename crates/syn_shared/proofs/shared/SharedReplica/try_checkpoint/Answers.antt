@@ -3,7 +3,6 @@ use Rattle.syn_replica.specs.Replica.{generation_shown}
 use Rattle.syn_lock.specs.Locks.{origin_of}
 use Rattle.syn_replica.specs.Growth.{IsGrown}
 use Rattle.syn_shared.specs.Upkeep.{Checkpoints}
-use Rattle.syn_shared.proofs.UpkeepLemmas.{alone}
 use Rattle.syn_shared.proofs.UpkeepSteps.{checkpoint_world}
 use Rattle.syn_shared.proofs.HoldLemmas.{held_now, held_answer, later_now, later_none}
 use Rattle.syn_shared.proofs.shared.SharedReplica.try_checkpoint.Goals as goal
@@ -22,8 +21,7 @@ returns-clause-held g c =
           c.checkpoint-answer.result c.checkpoint-answer.ensures.full
           c.checkpoint-answer.ensures.first c.checkpoint-answer.ensures.refusals
           c.checkpoint-answer.ensures.machine
-          (c.checkpoint-answer.ensures.world pair machine.journal
-          (alone pair _ c.checkpoint-answer.new.self agent machine is));
+          (c.checkpoint-answer.ensures.world pair machine.journal is.keeps);
       acknowledged = c.checkpoint-answer.ensures.acknowledged;
       any_moment = c.checkpoint-answer.ensures.any_moment;
       cause = c.checkpoint-answer.ensures.cause;

@@ -18,11 +18,10 @@ returns-clause-held g c =
     c.deref_mut.ensures.value (search rules) (record {
       world =
           λ pair agent machine is. edit_world pair _ c.edit-answer.new.self agent machine is
-          g.met.D.Disk.counts_now c.step_laws.ensures.up c.step_laws.ensures.written
-          c.step_laws.ensures.made c.step_laws.ensures.broken c.args.user
-          (edit_of c.args.edit) c.edit-answer.result c.edit-answer.ensures.acknowledged
-          c.edit-answer.ensures.any_moment c.edit-answer.ensures.cause
-          c.edit-answer.ensures.refused c.edit-answer.ensures.machine;
+          c.args.user (edit_of c.args.edit) c.edit-answer.result
+          c.edit-answer.ensures.acknowledged c.edit-answer.ensures.cause
+          c.edit-answer.ensures.refused c.edit-answer.ensures.machine
+          (c.edit-answer.ensures.world pair machine.journal is.keeps);
       step =
           λ history stands. step_by _ c.edit-answer.new.self history
           (event_by c.args.user c.args.edit) _ stands c.edit-answer.result

@@ -2,7 +2,7 @@ use Rattle.std.proofs.Common.{rules, ap}
 use Rattle.syn_lock.specs.Locks.{origin_of}
 use Rattle.syn_replica.specs.Growth.{IsGrown}
 use Rattle.syn_shared.specs.Upkeep.{Reopens}
-use Rattle.syn_shared.proofs.UpkeepLemmas.{alone, reopen_world}
+use Rattle.syn_shared.proofs.UpkeepLemmas.{reopen_world}
 use Rattle.syn_shared.proofs.HoldLemmas.{held_now, held_answer, later_now, later_none}
 use Rattle.syn_shared.proofs.shared.SharedReplica.try_reopen.Goals as goal
 
@@ -14,8 +14,8 @@ returns-clause-held g c =
     c.in-Ok.ensures.entered c.deref_mut.ensures.value (search rules) (record {
       world =
           λ pair agent machine is. reopen_world pair _ c.reopen-answer.new.self agent machine is
-          c.reopen-answer.result (c.reopen-answer.ensures.world pair machine.journal
-          (alone pair _ c.reopen-answer.new.self agent machine is));
+          c.reopen-answer.result
+          (c.reopen-answer.ensures.world pair machine.journal is.keeps);
       given = c.reopen-answer.ensures.given;
       each = c.reopen-answer.ensures.each;
       before_or_after = c.reopen-answer.ensures.before_or_after;

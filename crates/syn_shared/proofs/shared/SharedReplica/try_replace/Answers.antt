@@ -18,12 +18,11 @@ returns-clause-held g c =
     c.in-Ok.ensures.entered c.deref_mut.ensures.value (search rules) (record {
       world =
           λ pair agent machine is open_is. replace_world pair _ c.replace-answer.new.self agent
-          machine is g.met.D.Disk.counts_now c.step_laws.ensures.up c.step_laws.ensures.written
-          c.step_laws.ensures.made c.step_laws.ensures.broken (token_of c.args.token)
-          c.args.path.now c.args.since (part_of c.args.new) open_is c.replace-answer.result
-          c.replace-answer.ensures.acknowledged c.replace-answer.ensures.any_moment
+          machine is (token_of c.args.token) c.args.path.now c.args.since (part_of c.args.new)
+          open_is c.replace-answer.result c.replace-answer.ensures.acknowledged
           c.replace-answer.ensures.cause c.replace-answer.ensures.refused
-          c.replace-answer.ensures.machine;
+          c.replace-answer.ensures.machine
+          (c.replace-answer.ensures.world pair machine.journal is.keeps);
       step =
           λ history stands done. replaced_by _ c.replace-answer.new.self history
           (token_of c.args.token) c.args.path.now c.args.since (part_of c.args.new) stands done

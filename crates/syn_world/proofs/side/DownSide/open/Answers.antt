@@ -14,7 +14,7 @@ returns-in-Ok g c machine rests =
     open_ok g.D.Disk c.args.pair c.args.self machine rests g.met.D.Disk.seen_may_stay
     c.device_laws.ensures.reads c.in-Ok.replica c.new-agent.result c.gained-outcome.result tried
     rests.tries fits c.in-Ok.ensures.device.untouched c.in-Ok.ensures.each c.new-agent.ensures
-    (c.machine_laws.ensures.up c.args.pair)
+    (c.machine_laws.ensures c.args.pair)
     (subst (λ n. Gains c.gained-outcome.result c.args.self.position n tried) c.position.ensures
     c.gained-outcome.ensures) c.opening_laws.ensures.sides c.in-Ok.ensures.device.failures
     c.in-Ok.ensures.device.arms

@@ -2,7 +2,7 @@ use Rattle.std.proofs.Common.{◌≡◌, ◌∙◌, true, false}
 use Rattle.syn_world.specs.Sides.{HasStopped}
 use Rattle.syn_message.specs.Requests.{request_of}
 use Rattle.syn_world.proofs.AnswerLemmas.{answer_cut, answer_goes}
-use Rattle.syn_world.proofs.EditLemmas.{side_of}
+use Rattle.syn_world.proofs.SideLemmas.{side_of}
 use Rattle.syn_world.proofs.SideLemmas.{position_is}
 use Rattle.syn_world.proofs.side.UpSide.answer.Goals as goal
 

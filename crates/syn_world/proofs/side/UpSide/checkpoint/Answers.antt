@@ -24,7 +24,7 @@ returns-then-generation g c pair machine runs =
     let up = when_up pair c.args.self machine runs
     (λ halted. false≢true (sym told ∙ c.is_halted.ensures.1 halted)) in
     let is : generation_shown c.args.self.replica ≡ 2 ^ 64 - 1 = omega arith in
-    let full = is_greatest machine.journal.generation (runs.is.generation up.0 ∙ is) in
+    let full = is_greatest machine.journal.generation (runs.is.keeps.generation up.0 ∙ is) in
     checkpoint_halted pair c.args.self machine runs _ c.refused-then-generation.result
     c.refused-then-generation.ensures
     (causes_some machine (full_generation machine.journal.generation) up.0 why.Full

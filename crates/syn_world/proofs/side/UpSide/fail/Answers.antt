@@ -12,5 +12,5 @@ returns-clause-runs g c pair machine runs =
     subst (λ a. RunsAs pair c.arm.result
     (with_device (side_kind pair) machine machine.journal.status a 0))
     (ap armed_at c.arm.ensures.arms
-    ∙ ap (λ (a : Arms). record a { fail = c.args.call }) (sym runs.is.armed))
-    (c.arm.ensures.runs (ap is_stopped c.arm.ensures.arms ∙ runs.is.runs) pair machine runs)
+    ∙ ap (λ (a : Arms). record a { fail = c.args.call }) (sym runs.is.keeps.armed))
+    (c.arm.ensures.runs (ap is_stopped c.arm.ensures.arms ∙ runs.is.keeps.runs) pair machine runs)

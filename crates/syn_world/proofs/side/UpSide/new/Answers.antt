@@ -4,16 +4,7 @@ use Rattle.syn_world.proofs.side.UpSide.new.Goals as goal
 
 pub returns-clause-runs : goal.returns-clause-runs
 returns-clause-runs g c pair machine agent none is idle = record {
-  is = record {
-    pair_is = is.pair_is;
-    stands = is.stands;
-    room = is.room;
-    generation = is.generation;
-    armed = is.armed;
-    runs = is.runs;
-    staging = is.staging ∙ (none ∙ sym c.new.ensures);
-    left = is.left;
-  };
+  is = record { keeps = is.keeps; staging = is.staging ∙ (none ∙ sym c.new.ensures) };
   idle = λ _. idle;
   tries = λ told writing. absurd (none_not_some told (sym idle ∙ writing));
 }

@@ -17,5 +17,6 @@ returns-clause-rests g c pair machine runs = c.stop_at.ensures.rests pair
       position_is = c.position-position.ensures ∙ position_is pair c.args.self machine runs;
       tries = runs.tries;
       leaves = λ bytes may.
-          may_be_still (of_side pair) machine.journal Down unarmed 0 bytes (runs.is.left bytes may);
+          may_be_still (of_side pair) machine.journal Down unarmed 0 bytes
+          (runs.is.keeps.left bytes may);
     })

@@ -17,8 +17,9 @@ pub returns-clause-runs : goal.returns-clause-runs
 returns-clause-runs g c pair machine runs =
     let was = g.D.Disk.arms (disk_of c.args.self.replica) in
     let now = c.arm.ensures.arms
-    ∙ ap (λ b. if b then was else record was { stop = Some c.args.calls }) runs.is.runs in
+    ∙ ap (λ b. if b then was else record was { stop = Some c.args.calls }) runs.is.keeps.runs in
     subst (λ a. RunsAs pair c.arm.result
     (with_device (side_kind pair) machine machine.journal.status a 0))
-    (ap armed_at now ∙ ap (λ (a : Arms). record a { stop = c.args.calls }) (sym runs.is.armed))
+    (ap armed_at now
+    ∙ ap (λ (a : Arms). record a { stop = c.args.calls }) (sym runs.is.keeps.armed))
     (c.arm.ensures.runs (ap is_stopped now ∙ not_zero c.args.calls c.requires) pair machine runs)

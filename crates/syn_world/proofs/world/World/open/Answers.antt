@@ -18,7 +18,7 @@ returns-in-Err-start_side-clause-refused g c pair stores all =
     let left = c.in-Ok.ensures.starts pair stores.left all.fits
     (left_can g.D.Disk pair c.args.disks stores all) in
     c.in-Err-start_side.ensures.refused pair stores.right all.fits
-    (inr (ap Some (c.pair-pair.ensures ∙ left.runs.is.pair_is)))
+    (inr (ap Some (c.pair-pair.ensures ∙ left.runs.is.keeps.pair_is)))
     (right_can g.D.Disk pair c.args.disks stores all)
 
 pub returns-in-Ok-start_coordinator-clause-opened :
@@ -28,7 +28,7 @@ returns-in-Ok-start_coordinator-clause-opened g c pair stores all =
     (left_can g.D.Disk pair c.args.disks stores all) in
     let right = c.in-Ok-start_side.ensures.starts pair stores.right all.fits
     (right_can g.D.Disk pair c.args.disks stores all) in
-    let same = c.pair-pair.ensures ∙ left.runs.is.pair_is in
+    let same = c.pair-pair.ensures ∙ left.runs.is.keeps.pair_is in
     let bytes = g.D.Disk.seen c.args.disks.archive in
     let made = c.in-Ok-start_coordinator.coordinator in
     let archive = subst (λ p. StartsCoordinator p bytes stores.archive made) same
@@ -45,7 +45,7 @@ pub returns-in-Err-start_coordinator-clause-refused :
 returns-in-Err-start_coordinator-clause-refused g c pair stores all =
     let left = c.in-Ok.ensures.starts pair stores.left all.fits
     (left_can g.D.Disk pair c.args.disks stores all) in
-    let same = c.pair-pair.ensures ∙ left.runs.is.pair_is in
+    let same = c.pair-pair.ensures ∙ left.runs.is.keeps.pair_is in
     let bytes = g.D.Disk.seen c.args.disks.archive in
     c.in-Err-start_coordinator.ensures.refused stores.archive
     (subst (λ p. CanStart (of_archive p) (g.D.Disk.arms c.args.disks.archive) bytes stores.archive)
