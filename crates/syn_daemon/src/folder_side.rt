@@ -16,13 +16,9 @@ use syn_path::Side;
 use syn_recon::Item;
 use syn_reconcile::{Outcome, ReconcileError, Report, WhenEmpty, reconcile_shared};
 use syn_refusal::Refusal;
-use syn_replica::Replica;
+use syn_replica::{ROOM_FOR_EDITS, Replica};
 use syn_serve::{UpkeepStep, keep_up};
 use syn_shared::SharedReplica;
-
-/// The edits that make one tree of a replica another take a journal that takes a payload of so many
-/// bytes.
-const ROOM_FOR_EDITS: usize = 1_441_792;
 
 /// So often a folder is read that looks the same: what was written just as it was read may look as
 /// what was written then.

@@ -15,7 +15,8 @@
 //!   at any moment the disk stands for the history, or for that with all of them (`any_moment`:
 //!   `KeepsNoneOrAll`). It is refused for the first cause of the first that is refused, and then
 //!   none is made (`cause`, `refused`, `unchanged`). It takes the replica by value: refused, it
-//!   gives back the disk alone.
+//!   gives back the disk alone. `edit_all_with_room` does so after a checkpoint, where the journal
+//!   may have too little room.
 //! - Each call of one event is refused for the first cause in the model's order, 8 as the last of
 //!   them (`refused`). Each refusal has its cause, but for lack of memory and a failed device call
 //!   (`cause`). After any refusal but 9 the replica stands as it did (`unchanged`).
@@ -96,5 +97,5 @@ pub use error::ReplicaError;
 pub use lawful::disk_laws;
 pub use laws::opening_laws;
 pub use reading::{read_event, read_image, read_replica};
-pub use replica::{Listing, Piece, Replica, TokenStatus};
+pub use replica::{Listing, Piece, ROOM_FOR_EDITS, Replica, TokenStatus};
 pub use standing::{Standing, Update};

@@ -51,6 +51,7 @@ mod with_room;
 
 pub use listing::Listing;
 pub use session::{Piece, TokenStatus};
+pub use with_room::ROOM_FOR_EDITS;
 
 /// A replica of a file tree: a history of edits and of what sessions do, which outlives stops of
 /// its machine.

@@ -15,9 +15,10 @@ use std::alloc::Global;
 use syn_disk::Disk;
 use syn_tree::Edit;
 
-/// More bytes than the records of all needed edits that make one tree of a replica another: they
-/// have no more than the names and the bytes of a replica that is full, twice.
-const MOST_RECORDS: usize = 1_441_792;
+/// A journal that has room for so many bytes has room for the records of all needed edits that make
+/// one tree of a replica another: they have no more than the names and the bytes of a replica that
+/// is full, twice.
+pub const ROOM_FOR_EDITS: usize = 1_441_792;
 
 impl<D: Disk> Replica<D> {
     /// Makes the edits of the user, in their order, all of them or none. Where the journal may have
@@ -72,7 +73,7 @@ fn with_room<D: Disk>(
         (λ bytes. DiskStands (pair_of replica) bytes history)) }
     ensures refusals { IfErr result (λ refused. IsOneOf edit_refusals refused.0) }
 {
-    if replica.room() >= MOST_RECORDS {
+    if replica.room() >= ROOM_FOR_EDITS {
         return Ok(replica);
     }
     match replica.checkpoint(alloc) {
