@@ -148,6 +148,33 @@ where
     V: Told,
     O: Write,
 {
+    let mut sides = Sides {
+        left: Watched::new(line.left),
+        right: Watched::new(line.right),
+    };
+    let ended = keep_sides(rt, alloc, &mut coordinator, &mut sides, line, watch, output);
+    drop(sides);
+    drop(coordinator);
+    ended?;
+    Ok(Outcome::Done)
+}
+
+/// Looks at both sides every so many seconds, and runs a session where one has changed.
+fn keep_sides<H, D, V, O>(
+    rt: &H,
+    alloc: Global,
+    coordinator: &mut Coordinator<D>,
+    sides: &mut Sides<'_>,
+    line: &KeepCommand<'_>,
+    watch: &mut V,
+    output: &mut O,
+) -> Result<(), CommandError>
+where
+    H: Net<Listener = TcpListener, Stream = TcpStream> + Clock,
+    D: Disk,
+    V: Told,
+    O: Write,
+{
     let mut settled = Settled {
         positions: None,
         open: Open {
@@ -157,19 +184,15 @@ where
         },
         is_told: false,
     };
-    let mut sides = Sides {
-        left: Watched::new(line.left),
-        right: Watched::new(line.right),
-    };
     for _round in 0..u64::MAX {
-        if let Some(found) = positions(rt, alloc, &mut sides, watch, &mut settled) {
+        if let Some(found) = positions(rt, alloc, sides, watch, &mut settled) {
             if settled.positions != Some(found) {
-                settled = session(rt, alloc, &mut coordinator, line, watch, output, settled)?;
+                settled = session(rt, alloc, coordinator, line, watch, output, settled)?;
             }
         }
         thread::sleep(rt, Duration::from_secs(line.seconds.max(1)));
     }
-    Ok(Outcome::Done)
+    Ok(())
 }
 
 /// Both sides, as they are looked at.

@@ -37,6 +37,22 @@ pub fn reconcile_named<N: NamedDisks, F: Files, O: Write, E: Write>(
     let mut archive = archive_or_new(alloc, disks, &name, replica.pair())?;
     let mut folder = SystemFolder::open_or_missing(alloc, files, line.folder)?;
     tell_strangers(&folder, errors);
+    let (folder, archive) = (&mut folder, &mut archive);
+    let report = reconcile_opened(alloc, folder, replica, archive, line, telling, errors)?;
+    print_report(&report, output)?;
+    Ok(outcome_of(&report))
+}
+
+/// Makes the folder and the replica the same, and answers what came of each item.
+fn reconcile_opened<F: EditedFolder, R: Disk, A: Disk, E: Write>(
+    alloc: Global,
+    folder: &mut F,
+    replica: Replica<R>,
+    archive: &mut Archive<A>,
+    line: &ReconcileCommand<'_>,
+    telling: ProgressMode,
+    errors: &mut E,
+) -> Result<Report, CommandError> {
     let mut watch = ItemsTold {
         alloc,
         telling,
@@ -46,9 +62,9 @@ pub fn reconcile_named<N: NamedDisks, F: Files, O: Write, E: Write>(
     };
     let settled = reconcile(
         alloc,
-        &mut folder,
+        folder,
         replica,
-        &mut archive,
+        archive,
         line.user,
         line.preference,
         when_empty(line),
@@ -56,10 +72,7 @@ pub fn reconcile_named<N: NamedDisks, F: Files, O: Write, E: Write>(
     );
     telling.end(errors);
     match settled {
-        Ok((_, report)) => {
-            print_report(&report, output)?;
-            Ok(outcome_of(&report))
-        }
+        Ok((_, report)) => Ok(report),
         Err((error, _)) => Err(told(error, line, errors)),
     }
 }
@@ -81,14 +94,29 @@ pub fn plan_named<N: NamedDisks, F: Files, O: Write, E: Write>(
     let replica = replica_to_read(alloc, disks, line.file)?;
     let folder = SystemFolder::open_or_missing(alloc, files, line.folder)?;
     tell_strangers(&folder, errors);
-    match disks.lock(&name, Access::Read) {
+    plan_with(alloc, disks, &name, &folder, &replica, line, output, errors)
+}
+
+/// Prints what is to be done of the folder and the replica, with the archive of that name, or with
+/// an empty one where none is there.
+fn plan_with<N: NamedDisks, F: EditedFolder, R: Disk, O: Write, E: Write>(
+    alloc: Global,
+    disks: &N,
+    name: &str,
+    folder: &F,
+    replica: &Replica<R>,
+    line: &ReconcileCommand<'_>,
+    output: &mut O,
+    errors: &mut E,
+) -> Result<Outcome, CommandError> {
+    match disks.lock(name, Access::Read) {
         Err(error) if is_missing(&error) => {
             let archive = empty_archive(alloc, replica.pair())?;
-            plan_opened(alloc, &folder, &replica, &archive, line, output, errors)
+            plan_opened(alloc, folder, replica, &archive, line, output, errors)
         }
         locked => {
             let archive = archive_on(alloc, locked)?;
-            plan_opened(alloc, &folder, &replica, &archive, line, output, errors)
+            plan_opened(alloc, folder, replica, &archive, line, output, errors)
         }
     }
 }
