@@ -44,7 +44,7 @@ pub fn reconcile_named<N: NamedDisks, F: Files, O: Write, E: Write>(
 }
 
 /// Makes the folder and the replica the same, and answers what came of each item.
-fn reconcile_opened<F: EditedFolder, R: Disk, A: Disk, E: Write>(
+fn reconcile_opened<F: EditedFolder, R: Disk + Drop, A: Disk, E: Write>(
     alloc: Global,
     folder: &mut F,
     replica: Replica<R>,
