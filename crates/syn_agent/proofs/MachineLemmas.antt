@@ -1,5 +1,5 @@
 -- An answer is a step of the world's side.
-use Rattle.std.proofs.Common.{◌≡◌, ◌∙◌, ◌+◌, ◌-◌, ◌≤◌, ℕ, List, [], ◌∷◌, arith, ◌++◌, Option, None}
+use Rattle.std.proofs.Common.{◌≡◌, ◌∙◌, ◌-◌, ℕ, List, [], ◌∷◌, arith, ◌++◌, Option, None}
 use Rattle.std.proofs.Common.{Some, ap, inl, inr, refl, subst, sym}
 use Rattle.std.specs.Prelude.{nat_le}
 use Rattle.syn_agent.specs.Agents.{side_of, staging_of}

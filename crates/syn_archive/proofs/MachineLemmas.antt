@@ -1,5 +1,5 @@
 -- A call of an archive is what its machine does, as the machine of its state says it.
-use Rattle.std.proofs.Common.{◌≡◌, ◌⊎◌, ◌∙◌, ◌-◌, ℕ, true, false, if◌then◌else◌, [], ◌∷◌, Option}
+use Rattle.std.proofs.Common.{◌≡◌, ◌⊎◌, ◌∙◌, ℕ, true, false, if◌then◌else◌, [], ◌∷◌, Option}
 use Rattle.std.proofs.Common.{Some, None, refl, sym, ap, subst, inl, inr}
 use Rattle.std.proofs.lemmas.Option.{none-some}
 use Rattle.syn_disk.specs.declared.disk.Disk.{Ghosts}
@@ -16,10 +16,9 @@ use Rattle.syn_model.specs.Path.{Path}
 use Rattle.syn_model.specs.Refusal as why
 use Rattle.syn_model.specs.Refusal.{Refusal, Device}
 use Rattle.syn_model.specs.Tree.{empty_directory, is_directory, replace}
-use Rattle.syn_archive.specs.Archive.{IsHalted, KeepsReadings, generation_shown, left_shown}
+use Rattle.syn_archive.specs.Archive.{IsHalted, KeepsReadings}
 use Rattle.syn_archive.specs.Archive.{marks_shown, pair_of}
 use Rattle.syn_archive.specs.Calls.{Compacts, Writes}
-use Rattle.syn_archive.specs.Disks.{kept_size}
 use Rattle.syn_archive.specs.Machines.{CompactsImage, Fails, IsDown, IsMachine, IsShown, Journal}
 use Rattle.syn_archive.specs.Machines.{KeepsRecord, ReadsDisk, Runs, breaks, breaks_off, compacts}
 use Rattle.syn_archive.specs.Machines.{failed_reading, keeps, moves_down, moves_on, read, refuses}

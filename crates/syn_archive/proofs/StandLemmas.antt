@@ -1,18 +1,15 @@
 -- What an archive and its disk stand for goes on.
-use Rattle.std.proofs.Common.{◌≡◌, ◌⊎◌, ◌<◌, ℕ, ◌-◌, ◌+◌, ◌==◌, ◌^◌, true, false, not, nat_le}
-use Rattle.std.proofs.Common.{if◌then◌else◌, List, [], ◌∷◌, ◌++◌, Some, None, sym, ap, ap₂, ◌∙◌}
+use Rattle.std.proofs.Common.{◌≡◌, ◌⊎◌, ℕ, ◌-◌, ◌+◌}
+use Rattle.std.proofs.Common.{List, [], ◌∷◌, ◌++◌, sym, ap, ap₂, ◌∙◌}
 use Rattle.std.proofs.Common.{subst, inl, inr, arith}
-use Rattle.std.proofs.lemmas.Bool.Decides.{nat_tests}
 use Rattle.syn_disk.specs.declared.disk.Disk.{Ghosts}
 use Rattle.syn_journal.specs.Journal as journal
 use Rattle.syn_journal.specs.Layout.{Value, HasJournal, LeftBehindPayload, half_size, image_alone}
 use Rattle.syn_journal.specs.Layout.{with_payload, record_size, bytes_left, IsBeforeOrAfter}
 use Rattle.syn_disk.specs.Stops.{LeavesOnly}
 use Rattle.syn_model.specs.Path.{Bytes}
-use Rattle.syn_model.specs.Limits.{greatest}
 use Rattle.syn_model.specs.Version.{current_version}
-use Rattle.syn_model.specs.Refusal.{Full, BadMessage}
-use Rattle.syn_model.specs.Archive.{Archive, Kept, Session, CanKeep, after_kept}
+use Rattle.syn_model.specs.Archive.{Archive, Kept, CanKeep, after_kept}
 use Rattle.syn_model.specs.MarkSpelling.{archive_spelling, kept_spelling}
 use Rattle.syn_model.specs.ArchiveImage.{ArchiveStandsFor, RecordGoesOn, StandsForSound}
 use Rattle.syn_model.specs.ArchiveImage.{ArchiveImageStands}

@@ -1,34 +1,32 @@
 -- A record that is due is what its machine does.
-use Rattle.std.proofs.Common.{◌≡◌, ◌≢◌, ◌⊎◌, ◌≤◌, ◌<◌, ◌+◌, ◌^◌, ℕ, Bool, true, false, nat_le, ◌||◌}
-use Rattle.std.proofs.Common.{if◌then◌else◌, List, [], ◌∷◌, ◌++◌, Some, None, is_some, refl, sym}
+use Rattle.std.proofs.Common.{◌≡◌, ◌≢◌, ◌⊎◌, ◌<◌, ◌+◌, ◌^◌, ℕ, Bool, true, false, nat_le, ◌||◌}
+use Rattle.std.proofs.Common.{[], ◌∷◌, ◌++◌, Some, None, is_some, refl, sym}
 use Rattle.std.proofs.Common.{Ok, Err, ap, ap₂, ◌∙◌, subst, inl, inr, arith}
 use Rattle.std.proofs.lemmas.Bool.{false≢true, true≢false}
 use Rattle.std.proofs.lemmas.Bool.Decides.{nat_tests}
 use Rattle.std.proofs.lemmas.Option.{none-some}
 use Rattle.std.specs.FinMap.{get, get-empty}
-use Rattle.syn_archive.specs.Archive.{Stands, IsHalted, KeepsBeforeOrAfter, KeepsReadings, pair_of}
-use Rattle.syn_archive.specs.Archive.{shown, disk_of, left_shown, marks_shown, generation_shown}
+use Rattle.syn_archive.specs.Archive.{IsHalted, KeepsReadings}
+use Rattle.syn_archive.specs.Archive.{shown, disk_of, left_shown, generation_shown}
 use Rattle.syn_archive.specs.Archive.{journal_of}
-use Rattle.syn_archive.specs.Disks.{DiskKeeps, kept_size}
+use Rattle.syn_archive.specs.Disks.{kept_size}
 use Rattle.syn_archive.specs.Refusals.{refusal_of}
 use Rattle.syn_archive.specs.declared.archive.Archive.{Archive}
 use Rattle.syn_archive.specs.declared.error.ArchiveError.{ArchiveError}
 use Rattle.syn_archive.specs.declared.error.ArchiveError.TheVariants as error
 use Rattle.syn_disk.specs.Arms.{is_stopped}
-use Rattle.syn_disk.specs.Stops.{LeavesOnly}
 use Rattle.syn_disk.specs.declared.disk.Disk.{Ghosts}
-use Rattle.syn_headline.specs.Coordinator.{archive_layout, writes}
+use Rattle.syn_headline.specs.Coordinator.{archive_layout}
 use Rattle.syn_headline.specs.Machine.{Up, Halted, Status, Compacts, compacted, not_compacted}
-use Rattle.syn_headline.specs.Machine.{has_room, idle}
+use Rattle.syn_headline.specs.Machine.{has_room}
 use Rattle.syn_headline.specs.Session.{is_recorded}
-use Rattle.syn_model.specs.Archive as model
-use Rattle.syn_model.specs.Archive.{Kept, CanKeep, IsLawfulKept, RecordedDir, after_kept}
-use Rattle.syn_model.specs.Archive.{kept_refusal, record_causes}
+use Rattle.syn_model.specs.Archive.{Kept, CanKeep, IsLawfulKept}
+use Rattle.syn_model.specs.Archive.{kept_refusal}
 use Rattle.syn_model.specs.Limits.{greatest}
 use Rattle.syn_model.specs.Mark.{IsMarks}
-use Rattle.syn_model.specs.Path.{Bytes, Path, path_cmp, is_root}
+use Rattle.syn_model.specs.Path.{Path, path_cmp}
 use Rattle.syn_model.specs.Refusal.{Refusal, Device}
-use Rattle.syn_model.specs.Tree.{absent, IsPart, is_directory, replace, empty_directory}
+use Rattle.syn_model.specs.Tree.{absent, IsPart}
 use Rattle.syn_refusal.specs.declared.refusal.Refusal.TheVariants as refusal
 use Rattle.syn_archive.specs.Machines.{CompactsImage, IsMachine, Journal, KeepsRecord, Runs}
 use Rattle.syn_archive.specs.Machines.{breaks_off, refuses}

@@ -1,7 +1,7 @@
 -- What a coordinator remembers of a record that could not be kept.
-use Rattle.std.specs.Prelude.{◌≡◌, ◌≢◌, ◌≤◌, ◌-◌, ◌==◌, ◌&&◌, ℕ, Bool, nat_lt, List, [], ◌∷◌}
+use Rattle.std.specs.Prelude.{◌≡◌, ◌≢◌, ◌≤◌, ◌-◌, ◌==◌, ◌&&◌, Bool, nat_lt, List, [], ◌∷◌}
 use Rattle.std.specs.Prelude.{Option, Some, None, if◌then◌else◌}
-use Rattle.syn_archive.specs.Archive.{generation_shown, left_shown, room_shown}
+use Rattle.syn_archive.specs.Archive.{generation_shown, room_shown}
 use Rattle.syn_archive.specs.Disks.{kept_size}
 pub use Rattle.syn_archive.specs.Machines.{IsShown}
 use Rattle.syn_archive.specs.declared.archive.Archive.{Archive}

@@ -1,7 +1,7 @@
 -- What a run leaves that refused no item, and beside which nobody else edited.
 use mathlib.Core.List.{IsPrefix}
 use Rattle.std.proofs.Common.{◌≡◌, ◌≢◌, ◌∙◌, ◌++◌, ◌∷◌, [], ℕ, Bool, true, false, List, Option}
-use Rattle.std.proofs.Common.{None, Some, Result, Ok, Err, ap, ap₂, append-nil, append_assoc}
+use Rattle.std.proofs.Common.{None, Result, Ok, Err, ap, ap₂, append-nil, append_assoc}
 use Rattle.std.proofs.Common.{cond, eq-eqb}
 use Rattle.std.proofs.Common.{eqb, map}
 use Rattle.std.proofs.Common.{refl, subst, sym}
@@ -19,7 +19,7 @@ use Rattle.syn_lock.specs.declared.view.Hold.{Hold}
 use Rattle.syn_lock.specs.declared.view.View.{View}
 use Rattle.syn_model.specs.Decision.{Item, ToLeft, ToRight, MarkSame, MarkDir, Conflict, path_of}
 use Rattle.syn_model.specs.Event.{Edit, Edited}
-use Rattle.syn_model.specs.History.{History, tree_of}
+use Rattle.syn_model.specs.History.{History}
 use Rattle.syn_model.specs.Mark.{mark}
 use Rattle.syn_model.specs.Path.{Path}
 use Rattle.syn_model.specs.Plan.{ItemFindsSides, Trees, after_item, after_plan, carried_out}

@@ -13,7 +13,7 @@ use Rattle.syn_lock.specs.Locks.{origin_of}
 use Rattle.syn_lock.specs.Passes.{view_of}
 use Rattle.syn_lock.specs.declared.own.Pass.{Pass}
 use Rattle.syn_lock.specs.declared.view.Hold.{Hold}
-use Rattle.syn_model.specs.Decision.{Item, ToLeft, ToRight, MarkSame, MarkDir, Conflict}
+use Rattle.syn_model.specs.Decision.{Item, ToRight}
 use Rattle.syn_model.specs.History.{History}
 use Rattle.syn_model.specs.Mark.{AreApart}
 use Rattle.syn_model.specs.Path.{Path}

@@ -12,7 +12,7 @@ use Rattle.syn_journal.specs.Machines as machine
 use Rattle.syn_journal.specs.Meaning.{MayBeOf}
 use Rattle.syn_journal.specs.Meaning as meaning
 use Rattle.syn_model.specs.Event.{Event}
-use Rattle.syn_model.specs.History.{History, IsAllowed}
+use Rattle.syn_model.specs.History.{IsAllowed}
 use Rattle.syn_model.specs.Image.{StandsFor}
 use Rattle.syn_model.specs.Laws.{AllowedGoesOn, StandingSteps}
 use Rattle.syn_model.specs.Path.{Bytes}

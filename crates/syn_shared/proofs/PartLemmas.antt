@@ -1,21 +1,18 @@
 -- A part that is put at a path by edits in turn.
-use Rattle.std.proofs.Common.{◌≡◌, ◌∙◌, ◌++◌, ◌∷◌, [], ℕ, List, Option, None, Some, Result, Ok, Err}
+use Rattle.std.proofs.Common.{◌≡◌, ◌∙◌, ◌++◌, ◌∷◌, [], ℕ, List, Result}
 use Rattle.std.proofs.Common.{append-nil, append_assoc, ap, fold, map, refl, subst, sym}
-use Rattle.std.specs.Prelude.{IfOk, IsErrAnd}
+use Rattle.std.specs.Prelude.{IfOk}
 use Rattle.syn_change.specs.Changes.{AreChanges, after_edits}
 use Rattle.syn_disk.specs.declared.disk.Disk.{Ghosts}
 use Rattle.syn_model.proofs.HistoryLemmas.{tree_of-append}
 use Rattle.syn_model.specs.Event.{Edit, Edited, Event, after_event}
 use Rattle.syn_model.specs.History.{History, tree_of}
 use Rattle.syn_model.specs.Path.{Path}
-use Rattle.syn_model.specs.Refusal.{Refusal, first_cause}
 use Rattle.syn_model.specs.Standing.{Standing}
 use Rattle.syn_model.specs.Tree.{Tree, replace}
 use Rattle.syn_replica.specs.Edits.{event_by}
 use Rattle.syn_replica.specs.Replica.{Stands, tree_shown}
 use Rattle.syn_replica.specs.declared.replica.Replica.{Replica}
-use Rattle.syn_replica.specs.Causes.{since_causes}
-use Rattle.syn_replica.specs.ErrorRefusals.{refusal_of}
 use Rattle.syn_replica.specs.declared.error.ReplicaError.{ReplicaError}
 use Rattle.syn_tree.specs.Edits.{edit_of}
 use Rattle.syn_tree.specs.declared.edit.Edit.{Edit as Planned}

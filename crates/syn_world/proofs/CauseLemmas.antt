@@ -5,7 +5,6 @@ use Rattle.std.specs.Prelude.{nat_le, length}
 use Rattle.syn_headline.specs.SideMachine.{SideMachine, causes_of}
 use Rattle.syn_headline.specs.Machine.{Up, Halted}
 use Rattle.syn_headline.specs.MachineSteps.{causes_at, is_halted}
-use Rattle.syn_journal.specs.declared.error.JournalError.TheVariants as journal
 use Rattle.syn_model.specs.Event.{Edit, Edited}
 use Rattle.syn_model.specs.History.{event_causes}
 use Rattle.syn_model.specs.Refusal.{Refusal, Cause, first_cause}

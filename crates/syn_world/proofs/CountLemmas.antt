@@ -1,5 +1,5 @@
 -- The coordinator's machine counts no more failed calls than its disk, whatever call is made of it.
-use Rattle.std.proofs.Common.{◌≡◌, ◌⊎◌, ◌≤◌, ◌∙◌, ◌+◌, ℕ, List, None, Option, Some, arith, inl, inr}
+use Rattle.std.proofs.Common.{◌≡◌, ◌⊎◌, ◌≤◌, ◌∙◌, ◌+◌, ℕ, List, Option, Some, arith, inl, inr}
 use Rattle.std.proofs.Common.{refl, ap, subst, sym, true}
 use Rattle.std.proofs.lemmas.Bool.{false≢true}
 use Rattle.syn_archive.specs.Archive.{IsHalted, disk_of}

@@ -1,6 +1,6 @@
 -- A run of a world from three disks, and the opening after it.
 use Rattle.std.proofs.Common.{◌≡◌, ◌∙◌, ◌<◌, ℕ, List, Result, Ok, Err, Some, ap, option_map}
-use Rattle.std.proofs.Common.{◌+◌, ◌≤◌, [], append-nil, arith, inr, refl, subst, sym}
+use Rattle.std.proofs.Common.{◌≤◌, [], append-nil, arith, inr, refl, subst, sym}
 use Rattle.std.specs.Prelude.{◌^◌, IfErr, IfOk, MatchResult}
 use Rattle.syn_disk.specs.Arms.{Arms, no_arms}
 use Rattle.syn_disk.specs.declared.disk.Disk.{Ghosts}

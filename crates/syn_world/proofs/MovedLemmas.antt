@@ -1,5 +1,5 @@
 -- A side after a call that moved its machine, as its replica says it: it goes on, or it is down.
-use Rattle.std.proofs.Common.{◌≡◌, ◌≢◌, ◌∙◌, ◌+◌, ◌<◌, ◌≤◌, ℕ, Bool, true, false, [], Option, Some}
+use Rattle.std.proofs.Common.{◌≡◌, ◌≢◌, ◌∙◌, ◌≤◌, ℕ, Bool, true, false, [], Option, Some}
 use Rattle.std.proofs.Common.{arith, ap, refl, subst, sym}
 use Rattle.std.specs.Prelude.{length}
 use Rattle.syn_agent.specs.Agents.{staging_of}

@@ -1,5 +1,5 @@
 -- Another opening of a side's own disk is a step of its machine, as its replica says it.
-use Rattle.std.proofs.Common.{◌≡◌, ◌∙◌, ◌+◌, ◌-◌, ◌<◌, ◌≤◌, ℕ, suc, zero, [], ◌∷◌, Option, Some}
+use Rattle.std.proofs.Common.{◌≡◌, ◌∙◌, ◌-◌, ◌<◌, ℕ, suc, zero, [], ◌∷◌, Option, Some}
 use Rattle.std.proofs.Common.{None, inl, inr, refl, sym, ap₂, subst, arith}
 use Rattle.std.specs.Prelude.{length}
 use Rattle.syn_agent.specs.declared.agent.Agent.{Agent}

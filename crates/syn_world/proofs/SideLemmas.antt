@@ -1,5 +1,5 @@
 -- A side that runs as a machine, and what device calls leave of it.
-use Rattle.std.proofs.Common.{◌≡◌, ◌≢◌, ◌⊎◌, ◌∙◌, ◌+◌, ℕ, Option, Some, None, refl, sym, ap}
+use Rattle.std.proofs.Common.{◌≡◌, ◌≢◌, ◌⊎◌, ◌∙◌, ℕ, Option, Some, None, refl, sym, ap}
 use Rattle.std.proofs.Common.{arith, inl, inr, false}
 use Rattle.std.specs.Prelude.{length}
 use Rattle.syn_agent.specs.declared.agent.Agent.{Agent}
@@ -13,7 +13,6 @@ use Rattle.syn_world.specs.declared.side.SideHost.TheVariants as host
 use Rattle.syn_world.specs.declared.side.UpSide.{UpSide}
 use Rattle.syn_model.specs.Event.{Event}
 use Rattle.syn_model.specs.History.{History}
-use Rattle.syn_journal.specs.Journal as journal
 use Rattle.syn_replica.specs.Machines.{StandsAs}
 use Rattle.syn_replica.specs.Replica.{IsHalted, Remembers, Stands, disk_of, position_shown}
 use Rattle.syn_replica.specs.declared.replica.Replica.{Replica}

@@ -1,5 +1,5 @@
 -- What three disks stand for, and the world that is opened from them.
-use Rattle.std.specs.Prelude.{◌≡◌, ◌+◌, ◌<◌, ◌^◌, ℕ, None, Option, Some, option_map}
+use Rattle.std.specs.Prelude.{◌≡◌, ◌+◌, ◌<◌, ◌^◌, ℕ, None, Some, option_map}
 use Rattle.syn_disk.specs.Arms.{Arms}
 use Rattle.syn_disk.specs.Disk.{NothingNew}
 use Rattle.syn_disk.specs.declared.disk.Disk.{Ghosts}

@@ -1,6 +1,6 @@
 -- How a call goes through the plan of its session, and what it has come to then.
 use Rattle.std.specs.Option.{option_map_or}
-use Rattle.std.specs.Prelude.{◌≡◌, ◌≤◌, ℕ, true, false, List, [], ◌++◌, Option, Some, None}
+use Rattle.std.specs.Prelude.{◌≡◌, ◌≤◌, ℕ, true, false, List, [], ◌++◌, Option, None}
 use Rattle.syn_archive.specs.Archive.{disk_of}
 use Rattle.syn_archive.specs.declared.archive.Archive.{Archive}
 use Rattle.syn_coordinator.specs.declared.ended.Ended.{Ended}
@@ -14,8 +14,6 @@ use Rattle.syn_coordinator.specs.Machines.{IsMachine, Journal, LeavesMachine}
 use Rattle.syn_coordinator.specs.Tries.{Tries}
 use Rattle.syn_coordinator.specs.declared.tried.Unconfirmed.{Unconfirmed}
 use Rattle.syn_model.specs.Archive.{Kept}
-use Rattle.syn_model.specs.Refusal.{Refusal}
-use Rattle.syn_refusal.specs.Refusals.{cause_of}
 use Rattle.syn_scan.specs.Found.{Found}
 use Rattle.syn_session.specs.Carrying.{AsksOne}
 use Rattle.syn_session.specs.Plans.{Plan}

@@ -1,4 +1,4 @@
-use Rattle.std.proofs.Common.{◌≡◌, ap, map, subst}
+use Rattle.std.proofs.Common.{map, subst}
 use Rattle.syn_change.specs.Changes.{AreChanges}
 use Rattle.syn_model.specs.Tree.{Tree, replace}
 use Rattle.syn_tree.specs.Edits.{edit_of}

@@ -1,4 +1,4 @@
-use Rattle.std.proofs.Common.{◌≡◌, ◌∙◌, List, None, Some, ap, inl, refl, subst, sym}
+use Rattle.std.proofs.Common.{◌∙◌, List, None, Some, ap, inl, refl, subst, sym}
 use Rattle.std.specs.Prelude.{IfErr}
 use Rattle.syn_archive.specs.Archive.{disk_of, marks_shown, pair_of}
 use Rattle.syn_disk.specs.Stops.{LeavesOnly}

@@ -1,7 +1,6 @@
-use Rattle.std.proofs.Common.{◌≡◌, ◌∙◌, [], List, None, Ok, ap, refl, subst, sym}
+use Rattle.std.proofs.Common.{◌∙◌, [], List, None, refl, subst, sym}
 use Rattle.syn_archive.specs.Archive.{disk_of, marks_shown, pair_of}
 use Rattle.syn_disk.proofs.LeftLemmas.{leaves_weaker}
-use Rattle.syn_disk.specs.Stops.{LeavesOnly}
 use Rattle.syn_model.specs.Decision.{Item}
 use Rattle.syn_model.specs.Plan.{IsReconciled, IsSynchronized}
 use Rattle.syn_reconcile.proofs.AloneLemmas.{alone, sides_same}

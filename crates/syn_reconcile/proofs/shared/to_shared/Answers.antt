@@ -1,4 +1,4 @@
-use Rattle.std.proofs.Common.{◌≡◌, ◌∙◌, Err, None, Ok, Some, ap, inl, refl, subst, sym}
+use Rattle.std.proofs.Common.{◌∙◌, Err, Ok, Some, ap, inl, refl, subst, sym}
 use Rattle.syn_archive.specs.Archive.{marks_shown}
 use Rattle.syn_mark.specs.Marks.{or_absent}
 use Rattle.syn_model.specs.Decision.{ToRight}

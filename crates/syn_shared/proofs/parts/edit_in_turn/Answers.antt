@@ -1,4 +1,4 @@
-use Rattle.std.proofs.Common.{◌≡◌, ◌∙◌, ◌++◌, ◌∷◌, [], ℕ, List, Result, Ok, Err, ap, append-nil}
+use Rattle.std.proofs.Common.{◌≡◌, ◌∙◌, ◌++◌, ◌∷◌, [], ℕ, List, Result, Ok, ap, append-nil}
 use Rattle.std.proofs.Common.{append_assoc, arith, map, subst, sym}
 use Rattle.std.proofs.lemmas.List.{map-append, nil_from_length}
 use Rattle.syn_model.proofs.ExitLemmas.{exit_is}

@@ -1,6 +1,6 @@
 use Rattle.std.proofs.Common.{inl, inr, refl}
 use Rattle.std.specs.Prelude.{map}
-use Rattle.syn_world.specs.Failures.{FailWithDisks, disks_in, failures_in, failures_on}
+use Rattle.syn_world.specs.Failures.{disks_in, failures_in, failures_on}
 use Rattle.syn_world.specs.Openings.{shown_on}
 use Rattle.syn_world.specs.Steps.{step_of}
 use Rattle.syn_world.proofs.FailureLemmas.{counts_from}

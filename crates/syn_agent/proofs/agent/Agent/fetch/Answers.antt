@@ -5,7 +5,6 @@ use Rattle.syn_agent.proofs.agent.Agent.fetch.Goals as goal
 use Rattle.syn_agent.specs.Answers.{Answers}
 use Rattle.syn_headline.specs.Side.{Fetch, Refused}
 use Rattle.syn_model.specs.Event.{AreBytes}
-use Rattle.syn_model.specs.Refusal as why
 
 pub returns-in-Ok-clause-answers : goal.returns-in-Ok-clause-answers
 returns-in-Ok-clause-answers g c history session stands =

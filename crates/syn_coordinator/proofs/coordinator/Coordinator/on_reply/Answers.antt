@@ -9,7 +9,7 @@ use Rattle.syn_session.specs.Sendings.{messages_of}
 use Rattle.syn_session.specs.Answering.{exchange_of}
 use Rattle.syn_coordinator.specs.Machines.{IsMachine}
 use Rattle.syn_image.specs.Archives.{kept_of}
-use Rattle.syn_archive.specs.Archive.{IsHalted, disk_of}
+use Rattle.syn_archive.specs.Archive.{IsHalted}
 use Rattle.syn_coordinator.proofs.BreakLemmas.{ends_still, none_breaks, none_told, still_breaks}
 use Rattle.syn_coordinator.proofs.BreakLemmas.{then_nothing, told_so}
 use Rattle.syn_coordinator.proofs.HaltLemmas.{ends_by_failure, fails_or_stops, up_not_halted}

@@ -1,4 +1,4 @@
-use Rattle.std.proofs.Common.{List, Some, subst, refl, sym, inl, inr}
+use Rattle.std.proofs.Common.{List, Some, subst, refl, sym}
 use Rattle.syn_headline.specs.Machine.{Up}
 use Rattle.std.specs.Prelude.{option_map}
 use Rattle.syn_image.specs.Archives.{kept_of}

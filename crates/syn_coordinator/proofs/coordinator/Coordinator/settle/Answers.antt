@@ -1,5 +1,4 @@
 use Rattle.std.proofs.Common.{◌∙◌, sym, [], ◌∷◌, inl, inr, refl}
-use Rattle.syn_refusal.specs.declared.refusal.Refusal.TheVariants as refusal
 use Rattle.syn_coordinator.specs.declared.ended.Ended.TheVariants.{Early, Failed}
 use Rattle.syn_coordinator.specs.inner.Advancing.{kept_by}
 use Rattle.syn_coordinator.proofs.AdvanceLemmas.{record_due}

@@ -1,5 +1,5 @@
 use Rattle.std.proofs.Common.{subst, sym}
-use Rattle.syn_replica.proofs.WithRoomLemmas.{Leaves, compacted, still}
+use Rattle.syn_replica.proofs.WithRoomLemmas.{Leaves, compacted}
 use Rattle.syn_replica.specs.Disks.{DiskStands}
 use Rattle.syn_replica.specs.Replica.{disk_of, pair_of}
 use Rattle.syn_replica.proofs.replica.with_room.with_room.Goals as goal
