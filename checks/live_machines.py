@@ -96,8 +96,8 @@ def until(is_so, fault, seconds=60):
 
 
 def settle(machines):
-    """Waits until folders and replicas are the same, or have stayed apart at the same paths for some
-    looks and sessions, and answers these paths."""
+    """Waits until folders and replicas are the same, or have stayed apart at the same paths for
+    some looks and sessions, and answers these paths."""
     last, since = None, time.monotonic()
     while True:
         try:

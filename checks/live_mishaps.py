@@ -57,7 +57,7 @@ def logs(server, text):
 
 
 def folder_on_a_full_disk():
-    """What finds no room in a folder is told, stays in its replica, and comes once there is room."""
+    """What finds no room in a folder is told, stays in its replica, and comes once there is some."""
     files = {f"f{number:02}": os.urandom(16000) for number in range(30)}
     with mounted("left", "-t", "tmpfs", "-o", "size=256k", "none"), kept_same() as machines:
         pathlib.Path("left/mine").write_bytes(b"mine")
@@ -77,8 +77,8 @@ def folder_on_a_full_disk():
 
 
 def image_on_a_full_disk():
-    """What finds no room in an image is told, stays in the folder, and is carried once there is room
-    and the server is started anew."""
+    """What finds no room in an image is told, stays in the folder, and is carried once there is
+    room and the server is started anew."""
     files = {f"f{number:02}": os.urandom(16000) for number in range(30)}
     with mounted("disk", "-t", "tmpfs", "-o", "size=256k", "none"):
         with kept_same("disk/left.img") as machines:
