@@ -1,43 +1,41 @@
 -- A step is refused 9 only after a device call of it failed.
-use Rattle.std.proofs.Common.{◌≡◌, ◌≢◌, ◌<◌, ℕ, zero, suc, Bool, true, false, true≢false}
-use Rattle.std.proofs.Common.{if◌then◌else◌, List, [], ◌∷◌, ◌++◌, append-nil, refl, sym, ap, ◌∙◌}
-use Rattle.std.proofs.Common.{subst, Option, Some, arith, inl, inr, slice_get}
 use Rattle.std.specs.List.{AllByRecursion}
+use Rattle.std.proofs.Common.{◌≡◌, ◌≢◌, ◌<◌, ℕ, Bool, true, false, true≢false, if◌then◌else◌, List}
+use Rattle.std.proofs.Common.{[], ◌∷◌, ◌++◌, append-nil, refl, sym, ap, ◌∙◌, subst, Option, Some}
+use Rattle.std.proofs.Common.{arith, slice_get, None}
 use Rattle.std.proofs.lemmas.List.{append_cancel_left}
 use Rattle.std.proofs.lemmas.Option.{none-some, same_Some}
-use Rattle.std.proofs.lemmas.List.Elements.{All-nil}
 use Rattle.syn_model.specs.Refusal.{Refusal, Device, Memory, JournalFull, Halted as Halted_before}
 use Rattle.syn_model.specs.Refusal.{Cause, first_cause}
 use Rattle.syn_model.specs.Event.{Edit, Put, MakeDir, Remove, Chmod, Event, Edited}
 use Rattle.syn_model.proofs.HistoryLemmas.{first_cause-none}
 use Rattle.syn_headline.specs.Machine.{Status, Up, Halted, Down, Arms, Meets, all_made, one_fails}
-use Rattle.syn_headline.specs.Machine.{one_stops, Journaled, unarmed, after_device}
+use Rattle.syn_headline.specs.Machine.{one_stops, Journaled, after_device, Compacts}
 use Rattle.syn_headline.specs.MachineSteps.{Kind, Effect, MachineCall, Does, is_halted, refused_by}
-use Rattle.syn_headline.specs.MachineSteps.{causes_at, full_generation, with_device, UnlessDown}
-use Rattle.syn_headline.specs.MachineSteps.{is_down, is_done, refuses, makes, Calls, Checkpoints}
-use Rattle.syn_headline.specs.MachineSteps.{checkpoints, OpensDown, is_open, opens, open_fails}
-use Rattle.syn_headline.specs.MachineSteps.{no_memory_to_open, Reopens, reopens, reopen_fails}
-use Rattle.syn_headline.specs.MachineSteps.{reopen_is_cut, no_memory_to_reopen, Arming, arming}
-use Rattle.syn_headline.specs.MachineSteps as one
+use Rattle.syn_headline.specs.MachineSteps.{causes_at, full_generation, with_device, Calls}
 use Rattle.syn_headline.specs.SideMachine.{SideMachine, side_layout, causes_of, side_kind}
 use Rattle.syn_headline.specs.SideMachine.{EditsSide, edits, UserEdits}
 use Rattle.syn_headline.specs.Network.{Which, Left, Right, Message}
 use Rattle.syn_headline.specs.Coordinator.{CoordinatorMachine, Call, Walk, Exchange, Running}
 use Rattle.syn_headline.specs.Coordinator.{start_of, start_causes, EndsFor, Starts}
-use Rattle.syn_headline.specs.Coordinator.{CoordinatorStarts, coordinator_kind, hearing, advanced}
-use Rattle.syn_headline.specs.Coordinator.{report_of}
-use Rattle.syn_headline.specs.Coordinator as coordinator
+use Rattle.syn_headline.specs.Coordinator.{CoordinatorStarts, coordinator_kind}
 use Rattle.syn_headline.specs.World.{World, Machine, At, Coordinator, Edits, Start, Deliver, Tick}
 use Rattle.syn_headline.specs.World.{Checkpoint, Fail, Stop, Open, Reopen, side_of, side_goes}
 use Rattle.syn_headline.specs.World.{failures_of, refuses_with, SideDoes, side_does}
 use Rattle.syn_headline.specs.World.{CoordinatorDoes, coordinator_does, MachineDoes, Delivers}
 use Rattle.syn_headline.specs.World.{no_message, to_no_side, to_side, to_coordinator, Ticks, ticks}
-use Rattle.syn_headline.specs.World as world
+use Rattle.syn_headline.proofs.MachineLemmas.{IsStill, LeavesDevice, armed_to_fail, armed_to_stop}
+use Rattle.syn_headline.proofs.MachineLemmas.{calls_tell, does_tell, down_still, halted, cut}
+use Rattle.syn_headline.proofs.MachineLemmas.{open_still, refused, stays, stopped, unopened, lost}
+use Rattle.syn_headline.proofs.View.{neither, up_not_halted}
 use Rattle.syn_witness.specs.Forbidden.{RefusedAfterFailure, EndsAfterFailure}
-use Rattle.syn_witness.proofs.FailureLemmas.{IsCounted, IsCountedJournal, GivesBack, up_not_halted}
-use Rattle.syn_witness.proofs.FailureLemmas.{writes_counted, compacts_counted, starts_counted}
-use Rattle.syn_witness.proofs.FailureLemmas.{advances_counted}
-use Rattle.syn_witness.proofs.ForbiddenLemmas.{one_report}
+use Rattle.syn_witness.proofs.FailureLemmas.{IsCounted, IsCountedJournal, Counted, is_counted}
+use Rattle.syn_witness.proofs.KeptLemmas.{GivesBack, writes_kept, compacts_kept, starts_kept}
+use Rattle.syn_witness.proofs.KeptLemmas.{advances_kept}
+use Rattle.syn_witness.proofs.ForbiddenLemmas.{faultless_report}
+use Rattle.syn_headline.specs.MachineSteps as one
+use Rattle.syn_headline.specs.Coordinator as coordinator
+use Rattle.syn_headline.specs.World as world
 
 -- Which refusals are no 9
 
@@ -62,11 +60,6 @@ others_first (cause ∷ causes) all e = by (others_first causes all.1) cause.0 e
     by more false e = more e
 
 -- A machine by itself, whichever kind it is of
-
-is_up : (status : Status) → is_halted status ≡ false → status ≢ Down → status ≡ Up
-is_up Up not_halted not_down = refl
-is_up Halted not_halted not_down = absurd (true≢false not_halted)
-is_up Down not_halted not_down = absurd (not_down refl)
 
 up_counted : (base : ℕ) (status : Status) → status ≡ Up → IsCounted base status base
 up_counted base status up = (omega arith, λ e. absurd (up_not_halted (sym up ∙ e)))
@@ -110,21 +103,27 @@ module _ {M A V W : Type 0} (kind : Kind M A V W) (back : GivesBack kind) (machi
   abbrev HasFailed : M → Type 0
   HasFailed next = was.failures < (kind.journal_of next).failures
 
+  abbrev Tells : M → List Refusal → Type 0
+  Tells next refusals = IsNine refusals → HasFailed next
+
+  -- one that may be refused
   calls_failed : (causes : List Cause) (Made : M → A → Type 0) →
       AreOthers (causes ++ (true, Memory) ∷ []) →
       (was.status ≡ Up → (next : M) (given : A) → Made next given →
       IsCountedJournal was.failures (kind.journal_of next)) →
       (next : M) (given : A) (refusals : List Refusal) →
-      Calls kind machine causes Made next given refusals → IsNine refusals → HasFailed next
+      Calls kind machine causes Made next given refusals → Tells next refusals
   unfolding is_device
-  calls_failed causes Made others is _ _ _ (is_down down) said = absurd (not_nine said)
-  calls_failed causes Made others is _ _ _ (is_done _ _ _ up (refuses reason some)) said =
+  calls_failed causes Made others is =
+      calls_tell kind machine (λ next _ refusals. Tells next refusals) causes Made
+      (λ down said. absurd (not_nine said))
+      (λ reason up some said.
       absurd (others_first (causes_at was.status causes ++ (true, Memory) ∷ []) (refl, others)
-      (some ∙ ap Some (which_nine reason said)))
-  calls_failed causes Made others is _ _ _ (is_done _ _ _ up (makes next given none so)) said =
-      let was_up = is_up was.status
-      (first_cause-none (is_halted was.status, Halted_before) causes none).0 up in
-      (is was_up next given so).1 (halted_by (kind.journal_of next).status said)
+      (some ∙ ap Some (which_nine reason said))))
+      (λ next given none up made said.
+      (is (neither was.status
+      (first_cause-none (is_halted was.status, Halted_before) causes none).0 up) next given made).1
+      (halted_by (kind.journal_of next).status said))
 
   fails : (calls : ℕ) (left : Status) (arms : Arms) (failed : ℕ) →
       Meets was.arms calls Halted arms failed →
@@ -135,57 +134,50 @@ module _ {M A V W : Type 0} (kind : Kind M A V W) (back : GivesBack kind) (machi
       (after_device was left arms failed)) in
       omega (arith, more, now)
 
-  opening_failed : (next : M) (given : A) (refusals : List Refusal) →
-      OpensDown kind machine next given refusals → IsNine refusals → HasFailed next
-  opening_failed _ _ _ (is_open up) said = absurd (not_nine said)
-  opening_failed _ _ _ (opens calls new kept down so) said = absurd (not_nine said)
-  opening_failed _ _ _ (open_fails calls arms failed down meets) said =
+  -- any other
+  still_failed : (call : MachineCall) (told : List Refusal) → IsStill was call told →
+      Tells machine told
+  unfolding is_device
+  still_failed _ _ (lost call other down) said = absurd (not_nine said)
+  still_failed _ _ (refused reason up some) said =
+      absurd (others_first
+      (causes_at was.status (full_generation was.generation) ++ (true, Memory) ∷ [])
+      (refl, checkpoint_others was.generation) (some ∙ ap Some (which_nine reason said)))
+  still_failed _ _ (open_still up) said = absurd (not_nine said)
+  still_failed _ _ (down_still down) said = absurd (memory_not_nine said)
+
+  device_failed : (call : MachineCall) (status : Status) (arms : Arms) (failed : ℕ)
+      (told : List Refusal) → LeavesDevice was call status arms failed told →
+      Tells (with_device kind machine status arms failed) told
+  device_failed _ _ _ _ _ (armed_to_fail call) said = absurd (not_nine said)
+  device_failed _ _ _ _ _ (armed_to_stop calls) said = absurd (not_nine said)
+  device_failed _ _ _ _ _ (stopped up) said = absurd (not_nine said)
+  device_failed _ _ _ _ _ (unopened calls arms failed down meets) said =
       fails calls Down arms failed meets
-  opening_failed _ _ _ (no_memory_to_open down) said = absurd (memory_not_nine said)
-
-  reopening_failed : (next : M) (given : A) (refusals : List Refusal) →
-      UnlessDown kind machine (Reopens kind machine) next given refusals → IsNine refusals →
-      HasFailed next
-  reopening_failed _ _ _ (is_down down) said = absurd (not_nine said)
-  reopening_failed _ _ _ (is_done _ _ _ up (reopens calls new kept some so)) said =
-      absurd (not_nine said)
-  reopening_failed _ _ _ (is_done _ _ _ up (reopen_fails calls arms failed meets)) said =
+  device_failed _ _ _ _ _ (halted calls arms failed up meets) said =
       fails calls Halted arms failed meets
-  reopening_failed _ _ _ (is_done _ _ _ up (reopen_is_cut calls arms failed meets)) said =
-      absurd (not_nine said)
-  reopening_failed _ _ _ (is_done _ _ _ up (no_memory_to_reopen calls arms failed meets)) said =
-      absurd (memory_not_nine said)
+  device_failed _ _ _ _ _ (cut calls arms failed up meets) said = absurd (not_nine said)
+  device_failed _ _ _ _ _ (stays calls arms failed up meets) said = absurd (memory_not_nine said)
 
-  arming_failed : (status : Status) (arms : Arms) (next : M) (given : A)
-      (refusals : List Refusal) →
-      UnlessDown kind machine (Arming kind machine status arms) next given refusals →
-      IsNine refusals → HasFailed next
-  arming_failed status arms _ _ _ (is_down down) said = absurd (not_nine said)
-  arming_failed status arms _ _ _ (is_done _ _ _ up arming) said = absurd (not_nine said)
-
-  checkpoint_made : was.status ≡ Up → (next : M) (given : A) →
-      Checkpoints kind machine next given →
-      IsCountedJournal was.failures (kind.journal_of next)
-  checkpoint_made up _ _ (checkpoints new so) =
-      subst (IsCountedJournal was.failures) (sym (back machine new))
-      (compacts_counted was.failures kind.layout was new
-      (up_counted was.failures was.status up) so)
+  checkpoint_failed : (new : Journaled V W) →
+      first_cause (causes_at was.status (full_generation was.generation)) ≡ None →
+      was.status ≢ Down → Compacts kind.layout was new →
+      Tells (kind.with_journal machine new)
+      (refused_by (kind.journal_of (kind.with_journal machine new)).status)
+  checkpoint_failed new none up so said =
+      let was_up = neither was.status (first_cause-none (is_halted was.status, Halted_before)
+      (full_generation was.generation) none).0 up in
+      (subst (IsCountedJournal was.failures) (sym (back machine new))
+      (compacts_kept (Counted was.failures) (is_counted was.failures) kind.layout was new
+      (up_counted was.failures was.status was_up) so)).1
+      (halted_by (kind.journal_of (kind.with_journal machine new)).status said)
 
   does_failed : (call : MachineCall) (next : M) (given : A) (refusals : List Refusal) →
-      Does kind machine call next given refusals → IsNine refusals → HasFailed next
-  does_failed one.Checkpoint next given refusals so said =
-      calls_failed (full_generation was.generation) (Checkpoints kind machine)
-      (checkpoint_others was.generation) checkpoint_made next given refusals so said
-  does_failed (one.Fail call) next given refusals so said =
-      arming_failed was.status (record was.arms { fail = call }) next given refusals so said
-  does_failed (one.Stop zero) next given refusals so said =
-      arming_failed Down unarmed next given refusals so said
-  does_failed (one.Stop (suc calls)) next given refusals so said =
-      arming_failed was.status (record was.arms { stop = suc calls }) next given refusals so said
-  does_failed one.Open next given refusals so said =
-      opening_failed next given refusals so said
-  does_failed one.Reopen next given refusals so said =
-      reopening_failed next given refusals so said
+      Does kind machine call next given refusals → Tells next refusals
+  does_failed call =
+      does_tell kind machine (λ next _ refusals. Tells next refusals) call (still_failed call)
+      (λ new is none up so. checkpoint_failed new none up so)
+      (λ calls new kept by so said. absurd (not_nine said)) (device_failed call)
 
 -- The world
 
@@ -193,7 +185,9 @@ edits_made : (pair : ℕ) (machine : SideMachine) (event : Event) → machine.jo
     (next : SideMachine) (events : List Event) → EditsSide pair machine event next events →
     IsCountedJournal machine.journal.failures next.journal
 edits_made pair machine event up _ _ (edits journal events lawful w) =
-    writes_counted machine.journal.failures (side_layout pair) machine.journal journal event events
+    let base = machine.journal.failures in
+    writes_kept (Counted base) (is_counted base) (side_layout pair) machine.journal journal event
+    events
     (up_counted machine.journal.failures machine.journal.status up) w
 
 edit_others : (pair : ℕ) (machine : SideMachine) (user : ℕ) (edit : Edit) →
@@ -292,9 +286,9 @@ refused_after_failure old new (Start preference) g said = (
       (start_causes old.pair old.coordinator)
       (CoordinatorStarts old.pair preference old.coordinator)
       (start_others old.pair old.coordinator)
-      (λ up next call g. starts_counted old.coordinator.journal.failures old.pair old.coordinator
-      next call (up_counted old.coordinator.journal.failures old.coordinator.journal.status up) g))
-      new g said,
+      (λ up next call g. let base = old.coordinator.journal.failures in
+      starts_kept (Counted base) (is_counted base) old.pair old.coordinator next call
+      (up_counted base old.coordinator.journal.status up) g)) new g said,
 )
 refused_after_failure old new (Deliver message) g said =
     absurd (refused_none old.refusals new.refusals
@@ -331,23 +325,11 @@ ends_failed pair running taken was walk _ (coordinator.no_memory same) e =
     cc
 
 pub ends_after_failure : EndsAfterFailure
-ends_after_failure pair old running taken _ _ (coordinator.ends_at_once why (inl fault)) none =
-    absurd (none-some _ (sym none ∙ fault))
-ends_after_failure pair old running taken _ _ (coordinator.ends_at_once why (inr memory)) none =
-    one_report (λ report. report.ended ≡ Some Device → old.journal.failures < old.journal.failures)
-    (report_of running (Some why))
-    (λ e. let x : Memory ≡ Device = sym memory ∙ same_Some _ _ e in absurd (let y : ⊥ = cc in y))
-ends_after_failure pair old running taken _ _
-    (coordinator.stops plan logged walk kept fault has advances down) none =
-    All-nil (λ report. report.ended ≡ Some Device → old.journal.failures < walk.journal.failures)
-ends_after_failure pair old running taken _ _
-    (coordinator.ends plan logged walk kept why fault has advances ends) none =
-    one_report (λ report. report.ended ≡ Some Device → old.journal.failures < walk.journal.failures)
-    (report_of (advanced (hearing running taken) plan walk kept) why)
-    (λ e. let now = ends_failed pair _ taken old.journal.status walk why ends e in
-    (advances_counted old.journal.failures pair _ taken (start_of old running) walk kept
-    (up_counted old.journal.failures old.journal.status now.0) advances).1 now.1)
-ends_after_failure pair old running taken _ _
-    (coordinator.goes_on plan logged walk kept left right fault has advances rests stays moves asks)
-    none =
-    All-nil (λ report. report.ended ≡ Some Device → old.journal.failures < walk.journal.failures)
+ends_after_failure pair old running taken new call takes none =
+    faultless_report pair old running taken (λ new report. report.ended ≡ Some Device →
+    old.journal.failures < new.journal.failures) none
+    (λ e. let x : Memory ≡ Device = same_Some _ _ e in absurd (let y : ⊥ = cc in y))
+    (λ plan walk kept why advances ends e. let base = old.journal.failures in
+    let now = ends_failed pair _ taken old.journal.status walk why ends e in
+    (advances_kept (Counted base) (is_counted base) pair _ taken (start_of old running) walk kept
+    (up_counted base old.journal.status now.0) advances).1 now.1) new call takes

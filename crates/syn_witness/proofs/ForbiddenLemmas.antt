@@ -1,24 +1,75 @@
 -- What no coordinator does.
+use Rattle.std.specs.Prelude.{All}
 use Rattle.std.proofs.Common.{◌≡◌, ◌≢◌, ◌&&◌, ℕ, not, nat_lt, is_some, length, Bool, true, false}
 use Rattle.std.proofs.Common.{true≢false, if◌then◌else◌, [], ◌∷◌, refl, sym, ap, ◌∙◌, Option, Some}
-use Rattle.std.proofs.Common.{None, inl, inr}
-use Rattle.std.specs.Prelude.{All}
+use Rattle.std.proofs.Common.{None, inl, inr, List, subst, ◌⊎◌}
 use Rattle.std.proofs.lemmas.List.Elements.{All-nil, All-cons}
 use Rattle.std.proofs.lemmas.Option.{none-some, same_Some}
 use Rattle.syn_model.specs.Refusal.{Refusal, NoAnswer, Memory, TooLarge, BadMessage, Device, Halted}
 use Rattle.syn_model.specs.Refusal.{JournalFull}
+use Rattle.syn_model.specs.Archive.{Kept}
 use Rattle.syn_headline.specs.Report.{Report, Complete, Incomplete}
 use Rattle.syn_headline.specs.Machine.{Status}
 use Rattle.syn_headline.specs.Coordinator.{CoordinatorMachine, Running, Exchange, Call, Walk}
 use Rattle.syn_headline.specs.Coordinator.{EndsFor, CoordinatorTicks, is_resent, is_unstable}
-use Rattle.syn_headline.specs.Coordinator.{is_whole, report_of, hearing, advanced}
-use Rattle.syn_headline.specs.Coordinator as coordinator
+use Rattle.syn_headline.specs.Coordinator.{is_whole, report_of, Takes, after_taking, fault_of}
+use Rattle.syn_headline.specs.Coordinator.{GoesThrough}
+use Rattle.syn_headline.specs.Planning.{Planned}
 use Rattle.syn_headline.proofs.FineRuns.{owe}
 use Rattle.syn_witness.specs.Forbidden.{StartsFresh, BeginsOnce, FaultsAlone, UnstableIsIncomplete}
 use Rattle.syn_witness.specs.Forbidden.{FailureEnds}
+use Rattle.syn_headline.specs.Coordinator as coordinator
 
 pub one_report : (P : Report → Type 0) (report : Report) → P report → All P (report ∷ [])
 one_report P report h = All-cons P report [] h (All-nil P)
+
+-- What holds of the report of each call that takes an answer, and of the machine after it: it does
+-- where the answer ends the session at once, and where the session ends as the call has gone
+-- through its plan
+module _ (pair : ℕ) (old : CoordinatorMachine) (running : Running) (taken : Exchange)
+    (P : CoordinatorMachine → Report → Type 0) where
+  abbrev AtOnce : Type 0
+  AtOnce = (why : Refusal) →
+      (fault_of running.taken taken.side taken.request taken.reply ≡ Some why) ⊎ (why ≡ Memory) →
+      P (record old { running = None }) (report_of running (Some why))
+
+  abbrev AtEnd : Type 0
+  AtEnd = (plan : Option (List Planned)) (walk : Walk) (kept : List Kept)
+      (why : Option Refusal) → GoesThrough pair old running taken plan kept walk →
+      EndsFor pair (after_taking running taken plan walk kept) taken old.journal.status walk why →
+      P (record { journal = walk.journal; running = None })
+      (report_of (after_taking running taken plan walk kept) why)
+
+  pub each_report : AtOnce → AtEnd → (new : CoordinatorMachine) (call : Call) →
+      Takes pair old running taken new call → All (P new) call.reports
+  each_report at_once at_end _ _ (coordinator.ends_at_once why fault) =
+      one_report (P (record old { running = None })) (report_of running (Some why))
+      (at_once why fault)
+  each_report at_once at_end _ _
+      (coordinator.stops plan logged walk kept fault has advances down) =
+      All-nil (P (record { journal = walk.journal; running = None }))
+  each_report at_once at_end _ _
+      (coordinator.ends plan logged walk kept why fault has advances ends) =
+      one_report (P (record { journal = walk.journal; running = None }))
+      (report_of (after_taking running taken plan walk kept) why)
+      (at_end plan walk kept why advances ends)
+  each_report at_once at_end _ _ (coordinator.goes_on plan logged walk kept left right fault has
+      advances rests stays moves asks) =
+      All-nil (P _)
+
+  -- where the answer has no fault, lack of memory alone ends the session at once
+  pub faultless_report :
+      fault_of running.taken taken.side taken.request taken.reply ≡ None →
+      P (record old { running = None }) (report_of running (Some Memory)) → AtEnd →
+      (new : CoordinatorMachine) (call : Call) → Takes pair old running taken new call →
+      All (P new) call.reports
+  faultless_report none short at_end =
+      each_report (λ why because. elim because
+      as (λ _. P (record old { running = None }) (report_of running (Some why))) [
+        | inl fault ↦ absurd (none-some _ (sym none ∙ fault))
+        | inr memory ↦ subst (λ why. P (record old { running = None })
+            (report_of running (Some why))) (sym memory) short
+      ]) at_end
 
 -- requests that were just sent were not resent
 ticks_fresh : (machine new : CoordinatorMachine) (call : Call) (running : Running) →
@@ -83,27 +134,14 @@ ends_belong pair running taken was walk _ (coordinator.no_memory same) = (
 )
 
 pub faults_alone : FaultsAlone
-faults_alone pair old running taken _ _ (coordinator.ends_at_once why (inl fault)) none =
-    absurd (none-some _ (sym none ∙ fault))
-faults_alone pair old running taken _ _ (coordinator.ends_at_once why (inr memory)) none =
-    one_report (λ report. (report.ended ≢ Some TooLarge) × (report.ended ≢ Some BadMessage))
-    (report_of running (Some why)) (
-      λ e. let x : Memory ≡ TooLarge = sym memory ∙ same_Some _ _ e in
+faults_alone pair old running taken new call takes none =
+    faultless_report pair old running taken
+    (λ _ report. (report.ended ≢ Some TooLarge) × (report.ended ≢ Some BadMessage)) none (
+      λ e. let x : Memory ≡ TooLarge = same_Some _ _ e in
           cc,
-      λ e. let x : Memory ≡ BadMessage = sym memory ∙ same_Some _ _ e in cc,
+      λ e. let x : Memory ≡ BadMessage = same_Some _ _ e in cc,
     )
-faults_alone pair old running taken _ _
-    (coordinator.stops plan logged walk kept fault has advances down) none =
-    All-nil (λ report. (report.ended ≢ Some TooLarge) × (report.ended ≢ Some BadMessage))
-faults_alone pair old running taken _ _
-    (coordinator.ends plan logged walk kept why fault has advances ends) none =
-    one_report (λ report. (report.ended ≢ Some TooLarge) × (report.ended ≢ Some BadMessage))
-    (report_of (advanced (hearing running taken) plan walk kept) why)
-    (ends_belong pair _ taken _ walk why ends)
-faults_alone pair old running taken _ _
-    (coordinator.goes_on plan logged walk kept left right fault has advances rests stays moves asks)
-    none =
-    All-nil (λ report. (report.ended ≢ Some TooLarge) × (report.ended ≢ Some BadMessage))
+    (λ plan walk kept why advances ends. ends_belong pair _ taken _ walk why ends) new call takes
 
 -- what has an unstable path is not whole
 not_whole : (running : Running) (ended : Option Refusal) → is_unstable running ≡ true →
@@ -126,21 +164,11 @@ not_early : (running : Running) (why : Refusal) → (report_of running (Some why
 not_early running why c = let x : Incomplete ≡ Complete = c in cc
 
 pub unstable_is_incomplete : UnstableIsIncomplete
-unstable_is_incomplete pair old running taken _ _ (coordinator.ends_at_once why fault) unstable =
-    one_report (λ report. report.end ≢ Complete) (report_of running (Some why))
-    (not_early running why)
-unstable_is_incomplete pair old running taken _ _
-    (coordinator.stops plan logged walk kept fault has advances down) unstable =
-    All-nil (λ report. report.end ≢ Complete)
-unstable_is_incomplete pair old running taken _ _
-    (coordinator.ends plan logged walk kept why fault has advances ends) unstable =
-    one_report (λ report. report.end ≢ Complete)
-    (report_of (advanced (hearing running taken) plan walk kept) why)
-    (not_whole (advanced (hearing running taken) plan walk kept) why unstable)
-unstable_is_incomplete pair old running taken _ _
-    (coordinator.goes_on plan logged walk kept left right fault has advances rests stays moves asks)
-    unstable =
-    All-nil (λ report. report.end ≢ Complete)
+unstable_is_incomplete pair old running taken new call takes unstable =
+    each_report pair old running taken (λ _ report. report.end ≢ Complete)
+    (λ why because. not_early running why)
+    (λ plan walk kept why advances ends.
+    not_whole (after_taking running taken plan walk kept) why unstable) new call takes
 
 pub failure_ends : FailureEnds
 failure_ends pair old running taken _ _ (coordinator.ends_at_once why fault) changed = refl

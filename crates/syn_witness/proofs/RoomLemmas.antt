@@ -2,22 +2,20 @@
 use Rattle.std.proofs.Common.{◌≡◌, ◌≢◌, inl, inr, ℕ, suc, ◌+◌, ◌≤◌, ◌<◌, Bool, true, false}
 use Rattle.std.proofs.Common.{true≢false, List, [], ◌∷◌, length, refl, sym, ◌∙◌, subst, Some, arith}
 use Rattle.std.proofs.lemmas.Option.{none-some, same_Some}
-use Rattle.std.proofs.lemmas.List.Elements.{All-nil}
 use Rattle.syn_model.specs.Refusal.{Full, Memory, Device, Halted, JournalFull}
 use Rattle.syn_model.specs.Archive.{Archive, Kept}
 use Rattle.syn_headline.specs.Machine.{Status, Up, Journaled, idle, written, unwritten, Compacts}
 use Rattle.syn_headline.specs.Machine.{compacted, not_compacted}
 use Rattle.syn_headline.specs.Planning.{Planned}
-use Rattle.syn_headline.specs.Coordinator.{Walk, Exchange, Running}
-use Rattle.syn_headline.specs.Coordinator.{archive_layout, past, refusing, making_room, start_of}
-use Rattle.syn_headline.specs.Coordinator.{HasNoRoom, Keeps, writes, cut_after}
-use Rattle.syn_headline.specs.Coordinator.{Advances, EndsFor, hearing, advanced, report_of}
-use Rattle.syn_headline.specs.Coordinator as coordinator
+use Rattle.syn_headline.specs.Coordinator.{Walk, Exchange, Running, archive_layout, past, refusing}
+use Rattle.syn_headline.specs.Coordinator.{making_room, start_of, HasNoRoom, Keeps, writes}
+use Rattle.syn_headline.specs.Coordinator.{cut_after, Advances, EndsFor, Call, CoordinatorMachine}
 use Rattle.syn_headline.proofs.View.{not_up}
-use Rattle.syn_witness.proofs.ForbiddenLemmas.{one_report}
-use Rattle.syn_witness.proofs.TurnLemmas.{passes}
 use Rattle.syn_witness.specs.Forbidden.{RecordsAfterRoom, CheckpointsAreNeeded}
 use Rattle.syn_witness.specs.Forbidden.{CheckpointsAreForRecords, FullAfterCheckpoint}
+use Rattle.syn_witness.proofs.ForbiddenLemmas.{faultless_report}
+use Rattle.syn_witness.proofs.TurnLemmas.{passes}
+use Rattle.syn_headline.specs.Coordinator as coordinator
 
 keeps_generation : (pair : ℕ) (old new : Journaled Archive Kept) (what : Kept) (kept : List Kept) →
     Keeps pair old what new kept → new.generation ≡ old.generation
@@ -195,6 +193,19 @@ comes_on pair plan taken walk next later step c =
       full = c.full;
     }
 
+-- it came to one at once
+comes_here : (pair : ℕ) (plan : List Planned) (taken : Exchange) (walk later : Walk) (what : Kept) →
+    walk.cursor ≤ later.cursor → HasNoRoom pair plan taken walk what →
+    ComesToFull pair plan taken walk later
+comes_here pair plan taken walk later what on full = record {
+  between = walk;
+  earlier = [];
+  what = what;
+  there = coordinator.stands walk;
+  on_the_way = on;
+  full = full;
+}
+
 -- a step that leaves the generation
 still_up : (old new later : ℕ) → new ≡ old → old < later → new < later
 still_up old new later same up = omega (arith, same, up)
@@ -222,36 +233,16 @@ comes_to_full pair plan taken walk later kept
     (comes_to_full pair plan taken (refusing walk why planned) later kept more up)
 comes_to_full pair plan taken walk later kept
     (coordinator.no_checkpoint _ _ _ what first full greatest more) up =
-    record {
-      between = walk;
-      earlier = [];
-      what = what;
-      there = coordinator.stands walk;
-      on_the_way = let on =
-          (passes pair plan taken (refusing walk Full full.to_keep.planned) later kept more).on in
-          omega (arith, on);
-      full = full;
-    }
+    comes_here pair plan taken walk later what
+    (let on = (passes pair plan taken (refusing walk Full full.to_keep.planned) later kept more).on
+    in omega (arith, on)) full
 comes_to_full pair plan taken walk later kept
     (coordinator.checkpoints _ _ _ what journal first full smaller compacts now_up more) up =
-    record {
-      between = walk;
-      earlier = [];
-      what = what;
-      there = coordinator.stands walk;
-      on_the_way = (passes pair plan taken (making_room walk journal) later kept more).on;
-      full = full;
-    }
+    comes_here pair plan taken walk later what
+    (passes pair plan taken (making_room walk journal) later kept more).on full
 comes_to_full pair plan taken walk _ _
     (coordinator.checkpoint_breaks _ what journal first full smaller compacts down) up =
-    record {
-      between = walk;
-      earlier = [];
-      what = what;
-      there = coordinator.stands walk;
-      on_the_way = omega arith;
-      full = full;
-    }
+    comes_here pair plan taken walk (record walk { journal = journal }) what (omega arith) full
 comes_to_full pair plan taken walk later _
     (coordinator.keeps _ _ what kept journal to_keep room kept_so now_up more) up =
     comes_on pair plan taken walk (past walk journal) later (λ between earlier a. (
@@ -301,25 +292,10 @@ ends_full pair running taken was walk _ (coordinator.no_memory same) e =
     cc
 
 pub full_after_checkpoint : FullAfterCheckpoint
-full_after_checkpoint pair old running taken _ _ (coordinator.ends_at_once why (inl fault)) none =
-    absurd (none-some _ (sym none ∙ fault))
-full_after_checkpoint pair old running taken _ _ (coordinator.ends_at_once why (inr memory)) none =
-    one_report (λ report. report.ended ≡ Some JournalFull →
-    old.journal.generation < old.journal.generation) (report_of running (Some why))
-    (λ e. let x : Memory ≡ JournalFull = sym memory ∙ same_Some _ _ e in
-    absurd (let y : ⊥ = cc in y))
-full_after_checkpoint pair old running taken _ _
-    (coordinator.stops plan logged walk kept fault has advances down) none =
-    All-nil (λ report. report.ended ≡ Some JournalFull →
-    old.journal.generation < walk.journal.generation)
-full_after_checkpoint pair old running taken _ _
-    (coordinator.ends plan logged walk kept why fault has advances ends) none =
-    one_report (λ report. report.ended ≡ Some JournalFull → old.journal.generation
-    < walk.journal.generation) (report_of (advanced (hearing running taken) plan walk kept) why)
-    (λ e. (advances_up pair _ taken (start_of old running) walk kept advances).above refl
-    (ends_full pair _ taken old.journal.status walk why ends e))
-full_after_checkpoint pair old running taken _ _
-    (coordinator.goes_on plan logged walk kept left right fault has advances rests stays moves asks)
-    none =
-    All-nil (λ report. report.ended ≡ Some JournalFull →
-    old.journal.generation < walk.journal.generation)
+full_after_checkpoint pair old running taken new call takes none =
+    faultless_report pair old running taken (λ new report. report.ended ≡ Some JournalFull →
+    old.journal.generation < new.journal.generation) none
+    (λ e. let x : Memory ≡ JournalFull = same_Some _ _ e in absurd (let y : ⊥ = cc in y))
+    (λ plan walk kept why advances ends e.
+    (advances_up pair _ taken (start_of old running) walk kept advances).above refl
+    (ends_full pair _ taken old.journal.status walk why ends e)) new call takes

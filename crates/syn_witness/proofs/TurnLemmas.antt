@@ -1,7 +1,7 @@
 -- What is asked for and what is refused comes in turn.
+use Rattle.std.specs.Prelude.{All, Contains}
 use Rattle.std.proofs.Common.{◌≡◌, ◌≤◌, ℕ, suc, List, [], ◌∷◌, ◌++◌, append-nil, append_assoc, refl}
 use Rattle.std.proofs.Common.{sym, ◌∙◌, subst, Some, arith, inl, inr, slice_get}
-use Rattle.std.specs.Prelude.{All, Contains}
 use Rattle.std.proofs.lemmas.List.Elements.{All-nil, All-cons, All-head, All-tail, All-contains}
 use Rattle.std.proofs.lemmas.List.Elements.{Contains-append_cases}
 use Rattle.syn_model.specs.Path.{Path}
@@ -16,9 +16,9 @@ use Rattle.syn_headline.specs.Coordinator.{Walk, Exchange, Running, BothBegun, M
 use Rattle.syn_headline.specs.Coordinator.{asked_count, numbered, messages_to, sent_now}
 use Rattle.syn_headline.specs.Coordinator.{after_taking, past, refusing, making_room, Advances}
 use Rattle.syn_headline.specs.Coordinator.{Keeps, writes, cut_after, IsToKeep}
-use Rattle.syn_headline.specs.Coordinator as coordinator
 use Rattle.syn_witness.specs.Forbidden.{ListsAfterBegun, IsPassed, RefusedIsPassed, IsDueWithin}
 use Rattle.syn_witness.specs.Forbidden.{KeptIsDue}
+use Rattle.syn_headline.specs.Coordinator as coordinator
 
 -- What is asked for
 

@@ -1,26 +1,25 @@
 -- A whole session over one file: its sides, its messages and its plan.
-use Rattle.std.proofs.Common.{ℕ, List, ◌∷◌, ◌++◌, take, Option, Some, None, []}
+use Rattle.std.proofs.Common.{ℕ, List, ◌∷◌, ◌++◌, take, Some, None, [], Option}
 use Rattle.syn_model.specs.Path.{Path, root}
 use Rattle.syn_model.specs.Tree.{empty_directory, replace, subtree}
 use Rattle.syn_model.specs.Limits.{children}
 use Rattle.syn_model.specs.Mark.{mark}
 use Rattle.syn_model.specs.Event.{Edited, Began, Replaced}
-use Rattle.syn_model.specs.Archive.{Archive, Session, Recorded, new_archive}
+use Rattle.syn_model.specs.Archive.{Archive, Session, Recorded}
 use Rattle.syn_model.specs.Decision.{ToRight}
 use Rattle.syn_model.specs.Dirty.{Scan}
-use Rattle.syn_witness.specs.Rows.{file_bytes}
 use Rattle.syn_headline.specs.Side.{Side, Begin, ListAt, Fetch, Stage, Replace, Begun, Listed}
 use Rattle.syn_headline.specs.Side.{Piece, Staged, Done, token_of}
 use Rattle.syn_headline.specs.Network.{Which, Left, Right, Asks, Answers, Sent}
 use Rattle.syn_headline.specs.Acknowledged.{Ack, Happened, Kept_by}
 use Rattle.syn_headline.specs.Planning.{Planned, SessionPlan}
 use Rattle.syn_headline.specs.Coordinator.{Exchange, Running}
-use Rattle.syn_headline.specs.World.{World}
-use Rattle.syn_witness.specs.Witness.{a_path, put_one, one, complete}
+use Rattle.syn_witness.specs.Rows.{file_bytes}
+use Rattle.syn_witness.specs.Witness.{a_path, put_one, one}
 use Rattle.syn_witness.proofs.WitnessScans.{left_history, right_history, left_scan, right_scan}
-use Rattle.syn_witness.proofs.WitnessSteps.{waits, took, runs_with, world_of}
+use Rattle.syn_witness.proofs.WitnessSteps.{waits, took, runs_with}
 
--- The sides, before and after
+-- The sides, as they are listed and after that
 abbrev pub left_side : Side
 left_side = record { history = left_history; staging = None }
 
@@ -40,6 +39,13 @@ right_done =
       history = right_history ++ Replaced (token_of 1 0) a_path 1 one ∷ [];
       staging = right_staged.staging;
     }
+
+-- and before the session
+abbrev pub edited_side : Side
+edited_side = record { history = Edited 1 put_one ∷ []; staging = None }
+
+abbrev pub new_right : Side
+new_right = record { history = []; staging = None }
 
 -- the messages of the whole session
 abbrev pub messages : Sent
@@ -97,95 +103,39 @@ listed_at Left path = 2
 listed_at Right path = 1
 
 -- the session, as it is logged
-abbrev pub made : SessionPlan
-made =
+abbrev pub made : Option Which → SessionPlan
+made preference =
     record {
       session = 1;
-      preference = None;
+      preference = preference;
       scan = scans;
       since = listed_at;
       archive = empty_directory;
       plan = plan;
     }
 
-abbrev world : Side → Side → Archive → Option Running → ℕ → ℕ → World
-world = world_of messages acks (made ∷ []) 8
+-- The session, from one request that waits to the next
+abbrev pub both_begin : Option Which → Running
+both_begin preference = runs_with preference [] (waits 0 (Begin 7)) (waits 0 (Begin 7)) None
 
-abbrev edited_side : Side
-edited_side = record { history = Edited 1 put_one ∷ []; staging = None }
+abbrev pub right_begins : Option Which → Running
+right_begins preference = runs_with preference (take 1 transcript) [] (waits 0 (Begin 7)) None
 
-abbrev new_right : Side
-new_right = record { history = []; staging = None }
+abbrev pub both_list : Option Which → Running
+both_list preference =
+    runs_with preference (take 2 transcript) (waits 1 (ListAt root)) (waits 1 (ListAt root)) None
 
-abbrev pub edited_world : World
-edited_world = world edited_side new_right new_archive None 0 1
+abbrev pub right_lists : Option Which → Running
+right_lists preference = runs_with preference (take 3 transcript) [] (waits 1 (ListAt root)) None
 
-abbrev pub both_begin : Running
-both_begin = runs_with 1 [] (waits 0 (Begin 7)) (waits 0 (Begin 7)) None 0 []
+abbrev pub left_fetches : Option Which → Running
+left_fetches preference =
+    runs_with preference (take 4 transcript) (waits 2 (Fetch a_path 2 0)) [] (Some plan)
 
-abbrev pub started : World
-started = world edited_side new_right begun_archive (Some both_begin) 2 2
+abbrev pub right_stages : Option Which → Running
+right_stages preference =
+    runs_with preference (take 5 transcript) [] (waits 2 (Stage 0 0 file_bytes)) (Some plan)
 
-abbrev pub left_begun : World
-left_begun = world left_side new_right begun_archive (Some both_begin) 3 3
-
-abbrev pub both_begun : World
-both_begun = world left_side right_side begun_archive (Some both_begin) 4 4
-
-abbrev pub right_begins : Running
-right_begins = runs_with 1 (take 1 transcript) [] (waits 0 (Begin 7)) None 0 []
-
-abbrev pub right_awaited : World
-right_awaited = world left_side right_side begun_archive (Some right_begins) 4 4
-
-abbrev pub both_list : Running
-both_list =
-    runs_with 1 (take 2 transcript) (waits 1 (ListAt root)) (waits 1 (ListAt root)) None 0 []
-
-abbrev pub listing : World
-listing = world left_side right_side begun_archive (Some both_list) 6 4
-
-abbrev pub left_listed : World
-left_listed = world left_side right_side begun_archive (Some both_list) 7 4
-
-abbrev pub both_listed : World
-both_listed = world left_side right_side begun_archive (Some both_list) 8 4
-
-abbrev pub right_lists : Running
-right_lists = runs_with 1 (take 3 transcript) [] (waits 1 (ListAt root)) None 0 []
-
-abbrev pub right_list_awaited : World
-right_list_awaited = world left_side right_side begun_archive (Some right_lists) 8 4
-
-abbrev pub left_fetches : Running
-left_fetches = runs_with 1 (take 4 transcript) (waits 2 (Fetch a_path 2 0)) [] (Some plan) 0 []
-
-abbrev pub fetching : World
-fetching = world left_side right_side begun_archive (Some left_fetches) 9 4
-
-abbrev pub fetched : World
-fetched = world left_side right_side begun_archive (Some left_fetches) 10 4
-
-abbrev pub right_stages : Running
-right_stages = runs_with 1 (take 5 transcript) [] (waits 2 (Stage 0 0 file_bytes)) (Some plan) 0 []
-
-abbrev pub staging : World
-staging = world left_side right_side begun_archive (Some right_stages) 11 4
-
-abbrev pub staged : World
-staged = world left_side right_staged begun_archive (Some right_stages) 12 4
-
-abbrev pub right_replaces : Running
-right_replaces =
-    runs_with 1 (take 6 transcript) [] (waits 3 (Replace 0 a_path 1 8)) (Some plan) 0 []
-
-abbrev pub replacing : World
-replacing = world left_side right_staged begun_archive (Some right_replaces) 13 4
-
-abbrev pub replaced : World
-replaced = world left_side right_done begun_archive (Some right_replaces) 14 5
-
-abbrev pub carried : World
-carried =
-    record (world left_side right_done recorded_archive None 14 6)
-    { reports = (complete 1, 6) ∷ [] }
+abbrev pub right_replaces : Option Which → Running
+right_replaces preference =
+    runs_with preference (take 6 transcript) [] (waits 3 (Replace 0 a_path 1 8)) (Some plan)

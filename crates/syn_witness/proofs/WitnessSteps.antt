@@ -1,12 +1,11 @@
 -- Steps of a witness run, built from what each is about: where no device fails and no machine
 -- stops.
-use Rattle.std.specs.Option.{option_map_or}
+use Rattle.std.specs.List.{AllByRecursion}
+use Rattle.std.specs.FinMap.{get, len}
 use Rattle.std.proofs.Common.{fold, filter_map, ◌≤◌, ◌^◌, ◌||◌, not, nat_le, true≢false, ◌-◌, ◌≡◌}
 use Rattle.std.proofs.Common.{◌≢◌, ℕ, true, List, [], ◌∷◌, ◌++◌, take, length, if◌then◌else◌, refl}
 use Rattle.std.proofs.Common.{sym, ap, ◌∙◌, subst, Option, Some, None, arith, inl, ◌+◌, false}
 use Rattle.std.proofs.Common.{slice_get, append-nil}
-use Rattle.std.specs.List.{AllByRecursion}
-use Rattle.std.specs.FinMap.{get, len}
 use Rattle.std.proofs.lemmas.List.Elements.{All-from_recursion}
 use Rattle.syn_model.specs.Path.{Path, root}
 use Rattle.syn_model.specs.Tree.{Tree, Content, Directory, File, is_directory}
@@ -18,8 +17,9 @@ use Rattle.syn_model.specs.Archive.{Archive, Kept, Session, CanKeep}
 use Rattle.syn_model.specs.Spelling.{content_spelling, spelling_within, event_spelling}
 use Rattle.syn_model.specs.MarkSpelling.{kept_spelling}
 use Rattle.syn_model.specs.Refusal.{first_cause, JournalFull}
+use Rattle.syn_model.specs.Contents.{Contents, contents_spelling}
 use Rattle.syn_model.proofs.HistoryLemmas.{append-none}
-use Rattle.syn_headline.specs.Machine.{Up, Down, Journaled, unarmed, after_calls, Meets, all_made}
+use Rattle.syn_headline.specs.Machine.{Up, Journaled, unarmed, after_calls, Meets, all_made}
 use Rattle.syn_headline.specs.Machine.{record_size, with_record, Writes, written}
 use Rattle.syn_headline.specs.Side.{room_causes, Side, Request, Begin, Reply, Listed, NotDir, Reads}
 use Rattle.syn_headline.specs.Side.{answer, serve, list_at, staged_bytes, IsLawfulRequest}
@@ -31,24 +31,20 @@ use Rattle.syn_headline.specs.Network.{Which, Left, Right, Asks, Answers, Sent}
 use Rattle.syn_headline.specs.Acknowledged.{Ack, kept_in}
 use Rattle.syn_headline.specs.Planning.{Planned, Log}
 use Rattle.syn_headline.specs.Coordinator.{Exchange, Outstanding, Running, CoordinatorMachine, Call}
-use Rattle.syn_headline.specs.Coordinator.{no_call, Walk, Waits, MayAsk, AsksNext, AsksOnce}
-use Rattle.syn_headline.specs.Coordinator.{HasPlan, IsDue, Keeps, writes, Advances, stands, keeps}
-use Rattle.syn_headline.specs.Coordinator.{past, settled, is_recorded, archive_layout, asked_of}
-use Rattle.syn_headline.specs.Coordinator.{asked_count, asking, hearing, advanced, start_of}
-use Rattle.syn_headline.specs.Coordinator.{sent_now, fault_of, is_last, report_of, new_session}
-use Rattle.syn_headline.specs.Coordinator.{begins, start_causes, takes, ends, goes_on}
-use Rattle.syn_headline.specs.Coordinator.{starts as session_starts}
+use Rattle.syn_headline.specs.Coordinator.{no_call, Walk, MayAsk, AsksNext, HasPlan, IsDue, Keeps}
+use Rattle.syn_headline.specs.Coordinator.{writes, Advances, stands, keeps, past, settled}
+use Rattle.syn_headline.specs.Coordinator.{is_recorded, archive_layout, asked_of, asked_count}
+use Rattle.syn_headline.specs.Coordinator.{asking, hearing, advanced, start_of, sent_now, fault_of}
+use Rattle.syn_headline.specs.Coordinator.{is_last, report_of, new_session, begins, start_causes}
+use Rattle.syn_headline.specs.Coordinator.{takes, ends, goes_on, starts as session_starts}
 use Rattle.syn_headline.specs.World.{World, Step, Edits, Start, Steps, Runs, side_of, side_goes}
 use Rattle.syn_headline.specs.World.{side_does, coordinator_goes, coordinator_does, says}
 use Rattle.syn_headline.specs.World.{refuses_with, Delivers, to_side, to_coordinator}
-use Rattle.syn_model.specs.Contents.{Contents, contents_spelling}
-use Rattle.syn_witness.specs.Witness.{new_room, new_archive_room, new_journal}
+use Rattle.syn_headline.proofs.View.{up_not_down}
+use Rattle.syn_witness.specs.Witness.{new_room, new_journal}
 use Rattle.syn_witness.proofs.WitnessMessages.{AreNumbered, asks_once}
 
 -- Machines that are up, with nothing armed
-
-pub up_not_down : Up ≢ Down
-up_not_down e = cc
 
 abbrev pub room_after : ℕ → List Event → ℕ
 room_after room events = fold (λ room event. room - record_size (event_spelling event)) room events
@@ -168,32 +164,32 @@ abbrev pub took : Which → ℕ → Request → Reply → Exchange
 took side number request reply =
     record { side = side; number = number; request = request; reply = reply }
 
--- a session that runs, with nothing refused
-abbrev pub runs_with : ℕ → List Exchange → List Outstanding → List Outstanding →
-    Option (List Planned) → ℕ → List Kept → Running
-runs_with session taken left right plan cursor kept = record {
-  session = session;
-  preference = None;
+-- the first session, before it has settled an item
+abbrev pub runs_with : Option Which → List Exchange → List Outstanding → List Outstanding →
+    Option (List Planned) → Running
+runs_with preference taken left right plan = record {
+  session = 1;
+  preference = preference;
   taken = taken;
   left = left;
   right = right;
   plan = plan;
-  cursor = cursor;
-  kept = kept;
+  cursor = 0;
+  kept = [];
   refused = [];
 }
 
--- a world without failures, where so many of the messages have been sent, so much of the rest
--- acknowledged, and a plan logged after so many messages
-abbrev pub world_of : Sent → List Ack → Log → ℕ → Side → Side → Archive → Option Running → ℕ → ℕ →
-    World
-world_of messages acks log made_at left right archive running said acknowledged = record {
+-- a world without failures, whose archive began with this room, where so many of the messages have
+-- been sent, so much of the rest acknowledged, and a plan logged after so many messages
+abbrev pub world_of : ℕ → Sent → List Ack → Log → ℕ → Side → Side → Archive → Option Running → ℕ →
+    ℕ → World
+world_of room messages acks log made_at left right archive running said acknowledged = record {
   pair = 7;
   left = machine_of left;
   right = machine_of right;
   coordinator =
       record {
-        journal = new_journal archive (archive_left new_archive_room
+        journal = new_journal archive (archive_left room
             (filter_map kept_in (take acknowledged acks)));
         running = running;
       };
@@ -205,30 +201,30 @@ world_of messages acks log made_at left right archive running said acknowledged 
 }
 
 -- the start of a session
-pub starts_so : (old : World) (session : ℕ) → old.coordinator.journal.status ≡ Up →
-    old.coordinator.journal.arms ≡ unarmed →
+pub starts_so : (old : World) (preference : Option Which) (session : ℕ) →
+    old.coordinator.journal.status ≡ Up → old.coordinator.journal.arms ≡ unarmed →
     first_cause (start_causes old.pair old.coordinator) ≡ None →
     session ≡ old.coordinator.journal.value.last_session + 1 →
     IsLawfulRequest session (Begin old.pair) → (new : World) → new ≡ coordinator_goes old (record {
       journal = with_record (archive_layout old.pair) old.coordinator.journal (Session session)
           unarmed;
-      running = Some (asking (new_session None session) (begins old.pair) (begins old.pair));
+      running = Some (asking (new_session preference session) (begins old.pair) (begins old.pair));
     })
     (record no_call {
       kept = Session session ∷ [];
       messages =
-          sent_now (new_session None session) (begins old.pair) (begins old.pair);
-    }) → Steps old (Start None) new
-starts_so old session up arms none next lawful new is =
+          sent_now (new_session preference session) (begins old.pair) (begins old.pair);
+    }) → Steps old (Start preference) new
+starts_so old preference session up arms none next lawful new is =
     let journal = with_record (archive_layout old.pair) old.coordinator.journal
     (Session session) unarmed in
     let machine : CoordinatorMachine = record {
       journal = journal;
-      running = Some (asking (new_session None session) (begins old.pair) (begins old.pair));
+      running = Some (asking (new_session preference session) (begins old.pair) (begins old.pair));
     } in
     let call : Call = record no_call {
       kept = Session session ∷ [];
-      messages = sent_now (new_session None session) (begins old.pair) (begins old.pair);
+      messages = sent_now (new_session preference session) (begins old.pair) (begins old.pair);
     } in
     let keeps : Keeps old.pair old.coordinator.journal (Session session) journal
     (Session session ∷ []) =
@@ -239,22 +235,24 @@ starts_so old session up arms none next lawful new is =
     ≡ coordinator_goes old machine call =
     ap (λ refusals. record (coordinator_goes old machine call) { refusals = refusals })
     (ap (λ status. old.refusals ++ refused_by status) up ∙ append-nil old.refusals) in
-    subst (Steps old (Start None)) (same ∙ sym is)
+    subst (Steps old (Start preference)) (same ∙ sym is)
     (coordinator_does machine call refusals (is_done machine call refusals
     (λ e. up_not_down (sym up ∙ e)) (makes machine call
     (ap (λ status. first_cause (causes_at status (start_causes old.pair old.coordinator))) up
     ∙ none) (session_starts session journal next lawful keeps up))))
 
--- what is asked for next
-pub asks_several : (archive : Archive) (running : Running) (left right : List Request) →
-    AllByRecursion (MayAsk archive running Left) left →
+-- what is asked for next, where one request waits on a side at most
+pub asks_so : (archive : Archive) (running : Running)
+    (left right : List Request) → AllByRecursion (MayAsk archive running Left) left →
     AllByRecursion (MayAsk archive running Right) right →
     AllByRecursion (IsLawfulRequest running.session) (left ++ right) →
     (asked_count (asking running left right) Left ≤ 2 ^ 32) →
     (asked_count (asking running left right) Right ≤ 2 ^ 32) →
-    AsksOnce (asking running left right) → Waits (asking running left right) →
-    AsksNext archive running left right
-asks_several archive running left right may_left may_right lawful few few' once waits =
+    AreNumbered (asking running left right) →
+    (1 ≤ length (asking running left right).left + length (asking running left right).right)
+    × (length (asking running left right).left ≤ 1)
+    × (length (asking running left right).right ≤ 1) → AsksNext archive running left right
+asks_so archive running left right may_left may_right lawful few few' numbered waits =
     record {
       may_left = All-from_recursion (MayAsk archive running Left) left may_left;
       may_right = All-from_recursion (MayAsk archive running Right) right may_right;
@@ -262,59 +260,37 @@ asks_several archive running left right may_left may_right lawful few few' once 
       numbers =
           λ side. elim side as (λ side. asked_count (asking running left right) side ≤ 2 ^ 32)
           [ Left ↦ few | Right ↦ few' ];
-      once = once;
-      waits = waits;
+      once = asks_once (asking running left right) numbered;
+      waits = (waits.0, inl waits.1, inl waits.2);
     }
 
--- where one request waits on a side at most
-pub asks_so : (number_of : Which → ℕ → ℕ) (archive : Archive) (running : Running)
-    (left right : List Request) → AllByRecursion (MayAsk archive running Left) left →
-    AllByRecursion (MayAsk archive running Right) right →
-    AllByRecursion (IsLawfulRequest running.session) (left ++ right) →
-    (asked_count (asking running left right) Left ≤ 2 ^ 32) →
-    (asked_count (asking running left right) Right ≤ 2 ^ 32) →
-    AreNumbered number_of (asking running left right) →
-    (1 ≤ length (asking running left right).left + length (asking running left right).right)
-    × (length (asking running left right).left ≤ 1)
-    × (length (asking running left right).right ≤ 1) → AsksNext archive running left right
-asks_so number_of archive running left right may_left may_right lawful few few' numbered waits =
-    asks_several archive running left right may_left may_right lawful few few'
-    (asks_once number_of (asking running left right) numbered)
-    (waits.0, inl waits.1, inl waits.2)
-
--- an answer that is not the last of an item
-pub not_last : {P : Type 0} → false ≡ true → P
-not_last e = absurd (true≢false (sym e))
-
--- the session goes on as an answer is taken
-pub goes_on_so : (old : World) (running : Running) (from : Which) (number : ℕ) (request : Request)
-    (reply : Reply) (plan : Option (List Planned)) (logged : Log) (walk : Walk) (kept : List Kept)
-    (left right : List Request) → old.coordinator.running ≡ Some running →
+-- the session goes on as an answer is taken that settles no item
+pub asks_on_so : (old : World) (running : Running) (from : Which) (number : ℕ) (request : Request)
+    (reply : Reply) (plan : Option (List Planned)) (logged : Log) (left right : List Request) →
+    old.coordinator.running ≡ Some running →
     asked_of running from number ≡ Some request → fault_of running.taken from request reply ≡ None →
     HasPlan old.coordinator.journal.value (hearing running (took from number request reply)) plan
-    logged → Advances old.pair (option_map_or (λ plan. plan) plan [])
-    (took from number request reply) (start_of old.coordinator running) kept walk →
-    walk.made_room ≡ false → walk.journal.status ≡ old.coordinator.journal.status →
-    (is_last reply ≡ true → walk.cursor ≢ running.cursor) → AsksNext walk.journal.value
-    (advanced (hearing running (took from number request reply)) plan walk kept) left right →
+    logged → is_last reply ≡ false → let walk = start_of old.coordinator running in
+    let next = advanced (hearing running (took from number request reply)) plan walk [] in
+    AsksNext old.coordinator.journal.value next left right →
     Delivers old (Some (Answers from running.session number reply))
     (coordinator_goes old (record {
-      journal = walk.journal;
-      running = Some (asking
-          (advanced (hearing running (took from number request reply)) plan walk kept) left right);
+      journal = old.coordinator.journal;
+      running = Some (asking next left right);
     })
     (record {
-      kept = kept;
-      messages = sent_now (advanced (hearing running
-          (took from number request reply)) plan walk kept) left right;
+      kept = [];
+      messages = sent_now next left right;
       reports = [];
       logged = logged;
     }))
-goes_on_so old running from number request reply plan logged walk kept left right runs asked fault
-    has advances rests stays moves asks =
+asks_on_so old running from number request reply plan logged left right runs asked fault has
+    not_last asks =
+    let walk = start_of old.coordinator running in
     to_coordinator from running.session number reply _ _
     (takes running request _ _ (record { runs = runs; of_session = refl; asked = asked })
-    (goes_on plan logged walk kept left right fault has advances rests stays moves asks))
+    (goes_on plan logged walk [] left right fault has (stands walk) refl refl
+    (λ last. absurd (true≢false (sym last ∙ not_last))) asks))
 
 -- or it ends, with each item settled
 pub ends_so : (old : World) (running : Running) (from : Which) (number : ℕ) (request : Request)

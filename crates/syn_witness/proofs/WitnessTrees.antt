@@ -1,18 +1,18 @@
 -- The trees of the witness runs, by their entries.
-use Rattle.std.proofs.Common.{◌≡◌, ℕ, ◌+◌, Bool, not, ◌&&◌, nat_le, List, [], ◌∷◌, ◌++◌, map}
-use Rattle.std.proofs.Common.{filter, filter_map, length, refl, sym, ap, ap₂, ◌∙◌, arith}
 use Rattle.std.specs.Prelude.{sum_by, option_map, option_and_then}
 use Rattle.std.specs.List.{list_all}
-use Rattle.std.specs.FinMap.{entries, empty, from_entries, get, get-entries, find, put}
-use Rattle.std.specs.FinMap.{entries-insert, len-entries, len-empty}
+use Rattle.std.specs.FinMap.{entries, from_entries, get, get-entries, find, put, entries-insert}
+use Rattle.std.specs.FinMap.{len-entries, len-empty}
+use Rattle.std.proofs.Common.{◌≡◌, ℕ, ◌+◌, Bool, not, ◌&&◌, nat_le, List, [], ◌∷◌, ◌++◌, map}
+use Rattle.std.proofs.Common.{filter, filter_map, length, refl, sym, ap, ap₂, ◌∙◌, arith}
 use Rattle.syn_model.specs.Path.{Path, Name, root, path_cmp, strip_prefix, is_prefix}
-use Rattle.syn_model.specs.Tree.{Tree, Pair, Content, absent, at_root, replace, subtree, taken_off}
+use Rattle.syn_model.specs.Tree.{Tree, Pair, Content, absent, replace, subtree, taken_off}
 use Rattle.syn_model.specs.Tree.{is_directory, is_directory_content}
 use Rattle.syn_model.specs.Limits.{children, only_name, fits_content, fits_path, fits_replica}
 use Rattle.syn_model.specs.Limits.{fits_archive, last_name_spelling_length, content_spelling_length}
 use Rattle.syn_model.specs.Mark.{mark, mark_of}
-use Rattle.syn_model.proofs.PathLemmas.{path_total}
 use Rattle.syn_model.specs.Dirty.{is_same_tree, are_same_pairs}
+use Rattle.syn_model.proofs.PathLemmas.{path_total}
 use Rattle.syn_model.proofs.SubtreeLemmas.{subtree_entries}
 
 no_length : (es : List Pair) → length es ≡ 0 → es ≡ []
@@ -48,9 +48,6 @@ pub mark-entries : (t : Tree) (ts : List Pair) → entries t ≡ ts →
 unfolding mark
 mark-entries t ts e =
     made-entries _ ∙ ap (λ es. settled (map (λ pair. (pair.0, mark_of pair.1)) es)) e
-
-pub root-entries : (x : Content) → entries (at_root x) ≡ (root, x) ∷ []
-root-entries x = entries-insert path_total empty root x ∙ ap (put path_cmp root x) absent-entries
 
 pub get_by : (t : Tree) (ts : List Pair) (q : Path) → entries t ≡ ts → get t q ≡ find path_cmp q ts
 get_by t ts q e = get-entries t q ∙ ap (find path_cmp q) e

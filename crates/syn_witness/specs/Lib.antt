@@ -1,10 +1,3 @@
 pub mod Rows
 pub mod Witness
-pub mod Short
-pub mod Refused
-pub mod Conflict
-pub mod Unstable
-pub mod Removal
-pub mod Still
 pub mod Forbidden
-pub mod Turned

@@ -1,5 +1,5 @@
-//! Runs of the world that the definitions allow, step by step: what no run meets proves nothing.
-//! And what they do not allow.
+//! What no run of the world does, and a session that the definitions allow: what no run meets
+//! proves nothing.
 //!
 //! # What it promises
 //!
@@ -25,21 +25,12 @@
 //!   - A machine is halted only after one of its device calls failed (`halted`). A step is refused
 //!     9, and a session ends 9 for an answer without a fault, only where a device call failed in it
 //!     (`refused`, `ended`).
-//! - `witnesses` and `short_witnesses` are runs that the definitions allow, step by step, each with
-//!   what it sends, acknowledges, reports and leaves.
+//! - `witnesses` is a session that the definitions allow, step by step: it carries a file from one
+//!   side to the other, whichever side it prefers. It starts from three formatted disks (`start`),
+//!   of which the archive's has the room that a new one has (`room`, `carried`), or 50 bytes: then
+//!   a checkpoint makes room for the record within the last answer (`made`). It is one of the
+//!   sessions of which a run promises what they leave.
 //! - `examples` are answers of a side, one by one; the last three are of a halted side.
-//!
-//! The runs show these:
-//!
-//! - A stop cuts off an edit, a start, a replacement, a record of the archive and a checkpoint, and
-//!   the opening after it gives it back. Of an edit that failed and of a checkpoint, that an
-//!   opening gives it back or not is shown both ways.
-//! - A device call fails in an edit, a replacement, a start and a reopening.
-//! - Sessions carry a file, one each way and a removal. They mark what an earlier one carried, a
-//!   directory of both sides and a removal that both made. They report conflicts, find a directory
-//!   gone, and are never answered.
-//! - Requests repeat and come late. A start is refused while a session runs, and an edit that has
-//!   no room before a checkpoint. A checkpoint is made alone, and within an answer.
 #![tactic(auto)]
 
 ghost use Rattle.syn_witness.specs.Rows.{SideRows};
@@ -50,64 +41,20 @@ ghost use Rattle.syn_witness.specs.Forbidden.{KeptIsDue, RecordsAfterRoom, Check
 ghost use Rattle.syn_witness.specs.Forbidden.{CheckpointsAreForRecords, FullAfterCheckpoint};
 ghost use Rattle.syn_witness.specs.Forbidden.{HaltedAfterFailure, RefusedAfterFailure};
 ghost use Rattle.syn_witness.specs.Forbidden.{EndsAfterFailure, StopsAsArmed};
-ghost use Rattle.syn_witness.specs.Short.{StartIsRecovered, ReplacementIsRecovered};
-ghost use Rattle.syn_witness.specs.Short.{RecordIsRecovered, CheckpointIsMade, ArchiveIsReopened};
-ghost use Rattle.syn_witness.specs.Short.{ResendIsAnswered, LateIsOld};
-ghost use Rattle.syn_witness.specs.Refused.{SecondStartIsBusy, FullIsCompacted, StartFails};
-ghost use Rattle.syn_witness.specs.Refused.{ReopeningFails};
-ghost use Rattle.syn_witness.specs.Conflict.{ConflictIsReported};
-ghost use Rattle.syn_witness.specs.Removal.{RemovalIsCarried};
-ghost use Rattle.syn_witness.specs.Still.{FilesConflict, RemovedIsMarked, RoomIsMade};
-ghost use Rattle.syn_witness.specs.Turned.{ListingsAreTurned};
-ghost use Rattle.syn_witness.specs.Unstable.{VanishedIsUnstable};
-ghost use Rattle.syn_witness.specs.Witness.{OpenedIsStart, NewRoomIs, StopIsRecovered};
-ghost use Rattle.syn_witness.specs.Witness.{FailIsRefused, CheckpointIsCut, SilenceEnds};
-ghost use Rattle.syn_witness.specs.Witness.{FileIsCarried, FilesAreExchanged, CarriedIsMarkedLater};
-ghost use Rattle.syn_witness.specs.Witness.{RepeatIsDone, TouchedIsRefused, ReplacementFails};
+ghost use Rattle.syn_witness.specs.Witness.{OpenedIsStart, NewRoomIs, FileIsCarried, RoomIsMade};
 
 /// What a side answers in worked examples, which its definition gives.
 pub fn examples()
     ensures sides { SideRows }
 {}
 
-/// Runs that the definitions of a run allow, step by step: most are from three formatted disks. The
-/// head of this crate says what they show.
+/// A session that the definitions allow, step by step, from three formatted disks. Whichever side
+/// it prefers, it carries a file, whose record has room, or needs a checkpoint within the answer.
 pub fn witnesses()
     ensures start { OpenedIsStart }
     ensures room { NewRoomIs }
-    ensures recovered { StopIsRecovered }
-    ensures failed { FailIsRefused }
-    ensures checkpoint { CheckpointIsCut }
-    ensures ended { SilenceEnds }
     ensures carried { FileIsCarried }
-    ensures exchanged { FilesAreExchanged }
-    ensures marked { CarriedIsMarkedLater }
-    ensures repeated { RepeatIsDone }
-    ensures touched { TouchedIsRefused }
-    ensures device { ReplacementFails }
-    ensures conflict { ConflictIsReported }
-    ensures unstable { VanishedIsUnstable }
-    ensures removal { RemovalIsCarried }
-{}
-
-/// Short runs of the same, and some from disks with little room. In one run two listings wait on a
-/// side at once, and the second is answered first.
-pub fn short_witnesses()
-    ensures start { StartIsRecovered }
-    ensures replacement { ReplacementIsRecovered }
-    ensures recorded { RecordIsRecovered }
-    ensures checkpoint { CheckpointIsMade }
-    ensures archive { ArchiveIsReopened }
-    ensures resent { ResendIsAnswered }
-    ensures late { LateIsOld }
-    ensures busy { SecondStartIsBusy }
-    ensures full { FullIsCompacted }
-    ensures fails { StartFails }
-    ensures unopened { ReopeningFails }
-    ensures files { FilesConflict }
-    ensures removed { RemovedIsMarked }
-    ensures room { RoomIsMade }
-    ensures turned { ListingsAreTurned }
+    ensures made { RoomIsMade }
 {}
 
 /// What no run does. Without a stop among the steps no machine goes down, and an edit takes its
