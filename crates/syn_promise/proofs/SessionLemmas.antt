@@ -1,7 +1,10 @@
 -- What a session looked at was so, and what it put was held there.
 use Rattle.std.proofs.Common.{◌≡◌, ◌≤◌, ◌∙◌, ℕ, List, ◌++◌, take, length}
-use Rattle.std.proofs.Common.{sym, ap, subst, filter_map, append_assoc}
-use Rattle.std.specs.Prelude.{Contains}
+use Rattle.std.proofs.Common.{sym, ap, subst, refl, filter_map, append_assoc}
+use Rattle.std.specs.Prelude.{AllPairs, Contains, ◌≢◌, slice_get, Some}
+use Rattle.std.proofs.lemmas.Option.{same_Some}
+use Rattle.syn_model.specs.Mark.{mark}
+use Rattle.syn_headline.proofs.EarlyLemmas.{entry_is}
 use Rattle.std.proofs.lemmas.List.{take-append-le}
 use Rattle.std.proofs.lemmas.List.Elements.{filter_map-append}
 use Rattle.syn_model.specs.Path.{Path, Name, parent}
@@ -11,13 +14,14 @@ use Rattle.syn_model.specs.History.{History, last_session}
 use Rattle.syn_model.specs.Dirty.{Scan, IsScanBy}
 use Rattle.syn_headline.specs.Side.{ListAt, Listed, NotDir}
 use Rattle.syn_headline.specs.Network.{Which, Left, Right, other, Sent, WasAnswered}
-use Rattle.syn_headline.specs.World.{Step, Start}
+use Rattle.syn_headline.specs.Picture.{Picture, stores_of}
+use Rattle.syn_headline.specs.Headline.{StandsFor}
 use Rattle.syn_headline.specs.Acknowledged.{Ack, Happened, Stores, history_of, stores_after}
 use Rattle.syn_headline.specs.Acknowledged.{event_at, WasListed}
 use Rattle.syn_headline.specs.Acknowledged as messages
-use Rattle.syn_headline.specs.Planning.{SessionPlan, Log, IsPlanOf, seen_on}
-use Rattle.syn_headline.proofs.Invariant.{IsTrueListing, IsTrueNotDir}
-use Rattle.syn_promise.specs.Sessions.{IsSeenAt, WasDirectory, WasNoDirectory, IsPlanned, IsLegal}
+use Rattle.syn_headline.specs.Planning.{Planned, SessionPlan, Log, seen_on}
+use Rattle.syn_headline.proofs.Invariant.{IsTrueListing}
+use Rattle.syn_promise.specs.Sessions.{IsSeenAt, WasDirectory, WasNoDirectory, IsLegal}
 
 -- what a side has after more was acknowledged begins with what it had
 pub history_more : (before : Stores) (acks more : List Ack) (which : Which) →
@@ -32,6 +36,27 @@ history_more before acks more Right =
     ∙ sym (append_assoc before.right (filter_map (event_at Right) acks)
     (filter_map (event_at Right) more))
 
+same_stores : (one two : Stores) → one.left ≡ two.left → one.right ≡ two.right →
+    one.archive ≡ two.archive → one ≡ two
+same_stores one two left right archive =
+    subst (λ x. one ≡ record { left = x; right = two.right; archive = two.archive }) left
+    (subst (λ x. one ≡ record { left = one.left; right = x; archive = two.archive }) right
+    (subst (λ x. one ≡ record { left = one.left; right = one.right; archive = x }) archive refl))
+
+-- the machines stand for what was acknowledged
+pub stands_as : (before : Stores) (world : Picture) → StandsFor before world →
+    stores_of world ≡ stores_after before world.acknowledged
+stands_as before world stands = same_stores (stores_of world)
+    (stores_after before world.acknowledged) stands.left stands.right stands.archive
+
+-- the token's item has these marks at its source
+pub record HasMarks (log : Log) (side : Which) (token : Token) (new : Tree) : Type 0 where
+  pub made : SessionPlan
+  pub of_session : Contains log made × (made.session ≡ token.session)
+  pub planned : Planned
+  pub item : slice_get made.plan token.item ≡ Some planned
+  pub marks : mark new ≡ (seen_on planned (other side)).marks
+
 -- The messages of a run, and what its sides have after it: no answer is false
 module _ (before : Stores) (acknowledged : List Ack) (sent : Sent)
     (answered : (side : Which) (session : ℕ) (path : Path) (position : ℕ)
@@ -41,7 +66,7 @@ module _ (before : Stores) (acknowledged : List Ack) (sent : Sent)
     entries)
     (denied : (side : Which) (session : ℕ) (path : Path) (position : ℕ) →
     WasAnswered sent side session (ListAt path) (NotDir position) →
-    IsTrueNotDir (history_of (stores_after before acknowledged) side) path position) where
+    WasNoDirectory (history_of (stores_after before acknowledged) side) session path position) where
   abbrev now : Which → History
   now side = history_of (stores_after before acknowledged) side
 
@@ -62,9 +87,14 @@ module _ (before : Stores) (acknowledged : List Ack) (sent : Sent)
   pub legal_then : (log : Log) (written : Stores) (side : Which) (token : Token) (path : Path)
       (since : ℕ) (new : Tree) → ((which : Which) →
       (later : History) × (now which ≡ history_of written which ++ later)) →
-      messages.IsLegal sent log side written token path since new →
+      AllPairs (λ earlier later. earlier.session ≢ later.session) log →
+      HasMarks log side token new → messages.IsLegal sent log side written token path since new →
       IsLegal log side written token path since new
-  legal_then log written side token path since new grows is =
+  legal_then log written side token path since new grows once has is =
+      let same = entry_is log is.made once is.logged.0 has.made has.of_session.0
+      (has.of_session.1 ∙ sym is.logged.1) in
+      let same_item = same_Some has.planned is.planned (sym has.item
+      ∙ (ap (λ made. slice_get made.plan token.item) same ∙ is.item.0)) in
       let here = grows side in
       let there = grows (other side) in
       record {
@@ -84,14 +114,15 @@ module _ (before : Stores) (acknowledged : List Ack) (sent : Sent)
           directory = is.source.directory;
           held = is.source.held;
         };
+        marks = has.marks ∙ ap (λ planned. (seen_on planned (other side)).marks) same_item;
       }
 
   -- what a scan shows was there
-  scanned_so : (side : Which) (session : ℕ) (scan : Scan) (since : Path → ℕ) →
+  pub scanned_so : (side : Which) (session : ℕ) (scan : Scan) (since : Path → ℕ) →
       IsScanBy (λ path position entries. WasAnswered sent side session (ListAt path)
       (Listed position entries))
       (λ path position. WasAnswered sent side session (ListAt path) (NotDir position)) scan since →
-      IsScanBy (WasDirectory (now side) session) (WasNoDirectory (now side)) scan since
+      IsScanBy (WasDirectory (now side) session) (WasNoDirectory (now side) session) scan since
   scanned_so side session scan since is = record {
     tree = is.tree;
     fits = is.fits;
@@ -103,22 +134,6 @@ module _ (before : Stores) (acknowledged : List Ack) (sent : Sent)
           entries_are = true_now.entries_there;
         };
     not_dir = λ path unstable.
-        let was = is.not_dir path unstable in
-        let true_now = denied side session path _ was.1 in
-        (was.0, record { reached = true_now.reached; none = true_now.no_directory });
+        let was = is.not_dir path unstable in (was.0, denied side session path _ was.1);
     nothing_below = is.nothing_below;
-  }
-
-  pub planned_so : (steps : List Step) (made : SessionPlan) →
-      Contains steps (Start made.preference) → IsPlanOf sent made →
-      (moment : ℕ) → made.archive ≡ (stores_after before (take moment acknowledged)).archive.marks →
-      IsPlanned before steps acknowledged made
-  planned_so steps made asked is moment had = record {
-    asked = asked;
-    scanned = λ side. scanned_so side made.session (made.scan side) (made.since side)
-        (is.scanned side);
-    moment = moment;
-    archive = had;
-    items = is.items;
-    seen = is.seen;
   }

@@ -101,8 +101,9 @@ module _ (old new : Picture) (was : AllStarted old) (more : List Ack)
 
 -- a start keeps the number of its session
 
-first_kept : (archive : Archive) (kept : List Kept) → All (IsNext archive) kept → (session : ℕ) →
-    session ≡ archive.last_session + 1 → session ≡ (archive_of archive kept).last_session →
+pub first_kept : (archive : Archive) (kept : List Kept) → All (IsNext archive) kept →
+    (session : ℕ) → session ≡ archive.last_session + 1 →
+    session ≡ (archive_of archive kept).last_session →
     Contains (map (λ one. Kept_by one) kept) (Kept_by (Session session))
 first_kept archive [] due session next last = absurd (omega (arith, next, last))
 first_kept archive (one ∷ kept) due session next last =

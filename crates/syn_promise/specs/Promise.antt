@@ -1,80 +1,72 @@
 -- What is promised of a run, in one record.
 use Rattle.std.specs.Prelude.{ℕ, ◌≡◌, ◌≢◌, ◌⊎◌, List, [], ◌∷◌, ◌++◌, Option, Some, take, All}
-use Rattle.std.specs.Prelude.{AllPairs, Contains, filter_map}
+use Rattle.std.specs.Prelude.{AllPairs, Contains, IsSomeAnd}
 use Rattle.syn_model.specs.Path.{Path}
 use Rattle.syn_model.specs.Tree.{Tree}
-use Rattle.syn_model.specs.Event.{Token, Event, Replaced}
+use Rattle.syn_model.specs.Event.{Token, Replaced}
 use Rattle.syn_model.specs.History.{History}
 use Rattle.syn_model.specs.Refusal.{BadMessage}
-use Rattle.syn_model.specs.Archive.{Kept, Session, after_kept, BothHeld}
+use Rattle.syn_model.specs.Archive.{Session, BothHeld}
 use Rattle.syn_headline.specs.Network.{Which}
-use Rattle.syn_headline.specs.World.{Machine, Step}
-use Rattle.syn_headline.specs.Acknowledged.{Ack, Happened, Kept_by, Stores, history_of}
-use Rattle.syn_headline.specs.Acknowledged.{stores_after, kept_in, kept_in_session}
-use Rattle.syn_headline.specs.Planning.{Log}
+use Rattle.syn_headline.specs.World.{Machine, At, Coordinator, Step}
+use Rattle.syn_headline.specs.Acknowledged.{Ack, Kept_by, Stores, history_of}
+use Rattle.syn_headline.specs.Acknowledged.{stores_after, kept_in_session}
+use Rattle.syn_headline.specs.Planning.{SessionPlan, Log}
 use Rattle.syn_headline.specs.Report.{Report}
 use Rattle.syn_headline.specs.Headline.{IsQuietSession, IsOtherToken, PlansWith}
-use Rattle.syn_promise.specs.Asked.{IsAsked, IsAskedEvent}
 pub use Rattle.syn_promise.specs.Told.{Told}
-use Rattle.syn_promise.specs.Power.{Power}
-use Rattle.syn_promise.specs.Steps.{Come}
-use Rattle.syn_promise.specs.Records.{IsDue, AllDue}
-use Rattle.syn_promise.specs.Sessions.{IsPlanned, IsLegal, Synchronizes, Tells}
+use Rattle.syn_promise.specs.Steps.{Condition, Started, Come}
+use Rattle.syn_promise.specs.Records.{IsDue}
+use Rattle.syn_promise.specs.Sessions.{IsPlanned, Synchronizes, Tells}
 
--- the history, or it and one event more, which is no edit that no step asks for
-pub data IsWithOneMore (steps : List Step) (side : Which) (old : History) : History → Type 0 where
-  as_it_was : IsWithOneMore steps side old old
-  one_more : (event : Event) → IsAskedEvent steps side event →
-      IsWithOneMore steps side old (old ++ event ∷ [])
+-- a machine stands for the same in both
+abbrev pub AreSame : Machine → Stores → Stores → Type 0
+AreSame (At side) one other = history_of one side ≡ history_of other side
+AreSame Coordinator one other = one.archive ≡ other.archive
 
--- What stands after a stop of all machines: what was acknowledged, in order, and on each side at
--- most the one event that it was writing; in the archive the records so, and one more that was due
-pub record Stand (sessions : Log) (steps : List Step) (acknowledged now : Stores) : Type 0 where
-  pub side : (which : Which) →
-      IsWithOneMore steps which (history_of acknowledged which) (history_of now which)
-  pub archive : (now.archive ≡ acknowledged.archive)
-      ⊎ ((kept : Kept) × IsDue sessions steps acknowledged.archive kept
-      × (now.archive ≡ after_kept acknowledged.archive kept))
-
--- a report, which came after so much was acknowledged; no answer ended its session that did not
--- belong to what was asked
-pub record Reports (sessions : Log) (acknowledged : List Ack) (one : Report × ℕ) : Type 0 where
-  pub started : Contains (take one.1 acknowledged) (Kept_by (Session one.0.session))
+-- A report, after so much was acknowledged. Its session was started by then, and none after it; a
+-- plan that the session has was made by then; the session did what the report tells; and no side's
+-- answer was another than what was asked for
+pub record Reports (before : Stores) (started : List Started) (sessions : Log)
+    (acknowledged : List Ack) (one : Report × ℕ) : Type 0 where
+  pub started_before : Contains (take one.1 acknowledged) (Kept_by (Session one.0.session))
+  pub last : (stores_after before (take one.1 acknowledged)).archive.last_session ≡ one.0.session
+  pub planned_before : (made : SessionPlan) → Contains sessions made →
+      made.session ≡ one.0.session → IsPlanned before started (take one.1 acknowledged) made
   pub tells : Tells sessions (kept_in_session (take one.1 acknowledged)) one.0
-  pub belong : one.0.ended ≢ Some BadMessage
+  pub no_bad_message : one.0.ended ≢ Some BadMessage
 
 -- A run by these steps began as the disks stood for `before`, and told this. A stop of all machines
--- after it left disks that stand for `now`
+-- after it left disks that stand for `now`. Three fields are witnesses of it, of which the others
+-- speak: `conditions`, how each machine was left; `started`, the sessions that starts made, with
+-- what these prefer; and `sessions`, those that planned, with what they saw
 pub record Promised (before : Stores) (steps : List Step) (told : Told) (now : Stores) :
     Type 0 where
-  -- which machines are on after it; and the sessions that looked at both sides, in order, with what
-  -- they saw and planned
-  pub power : Machine → Power
+  pub conditions : Machine → Condition
+  pub started : List Started
   pub sessions : Log
-  -- each step was made as it was asked for, or its user was told why not, or its machine was off
-  pub come : Come before power steps told.acknowledged told.refused
-  -- no user's edit was made that no step asks for
-  pub asked : All (IsAsked steps) told.acknowledged
-  -- what was acknowledged stands, with at most one change more on each machine
-  pub stand : Stand sessions steps (stores_after before told.acknowledged) now
-  -- the archive recorded only what was due: the number of a session that a start asks for, and
-  -- items of the plan of the session that was started last
-  pub recorded : AllDue sessions steps before.archive (filter_map kept_in told.acknowledged)
+  -- each step was made as it was asked for, or its user was told why not, or its machine was off;
+  -- and nothing else was made
+  pub steps_are_made : Come before conditions started steps told.acknowledged told.refused
+  -- what was acknowledged stands, with at most the one change that each machine was making
+  pub stand : (machine : Machine) → AreSame machine now (stores_after before told.acknowledged)
+      ⊎ IsSomeAnd (conditions machine).making
+      (λ ack. AreSame machine now (stores_after before (told.acknowledged ++ ack ∷ [])))
+  -- each change was due when it was written: the rules allowed it, and one of a session kept to its
+  -- plan
+  pub due : (earlier later : List Ack) (ack : Ack) → told.acknowledged ≡ earlier ++ ack ∷ later →
+      IsDue sessions (stores_after before earlier) ack
+  -- so is one that stands though it was not acknowledged
+  pub unacknowledged_due : (machine : Machine) (ack : Ack) →
+      (conditions machine).making ≡ Some ack →
+      AreSame machine now (stores_after before (told.acknowledged ++ ack ∷ [])) →
+      IsDue sessions (stores_after before told.acknowledged) ack
   -- each entry of the archive was held by both sides
   pub held : BothHeld now.left now.right now.archive.marks
-  -- a session plans once, from what both sides had as it looked, and from the archive
-  pub once : AllPairs (λ earlier later. earlier.session ≢ later.session) sessions
-  pub planned : All (IsPlanned before steps told.acknowledged) sessions
-  -- each replacement that was acknowledged is legal, and each that a stop cut off and that stands
-  pub replaced : (earlier later : List Ack) (side : Which) (token : Token) (path : Path)
-      (since : ℕ) (new : Tree) →
-      told.acknowledged ≡ earlier ++ Happened side (Replaced token path since new) ∷ later →
-      IsLegal sessions side (stores_after before earlier) token path since new
-  pub given_back : (side : Which) (token : Token) (path : Path) (since : ℕ) (new : Tree) →
-      history_of now side ≡ history_of (stores_after before told.acknowledged) side
-      ++ Replaced token path since new ∷ [] →
-      IsLegal sessions side (stores_after before told.acknowledged) token path since new
-  -- and none is made twice
+  -- a session makes one plan, of what it found
+  pub one_plan : AllPairs (λ earlier later. earlier.session ≢ later.session) sessions
+  pub planned : All (IsPlanned before started told.acknowledged) sessions
+  -- no replacement is made twice
   pub not_twice : (side : Which) (earlier later : History) (token : Token) (path : Path)
       (since : ℕ) (new : Tree) →
       history_of now side ≡ earlier ++ Replaced token path since new ∷ later →
@@ -84,5 +76,6 @@ pub record Promised (before : Stores) (steps : List Step) (told : Told) (now : S
       IsQuietSession before told.acknowledged told.reports report found after →
       (preference : Option Which) × PlansWith sessions report.session preference
       × Synchronizes preference report found after
-  -- each report is of a session that was started before it, and tells what that did
-  pub reported : All (Reports sessions told.acknowledged) told.reports
+  -- a session makes one report, of what it did
+  pub one_report : AllPairs (λ earlier later. earlier.0.session ≢ later.0.session) told.reports
+  pub reported : All (Reports before started sessions told.acknowledged) told.reports

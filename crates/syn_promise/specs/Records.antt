@@ -1,45 +1,72 @@
--- What the archive records: the number of each session, and what is due for the items of its plan.
-use Rattle.std.specs.Prelude.{ℕ, ◌≡◌, ◌+◌, List, [], ◌∷◌, filter_map, slice_get, Option, Some}
-use Rattle.std.specs.Prelude.{Contains, IfSome}
+-- What a session may change: a path of a side by a legal replacement, and the archive by the record
+-- of an item of its plan.
+use Rattle.std.specs.Prelude.{ℕ, ◌≡◌, List, ◌∷◌, ◌++◌, slice_get, Some, Contains, IfSome}
 use Rattle.syn_model.specs.Refusal.{Refusal}
-use Rattle.syn_model.specs.Archive.{Archive, Kept, Session, Recorded, RecordedDir, after_kept}
-use Rattle.syn_headline.specs.Network.{Which}
-use Rattle.syn_headline.specs.World.{Step, Start}
+use Rattle.syn_model.specs.Path.{Path}
+use Rattle.syn_model.specs.Tree.{Tree}
+use Rattle.syn_model.specs.Event.{Token, Replaced}
+use Rattle.syn_model.specs.History.{History, IsAllowed}
+use Rattle.syn_model.specs.Archive.{Kept, Recorded, RecordedDir, CanKeep}
 use Rattle.syn_headline.specs.Session.{record_for}
-use Rattle.syn_headline.specs.Planning.{Planned, SessionPlan, Log}
-use Rattle.syn_headline.specs.Acknowledged.{Stores, kept_in}
+use Rattle.syn_headline.specs.Side.{token_of}
+use Rattle.syn_headline.specs.Network.{Which}
+use Rattle.syn_headline.specs.Planning.{Planned, SessionPlan, Log, WritesTo}
+use Rattle.syn_headline.specs.World.{Step}
+use Rattle.syn_headline.specs.Acknowledged.{Ack, Happened, Kept_by, Stores, history_of}
+use Rattle.syn_headline.specs.Acknowledged.{stores_after}
 use Rattle.syn_headline.specs.Picture.{Picture}
 use Rattle.syn_headline.specs.Headline.{IsRunFrom}
+use Rattle.syn_promise.specs.Sessions.{IsLegal}
 
--- it is what is to be recorded for an item of the session's plan
-pub record IsOfItem (sessions : Log) (session : ℕ) (kept : Kept) : Type 0 where
+-- a replacement with this token stands in the history
+pub record HasPut (history : History) (token : Token) : Type 0 where
+  pub path : Path
+  pub since : ℕ
+  pub new : Tree
+  pub replaced : Contains history (Replaced token path since new)
+
+-- The record is that of an item of the plan of the session that was started last. What the item
+-- carries was put on its side before: a part, or nothing in its place
+pub record IsOfItem (sessions : Log) (stands : Stores) (kept : Kept) : Type 0 where
   pub made : SessionPlan
-  pub of_session : Contains sessions made × (made.session ≡ session)
+  pub of_session : Contains sessions made × (made.session ≡ stands.archive.last_session)
   pub item : ℕ
   pub planned : Planned
   pub at : slice_get made.plan item ≡ Some planned
   pub record_is : record_for planned planned.item ≡ Some kept
+  pub put : (side : Which) (path : Path) → WritesTo planned.item side path →
+      HasPut (history_of stands side) (token_of made.session item)
 
--- It is due where the archive is this: it is the next number of a session, and a start asks for
--- one; or it is of an item of the session that was started last
-abbrev pub IsDue : Log → List Step → Archive → Kept → Type 0
-IsDue sessions steps archive (Session session) = (session ≡ archive.last_session + 1)
-    × ((preference : Option Which) × Contains steps (Start preference))
-IsDue sessions steps archive (Recorded path marks) =
-    IsOfItem sessions archive.last_session (Recorded path marks)
-IsDue sessions steps archive (RecordedDir path) =
-    IsOfItem sessions archive.last_session (RecordedDir path)
+-- A change of a session keeps to its plan, where it is written as the machines stand for this: a
+-- replacement is legal, and a record that of an item. What steps ask for is of no plan
+abbrev pub KeepsToPlan : Log → Stores → Ack → Type 0
+KeepsToPlan sessions stands (Happened side (Replaced token path since new)) =
+    IsLegal sessions side stands token path since new
+KeepsToPlan sessions stands (Kept_by (Recorded path marks)) =
+    IsOfItem sessions stands (Recorded path marks)
+KeepsToPlan sessions stands (Kept_by (RecordedDir path)) =
+    IsOfItem sessions stands (RecordedDir path)
+KeepsToPlan sessions stands _ = Unit {0}
 
--- each in turn is due
-abbrev pub AllDue : Log → List Step → Archive → List Kept → Type 0
-AllDue sessions steps archive [] = Unit {0}
-AllDue sessions steps archive (kept ∷ more) = IsDue sessions steps archive kept
-    × AllDue sessions steps (after_kept archive kept) more
+-- The rules allow the change, where the machines stand for this: an event after the history of its
+-- side, and what is kept after the archive. A late session thus adds nothing to a side that has
+-- begun a later one
+abbrev pub IsAllowedBy : Stores → Ack → Type 0
+IsAllowedBy stands (Happened side event) = IsAllowed (history_of stands side) event
+IsAllowedBy stands (Kept_by kept) = CanKeep stands.archive kept
 
--- so is all that a run of the picture records, and what it was recording as its machine stopped or
--- its device failed
-abbrev pub RecordsAreDue : Type 0
-RecordsAreDue = (before : Stores) (steps : List Step) (told : List Refusal) (world : Picture) →
-    IsRunFrom before steps told world →
-    AllDue world.log steps before.archive (filter_map kept_in world.acknowledged)
-    × IfSome world.coordinator.writing (IsDue world.log steps world.coordinator.archive)
+-- a change is due, where it is written as the machines stand for this
+pub record IsDue (sessions : Log) (stands : Stores) (change : Ack) : Type 0 where
+  pub allowed : IsAllowedBy stands change
+  pub to_plan : KeepsToPlan sessions stands change
+
+-- all that a run of the picture records keeps to its plan, and so does what it was recording as its
+-- machine stopped or its device failed
+abbrev pub RecordsKeepToPlan : Type 0
+RecordsKeepToPlan = (before : Stores) (steps : List Step) (told : List Refusal)
+    (world : Picture) → IsRunFrom before steps told world →
+    ((earlier later : List Ack) (kept : Kept) →
+    world.acknowledged ≡ earlier ++ Kept_by kept ∷ later →
+    KeepsToPlan world.log (stores_after before earlier) (Kept_by kept))
+    × IfSome world.coordinator.writing
+    (λ kept. KeepsToPlan world.log (stores_after before world.acknowledged) (Kept_by kept))

@@ -14,13 +14,14 @@ use Rattle.syn_model.specs.Dirty.{IsScanBy}
 use Rattle.syn_model.specs.Decision.{path_of}
 use Rattle.syn_model.specs.Plan.{plan, IsSynchronized, IsReconciled, AreEqual, IsConflict}
 use Rattle.syn_headline.specs.Network.{Which, Left, Right, other}
-use Rattle.syn_headline.specs.World.{Step, Start}
 use Rattle.syn_headline.specs.Acknowledged.{Ack, Stores, history_of, stores_after, MayOverwrite}
+use Rattle.syn_headline.specs.Acknowledged.{kept_in_session}
 use Rattle.syn_headline.specs.Planning.{Planned, seen_on, SeesBoth, SessionPlan, Log, WritesTo}
 use Rattle.syn_headline.specs.Headline.{trees_of, HasCounts, UntouchedSince, AreMarked}
 use Rattle.syn_headline.specs.Report.{Report, Complete, Incomplete, is_kept, is_carrying}
 use Rattle.syn_headline.specs.Report.{is_marking, conflict_at}
 use Rattle.syn_headline.specs.Reported.{IsSettledBy}
+use Rattle.syn_promise.specs.Steps.{Started}
 
 -- What a session looks at
 
@@ -37,25 +38,32 @@ pub record WasDirectory (history : History) (session : ℕ) (path : Path) (posit
   pub entries_are : entries ≡ children (mark (tree_at history position)) path
 
 -- and at that one it was none
-pub record WasNoDirectory (history : History) (path : Path) (position : ℕ) : Type 0 where
-  pub reached : position ≤ length history
+pub record WasNoDirectory (history : History) (session : ℕ) (path : Path) (position : ℕ) :
+    Type 0 where
+  pub seen : IsSeenAt history session position
   pub none : is_directory (tree_at history position) path ≡ false
 
--- The session's two scans show what the sides had, each directory at its position; the archive is
--- one of the run; its plan is the plan of these, with the preference that a start asks for
-pub record IsPlanned (before : Stores) (steps : List Step) (acknowledged : List Ack)
-    (made : SessionPlan) : Type 0 where
-  pub asked : Contains steps (Start made.preference)
-  pub scanned : (side : Which) →
-      let history = history_of (stores_after before acknowledged) side in
-      IsScanBy (WasDirectory history made.session) (WasNoDirectory history) (made.scan side)
-      (made.since side)
-  pub moment : ℕ
-  pub archive : made.archive
-      ≡ (stores_after before (take moment acknowledged)).archive.marks
+-- The plan is that of what the session found: it was the last that was started, and both sides had
+-- begun it. Its two scans show what the sides had come to by then, each directory at its position;
+-- its items are those of the scans, of the archive as it was, and of what the session prefers
+pub record PlansFrom (found : Stores) (made : SessionPlan) : Type 0 where
+  pub last : found.archive.last_session ≡ made.session
+  pub begun : (side : Which) → last_session (history_of found side) ≡ made.session
+  pub scanned : (side : Which) → IsScanBy (WasDirectory (history_of found side) made.session)
+      (WasNoDirectory (history_of found side) made.session) (made.scan side) (made.since side)
+  pub archive : made.archive ≡ found.archive.marks
   pub items : map (λ planned. planned.item) made.plan ≡ plan made.preference (made.scan Left)
       (made.scan Right) made.archive
   pub seen : All (SeesBoth made.scan made.since) made.plan
+
+-- The session made its plan once so much was acknowledged, before it recorded anything, and prefers
+-- what the start of its number asked for
+pub record IsPlanned (before : Stores) (started : List Started) (acknowledged : List Ack)
+    (made : SessionPlan) : Type 0 where
+  pub asked : Contains started (made.session, made.preference)
+  pub moment : ℕ
+  pub unrecorded : kept_in_session (take moment acknowledged) ≡ []
+  pub planned : PlansFrom (stores_after before (take moment acknowledged)) made
 
 -- What it puts
 
@@ -68,7 +76,8 @@ pub record WasHeld (history : History) (session : ℕ) (path : Path) (position :
 
 -- A replacement of a side, which was written as the machines stood for this: it is an item of its
 -- session's plan, goes over nothing but what that may overwrite, which no event touched since the
--- session looked there, and puts what the other side had as the session looked at that
+-- session looked there, and puts what the other side had as the session looked at that, with the
+-- marks that it then saw
 pub record IsLegal (sessions : Log) (side : Which) (written : Stores) (token : Token) (path : Path)
     (since : ℕ) (new : Tree) : Type 0 where
   pub made : SessionPlan
@@ -82,6 +91,7 @@ pub record IsLegal (sessions : Log) (side : Which) (written : Stores) (token : T
   pub overwrites : MayOverwrite made written side path
   pub source : WasHeld (history_of written (other side)) token.session path
       (seen_on planned (other side)).since new
+  pub marks : mark new ≡ (seen_on planned (other side)).marks
 
 -- What it leaves, where it is complete and no user made an edit since it began
 
@@ -122,32 +132,36 @@ pub record Synchronizes (preference : Option Which) (report : Report) (found aft
 abbrev pub IsStable : SessionPlan → Type 0
 IsStable made = (side : Which) → (made.scan side).unstable ≡ []
 
--- the path is that of an item of the plan
-abbrev pub IsOfPlan : List Planned → Path → Type 0
-IsOfPlan plan path = (item : ℕ) × (planned : Planned) × (slice_get plan item ≡ Some planned)
-    × (path ≡ path_of planned.item)
+-- the path is that of an item of the plan, and this is no conflict
+abbrev pub IsRefusable : List Planned → Path → Type 0
+IsRefusable plan path = (item : ℕ) × (planned : Planned) × (slice_get plan item ≡ Some planned)
+    × (path ≡ path_of planned.item) × (conflict_at planned.item ≡ None)
 
--- A report of a session with this plan that recorded so much: it came past these items, each of
--- which is a conflict, recorded or refused. It is of all items where nothing ended it early. It
--- tells of no item that the plan has not
+-- A report of a session with this plan that recorded so much: it came past the first part of it,
+-- and past all of it where nothing ended it early. Each item that it passed is settled in one way:
+-- it is a conflict, recorded or refused. No item is both recorded and refused, and no conflict is
+-- either. It tells of the conflicts among these, and of no item that the plan has not
 pub record TellsOf (plan : List Planned) (kept : List Kept) (report : Report) : Type 0 where
-  pub reached : ℕ
-  pub settled : All (IsSettledBy kept report.refused) (take reached plan)
-  pub through : report.ended ≡ None → All (IsSettledBy kept report.refused) plan
-  pub refused : All (λ refused. IsOfPlan plan refused.1) report.refused
-  pub conflicts : report.conflicts
-      ≡ filter_map (λ planned. conflict_at planned.item) (take reached plan)
+  pub passed : List Planned
+  pub rest : List Planned
+  pub parts : plan ≡ passed ++ rest
+  pub to_the_end : report.ended ≡ None → rest ≡ []
+  pub settled : All (IsSettledBy kept report.refused) passed
+  pub apart : All (λ planned. is_kept kept planned.item ≡ true →
+      All (λ refused. refused.1 ≢ path_of planned.item) report.refused) plan
+  pub refused : All (λ refused. IsRefusable plan refused.1) report.refused
+  pub conflicts : report.conflicts ≡ filter_map (λ planned. conflict_at planned.item) passed
   pub done : report.done
       ≡ count_by (λ planned. is_carrying planned.item && is_kept kept planned.item) plan
   pub marked : report.marked
       ≡ count_by (λ planned. is_marking planned.item && is_kept kept planned.item) plan
 
--- a report is of a plan that its session made, or of no item; it is complete only where nothing
--- ended it, no item was refused and no path was unstable
+-- A report is of the plan that its session made; or of no item, where it made none. It is complete
+-- only where nothing ended it, no item was refused and no path was unstable
 pub data Tells (sessions : Log) (kept : List Kept) (report : Report) : Type 0 where
   with_plan : (made : SessionPlan) → Contains sessions made → made.session ≡ report.session →
       TellsOf made.plan kept report →
       (report.end ≡ Complete → (report.ended ≡ None) × (report.refused ≡ []) × IsStable made) →
       Tells sessions kept report
-  without_plan : TellsOf [] kept report → report.ended ≢ None → report.end ≡ Incomplete →
-      Tells sessions kept report
+  without_plan : All (λ made. made.session ≢ report.session) sessions → TellsOf [] kept report →
+      report.ended ≢ None → report.end ≡ Incomplete → Tells sessions kept report

@@ -8,11 +8,12 @@
 //! fields is one sentence. No machine, message, disk or byte is in it.
 //!
 //! - `Come` (`Steps.antt`): each step was made as it was asked for, or its user was told why not,
-//!   or its machine was off, as stops and openings leave it (`Power.antt`).
-//! - `Stand`: what was acknowledged stands, in order, with at most one change more on each machine.
-//! - `AllDue` (`Records.antt`): the archive recorded only what was due, and so did the call that a
-//!   stop cut off. That is the number of a session that a start asks for, and what an item of the
-//!   last session's plan is to be recorded with.
+//!   or its machine was off, as stops and openings leave it (`Power.antt`). What a machine was
+//!   making as it stopped is in its `Condition`: at most that stands beside what was acknowledged.
+//! - `IsDue` (`Records.antt`): each change was due when it was written, and so was one that a stop
+//!   cut off. The rules allowed it: no session adds to a side that has begun a later one. A
+//!   replacement is legal, and a record is of an item of the last session's plan, whose part was
+//!   put before it.
 //! - `IsPlanned`, `IsLegal`, `Synchronizes` and `Tells` (`Sessions.antt`): what a session looks at,
 //!   puts, leaves and reports.
 //!
@@ -28,16 +29,16 @@
 ghost use Rattle.syn_promise.specs.Asked.{EditsAreAsked, PreferencesAreAsked, EditsAreMade};
 ghost use Rattle.syn_promise.specs.Asked.{StartsAreMade};
 ghost use Rattle.syn_promise.specs.Laws.{RunsKeepPromise};
-ghost use Rattle.syn_promise.specs.Records.{RecordsAreDue};
+ghost use Rattle.syn_promise.specs.Records.{RecordsKeepToPlan};
 
 /// A run of the picture does what its steps ask for, and nothing that none asks for. Each edit that
 /// a side acknowledges, or was making, is a step, and so is a start with the preference of each
-/// session. What the archive records is due. An edit and a start that are refused for nothing, and
-/// leave their machine up, are made.
+/// session. What the archive records keeps to a plan. An edit and a start that are refused for
+/// nothing, and leave their machine up, are made.
 pub fn asked()
     ensures edits { EditsAreAsked }
     ensures preferences { PreferencesAreAsked }
-    ensures records { RecordsAreDue }
+    ensures records { RecordsKeepToPlan }
     ensures made { EditsAreMade }
     ensures started { StartsAreMade }
 {}

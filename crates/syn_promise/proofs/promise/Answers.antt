@@ -18,8 +18,6 @@ returns c = record {
     held = c.session_laws.ensures.held;
     tell = c.run_laws.ensures.reports;
     belong = c.run_laws.ensures.belong;
-    edits = c.asked.ensures.edits;
-    preferences = c.asked.ensures.preferences;
     records = c.asked.ensures.records;
   });
 }
