@@ -1,11 +1,10 @@
 -- The image of a replica tells its pair and what it keeps.
-use Rattle.std.proofs.Common.{◌≡◌, ◌<◌, ◌≤◌, ◌^◌, ◌+◌, ◌-◌, ℕ, zero, suc, true, List, [], ◌∷◌, ◌++◌}
+use Rattle.std.proofs.Common.{◌≡◌, ◌≢◌, ◌<◌, ◌≤◌, ◌^◌, ◌+◌, ◌-◌, ℕ, zero, suc, true, List, [], ◌∷◌}
+use Rattle.std.proofs.Common.{◌++◌}
 use Rattle.std.proofs.Common.{length, take, drop, slice_index_or, All, Option, Some, None, IfSome}
 use Rattle.std.proofs.Common.{refl, sym, ap, ap₂, ◌∙◌, subst, append_assoc, append-nil, arith}
-use Rattle.std.specs.Prelude.{bytes_eq}
 use Rattle.std.specs.Int.{to_be_bytes, w16}
-use Rattle.std.proofs.lemmas.Slice.Eq.{bytes_eq-Decides}
-use Rattle.std.proofs.lemmas.List.{length-append, take-append-drop, take_more}
+use Rattle.std.proofs.lemmas.List.{length-append, take_more}
 use Rattle.std.proofs.lemmas.List.Elements.{All-head, All-tail, All-cons, All-nil, All-append}
 use Rattle.std.proofs.lemmas.Grind.{flat_map-append}
 use Rattle.syn_model.specs.Path.{Bytes, IsPath, path_spelling}
@@ -21,7 +20,7 @@ use Rattle.syn_model.specs.Image.{IsStanding, IsStandingIn, replica_front, last_
 use Rattle.syn_model.specs.Image.{touch_spelling}
 use Rattle.syn_history.specs.Past.{Past, IsLawful, standing_with, past_in}
 use Rattle.syn_wire.specs.Events.{IsNumber64, number64_spelling}
-use Rattle.syn_wire.specs.Reads.{BeginsWith, IsReading, NoneBeginsAnother}
+use Rattle.syn_wire.specs.Reads.{BeginsWith, NoneBeginsAnother, NothingStands}
 use Rattle.syn_wire.specs.Trees.{IsWholeTreeIn}
 use Rattle.syn_wire.proofs.EventLemmas.{token_tells}
 use Rattle.syn_wire.proofs.NameLemmas.{paths_tell, first_or, rest_of}
@@ -56,8 +55,8 @@ last_token_tells (Some v) (Some w) r s hv hw e =
 
 -- the kind of a token has the token after it
 pub no_token_after : (bytes fields : Bytes) → bytes ≡ 1 ∷ fields →
-    IsReading IsLawfulToken token_spelling fields None →
-    IsReading IsLastToken last_token_spelling bytes None
+    NothingStands IsLawfulToken token_spelling fields →
+    NothingStands IsLastToken last_token_spelling bytes
 no_token_after bytes fields is none None rest begins =
     let k = heads 1 0 _ _ (sym is ∙ begins.spelled) in
     absurd (omega (arith, k))
@@ -157,8 +156,8 @@ one_touch_more i touches t bytes rest after h e found = (
 )
 
 -- a number with so many touches after it
-pub no_count : (bytes : Bytes) → IsReading (λ n. n < 2 ^ 16) (to_be_bytes w16) bytes None →
-    IsReading AreTouches touches_spelling bytes None
+pub no_count : (bytes : Bytes) → NothingStands (λ n. n < 2 ^ 16) (to_be_bytes w16) bytes →
+    NothingStands AreTouches touches_spelling bytes
 no_count bytes none v rest begins =
     none (length v) (each_spelling v ++ rest) (record {
       lawful = begins.lawful.count;
@@ -167,8 +166,8 @@ no_count bytes none v rest begins =
 
 pub no_touches : (bytes after : Bytes) (count : ℕ) →
     BeginsWith (λ n. n < 2 ^ 16) (to_be_bytes w16) bytes count after →
-    IsReading (AreSoMany count) each_spelling after None →
-    IsReading AreTouches touches_spelling bytes None
+    NothingStands (AreSoMany count) each_spelling after →
+    NothingStands AreTouches touches_spelling bytes
 no_touches bytes after count found none v rest begins =
     let same = u16_tells count (length v) after
     (each_spelling v ++ rest) found.lawful begins.lawful.count (sym found.spelled
@@ -202,7 +201,7 @@ standing_in version standing tree is = record {
 pub too_long : NoSpellingBeginsAnother → (version : Version) (bytes after : Bytes)
     (tree : Tree) → version ≡ One → greatest_old_spelling < length bytes - length after →
     BeginsWith (IsWholeTreeIn version) (spelling_in version) bytes tree after →
-    IsReading (IsImageTree version) (spelling_in version) bytes None
+    NothingStands (IsImageTree version) (spelling_in version) bytes
 too_long trees version bytes after tree old long found value rest begins =
     let same = trees version tree value after rest found.lawful.tree.part
     begins.lawful.whole.tree.part (whole_fits_part tree found.lawful.fits)
@@ -280,20 +279,27 @@ past_lawful pair s h sound = (
     below_position : {m n : ℕ} → m < n → n ≤ greatest → m < 2 ^ 64
     below_position {m} {n} a b = omega (arith, a, b)
 
-pub no_past : (version : Version) (bytes fields : Bytes) → fields ≡ drop 5 bytes →
-    IsReading IsPast past_spelling fields None →
-    IsReading (IsImage version) (spelled_image version) bytes None
+-- an image begins with its letters and its version
+pub no_front : (version : Version) (bytes : Bytes) →
+    ((rest : Bytes) → bytes ≢ replica_front version ++ rest) →
+    NothingStands (IsImage version) (spelled_image version) bytes
+no_front version bytes none value rest begins =
+    none _ (begins.spelled ∙ image_row version value.0 value.1 rest)
+
+pub no_past : (version : Version) (bytes fields : Bytes) → bytes ≡ replica_front version ++ fields →
+    NothingStands IsPast past_spelling fields →
+    NothingStands (IsImage version) (spelled_image version) bytes
 no_past version bytes fields later none value rest begins =
     none (past_value value.0 (past_in value.1)) (spelling_in version value.1.tree ++ rest)
     (record {
       lawful = past_lawful value.0 value.1 begins.lawful.0 begins.lawful.1;
-      spelled = later
-          ∙ ap (drop 5) (begins.spelled ∙ image_row version value.0 value.1 rest);
+      spelled = ap (drop 5)
+          (sym later ∙ (begins.spelled ∙ image_row version value.0 value.1 rest));
     })
 
 -- what was read of the past is that of each image that the bytes begin with
 module _ (version : Version) (bytes fields after : Bytes) (past : PastValue)
-    (later : fields ≡ drop 5 bytes)
+    (later : bytes ≡ replica_front version ++ fields)
     (found : BeginsWith IsPast past_spelling fields past after)
     (value : ℕ × Standing) (rest : Bytes)
     (begins : BeginsWith (IsImage version) (spelled_image version) bytes value rest) where
@@ -303,10 +309,10 @@ module _ (version : Version) (bytes fields after : Bytes) (past : PastValue)
       past_tells past (past_value value.0 (past_in value.1)) after
       (spelling_in version value.1.tree ++ rest)
       found.lawful (past_lawful value.0 value.1 begins.lawful.0 begins.lawful.1)
-      (sym found.spelled
-      ∙ (later ∙ ap (drop 5) (begins.spelled ∙ image_row version value.0 value.1 rest)))
+      (sym found.spelled ∙ ap (drop 5)
+      (sym later ∙ (begins.spelled ∙ image_row version value.0 value.1 rest)))
 
-  pub no_tree : IsReading (IsImageTree version) (spelling_in version) after None → ⊥
+  pub no_tree : NothingStands (IsImageTree version) (spelling_in version) after → ⊥
   no_tree none =
       none value.1.tree rest (record {
         lawful = record {
@@ -333,21 +339,19 @@ module _ (version : Version) (bytes fields after : Bytes) (past : PastValue)
 
 pub image_found : (version : Version) (bytes fields after rest : Bytes) (pair : ℕ) (past : Past)
     (tree : Tree) →
-    bytes_eq (take 5 bytes) (replica_front version) ≡ true → fields ≡ drop 5 bytes →
+    bytes ≡ replica_front version ++ fields →
     BeginsWith IsPast past_spelling fields (past_value pair past) after →
     BeginsWith (IsImageTree version) (spelling_in version) after tree rest → IsLawful past →
     BeginsWith (IsImage version) (spelled_image version) bytes (pair, standing_with tree past) rest
-image_found version bytes fields after rest pair past tree front later found read lawful = record {
+image_found version bytes fields after rest pair past tree whole found read lawful = record {
   lawful = (
     found.lawful.0.0.0.0,
     standing_in version (standing_with tree past) read.lawful
         (lawful tree (tree_now version tree read.lawful.whole.tree) read.lawful.whole.fits),
   );
   spelled =
-      sym (take-append-drop 5 bytes)
-      ∙ (ap₂ (λ a b. a ++ b)
-      ((bytes_eq-Decides (take 5 bytes) (replica_front version)).0 front) (sym later
-      ∙ (found.spelled ∙ ap (λ xs. past_spelling (past_value pair past) ++ xs) read.spelled))
+      whole ∙ (ap (λ xs. replica_front version ++ xs)
+      (found.spelled ∙ ap (λ xs. past_spelling (past_value pair past) ++ xs) read.spelled)
       ∙ sym (image_row version pair (standing_with tree past) rest));
 }
 

@@ -1,6 +1,6 @@
 -- What is read of what an archive keeps, and of the image of an archive.
 use Rattle.std.proofs.Common.{◌≡◌, ◌≢◌, ◌<◌, ◌≤◌, ◌^◌, ℕ, ◌∷◌, ◌++◌, drop, sym, ap, ap₂, ◌∙◌}
-use Rattle.std.proofs.Common.{Option, Some, None, is_some, append_assoc, arith, subst}
+use Rattle.std.proofs.Common.{Some, is_some, append_assoc, arith}
 use Rattle.std.specs.FinMap.{get}
 use Rattle.syn_model.specs.Path.{Bytes, Path, IsPath, path_spelling, root}
 use Rattle.syn_model.specs.Tree.{Tree, Directory}
@@ -10,12 +10,12 @@ use Rattle.syn_model.specs.MarkSpelling.{archive_front, kept_spelling_in, mark_s
 use Rattle.syn_model.specs.Version.{Version}
 use Rattle.syn_wire.specs.Events.{Both, both_spelling, number64_spelling}
 use Rattle.syn_wire.specs.Marks.{IsMarkTreeIn, IsOptionalMarkTreeIn, NoMarksBeginOthers}
-use Rattle.syn_wire.specs.Reads.{BeginsWith, IsReading}
+use Rattle.syn_wire.specs.Reads.{BeginsWith, NothingStands}
 use Rattle.syn_wire.proofs.EventLemmas.{other_kind}
 use Rattle.syn_wire.proofs.NameLemmas.{rest_of, paths_tell}
 use Rattle.syn_wire.proofs.NumberLemmas.{u64_tells}
 use Rattle.syn_wire.proofs.Sequences.{both_tell}
-use Rattle.syn_image.specs.Archives.{IsKeptInEach, IsSpelledArchive, IsSpelledKept, spelled_archive}
+use Rattle.syn_image.specs.Archives.{IsSpelledArchive, IsSpelledKept, spelled_archive}
 use Rattle.syn_image.specs.Archives.{NoKeptBeginsAnother, NoArchiveBeginsAnother}
 use Rattle.syn_image.specs.inner.Pasts.{Two, AreTwo, two_spelling}
 use Rattle.syn_image.proofs.ImageLemmas.{two_tell}
@@ -53,19 +53,10 @@ kept_tells marks version (RecordedDir p) (RecordedDir q) r s hv hw e =
     let same = paths_tell p q r s hv hw (ap rest_of e) in
     (ap (λ x. RecordedDir x) same.0, same.1)
 
--- what is read in each version is in this one
-pub in_each : (version : Version) (bytes fields : Bytes) (kind : ℕ)
-    (found : Option (Kept × Bytes)) → bytes ≡ kind ∷ fields →
-    IsKeptInEach (kind ∷ fields) found →
-    IsReading (IsSpelledKept version) (kept_spelling_in version) bytes found
-in_each version bytes fields kind found whole each =
-    subst (λ b. IsReading (IsSpelledKept version) (kept_spelling_in version) b found) (sym whole)
-    (each version)
-
 -- after the kind of a record there is what is recorded
 pub no_record : (version : Version) (fields : Bytes) →
-    IsReading (IsRecorded version) (recorded_spelling version) fields None →
-    IsReading (IsSpelledKept version) (kept_spelling_in version) (2 ∷ fields) None
+    NothingStands (IsRecorded version) (recorded_spelling version) fields →
+    NothingStands (IsSpelledKept version) (kept_spelling_in version) (2 ∷ fields)
 no_record version fields none (Session v) rest begins =
     other_kind 2 1 _ _ (λ same. omega (arith, same)) begins.spelled
 no_record version fields none (Recorded p t) rest begins =
@@ -106,8 +97,15 @@ archives_tell marks version v w r s hv hw e =
       tree.1,
     )
 
+pub no_front : (version : Version) (bytes : Bytes) →
+    ((rest : Bytes) → bytes ≢ archive_front version ++ rest) →
+    NothingStands (IsSpelledArchive version) (spelled_archive version) bytes
+no_front version bytes none value rest begins =
+    none _ (begins.spelled ∙ archive_row version value.0 value.1 rest)
+
 -- after the front stand two numbers and marks whose root is a directory
-module _ (version : Version) (bytes fields : Bytes) (later : fields ≡ drop 5 bytes)
+module _ (version : Version) (bytes fields : Bytes)
+    (later : bytes ≡ archive_front version ++ fields)
     (value : ℕ × Archive) (rest : Bytes)
     (begins : BeginsWith (IsSpelledArchive version) (spelled_archive version) bytes value rest)
   where
@@ -115,10 +113,11 @@ module _ (version : Version) (bytes fields : Bytes) (later : fields ≡ drop 5 b
         (mark_spelling_in version value.1.marks ++ rest)
     numbers_there = record {
       lawful = (begins.lawful.0, small value.1.last_session begins.lawful.1.session);
-      spelled = later ∙ ap (drop 5) (begins.spelled ∙ archive_row version value.0 value.1 rest);
+      spelled = ap (drop 5)
+          (sym later ∙ (begins.spelled ∙ archive_row version value.0 value.1 rest));
     }
 
-    pub no_numbers : IsReading AreTwo two_spelling fields None → ⊥
+    pub no_numbers : NothingStands AreTwo two_spelling fields → ⊥
     no_numbers none =
         none (value.0, value.1.last_session) (mark_spelling_in version value.1.marks ++ rest)
         numbers_there
@@ -138,6 +137,9 @@ module _ (version : Version) (bytes fields : Bytes) (later : fields ≡ drop 5 b
             (mark_spelling_in version value.1.marks ++ rest)
             found.lawful numbers_there.lawful (sym found.spelled ∙ numbers_there.spelled)).1;
       }
+
+      pub no_marks : NothingStands (IsMarkTreeIn version) (mark_spelling_in version) after → ⊥
+      no_marks none = none value.1.marks rest marks_there
 
       -- marks of a file are no archive's
       pub marks_of_file : NoMarksBeginOthers → (t : Tree) (left : Bytes) →

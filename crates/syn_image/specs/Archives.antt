@@ -1,5 +1,5 @@
 -- What an archive keeps, its image, and which of them are read.
-use Rattle.std.specs.Prelude.{◌<◌, ◌^◌, ℕ, Option}
+use Rattle.std.specs.Prelude.{◌<◌, ◌^◌, ℕ, Result}
 use Rattle.syn_model.specs.Path.{Bytes, IsPath}
 use Rattle.syn_model.specs.Archive.{Archive, Session, Recorded, RecordedDir}
 use Rattle.syn_model.specs.Archive as model
@@ -8,7 +8,8 @@ use Rattle.syn_model.specs.Version.{Version}
 use Rattle.syn_model.specs.MarkSpelling.{kept_spelling_in, archive_spelling_in}
 use Rattle.syn_mark.specs.Marks.{or_absent}
 use Rattle.syn_wire.specs.Marks.{IsOptionalMarkTreeIn}
-use Rattle.syn_wire.specs.Reads.{IsReading, NoneBeginsAnother}
+use Rattle.syn_wire.specs.Reads.{NoneBeginsAnother, Reads}
+use Rattle.syn_wire.specs.declared.error.ReadError.{ReadError}
 use Rattle.syn_image.specs.declared.kept.ArchiveImage.{ArchiveImage}
 use Rattle.syn_image.specs.declared.kept.Kept.{Kept}
 use Rattle.syn_image.specs.declared.kept.Kept.TheVariants as has
@@ -32,10 +33,11 @@ IsSpelledKept version (Session session) = session < 2 ^ 64
 IsSpelledKept version (Recorded path marks) = IsPath path × IsOptionalMarkTreeIn version marks
 IsSpelledKept version (RecordedDir path) = IsPath path
 
--- what a reader found of a record that is spelled alike in each version
-abbrev pub IsKeptInEach : Bytes → Option (model.Kept × Bytes) → Type 0
-IsKeptInEach bytes found =
-    (version : Version) → IsReading (IsSpelledKept version) (kept_spelling_in version) bytes found
+-- what a reader did at a record that is spelled alike in each version
+abbrev pub ReadsKeptInEach : Bytes → Bytes → Result Kept ReadError → Type 0
+ReadsKeptInEach old new read =
+    (version : Version) → Reads (IsSpelledKept version) (kept_spelling_in version) kept_of old new
+    read
 
 -- a pair with the archive of an image
 abbrev pub archive_in : ArchiveImage → ℕ × Archive

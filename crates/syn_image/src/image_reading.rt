@@ -1,17 +1,18 @@
 //! What is read of the image of a replica.
-ghost use Rattle.std.specs.Prelude.{◌≡◌, IfOk, IfSome, IfNone, option_map};
+ghost use Rattle.std.specs.Prelude.{◌≡◌, IfErr, IfOk, option_map};
 ghost use Rattle.syn_model.specs.Image.{IsStanding, last_token_spelling, touch_spelling};
 ghost use Rattle.syn_model.specs.Tree.{Tree};
 ghost use Rattle.syn_history.specs.Events.{token_of};
 ghost use Rattle.syn_history.specs.Past.{IsLawful, standing_with};
 ghost use Rattle.syn_history.specs.Trails.{past_from};
-ghost use Rattle.syn_wire.specs.Reads.{IsReading};
+ghost use Rattle.syn_wire.specs.Reads.{IsReading, Reads};
 ghost use Rattle.syn_wire.specs.Versions.{version_of};
+ghost use Rattle.syn_wire.specs.declared.error.ReadError.TheVariants as ReadError;
 ghost use Rattle.syn_image.specs.Images.{IsImage, spelled_image, image_of, IsLastToken, IsTouch};
 ghost use Rattle.syn_image.specs.Images.{AreTouches, touches_spelling};
 ghost use Rattle.syn_image.specs.inner.Pasts.{AreTwo, two_spelling, AreFour, four_spelling};
 ghost use Rattle.syn_image.specs.inner.Pasts.{AreFences, fences_spelling, IsPast, past_spelling};
-ghost use Rattle.syn_image.specs.inner.Pasts.{AreSoMany, each_spelling};
+ghost use Rattle.syn_image.specs.inner.Pasts.{AreSoMany, each_spelling, past_read};
 ghost use Rattle.syn_image.specs.inner.Trees.{IsImageTree};
 ghost use Rattle.syn_model.specs.Spelling.{spelling_in};
 
@@ -19,7 +20,7 @@ use crate::image::{Image, front};
 use std::alloc::Global;
 use syn_history::{Parts, Token, Touch, Trail};
 use syn_tree::Tree;
-use syn_wire::{Version, WireError, decode_path, decode_tree, read_token, read_u16, read_u64};
+use syn_wire::{ReadError, Reader, Version, WireError};
 
 /// The most bytes that spell the tree of an image of the first version.
 const LONGEST_OLD_TREE: usize = 524_288;
@@ -39,181 +40,135 @@ pub fn decode_image(
         (spelled_image (version_of version)) bytes.now
         (option_map (λ found. (image_of found.0, found.1.now)) read)) }
 {
-    let Some(fields) = bytes.strip_prefix(&front(version)) else {
-        return Ok(None);
-    };
-    let Some((pair, parts, after)) = read_past(alloc, fields)? else {
-        return Ok(None);
-    };
-    let Some((tree, rest)) = read_tree(alloc, version, after)? else {
-        return Ok(None);
-    };
-    let Some(trail) = trail_of(alloc, parts)? else {
-        return Ok(None);
-    };
-    Ok(Some((Image { pair, tree, trail }, rest)))
+    let mut reader = Reader::new(bytes);
+    let image = read_image(&mut reader, alloc, version);
+    reader.front(image)
 }
 
-/// The tree of an image of the version, and the rest; none where no front of the bytes spells one.
-fn read_tree(
-    alloc: Global,
-    version: Version,
-    bytes: &[u8],
-) -> Result<Option<(Tree, &[u8])>, WireError>
-    ensures { IfOk result (λ read. IsReading (IsImageTree (version_of version))
-        (spelling_in (version_of version)) bytes.now
-        (option_map (λ found. (found.0, found.1.now)) read)) }
+fn read_image(reader: &mut Reader<'_>, alloc: Global, version: Version) -> Result<Image, ReadError>
+    ensures { Reads (IsImage (version_of version)) (spelled_image (version_of version)) image_of
+        reader.old reader.new result }
+{
+    reader.expect(&front(version))?;
+    let (pair, parts) = read_past(reader, alloc)?;
+    let tree = read_tree(reader, alloc, version)?;
+    let trail = trail_of(alloc, parts)?;
+    Ok(Image { pair, tree, trail })
+}
+
+/// The tree of an image of the version.
+fn read_tree(reader: &mut Reader<'_>, alloc: Global, version: Version) -> Result<Tree, ReadError>
+    ensures { Reads (IsImageTree (version_of version)) (spelling_in (version_of version))
+        (λ tree. tree) reader.old reader.new result }
 {
     syn_model::spelling_laws();
-    let Some((tree, rest)) = decode_tree(alloc, version, bytes)? else {
-        return Ok(None);
-    };
-    let taken = bytes.len() - rest.len();
+    let before = reader.rest().len();
+    let tree = reader.tree(alloc, version)?;
+    let taken = before - reader.rest().len();
     match version {
-        Version::One if taken > LONGEST_OLD_TREE => Ok(None),
-        _ => Ok(Some((tree, rest))),
+        Version::One if taken > LONGEST_OLD_TREE => Err(ReadError::Malformed),
+        _ => Ok(tree),
     }
 }
 
-/// The trail of these parts, where they are lawful; else none.
-fn trail_of(alloc: Global, parts: Parts) -> Result<Option<Trail>, WireError>
-    ensures parts { IfOk result (λ read. IfSome read (λ trail. trail ≡ past_from parts)) }
-    ensures lawful { IfOk result (λ read. IfSome read IsLawful) }
-    ensures none { IfOk result (λ read. IfNone read
-        ((tree : Tree) → ¬ IsStanding (standing_with tree (past_from parts)))) }
+/// The trail of these parts. `Malformed` where they are not lawful.
+fn trail_of(alloc: Global, parts: Parts) -> Result<Trail, ReadError>
+    ensures parts { IfOk result (λ trail. trail ≡ past_from parts) }
+    ensures lawful { IfOk result IsLawful }
+    ensures malformed { IfErr result (λ e. e ≡ ReadError.Malformed
+        → (tree : Tree) → ¬ IsStanding (standing_with tree (past_from parts))) }
 {
     match Trail::from_parts(alloc, parts) {
-        Ok(read) => Ok(read),
-        Err(_) => Err(WireError::Memory),
+        Ok(trail) => trail.ok_or(ReadError::Malformed),
+        Err(_) => Err(ReadError::Memory),
     }
 }
 
 /// The pair, and what an image has of a trail.
-fn read_past(alloc: Global, bytes: &[u8]) -> Result<Option<(u64, Parts, &[u8])>, WireError>
-    ensures { IfOk result (λ read. IsReading IsPast past_spelling bytes.now
-        (option_map (λ found. (
-          (
-            (
-              ((found.0, found.1.position), (found.1.floor, found.1.session)),
-              option_map token_of found.1.token,
-            ),
-            found.1.touches.items,
-          ),
-          found.2.now,
-        )) read)) }
+fn read_past(reader: &mut Reader<'_>, alloc: Global) -> Result<(u64, Parts), ReadError>
+    ensures { Reads IsPast past_spelling past_read reader.old reader.new result }
 {
-    let Some(((pair, position), (floor, session), token, after)) = read_fences(bytes) else {
-        return Ok(None);
+    let ((pair, position), (floor, session), token) = read_fences(reader)?;
+    let touches = read_touches(reader, alloc)?;
+    let parts = Parts {
+        position,
+        floor,
+        touches,
+        session,
+        token,
     };
-    match read_touches(alloc, after)? {
-        Some((touches, rest)) => {
-            let parts = Parts {
-                position,
-                floor,
-                touches,
-                session,
-                token,
-            };
-            Ok(Some((pair, parts, rest)))
-        }
-        None => Ok(None),
-    }
+    Ok((pair, parts))
 }
 
 /// The four numbers, and the last token.
-fn read_fences(bytes: &[u8]) -> Option<((u64, u64), (u64, u64), Option<Token>, &[u8])>
-    ensures { IsReading AreFences fences_spelling bytes.now
-        (option_map (λ found. (((found.0, found.1), option_map token_of found.2), found.3.now))
-        result) }
+fn read_fences(
+    reader: &mut Reader<'_>,
+) -> Result<((u64, u64), (u64, u64), Option<Token>), ReadError>
+    ensures { Reads AreFences fences_spelling
+        (λ found. ((found.0, found.1), option_map token_of found.2)) reader.old reader.new result }
 {
-    let (first, second, after) = read_four(bytes)?;
-    let (token, rest) = read_last_token(after)?;
-    Some((first, second, token, rest))
+    let (first, second) = read_four(reader)?;
+    let token = read_last_token(reader)?;
+    Ok((first, second, token))
 }
 
 /// Four numbers.
-fn read_four(bytes: &[u8]) -> Option<((u64, u64), (u64, u64), &[u8])>
-    ensures { IsReading AreFour four_spelling bytes.now
-        (option_map (λ found. ((found.0, found.1), found.2.now)) result) }
+fn read_four(reader: &mut Reader<'_>) -> Result<((u64, u64), (u64, u64)), ReadError>
+    ensures { Reads AreFour four_spelling (λ four. four) reader.old reader.new result }
 {
-    let (first, after) = read_two(bytes)?;
-    let (second, rest) = read_two(after)?;
-    Some((first, second, rest))
+    let first = read_two(reader)?;
+    let second = read_two(reader)?;
+    Ok((first, second))
 }
 
 /// Two numbers.
-pub(crate) fn read_two(bytes: &[u8]) -> Option<((u64, u64), &[u8])>
-    ensures { IsReading AreTwo two_spelling bytes.now
-        (option_map (λ found. (found.0, found.1.now)) result) }
+pub(crate) fn read_two(reader: &mut Reader<'_>) -> Result<(u64, u64), ReadError>
+    ensures { Reads AreTwo two_spelling (λ two. two) reader.old reader.new result }
 {
-    let (first, after) = read_u64(bytes)?;
-    let (second, rest) = read_u64(after)?;
-    Some(((first, second), rest))
+    let first = reader.u64()?;
+    let second = reader.u64()?;
+    Ok((first, second))
 }
 
 /// The last token, or that there is none.
-fn read_last_token(bytes: &[u8]) -> Option<(Option<Token>, &[u8])>
-    ensures { IsReading IsLastToken last_token_spelling bytes.now
-        (option_map (λ found. (option_map token_of found.0, found.1.now)) result) }
+fn read_last_token(reader: &mut Reader<'_>) -> Result<Option<Token>, ReadError>
+    ensures { Reads IsLastToken last_token_spelling (λ token. option_map token_of token)
+        reader.old reader.new result }
 {
-    let [kind, fields @ ..] = bytes else {
-        return None;
-    };
-    match *kind {
-        0 => Some((None, fields)),
-        1 => {
-            let (token, rest) = read_token(fields)?;
-            Some((Some(token), rest))
-        }
-        _ => None,
+    match reader.byte()? {
+        0 => Ok(None),
+        1 => Ok(Some(reader.token()?)),
+        _ => Err(ReadError::Malformed),
     }
 }
 
 /// The touches, after their number.
-fn read_touches(alloc: Global, bytes: &[u8]) -> Result<Option<(Vec<Touch>, &[u8])>, WireError>
-    ensures { IfOk result (λ read. IsReading AreTouches touches_spelling bytes.now
-        (option_map (λ found. (found.0.items, found.1.now)) read)) }
+fn read_touches(reader: &mut Reader<'_>, alloc: Global) -> Result<Vec<Touch>, ReadError>
+    ensures { Reads AreTouches touches_spelling (λ touches. touches.items) reader.old reader.new
+        result }
 {
-    let Some((count, after)) = read_u16(bytes) else {
-        return Ok(None);
-    };
-    match read_each(alloc, count, after)? {
-        Some((touches, rest)) => Ok(Some((touches, rest))),
-        None => Ok(None),
-    }
+    let count = reader.u16()?;
+    let touches = read_each(reader, alloc, count)?;
+    Ok(touches)
 }
 
 /// So many touches. Memory is taken as they are seen, and never by their number alone.
-fn read_each(
-    alloc: Global,
-    count: u16,
-    bytes: &[u8],
-) -> Result<Option<(Vec<Touch>, &[u8])>, WireError>
-    ensures { IfOk result (λ read. IsReading (AreSoMany count) each_spelling bytes.now
-        (option_map (λ found. (found.0.items, found.1.now)) read)) }
+fn read_each(reader: &mut Reader<'_>, alloc: Global, count: u16) -> Result<Vec<Touch>, ReadError>
+    ensures { Reads (AreSoMany count) each_spelling (λ touches. touches.items) reader.old
+        reader.new result }
 {
     let mut touches = Vec::new(alloc);
-    let mut rest = bytes;
     for _read in 0..count {
-        let Some((touch, after)) = read_touch(alloc, rest)? else {
-            return Ok(None);
-        };
-        touches.push(touch)?;
-        rest = after;
+        touches.push(read_touch(reader, alloc)?)?;
     }
-    Ok(Some((touches, rest)))
+    Ok(touches)
 }
 
 /// The position and the path of a touch.
-fn read_touch(alloc: Global, bytes: &[u8]) -> Result<Option<(Touch, &[u8])>, WireError>
-    ensures { IfOk result (λ read. IsReading IsTouch touch_spelling bytes.now
-        (option_map (λ found. (found.0, found.1.now)) read)) }
+fn read_touch(reader: &mut Reader<'_>, alloc: Global) -> Result<Touch, ReadError>
+    ensures { Reads IsTouch touch_spelling (λ touch. touch) reader.old reader.new result }
 {
-    let Some((position, after)) = read_u64(bytes) else {
-        return Ok(None);
-    };
-    match decode_path(alloc, after)? {
-        Some((path, rest)) => Ok(Some((Touch::new(position, path), rest))),
-        None => Ok(None),
-    }
+    let position = reader.u64()?;
+    let path = reader.path(alloc)?;
+    Ok(Touch::new(position, path))
 }

@@ -1,6 +1,6 @@
 -- Names, marks and entries tell themselves, and so do lists of entries.
 use Rattle.std.proofs.Common.{◌≡◌, ℕ, zero, suc, ◌+◌, ◌<◌, List, [], ◌∷◌, ◌++◌, length, take, drop}
-use Rattle.std.proofs.Common.{refl, sym, ap, ap₂, ◌∙◌, subst, append_assoc, append-nil, arith, None}
+use Rattle.std.proofs.Common.{refl, sym, ap, ap₂, ◌∙◌, subst, append_assoc, append-nil, arith}
 use Rattle.std.proofs.Common.{◌↔◌, ◌^◌, Bool, true, false, true≢false, is_lt, Less, Equal, Greater}
 use Rattle.std.proofs.Common.{Ordering, IsTrue}
 use Rattle.std.proofs.Math.Seq.{take-append_seam, drop-append_seam}
@@ -22,7 +22,7 @@ use Rattle.syn_message.specs.Listings.{AreRising, Entries, IsEntry, IsListing, e
 use Rattle.syn_message.specs.Listings.{entries_spelling, entry_of, entry_spelling, mark_spelling}
 use Rattle.syn_message.specs.inner.Listed.{AreEntries, each_spelling, name_spelling}
 use Rattle.syn_wire.specs.Laws.{NoU16BeginsAnother}
-use Rattle.syn_wire.specs.Reads.{BeginsWith, IsReading, NoneBeginsAnother}
+use Rattle.syn_wire.specs.Reads.{BeginsWith, NoneBeginsAnother, NothingStands}
 
 -- lists of one length that go on to one list are one, and so is what follows
 split : (a b r s : Bytes) → length a ≡ length b → a ++ r ≡ b ++ s → (a ≡ b) × (r ≡ s)
@@ -59,8 +59,8 @@ entry_tells v w r s hv hw e =
 
 -- where no mark stands after the name there is no entry
 pub no_mark : (bytes after : Bytes) (name : Name) → BeginsWith IsName name_spelling bytes name after
-    → IsReading IsDigestOrDirectory mark_spelling after None
-    → IsReading IsEntry entry_spelling bytes None
+    → NothingStands IsDigestOrDirectory mark_spelling after
+    → NothingStands IsEntry entry_spelling bytes
 no_mark bytes after name found none entry rest begins =
     let same = name_tells name entry.0 after (mark_spelling entry.1 ++ rest) found.lawful
     begins.lawful.0 (sym found.spelled ∙ (begins.spelled ∙ parts_of entry rest)) in

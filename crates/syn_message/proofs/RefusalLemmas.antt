@@ -1,9 +1,8 @@
 -- Each refusal of the model is one of the product, and its number tells it.
-use Rattle.std.proofs.Common.{◌≡◌, ◌≢◌, ◌≤◌, ◌<◌, ℕ, refl, ap, ◌∙◌, sym, arith, length}
-use Rattle.std.proofs.Common.{slice_index_or, Option, Some, None, option_map}
-use Rattle.std.specs.Prelude.{List, [], ◌∷◌, ◌==◌, if◌then◌else◌, IfSome, IfNone}
+use Rattle.std.proofs.Common.{◌≡◌, ◌≢◌, ℕ, refl, ap, ◌∙◌, sym}
+use Rattle.std.specs.Prelude.{List, [], ◌∷◌, ◌==◌, if◌then◌else◌}
 use Rattle.syn_message.proofs.WholeLemmas.{first_of}
-use Rattle.syn_message.specs.Bodies.{IsWholeReading}
+use Rattle.syn_message.specs.Bodies.{SpellsNone}
 use Rattle.syn_message.specs.inner.Heads.{IsRefusal, refusal_spelling}
 use Rattle.syn_model.specs.Path.{Bytes}
 use Rattle.syn_model.specs.Refusal.{Refusal, number}
@@ -85,18 +84,10 @@ told why.OldVersion = refl
 pub number_tells : (a b : Refusal) → number a ≡ number b → a ≡ b
 number_tells a b same = sym (told a) ∙ (ap (numbered all) same ∙ told b)
 
-pub refusal_read : (fields : Bytes) (wanted : ℕ) (read : Option Answer) → fields ≡ wanted ∷ []
-    → IfSome read (λ answer. number (cause_of answer) ≡ wanted)
-    → IfNone read ((answer : Answer) → number (cause_of answer) ≢ wanted)
-    → IsWholeReading IsRefusal refusal_spelling fields (option_map cause_of read)
-refusal_read fields wanted (Some code) is some none = (tt, is ∙ ap (λ n. n ∷ []) (sym some))
-refusal_read fields wanted None is some none =
-    λ refusal lawful spelled.
+-- a byte that is the number of none
+pub no_refusal : (left : Bytes) (wanted : ℕ) → left ≡ wanted ∷ []
+    → ((answer : Answer) → number (cause_of answer) ≢ wanted)
+    → SpellsNone IsRefusal refusal_spelling left
+no_refusal left wanted is none refusal lawful spelled =
     let known = answer_of refusal in
     none known.0 (ap number known.1 ∙ sym (ap first_of (sym is ∙ spelled)))
-
--- a list of one
-pub only : (xs : Bytes) → 1 ≤ length xs → length xs < 2 → xs ≡ slice_index_or xs 0 0 ∷ []
-only [] long short = absurd (omega arith)
-only (x ∷ []) long short = refl
-only (x ∷ y ∷ xs) long short = absurd (omega arith)

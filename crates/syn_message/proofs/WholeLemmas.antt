@@ -1,19 +1,12 @@
 -- A body that is read to its end: what stands in front, and that nothing follows.
-use Rattle.std.proofs.Common.{◌∷◌, ◌-◌, ap, arith, drop, length, take}
-use Rattle.std.proofs.Math.Seq.{take-length}
+use Rattle.std.proofs.Common.{◌≡◌, ◌≢◌, ◌∙◌, [], ◌∷◌, ◌++◌, List, ℕ, Result, Ok, Err, sym}
+use Rattle.std.proofs.Common.{append-nil}
+use Rattle.std.specs.Prelude.{IsErrAnd}
 use Rattle.syn_model.specs.Path.{Bytes}
-use Rattle.std.proofs.Common.{◌≡◌, ◌≢◌, ◌∙◌, [], ◌++◌, List, ℕ, None, sym, append-nil}
-use Rattle.syn_message.specs.Bodies.{IsWholeReading}
-use Rattle.syn_wire.specs.Reads.{BeginsWith, IsReading, NoneBeginsAnother}
-
--- what stands after the first byte
-abbrev pub after_kind : Bytes → Bytes
-after_kind body = take (length body - 1) (drop 1 body)
-
-pub after_first : (kind : ℕ) (rest : Bytes) → after_kind (kind ∷ rest) ≡ rest
-after_first kind rest =
-    let one : length (kind ∷ rest) - 1 ≡ length rest = omega arith in
-    ap (λ n. take n rest) one ∙ take-length rest
+use Rattle.syn_message.specs.Bodies.{ReadsWhole, SpellsNone}
+use Rattle.syn_wire.specs.Reads.{BeginsWith, NoneBeginsAnother, NothingStands, Reads}
+use Rattle.syn_wire.specs.declared.error.ReadError.{ReadError}
+use Rattle.syn_wire.specs.declared.error.ReadError.TheVariants.{Malformed}
 
 -- the first byte of a body, and what stands after it
 abbrev pub first_of : Bytes → ℕ
@@ -24,15 +17,28 @@ abbrev pub rest_of : Bytes → Bytes
 rest_of [] = []
 rest_of (x ∷ xs) = xs
 
+-- an error that a `?` hands on
+pub failed : {V X : Type 0} (P : V → Type 0) (f : V → List ℕ) (view : X → V) (old new : List ℕ)
+    (r : Result X ReadError) (Q : ReadError → Type 0) → IsErrAnd r Q →
+    ((e : ReadError) → Q e → e ≡ Malformed → NothingStands P f old) → Reads P f view old new r
+failed P f view old new (Err e) Q is none = none e is
+failed P f view old new (Ok x) Q is none = absurd is
+
+pub failed_whole : {V X : Type 0} (P : V → Type 0) (f : V → List ℕ) (view : X → V) (body : List ℕ)
+    (r : Result X ReadError) (Q : ReadError → Type 0) → IsErrAnd r Q →
+    ((e : ReadError) → Q e → e ≡ Malformed → SpellsNone P f body) → ReadsWhole P f view body r
+failed_whole P f view body (Err e) Q is none = none e is
+failed_whole P f view body (Ok x) Q is none = absurd is
+
 module _ {A : Type 0} (P : A → Type 0) (f : A → List ℕ) where
   -- there is no value in front
-  pub no_value : (bytes : List ℕ) → IsReading P f bytes None → IsWholeReading P f bytes None
+  pub no_value : (bytes : List ℕ) → NothingStands P f bytes → SpellsNone P f bytes
   no_value bytes none value lawful is =
       none value [] (record { lawful = lawful; spelled = is ∙ sym (append-nil (f value)) })
 
   -- something follows the value
   pub no_end : NoneBeginsAnother P f → (bytes rest : List ℕ) (value : A)
-      → BeginsWith P f bytes value rest → rest ≢ [] → IsWholeReading P f bytes None
+      → BeginsWith P f bytes value rest → rest ≢ [] → SpellsNone P f bytes
   no_end tells bytes rest value found more other lawful is =
       more (tells value other rest [] found.lawful lawful
       (sym found.spelled ∙ (is ∙ sym (append-nil (f other))))).1
@@ -40,7 +46,7 @@ module _ {A : Type 0} (P : A → Type 0) (f : A → List ℕ) where
 module _ {A B : Type 0} (P : A → Type 0) (Q : B → Type 0) (f : A → List ℕ) (g : B → List ℕ) where
   -- the rest after the first is no second one
   pub no_rest : NoneBeginsAnother P f → (bytes after : List ℕ) (first : A)
-      → BeginsWith P f bytes first after → IsWholeReading Q g after None
+      → BeginsWith P f bytes first after → SpellsNone Q g after
       → (a : A) (b : B) → P a → Q b → bytes ≢ f a ++ g b
   no_rest tells bytes after first found none a b lawful second is =
       none b second (tells first a after (g b) found.lawful lawful (sym found.spelled ∙ is)).1

@@ -1,12 +1,12 @@
 -- How a reply of a side is spelled.
-use Rattle.std.specs.Prelude.{◌≡◌, ◌≤◌, ◌<◌, ◌^◌, ℕ, [], ◌∷◌, ◌++◌, length, Option}
+use Rattle.std.specs.Prelude.{◌≡◌, ◌≤◌, ◌<◌, ◌^◌, ℕ, [], ◌∷◌, ◌++◌, length, Result}
 use Rattle.std.specs.Int.{to_be_bytes, w32, w64}
 use Rattle.syn_headline.specs.Side as model
 use Rattle.syn_model.specs.Limits.{greatest_piece}
 use Rattle.syn_model.specs.Event.{AreBytes}
 use Rattle.syn_model.specs.Path.{Bytes}
 use Rattle.syn_model.specs.Refusal.{number}
-use Rattle.syn_message.specs.Bodies.{IsWholeReading, body_spelling}
+use Rattle.syn_message.specs.Bodies.{ReadsWhole, body_spelling}
 use Rattle.syn_message.specs.Listings.{IsListing, entries_of, entries_spelling}
 use Rattle.syn_message.specs.declared.kind.TheConstants.{BEGUN, LISTED, NOT_DIR, PIECE, STAGED}
 use Rattle.syn_message.specs.declared.kind.TheConstants.{DONE, REFUSED}
@@ -15,6 +15,7 @@ use Rattle.syn_message.specs.declared.reply.Reply.{Reply}
 use Rattle.syn_message.specs.declared.reply.Reply.TheVariants as has
 use Rattle.syn_refusal.specs.Refusals.{cause_of}
 use Rattle.syn_wire.specs.Events.{file_spelling}
+use Rattle.syn_wire.specs.declared.error.ReadError.{ReadError}
 
 -- a reply as the model has it
 abbrev pub reply_of : Reply → model.Reply
@@ -87,5 +88,5 @@ pub record IsLawfulAnswering (answering : Answering) : Type 0 where
 abbrev pub IsReplyOf : ℕ → model.Reply → Type 0
 IsReplyOf kind reply = (reply_kind reply ≡ kind) × IsLawfulReply reply
 
-abbrev pub ReadsReply : ℕ → Bytes → Option model.Reply → Type 0
-ReadsReply kind = IsWholeReading (IsReplyOf kind) reply_fields
+abbrev pub ReadsReply : ℕ → Bytes → Result Reply ReadError → Type 0
+ReadsReply kind = ReadsWhole (IsReplyOf kind) reply_fields reply_of

@@ -1,15 +1,16 @@
 -- How a request of a coordinator is spelled.
-use Rattle.std.specs.Prelude.{◌≡◌, ◌<◌, ◌^◌, ℕ, ◌++◌, Option}
+use Rattle.std.specs.Prelude.{◌≡◌, ◌<◌, ◌^◌, ℕ, ◌++◌, Result}
 use Rattle.std.specs.Int.{to_be_bytes, w32, w64}
 use Rattle.syn_headline.specs.Side.{IsLawfulBody}
 use Rattle.syn_headline.specs.Side as model
 use Rattle.syn_model.specs.Path.{Bytes, path_spelling}
-use Rattle.syn_message.specs.Bodies.{IsWholeReading, body_spelling}
+use Rattle.syn_message.specs.Bodies.{ReadsWhole, body_spelling}
 use Rattle.syn_message.specs.declared.kind.TheConstants.{BEGIN, LIST, FETCH, STAGE, REPLACE}
 use Rattle.syn_message.specs.declared.request.RequestMessage.{RequestMessage}
 use Rattle.syn_message.specs.declared.request.Request.{Request}
 use Rattle.syn_message.specs.declared.request.Request.TheVariants as has
 use Rattle.syn_wire.specs.Events.{file_spelling}
+use Rattle.syn_wire.specs.declared.error.ReadError.{ReadError}
 
 -- a request as the model has it
 abbrev pub request_of : Request → model.Request
@@ -63,5 +64,5 @@ pub record IsLawfulAsking (asking : Asking) : Type 0 where
 abbrev pub IsOfKind : ℕ → model.Request → Type 0
 IsOfKind kind request = (kind_of request ≡ kind) × IsLawfulBody request
 
-abbrev pub ReadsFields : ℕ → Bytes → Option model.Request → Type 0
-ReadsFields kind = IsWholeReading (IsOfKind kind) fields_spelling
+abbrev pub ReadsFields : ℕ → Bytes → Result Request ReadError → Type 0
+ReadsFields kind = ReadsWhole (IsOfKind kind) fields_spelling request_of

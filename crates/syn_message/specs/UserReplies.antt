@@ -1,5 +1,5 @@
 -- How a reply to a user is spelled.
-use Rattle.std.specs.Prelude.{◌≡◌, ◌≤◌, ◌<◌, ◌^◌, ℕ, [], ◌∷◌, length, Option, Some, None}
+use Rattle.std.specs.Prelude.{◌≡◌, ◌≤◌, ◌<◌, ◌^◌, ℕ, [], ◌∷◌, length, Option, Some, None, Result}
 use Rattle.std.specs.Option.{option_map}
 use Rattle.std.specs.Int.{to_be_bytes, w64}
 use Rattle.syn_model.specs.Limits.{greatest_file}
@@ -7,13 +7,14 @@ use Rattle.syn_model.specs.Contents.{Contents, AreLawfulContents, contents_spell
 use Rattle.syn_model.specs.Path.{Bytes}
 use Rattle.syn_model.specs.Refusal.{Refusal, number}
 use Rattle.syn_model.specs.Tree.{Content, Directory, File}
-use Rattle.syn_message.specs.Bodies.{IsWholeReading, body_spelling}
+use Rattle.syn_message.specs.Bodies.{ReadsWhole, body_spelling}
 use Rattle.syn_message.specs.declared.kind.TheConstants.{EDITED, GOT, REFUSED}
 use Rattle.syn_message.specs.declared.user_reply.UserReplyMessage.{UserReplyMessage}
 use Rattle.syn_message.specs.declared.user_reply.UserReply.{UserReply}
 use Rattle.syn_message.specs.declared.user_reply.UserReply.TheVariants as has
 use Rattle.syn_refusal.specs.Refusals.{cause_of}
 use Rattle.syn_tree.specs.Contents.{content_of}
+use Rattle.syn_wire.specs.declared.error.ReadError.{ReadError}
 
 -- what a user is told
 pub data Told : Type 0 where
@@ -76,5 +77,5 @@ pub record IsLawfulTelling (telling : Telling) : Type 0 where
 abbrev pub IsToldOf : ℕ → Told → Type 0
 IsToldOf kind told = (told_kind told ≡ kind) × IsLawfulTold told
 
-abbrev pub ReadsTold : ℕ → Bytes → Option Told → Type 0
-ReadsTold kind = IsWholeReading (IsToldOf kind) told_fields
+abbrev pub ReadsTold : ℕ → Bytes → Result UserReply ReadError → Type 0
+ReadsTold kind = ReadsWhole (IsToldOf kind) told_fields told_of

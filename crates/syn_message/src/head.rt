@@ -1,10 +1,10 @@
 //! The front of each body: a kind, a session, and the number of the request in it.
-ghost use Rattle.std.specs.Prelude.{◌≡◌, ◌++◌, [], OnOk, option_map};
+ghost use Rattle.std.specs.Prelude.{◌≡◌, ◌++◌, [], OnOk};
 ghost use Rattle.syn_message.specs.Bodies.{body_spelling};
 ghost use Rattle.syn_message.specs.inner.Heads.{IsHead, IsUserHead, head_spelling};
-ghost use Rattle.syn_wire.specs.Reads.{IsReading};
+ghost use Rattle.syn_wire.specs.Reads.{Reads};
 
-use syn_wire::{WireError, read_u32, read_u64, spelling_laws, write_u32, write_u64};
+use syn_wire::{ReadError, Reader, WireError, spelling_laws, write_u32, write_u64};
 
 /// Adds the front of a body.
 pub(crate) fn write_head(
@@ -21,30 +21,28 @@ pub(crate) fn write_head(
     write_u32(body, number)
 }
 
-/// The number of a session, which is not 0, that of the request in it, and the rest.
-pub(crate) fn read_head(bytes: &[u8]) -> Option<(u64, u32, &[u8])>
-    ensures { IsReading IsHead head_spelling bytes.now
-        (option_map (λ found. ((found.0, found.1), found.2.now)) result) }
+/// The number of a session, which is not 0, and that of the request in it.
+pub(crate) fn read_head(reader: &mut Reader<'_>) -> Result<(u64, u32), ReadError>
+    ensures { Reads IsHead head_spelling (λ head. head) reader.old reader.new result }
 {
     spelling_laws();
-    let (session, after) = read_u64(bytes)?;
-    let (number, rest) = read_u32(after)?;
+    let session = reader.u64()?;
+    let number = reader.u32()?;
     if session == 0 {
-        return None;
+        return Err(ReadError::Malformed);
     }
-    Some((session, number, rest))
+    Ok((session, number))
 }
 
-/// The number after a session of 0, and the rest.
-pub(crate) fn read_user_head(bytes: &[u8]) -> Option<(u32, &[u8])>
-    ensures { IsReading IsUserHead head_spelling bytes.now
-        (option_map (λ found. ((0, found.0), found.1.now)) result) }
+/// The number after a session of 0.
+pub(crate) fn read_user_head(reader: &mut Reader<'_>) -> Result<u32, ReadError>
+    ensures { Reads IsUserHead head_spelling (λ number. (0, number)) reader.old reader.new result }
 {
     spelling_laws();
-    let (session, after) = read_u64(bytes)?;
-    let (number, rest) = read_u32(after)?;
+    let session = reader.u64()?;
+    let number = reader.u32()?;
     if session != 0 {
-        return None;
+        return Err(ReadError::Malformed);
     }
-    Some((number, rest))
+    Ok(number)
 }

@@ -1,19 +1,17 @@
 //! The names in a directory with the mark of each.
-ghost use Rattle.std.specs.Prelude.{◌≡◌, ◌++◌, ◌↔◌, IfOk, IsTrue, OnOk, option_map};
+ghost use Rattle.std.specs.Prelude.{◌≡◌, ◌++◌, ◌↔◌, IsTrue, OnOk};
 ghost use Rattle.syn_mark.specs.Marks.{IsDigestOrDirectory, content_of};
-ghost use Rattle.syn_model.specs.Path.{IsName};
-ghost use Rattle.syn_message.specs.Bodies.{IsWholeReading};
+ghost use Rattle.syn_message.specs.Bodies.{ReadsWhole};
 ghost use Rattle.syn_message.specs.Listings.{IsEntry, IsListing, entries_of, entries_spelling};
 ghost use Rattle.syn_message.specs.Listings.{AreRising, entry_of, entry_spelling, mark_spelling};
-ghost use Rattle.syn_message.specs.inner.Listed.{AreEntries, each_spelling, name_spelling};
-ghost use Rattle.syn_wire.specs.Reads.{IsReading};
+ghost use Rattle.syn_message.specs.inner.Listed.{AreEntries, each_spelling};
+ghost use Rattle.syn_wire.specs.Reads.{Reads};
 
 use std::alloc::Global;
-use std::str;
 use syn_mark::Mark;
-use syn_path::{Name, PathError};
+use syn_path::Name;
 use syn_tree::MOST_CHILDREN;
-use syn_wire::{Version, WireError, read_digest, read_u16, spelling_laws, write_digest, write_u16};
+use syn_wire::{ReadError, Reader, Version, WireError, spelling_laws, write_digest, write_u16};
 
 /// The kind of a file's mark.
 const FILE: u8 = 1;
@@ -52,109 +50,65 @@ fn write_entry(body: &mut Vec<u8>, name: &Name, mark: Mark) -> Result<(), WireEr
     Ok(())
 }
 
-/// The entries that the bytes are: at most 256, their names strictly rising. None where they are no
-/// such spelling.
+/// The entries that all that is left is: at most 256, their names strictly rising.
 ///
 /// Memory is taken as entries are seen, and never by their number alone.
 pub(crate) fn read_entries(
+    reader: &mut Reader<'_>,
     alloc: Global,
-    bytes: &[u8],
-) -> Result<Option<Vec<(Name, Mark)>>, WireError>
-    ensures { IfOk result (λ read. IsWholeReading IsListing entries_spelling bytes.now
-        (option_map (λ entries. entries_of entries.items) read)) }
+) -> Result<Vec<(Name, Mark)>, ReadError>
+    ensures { ReadsWhole IsListing entries_spelling (λ entries. entries_of entries.items)
+        reader.old result }
 {
     spelling_laws();
-    let Some((count, after)) = read_u16(bytes) else {
-        return Ok(None);
-    };
+    let count = reader.u16()?;
     if usize::from(count) > MOST_CHILDREN {
-        return Ok(None);
+        return Err(ReadError::Malformed);
     }
-    let Some((entries, rest)) = read_each(alloc, count, after)? else {
-        return Ok(None);
-    };
-    if !rest.is_empty() {
-        return Ok(None);
-    }
+    let entries = read_each(reader, alloc, count)?;
+    reader.end()?;
     if !are_rising(&entries) {
-        return Ok(None);
+        return Err(ReadError::Malformed);
     }
-    Ok(Some(entries))
+    Ok(entries)
 }
 
 /// So many entries.
 fn read_each(
+    reader: &mut Reader<'_>,
     alloc: Global,
     count: u16,
-    bytes: &[u8],
-) -> Result<Option<(Vec<(Name, Mark)>, &[u8])>, WireError>
-    ensures { IfOk result (λ read. IsReading (AreEntries count) each_spelling bytes.now
-        (option_map (λ found. (entries_of found.0.items, found.1.now)) read)) }
+) -> Result<Vec<(Name, Mark)>, ReadError>
+    ensures { Reads (AreEntries count) each_spelling (λ entries. entries_of entries.items)
+        reader.old reader.new result }
 {
     let mut entries = Vec::new(alloc);
-    let mut rest = bytes;
     for _read in 0..count {
-        let Some((entry, after)) = read_entry(alloc, rest)? else {
-            return Ok(None);
-        };
-        entries.push(entry)?;
-        rest = after;
+        entries.push(read_entry(reader, alloc)?)?;
     }
-    Ok(Some((entries, rest)))
+    Ok(entries)
 }
 
 /// A name, and its mark.
-fn read_entry(alloc: Global, bytes: &[u8]) -> Result<Option<((Name, Mark), &[u8])>, WireError>
-    ensures { IfOk result (λ read. IsReading IsEntry entry_spelling bytes.now
-        (option_map (λ found. (entry_of found.0, found.1.now)) read)) }
+fn read_entry(reader: &mut Reader<'_>, alloc: Global) -> Result<(Name, Mark), ReadError>
+    ensures { Reads IsEntry entry_spelling entry_of reader.old reader.new result }
 {
-    let Some((name, after)) = read_name(alloc, bytes)? else {
-        return Ok(None);
-    };
-    match read_mark(after) {
-        Some((mark, rest)) => Ok(Some(((name, mark), rest))),
-        None => Ok(None),
-    }
+    let name = reader.name(alloc)?;
+    let mark = read_mark(reader)?;
+    Ok((name, mark))
 }
 
-/// A name after its length, and the rest.
-fn read_name(alloc: Global, bytes: &[u8]) -> Result<Option<(Name, &[u8])>, WireError>
-    ensures { IfOk result (λ read. IsReading IsName name_spelling bytes.now
-        (option_map (λ found. (found.0, found.1.now)) read)) }
+/// A mark.
+fn read_mark(reader: &mut Reader<'_>) -> Result<Mark, ReadError>
+    ensures { Reads IsDigestOrDirectory mark_spelling content_of reader.old reader.new result }
 {
-    let [length, after @ ..] = bytes else {
-        return Ok(None);
-    };
-    let length = *length as usize;
-    if after.len() < length {
-        return Ok(None);
-    }
-    let (name, rest) = after.split_at(length);
-    let Ok(text) = str::from_utf8(name) else {
-        return Ok(None);
-    };
-    match Name::parse(alloc, text) {
-        Ok(name) => Ok(Some((name, rest))),
-        Err(PathError::BadPath) => Ok(None),
-        Err(PathError::Memory) => Err(WireError::Memory),
-    }
-}
-
-/// A mark, and the rest.
-fn read_mark(bytes: &[u8]) -> Option<(Mark, &[u8])>
-    ensures { IsReading IsDigestOrDirectory mark_spelling bytes.now
-        (option_map (λ found. (content_of found.0, found.1.now)) result) }
-{
-    let [kind, after @ ..] = bytes else {
-        return None;
-    };
-    match *kind {
+    match reader.byte()? {
         FILE => {
-            let (mode, digest, rest) = read_digest(Version::Two, after)?;
-            Some((Mark::File(mode, digest), rest))
+            let (mode, digest) = reader.digest(Version::Two)?;
+            Ok(Mark::File(mode, digest))
         }
-        DIRECTORY => Some((Mark::Dir, after)),
-        _ => None,
+        DIRECTORY => Ok(Mark::Dir),
+        _ => Err(ReadError::Malformed),
     }
 }
 

@@ -1,8 +1,8 @@
 //! Reads the body of a request.
-ghost use Rattle.std.specs.Prelude.{◌<◌, IfOk, option_map};
-ghost use Rattle.syn_message.specs.Bodies.{IsWholeReading};
+ghost use Rattle.std.specs.Prelude.{IfOk, option_map};
+ghost use Rattle.syn_message.specs.Bodies.{IsWholeReading, ReadsWhole};
 ghost use Rattle.syn_message.specs.Requests.{IsLawfulAsking, ReadsFields, asking_of};
-ghost use Rattle.syn_message.specs.Requests.{asking_spelling, request_of};
+ghost use Rattle.syn_message.specs.Requests.{asking_spelling};
 ghost use Rattle.syn_message.specs.inner.Heads.{ReadsLast};
 ghost use Rattle.syn_headline.specs.Side.{IsPieceBytes};
 ghost use Rattle.syn_wire.specs.Events.{file_spelling};
@@ -11,9 +11,7 @@ use crate::head::read_head;
 use crate::kind::{BEGIN, FETCH, LIST, REPLACE, STAGE};
 use crate::request::{Request, RequestMessage};
 use std::alloc::Global;
-use syn_wire::{
-    LONGEST_PIECE, WireError, decode_path, read_file, read_u32, read_u64, spelling_laws,
-};
+use syn_wire::{LONGEST_PIECE, ReadError, Reader, WireError, found, spelling_laws};
 
 /// The request that the body spells; none where it spells no request.
 ///
@@ -22,145 +20,116 @@ pub fn decode_request(alloc: Global, body: &[u8]) -> Result<Option<RequestMessag
     ensures { IfOk result (λ read. IsWholeReading IsLawfulAsking asking_spelling body.now
         (option_map asking_of read)) }
 {
-    let [kind, after @ ..] = body else {
-        return Ok(None);
-    };
-    let Some((session, number, fields)) = read_head(after) else {
-        return Ok(None);
-    };
-    match read_fields(alloc, *kind, fields)? {
-        Some(request) => Ok(Some(RequestMessage {
-            session,
-            number,
-            request,
-        })),
-        None => Ok(None),
-    }
+    found(read_request(&mut Reader::new(body), alloc))
+}
+
+fn read_request(reader: &mut Reader<'_>, alloc: Global) -> Result<RequestMessage, ReadError>
+    ensures { ReadsWhole IsLawfulAsking asking_spelling asking_of reader.old result }
+{
+    let kind = reader.byte()?;
+    let (session, number) = read_head(reader)?;
+    let request = read_fields(reader, alloc, kind)?;
+    Ok(RequestMessage {
+        session,
+        number,
+        request,
+    })
 }
 
 /// What stands after the number, in a request of the kind.
-fn read_fields(alloc: Global, kind: u8, fields: &[u8]) -> Result<Option<Request>, WireError>
-    ensures { IfOk result (λ read. ReadsFields kind fields.now (option_map request_of read)) }
+fn read_fields(reader: &mut Reader<'_>, alloc: Global, kind: u8) -> Result<Request, ReadError>
+    ensures { ReadsFields kind reader.old result }
 {
     match kind {
-        BEGIN => Ok(read_begin(fields)),
-        LIST => read_list(alloc, fields),
-        FETCH => read_fetch(alloc, fields),
-        STAGE => read_stage(alloc, fields),
-        REPLACE => read_replace(alloc, fields),
-        _ => Ok(None),
+        BEGIN => read_begin(reader),
+        LIST => read_list(reader, alloc),
+        FETCH => read_fetch(reader, alloc),
+        STAGE => read_stage(reader, alloc),
+        REPLACE => read_replace(reader, alloc),
+        _ => Err(ReadError::Malformed),
     }
 }
 
-fn read_begin(fields: &[u8]) -> Option<Request>
-    ensures { ReadsFields BEGIN fields.now (option_map request_of result) }
+fn read_begin(reader: &mut Reader<'_>) -> Result<Request, ReadError>
+    ensures { ReadsFields BEGIN reader.old result }
 {
     spelling_laws();
-    let (pair, rest) = read_u64(fields)?;
-    if !rest.is_empty() {
-        return None;
-    }
-    Some(Request::Begin { pair })
+    let pair = reader.u64()?;
+    reader.end()?;
+    Ok(Request::Begin { pair })
 }
 
-fn read_list(alloc: Global, fields: &[u8]) -> Result<Option<Request>, WireError>
-    ensures { IfOk result (λ read. ReadsFields LIST fields.now (option_map request_of read)) }
+fn read_list(reader: &mut Reader<'_>, alloc: Global) -> Result<Request, ReadError>
+    ensures { ReadsFields LIST reader.old result }
 {
     spelling_laws();
-    let Some((path, rest)) = decode_path(alloc, fields)? else {
-        return Ok(None);
-    };
-    if !rest.is_empty() {
-        return Ok(None);
-    }
-    Ok(Some(Request::List { path }))
+    let path = reader.path(alloc)?;
+    reader.end()?;
+    Ok(Request::List { path })
 }
 
-fn read_fetch(alloc: Global, fields: &[u8]) -> Result<Option<Request>, WireError>
-    ensures { IfOk result (λ read. ReadsFields FETCH fields.now (option_map request_of read)) }
+fn read_fetch(reader: &mut Reader<'_>, alloc: Global) -> Result<Request, ReadError>
+    ensures { ReadsFields FETCH reader.old result }
 {
     spelling_laws();
-    let Some((path, after)) = decode_path(alloc, fields)? else {
-        return Ok(None);
-    };
-    let Some((since, offset)) = read_last(after) else {
-        return Ok(None);
-    };
-    Ok(Some(Request::Fetch {
+    let path = reader.path(alloc)?;
+    let (since, offset) = read_last(reader)?;
+    Ok(Request::Fetch {
         path,
         since,
         offset,
-    }))
+    })
 }
 
-fn read_stage(alloc: Global, fields: &[u8]) -> Result<Option<Request>, WireError>
-    ensures { IfOk result (λ read. ReadsFields STAGE fields.now (option_map request_of read)) }
+fn read_stage(reader: &mut Reader<'_>, alloc: Global) -> Result<Request, ReadError>
+    ensures { ReadsFields STAGE reader.old result }
 {
     spelling_laws();
-    let Some((item, after)) = read_u32(fields) else {
-        return Ok(None);
-    };
-    let Some((offset, after)) = read_u32(after) else {
-        return Ok(None);
-    };
-    let Some(bytes) = read_piece(alloc, after)? else {
-        return Ok(None);
-    };
-    Ok(Some(Request::Stage {
+    let item = reader.u32()?;
+    let offset = reader.u32()?;
+    let bytes = read_piece(reader)?.to_vec(alloc)?;
+    Ok(Request::Stage {
         item,
         offset,
         bytes,
-    }))
+    })
 }
 
 /// From 1 to `LONGEST_PIECE` bytes after their length, with nothing after them.
-fn read_piece(alloc: Global, bytes: &[u8]) -> Result<Option<Vec<u8>>, WireError>
-    ensures { IfOk result (λ read. IsWholeReading IsPieceBytes file_spelling bytes.now
-        (option_map (λ piece. piece.items) read)) }
+fn read_piece<'a>(reader: &mut Reader<'a>) -> Result<&'a [u8], ReadError>
+    ensures { ReadsWhole IsPieceBytes file_spelling (λ piece. piece.now) reader.old result }
 {
     spelling_laws();
-    let Some((piece, rest)) = read_file(alloc, bytes)? else {
-        return Ok(None);
-    };
-    if !rest.is_empty() {
-        return Ok(None);
-    }
+    let piece = reader.file()?;
+    reader.end()?;
     if piece.is_empty() || piece.len() > LONGEST_PIECE {
-        return Ok(None);
+        return Err(ReadError::Malformed);
     }
-    Ok(Some(piece))
+    Ok(piece)
 }
 
-fn read_replace(alloc: Global, fields: &[u8]) -> Result<Option<Request>, WireError>
-    ensures { IfOk result (λ read. ReadsFields REPLACE fields.now (option_map request_of read)) }
+fn read_replace(reader: &mut Reader<'_>, alloc: Global) -> Result<Request, ReadError>
+    ensures { ReadsFields REPLACE reader.old result }
 {
     spelling_laws();
-    let Some((item, after)) = read_u32(fields) else {
-        return Ok(None);
-    };
-    let Some((path, after)) = decode_path(alloc, after)? else {
-        return Ok(None);
-    };
-    let Some((since, length)) = read_last(after) else {
-        return Ok(None);
-    };
-    Ok(Some(Request::Replace {
+    let item = reader.u32()?;
+    let path = reader.path(alloc)?;
+    let (since, length) = read_last(reader)?;
+    Ok(Request::Replace {
         item,
         path,
         since,
         length,
-    }))
+    })
 }
 
 /// A position and a number, with nothing after them.
-fn read_last(bytes: &[u8]) -> Option<(u64, u32)>
-    ensures { ReadsLast bytes.now result }
+fn read_last(reader: &mut Reader<'_>) -> Result<(u64, u32), ReadError>
+    ensures { ReadsLast reader.old result }
 {
     spelling_laws();
-    let (position, after) = read_u64(bytes)?;
-    let (number, rest) = read_u32(after)?;
-    if !rest.is_empty() {
-        return None;
-    }
-    Some((position, number))
+    let position = reader.u64()?;
+    let number = reader.u32()?;
+    reader.end()?;
+    Ok((position, number))
 }

@@ -1,7 +1,7 @@
 //! Reads the body of a user's request.
 ghost use Rattle.std.specs.Prelude.{IfOk, option_map};
-ghost use Rattle.syn_message.specs.Bodies.{IsWholeReading};
-ghost use Rattle.syn_message.specs.Users.{IsLawfulWished, wished_of, wished_spelling, wish_of};
+ghost use Rattle.syn_message.specs.Bodies.{IsWholeReading, ReadsWhole};
+ghost use Rattle.syn_message.specs.Users.{IsLawfulWished, wished_of, wished_spelling};
 ghost use Rattle.syn_message.specs.inner.Heads.{ReadsWish};
 
 use crate::head::read_user_head;
@@ -9,7 +9,7 @@ use crate::kind::{EDIT, GET};
 use crate::user::{UserRequest, UserRequestMessage};
 use std::alloc::Global;
 use syn_history::Event;
-use syn_wire::{Version, WireError, decode_event, decode_path, spelling_laws};
+use syn_wire::{ReadError, Reader, Version, WireError, found, spelling_laws};
 
 /// The user's request that the body spells; none where it spells none.
 ///
@@ -21,54 +21,49 @@ pub fn decode_user_request(
     ensures { IfOk result (λ read. IsWholeReading IsLawfulWished wished_spelling body.now
         (option_map wished_of read)) }
 {
-    let [kind, after @ ..] = body else {
-        return Ok(None);
-    };
-    let Some((number, fields)) = read_user_head(after) else {
-        return Ok(None);
-    };
-    match read_wish(alloc, *kind, fields)? {
-        Some(request) => Ok(Some(UserRequestMessage { number, request })),
-        None => Ok(None),
-    }
+    found(read_user_request(&mut Reader::new(body), alloc))
+}
+
+fn read_user_request(
+    reader: &mut Reader<'_>,
+    alloc: Global,
+) -> Result<UserRequestMessage, ReadError>
+    ensures { ReadsWhole IsLawfulWished wished_spelling wished_of reader.old result }
+{
+    let kind = reader.byte()?;
+    let number = read_user_head(reader)?;
+    let request = read_wish(reader, alloc, kind)?;
+    Ok(UserRequestMessage { number, request })
 }
 
 /// What stands after the number, in a request of the kind.
-fn read_wish(alloc: Global, kind: u8, fields: &[u8]) -> Result<Option<UserRequest>, WireError>
-    ensures { IfOk result (λ read. ReadsWish kind fields.now (option_map wish_of read)) }
+fn read_wish(reader: &mut Reader<'_>, alloc: Global, kind: u8) -> Result<UserRequest, ReadError>
+    ensures { ReadsWish kind reader.old result }
 {
     match kind {
-        EDIT => read_edit(alloc, fields),
-        GET => read_get(alloc, fields),
-        _ => Ok(None),
+        EDIT => read_edit(reader, alloc),
+        GET => read_get(reader, alloc),
+        _ => Err(ReadError::Malformed),
     }
 }
 
-fn read_edit(alloc: Global, fields: &[u8]) -> Result<Option<UserRequest>, WireError>
-    ensures { IfOk result (λ read. ReadsWish EDIT fields.now (option_map wish_of read)) }
+fn read_edit(reader: &mut Reader<'_>, alloc: Global) -> Result<UserRequest, ReadError>
+    ensures { ReadsWish EDIT reader.old result }
 {
     spelling_laws();
-    let Some((event, rest)) = decode_event(alloc, Version::Two, fields)? else {
-        return Ok(None);
-    };
-    if !rest.is_empty() {
-        return Ok(None);
-    }
+    let event = reader.event(alloc, Version::Two)?;
+    reader.end()?;
     match event {
-        Event::Edited { user, edit } => Ok(Some(UserRequest::Edit { user, edit })),
-        _ => Ok(None),
+        Event::Edited { user, edit } => Ok(UserRequest::Edit { user, edit }),
+        _ => Err(ReadError::Malformed),
     }
 }
 
-fn read_get(alloc: Global, fields: &[u8]) -> Result<Option<UserRequest>, WireError>
-    ensures { IfOk result (λ read. ReadsWish GET fields.now (option_map wish_of read)) }
+fn read_get(reader: &mut Reader<'_>, alloc: Global) -> Result<UserRequest, ReadError>
+    ensures { ReadsWish GET reader.old result }
 {
     spelling_laws();
-    let Some((path, rest)) = decode_path(alloc, fields)? else {
-        return Ok(None);
-    };
-    if !rest.is_empty() {
-        return Ok(None);
-    }
-    Ok(Some(UserRequest::Get { path }))
+    let path = reader.path(alloc)?;
+    reader.end()?;
+    Ok(UserRequest::Get { path })
 }

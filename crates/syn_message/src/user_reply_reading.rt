@@ -1,10 +1,9 @@
 //! Reads the body of a reply to a user.
 ghost use Rattle.std.specs.Prelude.{IfOk, option_map};
 ghost use Rattle.syn_model.specs.Contents.{contents_spelling, contents_with};
-ghost use Rattle.syn_message.specs.Bodies.{IsWholeReading};
+ghost use Rattle.syn_message.specs.Bodies.{IsWholeReading, ReadsWhole};
 ghost use Rattle.syn_message.specs.UserReplies.{IsFound, IsLawfulTelling, IsWithinFile, ReadsTold};
 ghost use Rattle.syn_message.specs.UserReplies.{found_spelling, telling_of, telling_spelling};
-ghost use Rattle.syn_message.specs.UserReplies.{told_of};
 ghost use Rattle.syn_tree.specs.Contents.{content_of};
 ghost use Rattle.syn_tree.specs.Modes.{mode_of};
 
@@ -14,7 +13,7 @@ use crate::reply_reading::read_refusal;
 use crate::user_reply::{ABSENT, DIRECTORY, FILE, UserReply, UserReplyMessage};
 use std::alloc::Global;
 use syn_tree::{Content, LONGEST_FILE, Mode};
-use syn_wire::{Version, WireError, read_contents, read_u64, spelling_laws};
+use syn_wire::{ReadError, Reader, Version, WireError, found, spelling_laws};
 
 /// The reply to a user that the body spells; none where it spells none.
 ///
@@ -23,84 +22,85 @@ pub fn decode_user_reply(alloc: Global, body: &[u8]) -> Result<Option<UserReplyM
     ensures { IfOk result (λ read. IsWholeReading IsLawfulTelling telling_spelling body.now
         (option_map telling_of read)) }
 {
-    let [kind, after @ ..] = body else {
-        return Ok(None);
-    };
-    let Some((number, fields)) = read_user_head(after) else {
-        return Ok(None);
-    };
-    match read_told(alloc, *kind, fields)? {
-        Some(reply) => Ok(Some(UserReplyMessage { number, reply })),
-        None => Ok(None),
-    }
+    found(read_user_reply(&mut Reader::new(body), alloc))
+}
+
+fn read_user_reply(reader: &mut Reader<'_>, alloc: Global) -> Result<UserReplyMessage, ReadError>
+    ensures { ReadsWhole IsLawfulTelling telling_spelling telling_of reader.old result }
+{
+    let kind = reader.byte()?;
+    let number = read_user_head(reader)?;
+    let reply = read_told(reader, alloc, kind)?;
+    Ok(UserReplyMessage { number, reply })
 }
 
 /// What stands after the number, in a reply of the kind.
-fn read_told(alloc: Global, kind: u8, fields: &[u8]) -> Result<Option<UserReply>, WireError>
-    ensures { IfOk result (λ read. ReadsTold kind fields.now (option_map told_of read)) }
+fn read_told(reader: &mut Reader<'_>, alloc: Global, kind: u8) -> Result<UserReply, ReadError>
+    ensures { ReadsTold kind reader.old result }
 {
     match kind {
-        EDITED => Ok(read_edited(fields)),
-        GOT => read_got(alloc, fields),
-        REFUSED => Ok(read_refused(fields)),
-        _ => Ok(None),
+        EDITED => read_edited(reader),
+        GOT => read_got(reader, alloc),
+        REFUSED => read_refused(reader),
+        _ => Err(ReadError::Malformed),
     }
 }
 
-fn read_edited(fields: &[u8]) -> Option<UserReply>
-    ensures { ReadsTold EDITED fields.now (option_map told_of result) }
+fn read_edited(reader: &mut Reader<'_>) -> Result<UserReply, ReadError>
+    ensures { ReadsTold EDITED reader.old result }
 {
     spelling_laws();
-    let (position, rest) = read_u64(fields)?;
-    if !rest.is_empty() {
-        return None;
-    }
-    Some(UserReply::Edited { position })
+    let position = reader.u64()?;
+    reader.end()?;
+    Ok(UserReply::Edited { position })
 }
 
-fn read_got(alloc: Global, fields: &[u8]) -> Result<Option<UserReply>, WireError>
-    ensures { IfOk result (λ read. ReadsTold GOT fields.now (option_map told_of read)) }
+fn read_got(reader: &mut Reader<'_>, alloc: Global) -> Result<UserReply, ReadError>
+    ensures { ReadsTold GOT reader.old result }
 {
-    match read_found(alloc, fields)? {
-        Some(found) => Ok(Some(UserReply::Got { found })),
-        None => Ok(None),
-    }
+    let found = read_found(reader, alloc)?;
+    Ok(UserReply::Got { found })
 }
 
-fn read_refused(fields: &[u8]) -> Option<UserReply>
-    ensures { ReadsTold REFUSED fields.now (option_map told_of result) }
+fn read_refused(reader: &mut Reader<'_>) -> Result<UserReply, ReadError>
+    ensures { ReadsTold REFUSED reader.old result }
 {
-    let why = read_refusal(fields)?;
-    Some(UserReply::Refused(why))
+    let why = read_refusal(reader)?;
+    Ok(UserReply::Refused(why))
 }
 
 /// What stands at a path, with nothing after it.
-fn read_found(alloc: Global, fields: &[u8]) -> Result<Option<Option<Content>>, WireError>
-    ensures { IfOk result (λ read. IsWholeReading IsFound found_spelling fields.now
-        (option_map (option_map content_of) read)) }
+fn read_found(reader: &mut Reader<'_>, alloc: Global) -> Result<Option<Content>, ReadError>
+    ensures { ReadsWhole IsFound found_spelling (λ found. option_map content_of found) reader.old
+        result }
 {
-    match fields {
-        [ABSENT] => Ok(Some(None)),
-        [FILE, file @ ..] => match read_whole_file(alloc, file)? {
-            Some((mode, bytes)) => Ok(Some(Some(Content::File(mode, bytes)))),
-            None => Ok(None),
-        },
-        [DIRECTORY] => Ok(Some(Some(Content::Dir))),
-        _ => Ok(None),
+    match reader.byte()? {
+        ABSENT => {
+            reader.end()?;
+            Ok(None)
+        }
+        FILE => {
+            let (mode, bytes) = read_whole_file(reader)?;
+            Ok(Some(Content::File(mode, bytes.to_vec(alloc)?)))
+        }
+        DIRECTORY => {
+            reader.end()?;
+            Ok(Some(Content::Dir))
+        }
+        _ => Err(ReadError::Malformed),
     }
 }
 
 /// A mode and at most `LONGEST_FILE` bytes, with nothing after them.
-fn read_whole_file(alloc: Global, bytes: &[u8]) -> Result<Option<(Mode, Vec<u8>)>, WireError>
-    ensures { IfOk result (λ read. IsWholeReading IsWithinFile contents_spelling bytes.now
-        (option_map (λ file. contents_with (mode_of file.0) file.1.items) read)) }
+fn read_whole_file<'a>(reader: &mut Reader<'a>) -> Result<(Mode, &'a [u8]), ReadError>
+    ensures { ReadsWhole IsWithinFile contents_spelling
+        (λ file. contents_with (mode_of file.0) file.1.now) reader.old result }
 {
     spelling_laws();
-    let Some((mode, file, rest)) = read_contents(alloc, Version::Two, bytes)? else {
-        return Ok(None);
-    };
-    if !rest.is_empty() || file.len() > LONGEST_FILE {
-        return Ok(None);
+    let (mode, file) = reader.contents(Version::Two)?;
+    reader.end()?;
+    if file.len() > LONGEST_FILE {
+        return Err(ReadError::Malformed);
     }
-    Ok(Some((mode, file)))
+    Ok((mode, file))
 }

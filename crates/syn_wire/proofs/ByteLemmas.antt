@@ -26,20 +26,14 @@ in_front (x ∷ xs) ys h =
     All-cons IsByte x xs (All-head IsByte x (xs ++ ys) h)
     (in_front xs ys (All-tail IsByte x (xs ++ ys) h))
 
-pub in_back : (xs ys : Bytes) → AreBytes (xs ++ ys) → AreBytes ys
-in_back [] ys h = h
-in_back (x ∷ xs) ys h = in_back xs ys (All-tail IsByte x (xs ++ ys) h)
-
 -- a count with so many bytes after it is the spelling of a file, and the rest follows
 pub file_spelled : (bytes after file rest : Bytes) (count : ℕ) →
-    bytes ≡ to_be_bytes w32 count ++ after → file ≡ take count after → rest ≡ drop count after →
-    length file ≡ count → bytes ≡ file_spelling file ++ rest
-file_spelled bytes after file rest count spelled front back counted =
+    bytes ≡ to_be_bytes w32 count ++ after → after ≡ file ++ rest → length file ≡ count →
+    bytes ≡ file_spelling file ++ rest
+file_spelled bytes after file rest count spelled whole counted =
     spelled
-    ∙ (ap (λ xs. to_be_bytes w32 count ++ xs)
-    (sym (take-append-drop count after) ∙ ap₂ (λ xs ys. xs ++ ys) (sym front) (sym back))
-    ∙ (sym (append_assoc (to_be_bytes w32 count) file rest)
-    ∙ ap (λ n. (to_be_bytes w32 n ++ file) ++ rest) (sym counted)))
+    ∙ (ap₂ (λ n xs. to_be_bytes w32 n ++ xs) (sym counted) whole
+    ∙ sym (append_assoc (to_be_bytes w32 (length file)) file rest))
 
 -- ---- bytes that were added
 

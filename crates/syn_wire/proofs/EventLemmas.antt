@@ -1,6 +1,6 @@
 -- The spelling of an event tells it.
 use Rattle.std.proofs.Common.{◌≡◌, ◌≢◌, ℕ, ◌∷◌, ◌++◌, length, sym, ap, ◌∙◌, None, append_assoc}
-use Rattle.std.proofs.Common.{arith, subst, Option}
+use Rattle.std.proofs.Common.{arith}
 use Rattle.std.specs.Int.{to_be_bytes, w32}
 use Rattle.syn_model.specs.Path.{Bytes, Path, IsPath, path_spelling}
 use Rattle.syn_model.specs.Version.{Version}
@@ -11,7 +11,7 @@ use Rattle.syn_model.specs.Event.{Chmod, IsLawfulToken}
 use Rattle.syn_model.specs.Spelling.{event_spelling_in, spelling_in, token_spelling}
 use Rattle.syn_model.specs.Laws.{NoSpellingBeginsAnother}
 use Rattle.syn_wire.specs.Reads.{IsReading, NoneBeginsAnother}
-use Rattle.syn_wire.specs.Events.{Both, IsEventInEach, IsFile, IsNumber32, IsNumber64}
+use Rattle.syn_wire.specs.Events.{Both, IsFile, IsNumber32, IsNumber64}
 use Rattle.syn_wire.specs.Events.{IsSpelledEventIn, both_spelling, file_spelling, mode_spelling}
 use Rattle.syn_wire.specs.Events.{number_spelling, number64_spelling}
 use Rattle.syn_wire.specs.Trees.{IsOptionalTreeIn}
@@ -219,16 +219,6 @@ event_tells trees version (Edited u (Chmod p m)) (Edited v (Chmod q n)) r s hv h
     (ap (λ x. Edited x.0.0 (Chmod x.0.1 x.1)) same.0, same.1)
 
 -- ---- what is read after a kind
-
--- what is read in each version is in this one
-pub in_each : (version : Version) (bytes fields : Bytes) (kind : ℕ)
-    (found : Option (Event × Bytes)) → bytes ≡ kind ∷ fields →
-    IsEventInEach (kind ∷ fields) found →
-    IsReading (IsSpelledEventIn version) (event_spelling_in version) bytes found
-in_each version bytes fields kind found whole each =
-    subst (λ b. IsReading (IsSpelledEventIn version) (event_spelling_in version) b found)
-    (sym whole)
-    (each version)
 
 pub put_none : (version : Version) (fields : Bytes) → IsReading IsPutOf put_spelling fields None →
     IsReading (IsSpelledEventIn version) (event_spelling_in version) (1 ∷ fields) None

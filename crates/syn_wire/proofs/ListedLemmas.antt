@@ -242,7 +242,7 @@ module _ (kind : Kind) where
       (old new : Pairs) (entry : Pair) →
       BeginsWith (IsFileOf kind) (file_spelling_of kind) fields file left →
       entry ≡ (at, File file) → new ≡ old ++ entry ∷ [] →
-      PartIsRead kind at (1 ∷ fields) old new (Some left)
+      PartIsRead kind at (1 ∷ fields) old new left
   file_spelled at fields file left old new entry found is added = (
     (root, File file) ∷ [],
     added ∙ ap (λ x. old ++ x ∷ []) (is ∙ sym (own_pair at (File file))),
@@ -257,27 +257,25 @@ module _ (kind : Kind) where
     },
   )
 
-  pub directory_spelled : (at above : Path) (fields below : Bytes) (count : ℕ) (left : Option Bytes)
+  pub directory_spelled : (at above : Path) (fields below : Bytes) (count : ℕ) (left : Bytes)
       (old mid new : Pairs) (entry : Pair) →
       BeginsWith (λ n. n < 2 ^ 16) (to_be_bytes w16) fields count below → above ≡ at →
       entry ≡ (at, Directory) → mid ≡ old ++ entry ∷ [] →
       PartsAreRead kind above count below mid new left →
       PartIsRead kind at (2 ∷ fields) old new left
-  directory_spelled at above fields below count None old mid new entry found copy is added read = tt
-  directory_spelled at above fields below count
-      (Some left) old mid new entry found copy is added read = (
-        rooted read.0,
-        read.1 ∙ (ap₂ (λ es p. es ++ under p read.0)
-            (added ∙ ap (λ x. old ++ x ∷ []) (is ∙ sym (own_pair at Directory))) copy
-            ∙ append_assoc old ((at ++ root, Directory) ∷ []) (under at read.0)),
-        record {
-          content = Directory;
-          below = read.0;
-          whole = refl;
-          spelled = λ rising. ap (λ b. 2 ∷ b) found.spelled ∙ read.2 rising;
-          files = (tt, read.3);
-        },
-      )
+  directory_spelled at above fields below count left old mid new entry found copy is added read = (
+    rooted read.0,
+    read.1 ∙ (ap₂ (λ es p. es ++ under p read.0)
+        (added ∙ ap (λ x. old ++ x ∷ []) (is ∙ sym (own_pair at Directory))) copy
+        ∙ append_assoc old ((at ++ root, Directory) ∷ []) (under at read.0)),
+    record {
+      content = Directory;
+      below = read.0;
+      whole = refl;
+      spelled = λ rising. ap (λ b. 2 ∷ b) found.spelled ∙ read.2 rising;
+      files = (tt, read.3);
+    },
+  )
 
   files_under : (at : Path) (es : Pairs) → AreContentsOf kind es → AreContentsOf kind (under at es)
   files_under at [] h = tt
@@ -298,7 +296,7 @@ module _ (kind : Kind) where
   pub one_listed : (at : Path) (count : ℕ) (bytes left after left' : Bytes) (path : Path)
       (old new new' : Pairs) → ListedSoFar kind at count bytes left old new →
       BeginsWith (IsChildOf at) last_name_spelling left path after →
-      PartIsRead kind path after new new' (Some left') →
+      PartIsRead kind path after new new' left' →
       ListedSoFar kind at (count + 1) bytes left' old new'
   one_listed at count bytes left after left' path old new new' h child part =
       let name = child.lawful.name in
@@ -341,7 +339,7 @@ module _ (kind : Kind) where
 
   pub all_listed : (at : Path) (wanted count : ℕ) (bytes left : Bytes) (old new : Pairs) →
       count ≡ wanted → ListedSoFar kind at count bytes left old new →
-      PartsAreRead kind at wanted bytes old new (Some left)
+      PartsAreRead kind at wanted bytes old new left
   all_listed at wanted count bytes left old new ended h = (
     listed_pairs h.listed,
     h.added,

@@ -28,7 +28,7 @@ use Rattle.syn_tree.proofs.PlaceableLemmas.{fits-path}
 use Rattle.syn_placed.proofs.RisingLemmas.{sorted_of}
 use Rattle.syn_placed.proofs.TreeLemmas.{entries-absent, entries-one, from_entries-same}
 use Rattle.syn_wire.specs.Contents.{IsBriefFileIn}
-use Rattle.syn_wire.specs.Reads.{BeginsWith, IsReading}
+use Rattle.syn_wire.specs.Reads.{BeginsWith, IsReading, NothingStands}
 use Rattle.syn_wire.specs.Trees.{NoTreeBeginsAnother, IsDirectoryTree, IsDirectoryTreeIn}
 use Rattle.syn_wire.specs.Trees.{IsOptionalTreeIn, IsWholeTreeIn}
 use Rattle.syn_wire.specs.inner.Kinds.{IsContentOf, OfContents}
@@ -172,7 +172,7 @@ part_in version t part files = record {
 pub directory_made : (version : Version) (fields below : Bytes) (above : Path) (count : ℕ)
     (old list : Pairs) (left : Bytes) (u : Tree) → BeginsWith (λ n. n < 2 ^ 16) (to_be_bytes w16)
     fields count below → above ≡ root → old ≡ [] → PartsAreRead (OfContents version) above count
-    below old list (Some left) → rooted list ≡ entries u → IsDirectoryTree u →
+    below old list left → rooted list ≡ entries u → IsDirectoryTree u →
     BeginsWith (IsDirectoryTreeIn version) (spelling_in version) (2 ∷ fields) u left
 directory_made version fields below above count old list left u found is_root empty read all h =
     let pairs : list ≡ read.0 = read.1 ∙ ap₂ (λ es p. es ++ under p read.0) empty is_root
@@ -277,11 +277,11 @@ kind_of version t rest bytes e =
     by_content (Some (File c)) k = (1, _, k, omega arith)
     by_content (Some Directory) k = (2, _, k, omega arith)
 
-pub none_without_kind : (version : Version) (P : Tree → Type 0) (bytes : Bytes) → length bytes < 1 →
-    IsReading P (spelling_in version) bytes None
-none_without_kind version P bytes short t rest begins =
+pub none_without_kind : (version : Version) (P : Tree → Type 0) (bytes : Bytes) → bytes ≡ [] →
+    NothingStands P (spelling_in version) bytes
+none_without_kind version P bytes empty t rest begins =
     let k = kind_of version t rest bytes begins.spelled in
-    absurd (omega (arith, ap length k.2, short))
+    absurd (omega (arith, ap length (sym empty ∙ k.2)))
 
 pub none_of_other_kind : (version : Version) (P : Tree → Type 0) (bytes fields : Bytes) (kind : ℕ) →
     bytes ≡ kind ∷ fields → 2 < kind → IsReading P (spelling_in version) bytes None

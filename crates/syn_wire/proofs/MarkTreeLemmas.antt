@@ -18,7 +18,7 @@ use Rattle.syn_model.specs.Version.{Version}
 use Rattle.syn_tree.proofs.LawfulLemmas.{each-find}
 use Rattle.syn_model.specs.Contents.{digest_spelling_in}
 use Rattle.syn_wire.specs.Marks.{IsMarkTree, IsMarkTreeIn, IsOptionalMarkTreeIn, NoMarksBeginOthers}
-use Rattle.syn_wire.specs.Reads.{BeginsWith, IsReading}
+use Rattle.syn_wire.specs.Reads.{BeginsWith, NothingStands}
 use Rattle.syn_wire.specs.inner.Kinds.{IsContentOf, OfMarks}
 use Rattle.syn_wire.specs.inner.Parts.{AreContentsOf, PartIsRead, ReadsPart, StandsAt}
 use Rattle.syn_wire.proofs.MadeLemmas.{absent_lawful, paths_stand, under_root}
@@ -61,12 +61,12 @@ module _ (version : Version) (bytes : Bytes) (at : Path) (old list : Pairs) (is_
       (both.0, both.1 ∙ (ap (λ es. es ++ under root (entries t)) empty ∙ under_root (entries t)))
 
   pub no_part_read : ReadsPart (OfMarks version) at bytes old list None →
-      IsReading (IsMarkTreeIn version) (mark_spelling_in version) bytes None
+      NothingStands (IsMarkTreeIn version) (mark_spelling_in version) bytes
   no_part_read none t rest begins = none-some _ (the_marks None none t rest begins).0
 
   -- so that no other list is that of marks
   pub not_marks : (left : Bytes) → ReadsPart (OfMarks version) at bytes old list (Some left) →
-      ¬ AreMarks list → IsReading (IsMarkTreeIn version) (mark_spelling_in version) bytes None
+      ¬ AreMarks list → NothingStands (IsMarkTreeIn version) (mark_spelling_in version) bytes
   not_marks left read none t rest begins =
       let same : t ≡ marks_with (entries t) = sym (from_entries-same t) in
       none (subst AreMarks (sym (the_marks (Some left) read t rest begins).1) (record {
@@ -78,7 +78,7 @@ module _ (version : Version) (bytes : Bytes) (at : Path) (old list : Pairs) (is_
 
   -- what was read is the tree that it makes
   pub marks_made : (left : Bytes) (t : Tree) → PartIsRead (OfMarks version) at bytes old list
-      (Some left) → list ≡ entries t → IsMarkTree t →
+      left → list ≡ entries t → IsMarkTree t →
       BeginsWith (IsMarkTreeIn version) (mark_spelling_in version) bytes t left
   marks_made left t read all h =
       let pairs : list ≡ read.0 = read.1
@@ -102,33 +102,20 @@ module _ (version : Version) (bytes : Bytes) (at : Path) (old list : Pairs) (is_
       }
 
 -- something stands at the root of what no zero spells
-pub no_marks_there : (version : Version) (bytes fields : Bytes) (kind : ℕ) → bytes ≡ kind ∷ fields →
-    kind ≢ 0 → IsReading (IsMarkTreeIn version) (mark_spelling_in version) bytes None →
-    IsReading (IsOptionalMarkTreeIn version) (mark_spelling_in version) bytes None
-no_marks_there version bytes fields kind is other none t rest begins = by_content (get t root) refl
+pub no_marks_there : (version : Version) (bytes : Bytes) → ((rest : Bytes) → bytes ≢ 0 ∷ rest) →
+    NothingStands (IsMarkTreeIn version) (mark_spelling_in version) bytes →
+    NothingStands (IsOptionalMarkTreeIn version) (mark_spelling_in version) bytes
+no_marks_there version bytes other none t rest begins = by_content (get t root) refl
   where
     by_content : (o : Option Content) → get t root ≡ o → ⊥
     by_content None e =
-        other (ap (λ b. first_or b 0) (sym is ∙ (begins.spelled ∙ ap (λ b. b ++ rest)
-        (mark_unfolds version t
-        ∙ ap (content_spelling (digest_spelling_in version) (mark_spelling_in version) t) e))))
+        other rest (begins.spelled ∙ ap (λ b. b ++ rest) (mark_unfolds version t
+        ∙ ap (content_spelling (digest_spelling_in version) (mark_spelling_in version) t) e))
     by_content (Some c) e =
         none t rest (record {
           lawful = record { optional = begins.lawful; present = ap is_some e };
           spelled = begins.spelled;
         })
-
-pub none_without_byte : (version : Version) (bytes : Bytes) → length bytes < 1 →
-    IsReading (IsOptionalMarkTreeIn version) (mark_spelling_in version) bytes None
-none_without_byte version bytes short t rest begins =
-    by_content (get t root) (begins.spelled ∙ ap (λ b. b ++ rest) (mark_unfolds version t))
-  where
-    by_content : (o : Option Content) →
-        bytes ≡ content_spelling (digest_spelling_in version) (mark_spelling_in version) t o
-        ++ rest → ⊥
-    by_content None e = omega (arith, ap length e, short)
-    by_content (Some (File c)) e = omega (arith, ap length e, short)
-    by_content (Some Directory) e = omega (arith, ap length e, short)
 
 -- nothing is marks
 nothing_fits : fits_archive absent ≡ true

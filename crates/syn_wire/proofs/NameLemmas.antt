@@ -33,39 +33,15 @@ names_tell v w r s hv hw e =
 
 -- ---- a name after its length
 
--- no byte is there for the length
-pub no_length : (bytes : Bytes) → length bytes < 1 → (value : Name) (rest : Bytes) →
-    ¬ BeginsWith IsName name_spelling bytes value rest
-no_length bytes short value rest begins = absurd (omega (arith, ap length begins.spelled, short))
-
--- fewer bytes follow than the length says
-pub too_few : (first : ℕ) (bytes after : Bytes) → bytes ≡ first ∷ after → length after < first →
-    (value : Name) (rest : Bytes) → ¬ BeginsWith IsName name_spelling bytes value rest
-too_few first bytes after parts short value rest begins =
-    let all = sym parts ∙ begins.spelled in
-    let counted : first ≡ length value = ap (λ xs. first_or xs 0) all in
-    let long = ap length (ap rest_of all) ∙ length-append value rest in
-    absurd (omega (arith, counted, long, short))
-
 -- so many bytes are the name, where one is there
-pub front_lawful : (first : ℕ) (bytes after front : Bytes) → bytes ≡ first ∷ after →
-    front ≡ take first after → (value : Name) (rest : Bytes) →
+pub front_lawful : (first : ℕ) (bytes after front back : Bytes) → bytes ≡ first ∷ after →
+    after ≡ front ++ back → length front ≡ first → (value : Name) (rest : Bytes) →
     BeginsWith IsName name_spelling bytes value rest → IsName front
-front_lawful first bytes after front parts is value rest begins =
-    let all = sym parts ∙ begins.spelled in
-    let counted : first ≡ length value = ap (λ xs. first_or xs 0) all in
-    subst IsName (sym (is ∙ (ap₂ take counted (ap rest_of all) ∙ take-append_seam value rest)))
-    begins.lawful
-
--- and such bytes are the name that was read
-pub a_name : (first : ℕ) (bytes after front back : Bytes) (name : Name) → bytes ≡ first ∷ after →
-    after ≡ front ++ back → length front ≡ first → name ≡ front → IsName front →
-    BeginsWith IsName name_spelling bytes name back
-a_name first bytes after front back name parts all counted is lawful = record {
-  lawful = subst IsName (sym is) lawful;
-  spelled =
-      parts ∙ (ap₂ (λ n xs. n ∷ xs) (sym counted) all ∙ ap (λ x. name_spelling x ++ back) (sym is));
-}
+front_lawful first bytes after front back parts all counted value rest begins =
+    let whole = sym parts ∙ begins.spelled in
+    let same = split front value back rest (counted ∙ ap (λ xs. first_or xs 0) whole)
+    (sym all ∙ ap rest_of whole) in
+    subst IsName (sym same.0) begins.lawful
 
 names_of : (names : Path) (r : Bytes) (n : Name) →
     names_spelling (n ∷ names) ++ r ≡ name_spelling n ++ (names_spelling names ++ r)

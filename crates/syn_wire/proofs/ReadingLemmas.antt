@@ -1,6 +1,7 @@
 -- What is read of a part, kind by kind.
 use Rattle.std.proofs.Common.{◌≡◌, ◌≢◌, ◌<◌, ◌^◌, ℕ, [], ◌∷◌, ◌++◌, length, sym, ap, ◌∙◌, subst}
-use Rattle.std.proofs.Common.{Option, Some, None, append_assoc, arith}
+use Rattle.std.proofs.Common.{Option, Some, None, append_assoc, arith, Result, Ok, Err}
+use Rattle.std.specs.Prelude.{IsErrAnd}
 use Rattle.std.specs.Int.{to_be_bytes, w16}
 use Rattle.syn_model.specs.Path.{Bytes, Path, root}
 use Rattle.syn_model.specs.Contents.{Contents}
@@ -8,12 +9,27 @@ use Rattle.syn_model.specs.Tree.{Pair, Directory, File}
 use Rattle.syn_placed.specs.Pairs.{Pairs, under}
 use Rattle.syn_wire.specs.Reads.{BeginsWith, IsReading}
 use Rattle.syn_wire.specs.inner.Kinds.{Kind, IsFileOf, file_spelling_of}
-use Rattle.syn_wire.specs.inner.Parts.{ReadsPart, ReadsParts, parts_pairs, parts_spelling}
+use Rattle.syn_wire.specs.declared.error.ReadError.{ReadError}
+use Rattle.syn_wire.specs.declared.error.ReadError.TheVariants.{Malformed}
+use Rattle.syn_wire.specs.inner.Parts.{LeavesFor, ReadsPart, ReadsParts, parts_pairs}
+use Rattle.syn_wire.specs.inner.Parts.{parts_spelling}
 use Rattle.syn_wire.proofs.KindLemmas.{files_tell}
 use Rattle.syn_wire.proofs.NumberLemmas.{u16_tells}
 use Rattle.syn_wire.proofs.PartsLemmas.{own_pair, file_at, directory_at, parts_in, parts_stand}
 use Rattle.syn_wire.proofs.PartsLemmas.{under_parts, one_kind}
 use Rattle.syn_wire.proofs.NameLemmas.{first_or}
+
+-- an error that a `?` hands on
+pub failed_part : (left : Bytes) (P : Option Bytes → Type 0) (r : Result (Unit {0}) ReadError)
+    (Q : ReadError → Type 0) → IsErrAnd r Q → ((e : ReadError) → Q e → e ≡ Malformed → P None) →
+    LeavesFor r left P
+failed_part left P (Err e) Q is none = none e is
+failed_part left P (Ok done) Q is none = absurd is
+
+pub left_weaker : (left : Bytes) (P Q : Option Bytes → Type 0) (r : Result (Unit {0}) ReadError) →
+    ((rest : Option Bytes) → P rest → Q rest) → LeavesFor r left P → LeavesFor r left Q
+left_weaker left P Q (Ok done) weaker read = weaker (Some left) read
+left_weaker left P Q (Err e) weaker read = λ malformed. weaker None (read malformed)
 
 module _ (kind : Kind) where
   pub no_file_there : (at : Path) (fields : Bytes) (old new : Pairs) →
@@ -68,12 +84,12 @@ module _ (kind : Kind) where
       )
 
   -- what is there has a kind
-  pub nothing_there : (at : Path) (bytes : Bytes) (old new : Pairs) → length bytes < 1 →
+  pub nothing_there : (at : Path) (bytes : Bytes) (old new : Pairs) → bytes ≡ [] →
       ReadsPart kind at bytes old new None
-  nothing_there at bytes old new short part rest h e =
+  nothing_there at bytes old new empty part rest h e =
       one_kind kind at part bytes rest h e
-      (λ fields is. absurd (omega (arith, ap length is, short)))
-      (λ fields is. absurd (omega (arith, ap length is, short)))
+      (λ fields is. absurd (omega (arith, ap length (sym empty ∙ is))))
+      (λ fields is. absurd (omega (arith, ap length (sym empty ∙ is))))
 
   pub other_kind_there : (at : Path) (first : ℕ) (bytes fields : Bytes) (old new : Pairs) →
       bytes ≡ first ∷ fields → first ≢ 1 → first ≢ 2 → ReadsPart kind at bytes old new None

@@ -1,5 +1,5 @@
 -- What an event has, part by part.
-use Rattle.std.specs.Prelude.{◌≡◌, ℕ, ◌<◌, ◌^◌, true, List, ◌++◌, length, Option}
+use Rattle.std.specs.Prelude.{◌≡◌, ℕ, ◌<◌, ◌^◌, true, List, ◌++◌, length, Result}
 use Rattle.std.specs.Int.{to_be_bytes, w16, w32, w64}
 use Rattle.syn_model.specs.Path.{Bytes}
 use Rattle.syn_model.specs.Limits.{fits_part, fits_paths}
@@ -7,7 +7,10 @@ use Rattle.syn_model.specs.Event.{AreBytes, Event, Edited, Began, Replaced, Put,
 use Rattle.syn_model.specs.Event.{Chmod, IsLawfulEventIn}
 use Rattle.syn_model.specs.Spelling.{event_spelling_in}
 use Rattle.syn_model.specs.Version.{Version, current_version}
-use Rattle.syn_wire.specs.Reads.{IsReading}
+use Rattle.syn_history.specs.Events.{event_of}
+use Rattle.syn_history.specs.declared.event.Event as code
+use Rattle.syn_wire.specs.Reads.{Reads}
+use Rattle.syn_wire.specs.declared.error.ReadError.{ReadError}
 
 abbrev pub IsNumber32 : ℕ → Type 0
 IsNumber32 n = n < 2 ^ 32
@@ -55,8 +58,8 @@ IsSpelledEventIn version event = IsLawfulEventIn version event × IsShort event
 abbrev pub IsSpelledEvent : Event → Type 0
 IsSpelledEvent event = IsSpelledEventIn current_version event
 
--- what a reader found of an event that is spelled alike in each version
-abbrev pub IsEventInEach : Bytes → Option (Event × Bytes) → Type 0
-IsEventInEach bytes found =
-    (version : Version) → IsReading (IsSpelledEventIn version) (event_spelling_in version) bytes
-    found
+-- what a reader did at an event that is spelled alike in each version
+abbrev pub ReadsEventInEach : Bytes → Bytes → Result code.Event ReadError → Type 0
+ReadsEventInEach old new read =
+    (version : Version) → Reads (IsSpelledEventIn version) (event_spelling_in version) event_of
+    old new read

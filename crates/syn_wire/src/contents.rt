@@ -1,5 +1,5 @@
 //! What a file and a mark hold.
-ghost use Rattle.std.specs.Prelude.{◌≡◌, ◌++◌, ◌<◌, ◌^◌, length, IfOk, OnOk, option_map};
+ghost use Rattle.std.specs.Prelude.{◌≡◌, ◌++◌, ◌<◌, ◌^◌, length, OnOk};
 ghost use Rattle.std.specs.Int.{to_be_bytes, w16};
 ghost use Rattle.syn_model.specs.Contents.{AreLawfulContents, IsDigestIn, IsMode, IsModeIn};
 ghost use Rattle.syn_model.specs.Contents.{contents_front, contents_spelling, contents_spelling_in};
@@ -7,39 +7,57 @@ ghost use Rattle.syn_model.specs.Contents.{contents_with};
 ghost use Rattle.syn_model.specs.Contents.{digest_spelling, digest_spelling_in, mode_spelling_in};
 ghost use Rattle.syn_tree.specs.Modes.{mode_of};
 ghost use Rattle.syn_wire.specs.Contents.{IsBriefFileIn};
-ghost use Rattle.syn_wire.specs.Reads.{IsBeginning, IsReading};
+ghost use Rattle.syn_wire.specs.Reads.{IsBeginning, Reads};
 ghost use Rattle.syn_wire.specs.Versions.{version_of};
 
-use crate::bytes::read_file;
-use crate::error::WireError;
-use crate::number::{read_u16, write_u16, write_u32};
+use crate::error::{ReadError, WireError};
+use crate::number::{write_u16, write_u32};
+use crate::reader::Reader;
 use crate::version::Version;
-use std::alloc::Global;
 use syn_tree::Mode;
 
 /// How many bytes a digest has.
 const DIGEST_LENGTH: usize = 32;
 
-/// The mode and the bytes of a file that the bytes begin with, and the rest; none where no front of
-/// them is that.
-///
-/// Refused 11 where memory is refused.
-pub fn read_contents(
-    alloc: Global,
-    version: Version,
-    bytes: &[u8],
-) -> Result<Option<(Mode, Vec<u8>, &[u8])>, WireError>
-    ensures { IfOk result (λ read. IsReading (IsBriefFileIn (version_of version))
-        (contents_spelling_in (version_of version)) bytes.now
-        (option_map (λ found.
-        (contents_with (mode_of found.0) found.1.items, found.2.now)) read)) }
-{
-    let Some((mode, after)) = read_mode(version, bytes) else {
-        return Ok(None);
-    };
-    match read_file(alloc, after)? {
-        Some((file, rest)) => Ok(Some((mode, file, rest))),
-        None => Ok(None),
+impl<'a> Reader<'a> {
+    /// The mode and the bytes of a file.
+    pub fn contents(&mut self, version: Version) -> Result<(Mode, &'a [u8]), ReadError>
+        ensures { Reads (IsBriefFileIn (version_of version))
+            (contents_spelling_in (version_of version))
+            (λ found. contents_with (mode_of found.0) found.1.now) self.old self.new result }
+    {
+        let mode = self.mode_in(version)?;
+        let file = self.file()?;
+        Ok((mode, file))
+    }
+
+    /// The mode and the digest of a mark.
+    pub fn digest(&mut self, version: Version) -> Result<(Mode, [u8; DIGEST_LENGTH]), ReadError>
+        ensures { Reads (IsDigestIn (version_of version)) (digest_spelling_in (version_of version))
+            (λ found. contents_with (mode_of found.0) found.1) self.old self.new result }
+    {
+        let mode = self.mode_in(version)?;
+        let digest = self.array()?;
+        Ok((mode, digest))
+    }
+
+    // A mode; the first version spells none.
+    fn mode_in(&mut self, version: Version) -> Result<Mode, ReadError>
+        ensures { Reads (IsModeIn (version_of version)) (mode_spelling_in (version_of version))
+            (λ mode. mode_of mode) self.old self.new result }
+    {
+        match version {
+            Version::One => Ok(Mode::NEW_FILE),
+            Version::Two => self.mode(),
+        }
+    }
+
+    // A mode by its bits.
+    pub(crate) fn mode(&mut self) -> Result<Mode, ReadError>
+        ensures { Reads IsMode (to_be_bytes w16) (λ mode. mode_of mode) self.old self.new result }
+    {
+        let bits = self.u16()?;
+        Mode::new(bits).ok_or(ReadError::Malformed)
     }
 }
 
@@ -78,23 +96,6 @@ pub(crate) fn write_mode(out: &mut Vec<u8>, mode: Mode) -> Result<(), WireError>
     write_u16(out, mode.bits())
 }
 
-/// The mode and the digest of a mark that the bytes begin with, and the rest; none where no front
-/// of them is that.
-pub fn read_digest(version: Version, bytes: &[u8]) -> Option<(Mode, [u8; DIGEST_LENGTH], &[u8])>
-    ensures { IsReading (IsDigestIn (version_of version)) (digest_spelling_in (version_of version))
-        bytes.now (option_map (λ found. (contents_with (mode_of found.0) found.1, found.2.now))
-        result) }
-{
-    let (mode, after) = read_mode(version, bytes)?;
-    if after.len() < DIGEST_LENGTH {
-        return None;
-    }
-    let (front, rest) = after.split_at(DIGEST_LENGTH);
-    let mut digest = [0; DIGEST_LENGTH];
-    digest.copy_from_slice(front);
-    Some((mode, digest, rest))
-}
-
 /// Adds the mode and the digest of a mark. Refused 11 where memory is refused; a beginning of it
 /// may then have been added.
 pub fn write_digest(
@@ -109,26 +110,4 @@ pub fn write_digest(
     write_mode(out, mode)?;
     out.extend_from_slice(digest.as_slice())?;
     Ok(())
-}
-
-// The mode that the bytes begin with, and the rest. The first version spells none.
-fn read_mode(version: Version, bytes: &[u8]) -> Option<(Mode, &[u8])>
-    ensures { IsReading (IsModeIn (version_of version))
-        (mode_spelling_in (version_of version)) bytes.now
-        (option_map (λ found. (mode_of found.0, found.1.now)) result) }
-{
-    match version {
-        Version::One => Some((Mode::NEW_FILE, bytes)),
-        Version::Two => read_bits(bytes),
-    }
-}
-
-// The mode whose bits the bytes begin with, and the rest.
-pub(crate) fn read_bits(bytes: &[u8]) -> Option<(Mode, &[u8])>
-    ensures { IsReading IsMode (to_be_bytes w16) bytes.now
-        (option_map (λ found. (mode_of found.0, found.1.now)) result) }
-{
-    let (bits, rest) = read_u16(bytes)?;
-    let mode = Mode::new(bits)?;
-    Some((mode, rest))
 }

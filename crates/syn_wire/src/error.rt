@@ -6,6 +6,7 @@ ghost use Rattle.syn_wire.specs.Refusals.{refusal_of};
 
 use std::alloc::{AllocError, AllocFailed};
 use std::fmt;
+use syn_path::PathError;
 use syn_refusal::Refusal;
 use thiserror::Error;
 
@@ -60,5 +61,51 @@ impl<T: Drop> From<AllocFailed<T>> for WireError {
 
     fn from(_error: AllocFailed<T>) -> WireError {
         WireError::Memory
+    }
+}
+
+/// Why a reader gives no value.
+#[derive(Clone, Copy, Debug, PartialEq, Eq, Error)]
+pub enum ReadError {
+    /// No front of the bytes is the spelling of such a value.
+    #[error("malformed")]
+    Malformed,
+    /// Memory was refused.
+    #[error("out of memory")]
+    Memory,
+}
+
+impl From<AllocError> for ReadError {
+    ghost use Rattle.syn_wire.specs.declared.error.ReadError.TheVariants.{Memory};
+
+    ghost from_gives = { λ _ e. e ≡ Memory };
+
+    fn from(_error: AllocError) -> ReadError {
+        ReadError::Memory
+    }
+}
+
+impl<T: Drop> From<AllocFailed<T>> for ReadError {
+    ghost use Rattle.syn_wire.specs.declared.error.ReadError.TheVariants.{Memory};
+
+    ghost from_gives = { λ _ e. e ≡ Memory };
+
+    fn from(_error: AllocFailed<T>) -> ReadError {
+        ReadError::Memory
+    }
+}
+
+/// Bytes that are no name or no path are malformed.
+impl From<PathError> for ReadError {
+    ghost use Rattle.syn_path.specs.declared.error.PathError.TheVariants.{BadPath};
+    ghost use Rattle.syn_wire.specs.declared.error.ReadError.TheVariants.{Malformed};
+
+    ghost from_gives = { λ error e. e ≡ Malformed → error ≡ BadPath };
+
+    fn from(error: PathError) -> ReadError {
+        match error {
+            PathError::BadPath => ReadError::Malformed,
+            PathError::Memory => ReadError::Memory,
+        }
     }
 }

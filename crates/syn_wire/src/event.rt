@@ -1,31 +1,29 @@
 //! Events.
 ghost use Rattle.std.specs.Prelude.{◌≡◌, ◌++◌, ◌∷◌, ℕ, length, IfOk, OnOk, option_map};
-ghost use Rattle.syn_model.specs.Contents.{IsMode};
 ghost use Rattle.syn_model.specs.Path.{IsPath, path_spelling};
 ghost use Rattle.syn_model.specs.Event.{Edited, IsLawfulEdit, IsLawfulEvent, IsLawfulToken};
 ghost use Rattle.syn_model.specs.Spelling.{event_spelling, event_spelling_in, token_spelling};
 ghost use Rattle.syn_tree.specs.Edits.{edit_of};
-ghost use Rattle.syn_tree.specs.Modes.{mode_of};
 ghost use Rattle.syn_history.specs.Events.{event_of, token_of};
-ghost use Rattle.syn_wire.specs.Events.{Both, IsEventInEach, IsFile, IsNumber32, IsNumber64};
-ghost use Rattle.syn_wire.specs.Events.{IsShort, IsSpelledEventIn, both_spelling, file_spelling};
-ghost use Rattle.syn_wire.specs.Events.{mode_spelling, number_spelling, number64_spelling};
-ghost use Rattle.syn_wire.specs.Reads.{IsReading};
+ghost use Rattle.syn_wire.specs.Events.{Both, IsNumber32, IsNumber64, IsShort};
+ghost use Rattle.syn_wire.specs.Events.{IsSpelledEventIn, ReadsEventInEach, both_spelling};
+ghost use Rattle.syn_wire.specs.Events.{number_spelling, number64_spelling};
+ghost use Rattle.syn_wire.specs.Reads.{IsReading, Reads};
 ghost use Rattle.syn_wire.specs.Versions.{version_of};
 
-use crate::bytes::{read_file, write_file};
-use crate::contents::{read_bits, write_mode};
-use crate::error::WireError;
-use crate::number::{read_u32, read_u64, write_u32, write_u64};
-use crate::path::{decode_path, path_length, write_path};
+use crate::bytes::write_file;
+use crate::contents::write_mode;
+use crate::error::{ReadError, WireError};
+use crate::number::{write_u32, write_u64};
+use crate::path::{path_length, write_path};
+use crate::reader::Reader;
 use crate::spelling_laws;
 use crate::tree::write_node;
-use crate::tree_reading::decode_node;
 use crate::version::Version;
 use std::alloc::Global;
 use syn_history::{Event, Token};
 use syn_path::Path;
-use syn_tree::{Edit, Mode};
+use syn_tree::Edit;
 
 const PUT: u8 = 1;
 
@@ -130,186 +128,139 @@ pub fn decode_event(
         (event_spelling_in (version_of version)) bytes.now
         (option_map (λ found. (event_of found.0, found.1.now)) read)) }
 {
-    let [kind, fields @ ..] = bytes else {
-        return Ok(None);
-    };
-    match *kind {
-        PUT => read_put(alloc, fields),
-        MAKE_DIR => read_make_dir(alloc, fields),
-        REMOVE => read_remove(alloc, fields),
-        BEGAN => Ok(read_began(fields)),
-        REPLACED => read_replaced(alloc, version, fields),
-        CHMOD => read_chmod(alloc, version, fields),
-        _ => Ok(None),
+    let mut reader = Reader::new(bytes);
+    let event = reader.event(alloc, version);
+    reader.front(event)
+}
+
+impl<'a> Reader<'a> {
+    /// An event.
+    pub fn event(&mut self, alloc: Global, version: Version) -> Result<Event, ReadError>
+        ensures { Reads (IsSpelledEventIn (version_of version))
+            (event_spelling_in (version_of version)) event_of self.old self.new result }
+    {
+        match self.byte()? {
+            PUT => self.put(alloc),
+            MAKE_DIR => self.make_dir(alloc),
+            REMOVE => self.remove(alloc),
+            BEGAN => self.began(),
+            REPLACED => self.replaced(alloc, version),
+            CHMOD => self.chmod(alloc, version),
+            _ => Err(ReadError::Malformed),
+        }
     }
-}
 
-// What follows the kind of a put.
-fn read_put(alloc: Global, fields: &[u8]) -> Result<Option<(Event, &[u8])>, WireError>
-    ensures { IfOk result (λ read. IsEventInEach (PUT ∷ fields.now)
-        (option_map (λ found. (event_of found.0, found.1.now)) read)) }
-{
-    match read_placed_file(alloc, fields)? {
-        Some((user, path, bytes, rest)) => Ok(Some((
-            Event::Edited {
-                user,
-                edit: Edit::Put(path, bytes),
-            },
-            rest,
-        ))),
-        None => Ok(None),
+    // What follows the kind of a put.
+    fn put(&mut self, alloc: Global) -> Result<Event, ReadError>
+        ensures { ReadsEventInEach (PUT ∷ self.old) self.new result }
+    {
+        let (user, path) = self.place(alloc)?;
+        let bytes = self.file()?;
+        Ok(Event::Edited {
+            user,
+            edit: Edit::Put(path, bytes.to_vec(alloc)?),
+        })
     }
-}
 
-fn read_make_dir(alloc: Global, fields: &[u8]) -> Result<Option<(Event, &[u8])>, WireError>
-    ensures { IfOk result (λ read. IsEventInEach (MAKE_DIR ∷ fields.now)
-        (option_map (λ found. (event_of found.0, found.1.now)) read)) }
-{
-    match read_place(alloc, fields)? {
-        Some((user, path, rest)) => Ok(Some((
-            Event::Edited {
-                user,
-                edit: Edit::MakeDir(path),
-            },
-            rest,
-        ))),
-        None => Ok(None),
+    fn make_dir(&mut self, alloc: Global) -> Result<Event, ReadError>
+        ensures { ReadsEventInEach (MAKE_DIR ∷ self.old) self.new result }
+    {
+        let (user, path) = self.place(alloc)?;
+        Ok(Event::Edited {
+            user,
+            edit: Edit::MakeDir(path),
+        })
     }
-}
 
-fn read_remove(alloc: Global, fields: &[u8]) -> Result<Option<(Event, &[u8])>, WireError>
-    ensures { IfOk result (λ read. IsEventInEach (REMOVE ∷ fields.now)
-        (option_map (λ found. (event_of found.0, found.1.now)) read)) }
-{
-    match read_place(alloc, fields)? {
-        Some((user, path, rest)) => Ok(Some((
-            Event::Edited {
-                user,
-                edit: Edit::Remove(path),
-            },
-            rest,
-        ))),
-        None => Ok(None),
+    fn remove(&mut self, alloc: Global) -> Result<Event, ReadError>
+        ensures { ReadsEventInEach (REMOVE ∷ self.old) self.new result }
+    {
+        let (user, path) = self.place(alloc)?;
+        Ok(Event::Edited {
+            user,
+            edit: Edit::Remove(path),
+        })
     }
-}
 
-fn read_began(fields: &[u8]) -> Option<(Event, &[u8])>
-    ensures { IsEventInEach (BEGAN ∷ fields.now)
-        (option_map (λ found. (event_of found.0, found.1.now)) result) }
-{
-    let (session, rest) = read_u64(fields)?;
-    Some((Event::Began { session }, rest))
-}
-
-fn read_replaced(
-    alloc: Global,
-    version: Version,
-    fields: &[u8],
-) -> Result<Option<(Event, &[u8])>, WireError>
-    ensures { IfOk result (λ read. IsReading (IsSpelledEventIn (version_of version))
-        (event_spelling_in (version_of version)) (REPLACED ∷ fields.now)
-        (option_map (λ found. (event_of found.0, found.1.now)) read)) }
-{
-    let Some((token, path, since, after)) = read_since(alloc, fields)? else {
-        return Ok(None);
-    };
-    match decode_node(alloc, version, after)? {
-        Some((new, rest)) => Ok(Some((
-            Event::Replaced {
-                token,
-                path,
-                since,
-                new,
-            },
-            rest,
-        ))),
-        None => Ok(None),
+    fn began(&mut self) -> Result<Event, ReadError>
+        ensures { ReadsEventInEach (BEGAN ∷ self.old) self.new result }
+    {
+        let session = self.u64()?;
+        Ok(Event::Began { session })
     }
-}
 
-// What follows the kind of a change of a mode; the first version has none.
-fn read_chmod(
-    alloc: Global,
-    version: Version,
-    fields: &[u8],
-) -> Result<Option<(Event, &[u8])>, WireError>
-    ensures { IfOk result (λ read. IsReading (IsSpelledEventIn (version_of version))
-        (event_spelling_in (version_of version)) (CHMOD ∷ fields.now)
-        (option_map (λ found. (event_of found.0, found.1.now)) read)) }
-{
-    match version {
-        Version::One => Ok(None),
-        Version::Two => match read_placed_mode(alloc, fields)? {
-            Some((user, path, mode, rest)) => Ok(Some((
-                Event::Edited {
-                    user,
-                    edit: Edit::Chmod(path, mode),
-                },
-                rest,
-            ))),
-            None => Ok(None),
-        },
+    fn replaced(&mut self, alloc: Global, version: Version) -> Result<Event, ReadError>
+        ensures { Reads (IsSpelledEventIn (version_of version))
+            (event_spelling_in (version_of version)) event_of (REPLACED ∷ self.old) self.new
+            result }
+    {
+        let (token, path, since) = self.since(alloc)?;
+        let new = self.node(alloc, version)?;
+        Ok(Event::Replaced {
+            token,
+            path,
+            since,
+            new,
+        })
     }
-}
 
-// A user, a path and a mode.
-fn read_placed_mode(
-    alloc: Global,
-    bytes: &[u8],
-) -> Result<Option<(u32, Path, Mode, &[u8])>, WireError>
-    ensures { IfOk result (λ read. IsReading (Both (Both IsNumber32 IsPath) IsMode)
-        (both_spelling (both_spelling number_spelling path_spelling) mode_spelling) bytes.now
-        (option_map (λ found. (((found.0, found.1), mode_of found.2), found.3.now)) read)) }
-{
-    spelling_laws();
-    let Some((user, path, after)) = read_place(alloc, bytes)? else {
-        return Ok(None);
-    };
-    match read_bits(after) {
-        Some((mode, rest)) => Ok(Some((user, path, mode, rest))),
-        None => Ok(None),
+    // What follows the kind of a change of a mode; the first version has none.
+    fn chmod(&mut self, alloc: Global, version: Version) -> Result<Event, ReadError>
+        ensures { Reads (IsSpelledEventIn (version_of version))
+            (event_spelling_in (version_of version)) event_of (CHMOD ∷ self.old) self.new result }
+    {
+        if version == Version::One {
+            return Err(ReadError::Malformed);
+        }
+        let (user, path) = self.place(alloc)?;
+        let mode = self.mode()?;
+        Ok(Event::Edited {
+            user,
+            edit: Edit::Chmod(path, mode),
+        })
     }
-}
 
-// A token, a path and a position.
-fn read_since(alloc: Global, bytes: &[u8]) -> Result<Option<(Token, Path, u64, &[u8])>, WireError>
-    ensures { IfOk result (λ read. IsReading (Both (Both IsLawfulToken IsPath) IsNumber64)
-        (both_spelling (both_spelling token_spelling path_spelling) number64_spelling) bytes.now
-        (option_map (λ found. (((token_of found.0, found.1), found.2), found.3.now)) read)) }
-{
-    let Some((token, path, after)) = read_item(alloc, bytes)? else {
-        return Ok(None);
-    };
-    match read_u64(after) {
-        Some((since, rest)) => Ok(Some((token, path, since, rest))),
-        None => Ok(None),
+    // A user and a path.
+    fn place(&mut self, alloc: Global) -> Result<(u32, Path), ReadError>
+        ensures { Reads (Both IsNumber32 IsPath) (both_spelling number_spelling path_spelling)
+            (λ found. found) self.old self.new result }
+    {
+        spelling_laws();
+        let user = self.u32()?;
+        let path = self.path(alloc)?;
+        Ok((user, path))
     }
-}
 
-// A token and a path.
-fn read_item(alloc: Global, bytes: &[u8]) -> Result<Option<(Token, Path, &[u8])>, WireError>
-    ensures { IfOk result (λ read. IsReading (Both IsLawfulToken IsPath)
-        (both_spelling token_spelling path_spelling) bytes.now
-        (option_map (λ found. ((token_of found.0, found.1), found.2.now)) read)) }
-{
-    let Some((token, after)) = read_token(bytes) else {
-        return Ok(None);
-    };
-    match decode_path(alloc, after)? {
-        Some((path, rest)) => Ok(Some((token, path, rest))),
-        None => Ok(None),
+    // A token, a path and a position.
+    fn since(&mut self, alloc: Global) -> Result<(Token, Path, u64), ReadError>
+        ensures { Reads (Both (Both IsLawfulToken IsPath) IsNumber64)
+            (both_spelling (both_spelling token_spelling path_spelling) number64_spelling)
+            (λ found. ((token_of found.0, found.1), found.2)) self.old self.new result }
+    {
+        let (token, path) = self.item(alloc)?;
+        let since = self.u64()?;
+        Ok((token, path, since))
     }
-}
 
-/// The token that the bytes begin with, the number of a session and that of its item, and the rest;
-/// none where there are fewer than twelve bytes.
-pub fn read_token(bytes: &[u8]) -> Option<(Token, &[u8])>
-    ensures { IsReading IsLawfulToken token_spelling bytes.now
-        (option_map (λ found. (token_of found.0, found.1.now)) result) }
-{
-    let (session, after) = read_u64(bytes)?;
-    let (item, rest) = read_u32(after)?;
-    Some((Token { session, item }, rest))
+    // A token and a path.
+    fn item(&mut self, alloc: Global) -> Result<(Token, Path), ReadError>
+        ensures { Reads (Both IsLawfulToken IsPath) (both_spelling token_spelling path_spelling)
+            (λ found. (token_of found.0, found.1)) self.old self.new result }
+    {
+        let token = self.token()?;
+        let path = self.path(alloc)?;
+        Ok((token, path))
+    }
+
+    /// A token: the number of a session, and that of its item.
+    pub fn token(&mut self) -> Result<Token, ReadError>
+        ensures { Reads IsLawfulToken token_spelling (λ token. token_of token) self.old self.new
+            result }
+    {
+        let session = self.u64()?;
+        let item = self.u32()?;
+        Ok(Token { session, item })
+    }
 }
 
 /// Adds the number of a session, and that of its item. Refused 11 where memory is refused; a
@@ -322,41 +273,6 @@ pub fn write_token(out: &mut Vec<u8>, token: &Token) -> Result<(), WireError>
     write_u64(out, token.session)?;
     write_u32(out, token.item)?;
     Ok(())
-}
-
-// A user and a path.
-fn read_place(alloc: Global, bytes: &[u8]) -> Result<Option<(u32, Path, &[u8])>, WireError>
-    ensures { IfOk result (λ read. IsReading (Both IsNumber32 IsPath)
-        (both_spelling number_spelling path_spelling) bytes.now
-        (option_map (λ found. ((found.0, found.1), found.2.now)) read)) }
-{
-    spelling_laws();
-    let Some((user, after)) = read_u32(bytes) else {
-        return Ok(None);
-    };
-    match decode_path(alloc, after)? {
-        Some((path, rest)) => Ok(Some((user, path, rest))),
-        None => Ok(None),
-    }
-}
-
-// A user, a path and the bytes of a file.
-fn read_placed_file(
-    alloc: Global,
-    bytes: &[u8],
-) -> Result<Option<(u32, Path, Vec<u8>, &[u8])>, WireError>
-    ensures { IfOk result (λ read. IsReading (Both (Both IsNumber32 IsPath) IsFile)
-        (both_spelling (both_spelling number_spelling path_spelling) file_spelling) bytes.now
-        (option_map (λ found. (((found.0, found.1), found.2.items), found.3.now)) read)) }
-{
-    spelling_laws();
-    let Some((user, path, after)) = read_place(alloc, bytes)? else {
-        return Ok(None);
-    };
-    match read_file(alloc, after)? {
-        Some((file, rest)) => Ok(Some((user, path, file, rest))),
-        None => Ok(None),
-    }
 }
 
 // Adds a user and a path.

@@ -10,17 +10,20 @@
 //!
 //! # What it promises
 //!
-//! - `decode_path`, `decode_tree`, `decode_node` and `decode_event`: what is read is the spelling
-//!   of a lawful value, and the rest follows it. Nothing is read exactly where no front of the
-//!   bytes is such a spelling (`IsReading`). What is written is the spelling. Of the part that a
-//!   replacement puts, the limits of each file and directory and of its paths are part of the
-//!   spelling. Its number of nodes and its size are not.
+//! - A `Reader` goes over bytes, and each of its methods reads one kind of value: `u16`, `u32`,
+//!   `u64`, `name`, `path`, `token`, `file`, `contents`, `digest`, `tree`, `node`, `marks`,
+//!   `mark_tree` and `event`. What a method gives is a lawful value whose spelling stood there, and
+//!   what follows it is left. A method is `Malformed` exactly where no front of the bytes is such a
+//!   spelling (`Reads`). `ReadError::Memory` is refused memory.
+//! - `decode_tree`, `decode_node` and `decode_event` read one value from the front of bytes, and
+//!   answer none where a `Reader` is `Malformed` (`IsReading`). What is written is the spelling. Of
+//!   the part that a replacement puts, the limits of each file and directory and of its paths are
+//!   part of the spelling. Its number of nodes and its size are not.
 //! - `write_path`, `write_node`, `write_tree` and `write_marks` add the spelling after the bytes
 //!   that are there. After a refusal those still begin what is there (`kept`).
-//! - `encode_marks` writes the spelling of marks, and `decode_marks` and `decode_mark_tree` read
-//!   it, exactly as trees are read. Of marks the limits of an archive are part of the spelling:
-//!   4,096 nodes, and those of each path.
-//! - `read_token` and `write_token` read and write a token of twelve bytes.
+//! - `encode_marks` writes the spelling of marks. Of marks the limits of an archive are part of the
+//!   spelling: 4,096 nodes, and those of each path.
+//! - `write_token` writes a token of twelve bytes.
 //! - `encode_piece` gives a piece of the spelling of what stands at a path in a tree, and
 //!   `part_length` how many bytes the whole has. The piece is written from the tree's own pairs.
 //!   The bytes of files beside it are passed over, and no `Node` is made.
@@ -50,20 +53,21 @@ mod part_reading;
 mod path;
 mod piece;
 mod readable;
+mod reader;
 mod tree;
 mod tree_reading;
 mod version;
 mod window;
 
-pub use bytes::{LONGEST_PIECE, read_file, write_file};
-pub use contents::{read_contents, read_digest, write_contents, write_digest};
-pub use error::WireError;
-pub use event::{decode_event, edit_length, encode_edit, encode_event, read_token, write_token};
-pub use mark_reading::{decode_mark_tree, decode_marks};
+pub use bytes::{LONGEST_PIECE, write_file};
+pub use contents::{write_contents, write_digest};
+pub use error::{ReadError, WireError};
+pub use event::{decode_event, edit_length, encode_edit, encode_event, write_token};
 pub use marks::{encode_marks, optional_marks_length, write_marks, write_optional_marks};
-pub use number::{read_u16, read_u32, read_u64, write_u16, write_u32, write_u64};
-pub use path::{decode_path, encode_path, path_length, write_path};
+pub use number::{write_u16, write_u32, write_u64};
+pub use path::{encode_path, path_length, write_path};
 pub use piece::{encode_piece, part_length};
+pub use reader::{Reader, found, read_u32};
 pub use tree::{encode_node, encode_tree, write_node, write_tree};
 pub use tree_reading::{decode_node, decode_tree};
 pub use version::Version;

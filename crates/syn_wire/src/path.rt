@@ -1,31 +1,43 @@
 //! Names and paths.
-ghost use Rattle.std.specs.Prelude.{◌≡◌, ◌≤◌, ◌++◌, length, IfOk, OnOk, option_map};
+ghost use Rattle.std.specs.Prelude.{◌≡◌, ◌≤◌, ◌++◌, length, IfOk, OnOk};
 ghost use Rattle.syn_model.specs.Path.{IsName, IsPath, path_spelling};
-ghost use Rattle.syn_wire.specs.Reads.{IsBeginning, IsReading};
+ghost use Rattle.syn_wire.specs.Reads.{IsBeginning, Reads};
 ghost use Rattle.syn_wire.specs.inner.Names.{AreNames, name_spelling, names_spelling};
 
-use crate::error::WireError;
+use crate::error::{ReadError, WireError};
+use crate::reader::Reader;
 use std::alloc::Global;
-use std::str;
-use syn_path::{Name, Path, PathError};
+use syn_path::{Name, Path};
 
-/// The path that the bytes begin with, and the rest; none where no front of them is the spelling of
-/// a path.
-///
-/// Refused 11 where memory is refused.
-pub fn decode_path(alloc: Global, bytes: &[u8]) -> Result<Option<(Path, &[u8])>, WireError>
-    ensures { IfOk result (λ read. IsReading IsPath path_spelling bytes.now
-        (option_map (λ found. (found.0, found.1.now)) read)) }
-{
-    let [count, names @ ..] = bytes else {
-        return Ok(None);
-    };
-    let Some((names, rest)) = read_names(alloc, *count as usize, names)? else {
-        return Ok(None);
-    };
-    match Path::from_names(names) {
-        Ok(path) => Ok(Some((path, rest))),
-        Err(_) => Ok(None),
+impl<'a> Reader<'a> {
+    /// A path.
+    pub fn path(&mut self, alloc: Global) -> Result<Path, ReadError>
+        ensures { Reads IsPath path_spelling (λ path. path) self.old self.new result }
+    {
+        let count = self.byte()?;
+        let names = self.names(alloc, count)?;
+        Ok(Path::from_names(names)?)
+    }
+
+    // So many names.
+    fn names(&mut self, alloc: Global, count: u8) -> Result<Vec<Name>, ReadError>
+        ensures { Reads (AreNames count) names_spelling (λ names. names.items) self.old self.new
+            result }
+    {
+        let mut names = Vec::new(alloc);
+        for _read in 0..count {
+            names.push(self.name(alloc)?)?;
+        }
+        Ok(names)
+    }
+
+    /// A name after its length.
+    pub fn name(&mut self, alloc: Global) -> Result<Name, ReadError>
+        ensures { Reads IsName name_spelling (λ name. name) self.old self.new result }
+    {
+        let length = self.byte()?;
+        let bytes = self.bytes(usize::from(length))?;
+        Ok(Name::from_bytes(alloc, bytes)?)
     }
 }
 
@@ -67,48 +79,4 @@ pub fn path_length(path: &Path) -> usize
         length += 1 + name.as_str().len();
     }
     length
-}
-
-// So many names.
-fn read_names(
-    alloc: Global,
-    count: usize,
-    bytes: &[u8],
-) -> Result<Option<(Vec<Name>, &[u8])>, WireError>
-    ensures { IfOk result (λ read. IsReading (AreNames count) names_spelling bytes.now
-        (option_map (λ found. (found.0.items, found.1.now)) read)) }
-{
-    let mut names = Vec::new(alloc);
-    let mut rest = bytes;
-    for _read in 0..count {
-        let Some((name, after)) = read_name(alloc, rest)? else {
-            return Ok(None);
-        };
-        names.push(name)?;
-        rest = after;
-    }
-    Ok(Some((names, rest)))
-}
-
-// A name after its length, and the rest.
-pub(crate) fn read_name(alloc: Global, bytes: &[u8]) -> Result<Option<(Name, &[u8])>, WireError>
-    ensures { IfOk result (λ read. IsReading IsName name_spelling bytes.now
-        (option_map (λ found. (found.0, found.1.now)) read)) }
-{
-    let [length, after @ ..] = bytes else {
-        return Ok(None);
-    };
-    let length = *length as usize;
-    if after.len() < length {
-        return Ok(None);
-    }
-    let (name, rest) = after.split_at(length);
-    let Ok(text) = str::from_utf8(name) else {
-        return Ok(None);
-    };
-    match Name::parse(alloc, text) {
-        Ok(name) => Ok(Some((name, rest))),
-        Err(PathError::BadPath) => Ok(None),
-        Err(PathError::Memory) => Err(WireError::Memory),
-    }
 }

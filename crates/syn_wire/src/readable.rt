@@ -1,12 +1,11 @@
 //! What a file and a directory are read as, of trees and of marks.
-ghost use Rattle.std.specs.Prelude.{◌≡◌, IfOk, option_map};
+ghost use Rattle.std.specs.Prelude.{◌≡◌};
 ghost use Rattle.syn_model.specs.Tree.{Directory};
-ghost use Rattle.syn_mark.specs.Marks.{content_of};
 ghost use Rattle.syn_wire.specs.Versions.{version_of};
-ghost use Rattle.syn_wire.specs.inner.Kinds.{IsFileRead, OfMarks};
+ghost use Rattle.syn_wire.specs.inner.Kinds.{ReadsFile};
 
-use crate::contents::{read_contents, read_digest};
-use crate::error::WireError;
+use crate::error::ReadError;
+use crate::reader::Reader;
 use crate::version::Version;
 use std::alloc::Global;
 use syn_mark::Mark;
@@ -24,15 +23,14 @@ pub(crate) trait Readable: EntryKind {
     fn directory() -> Self
         ensures { Self.content result ≡ Directory };
 
-    /// What follows the kind of a file, and the rest; none where no front of the bytes is that.
-    /// Refused 11 where memory is refused.
+    /// What follows the kind of a file.
     fn read_file(
+        reader: &mut Reader<'_>,
         alloc: Global,
         version: Version,
-        fields: &[u8],
-    ) -> Result<Option<(Self, &[u8])>, WireError>
-        ensures { IfOk result (λ read. IsFileRead (kind (version_of version)) fields.now
-            (option_map (λ found. (Self.content found.0, found.1.now)) read)) };
+    ) -> Result<Self, ReadError>
+        ensures { ReadsFile (kind (version_of version)) (λ found. Self.content found) reader.old
+            reader.new result };
 }
 
 impl Readable for Content {
@@ -45,14 +43,12 @@ impl Readable for Content {
     }
 
     fn read_file(
+        reader: &mut Reader<'_>,
         alloc: Global,
         version: Version,
-        fields: &[u8],
-    ) -> Result<Option<(Content, &[u8])>, WireError> {
-        match read_contents(alloc, version, fields)? {
-            Some((mode, bytes, rest)) => Ok(Some((Content::File(mode, bytes), rest))),
-            None => Ok(None),
-        }
+    ) -> Result<Content, ReadError> {
+        let (mode, bytes) = reader.contents(version)?;
+        Ok(Content::File(mode, bytes.to_vec(alloc)?))
     }
 }
 
@@ -66,19 +62,11 @@ impl Readable for Mark {
     }
 
     fn read_file(
+        reader: &mut Reader<'_>,
         _alloc: Global,
         version: Version,
-        fields: &[u8],
-    ) -> Result<Option<(Mark, &[u8])>, WireError> {
-        Ok(read_mark(version, fields))
+    ) -> Result<Mark, ReadError> {
+        let (mode, digest) = reader.digest(version)?;
+        Ok(Mark::File(mode, digest))
     }
-}
-
-// The mark of a file, and the rest.
-fn read_mark(version: Version, fields: &[u8]) -> Option<(Mark, &[u8])>
-    ensures { IsFileRead (OfMarks (version_of version)) fields.now
-        (option_map (λ found. (content_of found.0, found.1.now)) result) }
-{
-    let (mode, digest, rest) = read_digest(version, fields)?;
-    Some((Mark::File(mode, digest), rest))
 }

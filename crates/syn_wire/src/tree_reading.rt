@@ -1,19 +1,18 @@
 //! What is read of trees.
 ghost use Rattle.std.specs.Prelude.{◌≡◌, ◌∷◌, IfOk, option_map};
 ghost use Rattle.syn_model.specs.Spelling.{spelling_in};
-ghost use Rattle.syn_tree.specs.Nodes.{part_of};
-ghost use Rattle.syn_wire.specs.Reads.{IsReading};
+ghost use Rattle.syn_tree.specs.Nodes.{node_tree, part_of};
+ghost use Rattle.syn_wire.specs.Reads.{IsReading, Reads};
 ghost use Rattle.syn_wire.specs.Trees.{IsDirectoryTreeIn, IsOptionalTreeIn, IsWholeTreeIn};
 ghost use Rattle.syn_wire.specs.Versions.{version_of};
 
-use crate::contents::read_contents;
-use crate::error::WireError;
-use crate::number::read_u16;
+use crate::error::{ReadError, WireError};
 use crate::part_reading::read_parts;
+use crate::reader::Reader;
 use crate::spelling_laws;
 use crate::tree::{ABSENT, DIRECTORY, FILE};
 use crate::version::Version;
-use std::alloc::Global;
+use std::alloc::{AllocError, Global};
 use syn_path::Path;
 use syn_placed::Placed;
 use syn_tree::{Content, Entries, Entry, LONGEST_FILE, Node, Tree, TreeError};
@@ -31,13 +30,9 @@ pub fn decode_tree(
         (spelling_in (version_of version)) bytes.now
         (option_map (λ found. (found.0, found.1.now)) read)) }
 {
-    let [kind, fields @ ..] = bytes else {
-        return Ok(None);
-    };
-    match *kind {
-        DIRECTORY => read_tree(alloc, version, fields),
-        _ => Ok(None),
-    }
+    let mut reader = Reader::new(bytes);
+    let tree = reader.tree(alloc, version);
+    reader.front(tree)
 }
 
 /// What the bytes begin with, a file, a directory with all below it or nothing, and the rest; none
@@ -54,100 +49,74 @@ pub fn decode_node(
         (spelling_in (version_of version)) bytes.now
         (option_map (λ found. (part_of found.0, found.1.now)) read)) }
 {
-    let [kind, fields @ ..] = bytes else {
-        return Ok(None);
-    };
-    match *kind {
-        ABSENT => Ok(Some((None, fields))),
-        FILE => read_file_node(alloc, version, fields),
-        DIRECTORY => read_directory_node(alloc, version, fields),
-        _ => Ok(None),
-    }
+    let mut reader = Reader::new(bytes);
+    let node = reader.node(alloc, version);
+    reader.front(node)
 }
 
-// What follows the kind of a file.
-fn read_file_node(
-    alloc: Global,
-    version: Version,
-    fields: &[u8],
-) -> Result<Option<(Option<Node>, &[u8])>, WireError>
-    ensures { IfOk result (λ read. IsReading (IsOptionalTreeIn (version_of version))
-        (spelling_in (version_of version)) (FILE ∷ fields.now)
-        (option_map (λ found. (part_of found.0, found.1.now)) read)) }
-{
-    let Some((mode, bytes, rest)) = read_contents(alloc, version, fields)? else {
-        return Ok(None);
-    };
-    if bytes.len() > LONGEST_FILE {
-        return Ok(None);
+impl<'a> Reader<'a> {
+    /// A tree within all limits of a replica.
+    pub fn tree(&mut self, alloc: Global, version: Version) -> Result<Tree, ReadError>
+        ensures { Reads (IsWholeTreeIn (version_of version)) (spelling_in (version_of version))
+            (λ tree. tree) self.old self.new result }
+    {
+        spelling_laws();
+        if self.byte()? != DIRECTORY {
+            return Err(ReadError::Malformed);
+        }
+        let entries = self.entries(alloc, version)?;
+        match Tree::from_entries(alloc, entries) {
+            Ok(tree) => Ok(tree),
+            Err(TreeError::Full) => Err(ReadError::Malformed),
+            Err(_) => Err(ReadError::Memory),
+        }
     }
-    Ok(Some((Some(Node::File(mode, bytes)), rest)))
-}
 
-// What follows the kind of a directory.
-fn read_directory_node(
-    alloc: Global,
-    version: Version,
-    fields: &[u8],
-) -> Result<Option<(Option<Node>, &[u8])>, WireError>
-    ensures { IfOk result (λ read. IsReading (IsOptionalTreeIn (version_of version))
-        (spelling_in (version_of version)) (DIRECTORY ∷ fields.now)
-        (option_map (λ found. (part_of found.0, found.1.now)) read)) }
-{
-    match read_directory(alloc, version, fields)? {
-        Some((entries, rest)) => Ok(Some((Some(Node::Dir(entries)), rest))),
-        None => Ok(None),
+    /// A file, a directory with all below it, or nothing, which keeps the limits of each file and
+    /// directory, and of its paths as they are taken from its root.
+    pub fn node(&mut self, alloc: Global, version: Version) -> Result<Option<Node>, ReadError>
+        ensures { Reads (IsOptionalTreeIn (version_of version)) (spelling_in (version_of version))
+            part_of self.old self.new result }
+    {
+        match self.byte()? {
+            ABSENT => Ok(None),
+            FILE => Ok(Some(self.file_node(alloc, version)?)),
+            DIRECTORY => Ok(Some(Node::Dir(self.entries(alloc, version)?))),
+            _ => Err(ReadError::Malformed),
+        }
     }
-}
 
-// What follows the kind of a whole tree's root.
-fn read_tree(
-    alloc: Global,
-    version: Version,
-    fields: &[u8],
-) -> Result<Option<(Tree, &[u8])>, WireError>
-    ensures { IfOk result (λ read. IsReading (IsWholeTreeIn (version_of version))
-        (spelling_in (version_of version)) (DIRECTORY ∷ fields.now)
-        (option_map (λ found. (found.0, found.1.now)) read)) }
-{
-    spelling_laws();
-    let Some((entries, rest)) = read_directory(alloc, version, fields)? else {
-        return Ok(None);
-    };
-    match Tree::from_entries(alloc, entries) {
-        Ok(tree) => Ok(Some((tree, rest))),
-        Err(TreeError::Full) => Ok(None),
-        Err(_) => Err(WireError::Memory),
+    // What follows the kind of a file.
+    fn file_node(&mut self, alloc: Global, version: Version) -> Result<Node, ReadError>
+        ensures { Reads (IsOptionalTreeIn (version_of version)) (spelling_in (version_of version))
+            node_tree (FILE ∷ self.old) self.new result }
+    {
+        let (mode, bytes) = self.contents(version)?;
+        if bytes.len() > LONGEST_FILE {
+            return Err(ReadError::Malformed);
+        }
+        Ok(Node::File(mode, bytes.to_vec(alloc)?))
     }
-}
 
-// What follows the kind of a directory.
-fn read_directory(
-    alloc: Global,
-    version: Version,
-    fields: &[u8],
-) -> Result<Option<(Entries, &[u8])>, WireError>
-    ensures { IfOk result (λ read. IsReading (IsDirectoryTreeIn (version_of version))
-        (spelling_in (version_of version)) (DIRECTORY ∷ fields.now)
-        (option_map (λ found. (found.0, found.1.now)) read)) }
-{
-    let Some((count, below)) = read_u16(fields) else {
-        return Ok(None);
-    };
-    let mut list = Vec::new(alloc);
-    let Some(rest) = read_parts(alloc, version, &mut list, &Path::root(alloc), count, below)? else {
-        return Ok(None);
-    };
-    let Some(entries) = Entries::from_vec(keyed(alloc, list)?) else {
-        return Ok(None);
-    };
-    // what they keep is a directory's
-    let _ = entries.iter();
-    Ok(Some((entries, rest)))
+    // What follows the kind of a directory.
+    fn entries(&mut self, alloc: Global, version: Version) -> Result<Entries, ReadError>
+        ensures { Reads (IsDirectoryTreeIn (version_of version)) (spelling_in (version_of version))
+            (λ entries. entries) (DIRECTORY ∷ self.old) self.new result }
+    {
+        let count = self.u16()?;
+        let mut list = Vec::new(alloc);
+        read_parts(self, alloc, version, &mut list, &Path::root(alloc), count)?;
+        let Some(entries) = Entries::from_vec(keyed(alloc, list)?) else {
+            return Err(ReadError::Malformed);
+        };
+        // what they keep is a directory's
+        let _ = entries.iter();
+        Ok(entries)
+    }
 }
 
 // The entries with the keys of their paths.
-fn keyed(alloc: Global, list: Vec<Placed<Content>>) -> Result<Vec<Entry>, WireError>
+fn keyed(alloc: Global, list: Vec<Placed<Content>>) -> Result<Vec<Entry>, AllocError>
     ensures { IfOk result (λ entries. entries.items ≡ list.items) }
 {
     let mut entries = Vec::with_capacity(alloc, list.len())?;

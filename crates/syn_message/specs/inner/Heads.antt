@@ -1,10 +1,12 @@
 -- Parts of a body that have no contract of their own.
-use Rattle.std.specs.Prelude.{◌≡◌, ◌<◌, ◌^◌, ℕ, [], ◌∷◌, ◌++◌, Option}
+use Rattle.std.specs.Prelude.{◌≡◌, ◌<◌, ◌^◌, ℕ, [], ◌∷◌, ◌++◌, Result}
 use Rattle.std.specs.Int.{to_be_bytes, w32, w64}
 use Rattle.syn_model.specs.Path.{Bytes}
 use Rattle.syn_model.specs.Refusal.{Refusal, number}
-use Rattle.syn_message.specs.Bodies.{IsWholeReading}
-use Rattle.syn_message.specs.Users.{Wish, IsLawfulWish, wish_fields, wish_kind}
+use Rattle.syn_message.specs.Bodies.{ReadsWhole}
+use Rattle.syn_message.specs.Users.{Wish, IsLawfulWish, wish_fields, wish_kind, wish_of}
+use Rattle.syn_message.specs.declared.user.UserRequest.{UserRequest}
+use Rattle.syn_wire.specs.declared.error.ReadError.{ReadError}
 
 -- a session, from 1, and a number in it
 pub record IsHead (head : ℕ × ℕ) : Type 0 where
@@ -19,8 +21,8 @@ head_spelling head = to_be_bytes w64 head.0 ++ to_be_bytes w32 head.1
 abbrev pub IsLast : ℕ × ℕ → Type 0
 IsLast last = (last.0 < 2 ^ 64) × (last.1 < 2 ^ 32)
 
-abbrev pub ReadsLast : Bytes → Option (ℕ × ℕ) → Type 0
-ReadsLast = IsWholeReading IsLast head_spelling
+abbrev pub ReadsLast : Bytes → Result (ℕ × ℕ) ReadError → Type 0
+ReadsLast = ReadsWhole IsLast head_spelling (λ last. last)
 
 -- the session 0, and a number
 pub record IsUserHead (head : ℕ × ℕ) : Type 0 where
@@ -31,8 +33,8 @@ pub record IsUserHead (head : ℕ × ℕ) : Type 0 where
 abbrev pub IsWishOf : ℕ → Wish → Type 0
 IsWishOf kind wish = (wish_kind wish ≡ kind) × IsLawfulWish wish
 
-abbrev pub ReadsWish : ℕ → Bytes → Option Wish → Type 0
-ReadsWish kind = IsWholeReading (IsWishOf kind) wish_fields
+abbrev pub ReadsWish : ℕ → Bytes → Result UserRequest ReadError → Type 0
+ReadsWish kind = ReadsWhole (IsWishOf kind) wish_fields wish_of
 
 -- a refusal, by its number
 abbrev pub IsRefusal : Refusal → Type 0

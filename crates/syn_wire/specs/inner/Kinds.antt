@@ -1,6 +1,6 @@
 -- The two kinds of trees, of contents and of marks, in each version. They are spelled alike but for
 -- their files.
-use Rattle.std.specs.Prelude.{◌≡◌, ◌≤◌, true, Option, Some, None}
+use Rattle.std.specs.Prelude.{◌≡◌, ◌≤◌, true, Result, Ok, Err}
 use Rattle.std.specs.FinMap.{len}
 use Rattle.syn_model.specs.Path.{Bytes}
 use Rattle.syn_model.specs.Version.{Version}
@@ -11,7 +11,9 @@ use Rattle.syn_model.specs.Limits.{fits_part, most_nodes}
 use Rattle.syn_model.specs.Spelling.{spelling_in}
 use Rattle.syn_model.specs.MarkSpelling.{mark_spelling_in}
 use Rattle.syn_wire.specs.Contents.{IsBriefFileIn}
-use Rattle.syn_wire.specs.Reads.{BeginsWith, IsReading}
+use Rattle.syn_wire.specs.Reads.{BeginsWith, NothingStands}
+use Rattle.syn_wire.specs.declared.error.ReadError.{ReadError}
+use Rattle.syn_wire.specs.declared.error.ReadError.TheVariants.{Malformed}
 
 pub data Kind : Type 0 where
   OfContents : Version → Kind
@@ -41,8 +43,10 @@ abbrev pub IsContentOf : Kind → Content → Type 0
 IsContentOf kind Directory = Unit {0}
 IsContentOf kind (File contents) = IsFileOf kind contents
 
--- what a reader found after the kind of a file: the file, or that none is there
-abbrev pub IsFileRead : Kind → Bytes → Option (Content × Bytes) → Type 0
-IsFileRead kind fields None = IsReading (IsFileOf kind) (file_spelling_of kind) fields None
-IsFileRead kind fields (Some found) = (file : Contents) × (found.0 ≡ File file)
-    × BeginsWith (IsFileOf kind) (file_spelling_of kind) fields file found.1
+-- what a reader did after the kind of a file: it went past the file that it gives, or none is there
+abbrev pub ReadsFile : {X : Type 0} → Kind → (X → Content) → Bytes → Bytes → Result X ReadError
+    → Type 0
+ReadsFile kind content old new (Ok found) = (file : Contents) × (content found ≡ File file)
+    × BeginsWith (IsFileOf kind) (file_spelling_of kind) old file new
+ReadsFile kind content old new (Err error) =
+    error ≡ Malformed → NothingStands (IsFileOf kind) (file_spelling_of kind) old

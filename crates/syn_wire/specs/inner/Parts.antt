@@ -1,12 +1,14 @@
 -- What is read of the parts of a tree, one after the other.
 use Rattle.std.specs.Prelude.{◌≡◌, ℕ, true, List, [], ◌∷◌, ◌++◌, length, flat_map, Option, Some}
-use Rattle.std.specs.Prelude.{None, IsSome}
+use Rattle.std.specs.Prelude.{None, IsSome, Result, Ok, Err}
 use Rattle.std.specs.Int.{to_be_bytes, w16}
 use Rattle.std.specs.List.{AllByRecursion}
 use Rattle.std.specs.FinMap.{entries, from_sorted, get}
 use Rattle.syn_model.specs.Path.{Bytes, Name, Path, root, IsPath}
 use Rattle.syn_model.specs.Tree.{Tree, Content, is_present}
 use Rattle.syn_placed.specs.Pairs.{Pairs, AreRising, rooted, under}
+use Rattle.syn_wire.specs.declared.error.ReadError.{ReadError}
+use Rattle.syn_wire.specs.declared.error.ReadError.TheVariants.{Malformed}
 use Rattle.syn_wire.specs.inner.Kinds.{Kind, IsContentOf, IsPartOf, spelling_of}
 
 -- what stands at a path, within the limits there
@@ -59,16 +61,19 @@ pub record IsRead (kind : Kind) (bytes : Bytes) (pairs : Pairs) (rest : Bytes) :
   pub spelled : AreRising pairs → bytes ≡ spelling_of kind (from_sorted pairs) ++ rest
   pub files : AreContentsOf kind pairs
 
--- where something is left, such pairs were added
-abbrev pub PartIsRead : Kind → Path → Bytes → Pairs → Pairs → Option Bytes → Type 0
-PartIsRead kind at bytes old new None = Unit {0}
-PartIsRead kind at bytes old new (Some rest) = (pairs : Pairs) × (new ≡ old ++ under at pairs)
+-- such pairs were added
+abbrev pub PartIsRead : Kind → Path → Bytes → Pairs → Pairs → Bytes → Type 0
+PartIsRead kind at bytes old new rest = (pairs : Pairs) × (new ≡ old ++ under at pairs)
     × IsRead kind bytes pairs rest
 
 -- the same of so many names of a directory, which make it with its root
-abbrev pub PartsAreRead : Kind → Path → ℕ → Bytes → Pairs → Pairs → Option Bytes → Type 0
-PartsAreRead kind at count bytes old new None = Unit {0}
-PartsAreRead kind at count bytes old new (Some rest) =
+abbrev pub PartsAreRead : Kind → Path → ℕ → Bytes → Pairs → Pairs → Bytes → Type 0
+PartsAreRead kind at count bytes old new rest =
     (pairs : Pairs) × (new ≡ old ++ under at pairs)
     × (AreRising (rooted pairs) → 2 ∷ to_be_bytes w16 count ++ bytes
     ≡ spelling_of kind (from_sorted (rooted pairs)) ++ rest) × AreContentsOf kind pairs
+
+-- what is left by a read, or that nothing stood there; of a refusal of memory it says nothing
+abbrev pub LeavesFor : Result (Unit {0}) ReadError → Bytes → (Option Bytes → Type 0) → Type 0
+LeavesFor (Ok done) left P = P (Some left)
+LeavesFor (Err error) left P = error ≡ Malformed → P None

@@ -5,5 +5,5 @@ use Rattle.syn_image.proofs.image_reading.read_each.Given as goal
 abbrev pub invariant-loop-read : goal.invariant-loop-read
 invariant-loop-read l = record {
   so_far : AreSoMany l._read l.touches.items;
-  spelled : l.bytes ≡ each_spelling l.touches.items ++ l.rest;
+  spelled : l.initial.reader ≡ each_spelling l.touches.items ++ l.reader;
 }

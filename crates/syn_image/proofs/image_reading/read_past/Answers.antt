@@ -1,23 +1,26 @@
-use Rattle.std.proofs.Common.{subst, option_map}
-use Rattle.syn_wire.specs.Reads.{IsReading}
+use Rattle.syn_wire.proofs.Sequences.{failed, first_none, second_none}
+use Rattle.std.proofs.Common.{option_map}
 use Rattle.syn_history.specs.Events.{token_of}
-use Rattle.syn_wire.proofs.Sequences.{first_none, second_none}
 use Rattle.syn_image.specs.Images.{AreTouches, touches_spelling}
 use Rattle.syn_image.specs.inner.Pasts.{AreFences, fences_spelling}
 use Rattle.syn_image.proofs.ImageLemmas.{fences_tell}
 use Rattle.syn_image.proofs.image_reading.read_past.Goals as goal
 
-pub returns-in_default : goal.returns-in_default
-returns-in_default c =
-    first_none AreFences AreTouches fences_spelling touches_spelling c.args.bytes.now
-    c.in_default.ensures
+pub returns-in_err-pair : goal.returns-in_err-pair
+returns-in_err-pair c =
+    failed _ _ _ _ _ c.from_residual.result _ c.from_residual.ensures.1
+    (λ e same malformed. first_none AreFences AreTouches fences_spelling touches_spelling
+    c.args.reader.now
+    (c.in_err-pair.ensures (rw (← same) malformed)))
 
-pub returns-in-None : goal.returns-in-None
-returns-in-None c =
-    let none = subst (λ o. IsReading AreTouches touches_spelling c.in-Some.after.now (option_map
-    (λ found. (found.0.items, found.1.now)) o)) c.in-None.is c.in_ok-touches.ensures in
-    second_none AreFences AreTouches fences_spelling touches_spelling fences_tell
-    c.args.bytes.now c.in-Some.after.now (
-      ((c.in-Some.pair, c.in-Some.position), (c.in-Some.floor, c.in-Some.session)),
-      option_map token_of c.in-Some.token,
-    ) c.in-Some.ensures none
+pub returns-in_err-touches : goal.returns-in_err-touches
+returns-in_err-touches c =
+    failed _ _ _ _ _ c.from_residual-in_err-touches.result _
+    c.from_residual-in_err-touches.ensures.1
+    (λ e same malformed. second_none AreFences AreTouches fences_spelling touches_spelling
+    fences_tell
+    c.args.reader.now c.read_fences.new.reader (
+      ((c.in_ok-pair.pair, c.in_ok-pair.position), (c.in_ok-pair.floor, c.in_ok-pair.session)),
+      option_map token_of c.in_ok-pair.token,
+    )
+    c.in_ok-pair.ensures (c.in_err-touches.ensures (rw (← same) malformed)))

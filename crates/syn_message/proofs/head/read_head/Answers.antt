@@ -1,16 +1,11 @@
-use Rattle.std.proofs.Common.{◌∙◌, append_assoc, sym, ◌++◌}
-use Rattle.std.specs.Int.{to_be_bytes, w32, w64}
+use Rattle.syn_message.proofs.HeadLemmas.{no_number}
+use Rattle.syn_message.proofs.WholeLemmas.{failed}
 use Rattle.syn_message.proofs.head.read_head.Goals as goal
 
 pub returns-in_err-number : goal.returns-in_err-number
 returns-in_err-number c =
-    rw c.from_residual-in_err-number.ensures
-    (λ head rest begins.
-    let session = to_be_bytes w64 head.0 in
-    let number = to_be_bytes w32 head.1 in
-    let later = (c.spelling_laws.ensures.u64 c.in_ok-session.session head.0
-    c.in_ok-session.after.now (number ++ rest) c.in_ok-session.ensures.lawful
-    begins.lawful.session (sym c.in_ok-session.ensures.spelled
-    ∙ (begins.spelled ∙ append_assoc session number rest))).1 in
-    c.in_err-number.ensures head.1 rest
-    (record { lawful = begins.lawful.number; spelled = later }))
+    failed _ _ _ _ _ c.from_residual-in_err-number.result _ c.from_residual-in_err-number.ensures.1
+    (λ e same malformed head rest begins.
+    no_number c.spelling_laws.ensures.u64 c.args.reader.now c.u64.new.self c.in_ok-session.session
+    c.in_ok-session.ensures (c.in_err-number.ensures (rw (← same) malformed)) head rest
+    begins.lawful.session begins.lawful.number begins.spelled)

@@ -1,13 +1,9 @@
-use Rattle.std.proofs.Common.{option_map, subst}
 use Rattle.syn_message.proofs.ListingLemmas.{no_mark}
+use Rattle.syn_message.proofs.WholeLemmas.{failed}
 use Rattle.syn_message.proofs.listing.read_entry.Goals as goal
-use Rattle.syn_message.specs.inner.Listed.{name_spelling}
-use Rattle.syn_model.specs.Path.{IsName}
-use Rattle.syn_wire.specs.Reads.{IsReading}
 
-pub returns-in-None : goal.returns-in-None
-returns-in-None c =
-    let bytes = c.args.bytes.now in
-    let found = subst (λ o. IsReading IsName name_spelling bytes
-    (option_map (λ found. (found.0, found.1.now)) o)) c.in-Some.is c.in_ok-name.ensures in
-    no_mark bytes c.in-Some.after.now c.in-Some.name found c.in-None.ensures
+pub returns-in_err-mark : goal.returns-in_err-mark
+returns-in_err-mark c =
+    failed _ _ _ _ _ c.from_residual-in_err-mark.result _ c.from_residual-in_err-mark.ensures.1
+    (λ e same malformed. no_mark c.args.reader.now c.name.new.self c.in_ok-name.name
+    c.in_ok-name.ensures (c.in_err-mark.ensures (rw (← same) malformed)))

@@ -1,14 +1,12 @@
-use Rattle.std.proofs.Common.{arith, option_map, subst}
-use Rattle.syn_message.proofs.WholeLemmas.{no_value}
+use Rattle.std.proofs.Common.{arith}
+use Rattle.syn_message.specs.Replies.{IsFetchedBytes}
+use Rattle.syn_message.proofs.WholeLemmas.{failed_whole, no_value}
 use Rattle.syn_message.proofs.reply_reading.read_fetched.Goals as goal
 use Rattle.syn_wire.specs.Events.{IsFile, file_spelling}
-use Rattle.syn_wire.specs.Reads.{IsReading}
 
-pub returns-in_default : goal.returns-in_default
-returns-in_default c piece is =
-    let bytes = c.args.bytes.now in
-    let none = subst (λ o. IsReading IsFile file_spelling bytes
-    (option_map (λ found. (found.0.items, found.1.now)) o)) c.in_default.is
-    c.in_ok-piece.ensures.read in
-    no_value IsFile file_spelling bytes none piece
-    (record { bytes = is.1; brief = omega (arith, is.0) })
+pub returns-in_err-piece : goal.returns-in_err-piece
+returns-in_err-piece c =
+    failed_whole IsFetchedBytes _ _ _ c.from_residual.result _ c.from_residual.ensures.1
+    (λ e same malformed piece is. no_value IsFile file_spelling c.args.reader.now
+    (c.in_err-piece.ensures (rw (← same) malformed)) piece
+    (record { bytes = is.1; brief = omega (arith, is.0) }))

@@ -1,10 +1,9 @@
-use Rattle.std.proofs.Common.{slice_index_or, arith}
-use Rattle.syn_message.proofs.RefusalLemmas.{only, refusal_read}
+use Rattle.std.proofs.Common.{◌∷◌, ap, ◌∙◌}
+use Rattle.syn_message.proofs.RefusalLemmas.{no_refusal}
 use Rattle.syn_message.proofs.reply_reading.read_refusal.Goals as goal
 
-pub returns : goal.returns
-returns c =
-    let fields = c.args.fields.now in
-    refusal_read fields (slice_index_or fields 0 0) c.from_number.result
-    (only fields (omega (arith, c.in-len1.len_at_least)) (omega (arith, c.in-len1.len_below)))
-    c.from_number.ensures.some c.from_number.ensures.none
+pub returns-in-None : goal.returns-in-None
+returns-in-None c =
+    λ malformed. no_refusal c.args.reader.now c.in_ok-number.number
+    (c.in_ok-number.ensures.read ∙ ap (λ xs. c.in_ok-number.number ∷ xs) c.in_ok-end.ensures.ended)
+    c.in-None.ensures.none

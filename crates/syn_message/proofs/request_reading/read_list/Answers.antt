@@ -1,24 +1,18 @@
-use Rattle.std.proofs.Common.{◌∙◌, ap, length, option_map, subst}
-use Rattle.std.proofs.lemmas.Bool.{false≢true}
-use Rattle.std.specs.Prelude.{◌==◌}
 use Rattle.syn_model.specs.Path.{IsPath, path_spelling}
 use Rattle.syn_message.proofs.KindLemmas.{list_none}
-use Rattle.syn_message.proofs.WholeLemmas.{no_end, no_value}
+use Rattle.syn_message.proofs.WholeLemmas.{failed_whole, no_end, no_value}
 use Rattle.syn_message.proofs.request_reading.read_list.Goals as goal
-use Rattle.syn_wire.specs.Reads.{IsReading}
 
-pub returns-in_default : goal.returns-in_default
-returns-in_default c =
-    let fields = c.args.fields.now in
-    let none = subst (λ o. IsReading IsPath path_spelling fields
-    (option_map (λ found. (found.0, found.1.now)) o)) c.in_default.is c.in_ok-path.ensures in
-    list_none fields (no_value IsPath path_spelling fields none)
+pub returns-in_err-path : goal.returns-in_err-path
+returns-in_err-path c =
+    failed_whole _ _ _ _ c.from_residual.result _ c.from_residual.ensures.1
+    (λ e same malformed. list_none c.args.reader.now
+    (no_value IsPath path_spelling c.args.reader.now
+    (c.in_err-path.ensures (rw (← same) malformed))))
 
-pub returns-then-not-is_empty : goal.returns-then-not-is_empty
-returns-then-not-is_empty c =
-    let fields = c.args.fields.now in
-    let found = subst (λ o. IsReading IsPath path_spelling fields
-    (option_map (λ found. (found.0, found.1.now)) o)) c.in-Some.is c.in_ok-path.ensures in
-    list_none fields (no_end IsPath path_spelling c.spelling_laws.ensures.path fields
-    c.in-Some.rest.now c.in-Some.path found
-    (λ none. false≢true (c.if-not-is_empty.ensures ∙ ap (λ xs. length xs == 0) none)))
+pub returns-in_err-end : goal.returns-in_err-end
+returns-in_err-end c =
+    failed_whole _ _ _ _ c.from_residual-in_err-end.result _ c.from_residual-in_err-end.ensures.1
+    (λ e same malformed. list_none c.args.reader.now
+    (no_end IsPath path_spelling c.spelling_laws.ensures.path c.args.reader.now c.path.new.self
+    c.in_ok-path.path c.in_ok-path.ensures c.in_err-end.ensures.more))

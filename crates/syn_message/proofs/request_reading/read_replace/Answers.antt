@@ -1,25 +1,33 @@
-use Rattle.std.proofs.Common.{option_map, subst}
+use Rattle.std.proofs.Common.{◌≡◌, ◌++◌}
 use Rattle.std.specs.Int.{to_be_bytes, w32}
 use Rattle.syn_model.specs.Path.{IsPath, path_spelling}
 use Rattle.syn_message.proofs.KindLemmas.{replace_none}
-use Rattle.syn_message.proofs.WholeLemmas.{no_rest}
+use Rattle.syn_message.proofs.WholeLemmas.{failed_whole, no_rest}
 use Rattle.syn_message.proofs.request_reading.read_replace.Goals as goal
-use Rattle.syn_message.specs.inner.Heads.{IsLast, ReadsLast, head_spelling}
+use Rattle.syn_message.specs.inner.Heads.{IsLast, head_spelling}
+use Rattle.syn_wire.specs.declared.error.ReadError.TheVariants.{Malformed}
 use Rattle.syn_wire.specs.Events.{Both, IsNumber32, both_spelling}
-use Rattle.syn_wire.specs.Reads.{IsReading}
 
-pub returns-in_default-read_last : goal.returns-in_default-read_last
-returns-in_default-read_last c =
-    let fields = c.args.fields.now in
-    let after = c.in-Some.after.now in
-    let found = subst (λ o. IsReading IsPath path_spelling after
-    (option_map (λ found. (found.0, found.1.now)) o)) c.in-Some-2.is c.in_ok-path.ensures in
-    let none = subst (λ o. ReadsLast c.in-Some-2.after.now o) c.in_default-read_last.is
-    c.read_last.ensures in
-    let no_path = no_rest IsPath IsLast path_spelling head_spelling c.spelling_laws.ensures.path
-    after c.in-Some-2.after.now c.in-Some-2.path found none in
-    replace_none fields (λ item path last small lawful short is.
+pub returns-in_err-item : goal.returns-in_err-item
+returns-in_err-item c =
+    failed_whole _ _ _ _ c.from_residual.result _ c.from_residual.ensures.1
+    (λ e same malformed. replace_none c.args.reader.now
+    (λ item path last small lawful short is. c.in_err-item.ensures (rw (← same) malformed) item
+    (path_spelling path ++ head_spelling last) (record { lawful = small; spelled = is })))
+
+pub returns-in_err-since : goal.returns-in_err-since
+returns-in_err-since c =
+    let no_path = λ (m : c.in_err-since.field-0.0 ≡ Malformed).
+    no_rest IsPath IsLast path_spelling head_spelling c.spelling_laws.ensures.path
+    c.u32.new.self c.path.new.self c.in_ok-path.path c.in_ok-path.ensures
+    (c.in_err-since.ensures m) in
+    failed_whole _ _ _ _ c.from_residual-in_err-since.result _
+    c.from_residual-in_err-since.ensures.1
+    (λ e same malformed. replace_none c.args.reader.now
+    (λ item path last small lawful short is.
     no_rest IsNumber32 (Both IsPath IsLast) (to_be_bytes w32)
-    (both_spelling path_spelling head_spelling) c.spelling_laws.ensures.u32 fields after
-    c.in-Some.item c.in-Some.ensures (λ pair both. no_path pair.0 pair.1 both.0 both.1)
-    item (path, last) small (lawful, short) is)
+    (both_spelling path_spelling head_spelling) c.spelling_laws.ensures.u32 c.args.reader.now
+    c.u32.new.self c.in_ok-item.item c.in_ok-item.ensures
+    (λ pair both. no_path (rw (← same) malformed) pair.0 pair.1 both.0 both.1) item (path, last)
+    small
+    (lawful, short) is))

@@ -1,17 +1,14 @@
-use Rattle.std.proofs.Common.{arith, option_map, subst}
-use Rattle.syn_message.proofs.WholeLemmas.{no_value}
+use Rattle.std.proofs.Common.{arith}
+use Rattle.syn_message.specs.UserReplies.{IsWithinFile}
+use Rattle.syn_message.proofs.WholeLemmas.{failed_whole, no_value}
 use Rattle.syn_message.proofs.user_reply_reading.read_whole_file.Goals as goal
-use Rattle.syn_model.specs.Contents.{contents_spelling, contents_with}
-use Rattle.syn_tree.specs.Modes.{mode_of}
+use Rattle.syn_model.specs.Contents.{contents_spelling}
 use Rattle.syn_model.specs.Version.{Two}
 use Rattle.syn_wire.specs.Contents.{IsBriefFileIn}
-use Rattle.syn_wire.specs.Reads.{IsReading}
 
-pub returns-in_default : goal.returns-in_default
-returns-in_default c file is =
-    let bytes = c.args.bytes.now in
-    let none = subst (λ o. IsReading (IsBriefFileIn Two) contents_spelling bytes (option_map
-    (λ found. (contents_with (mode_of found.0) found.1.items, found.2.now)) o)) c.in_default.is
-    c.in_ok-mode.ensures in
-    let brief = is.0 in
-    no_value (IsBriefFileIn Two) contents_spelling bytes none file (is.1, omega (arith, brief))
+pub returns-in_err-mode : goal.returns-in_err-mode
+returns-in_err-mode c =
+    failed_whole IsWithinFile _ _ _ c.from_residual.result _ c.from_residual.ensures.1
+    (λ e same malformed file is. let brief = is.0 in
+    no_value (IsBriefFileIn Two) contents_spelling c.args.reader.now
+    (c.in_err-mode.ensures (rw (← same) malformed)) file (is.1, omega (arith, brief)))

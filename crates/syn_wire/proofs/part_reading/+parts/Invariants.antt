@@ -18,8 +18,8 @@ decreases-read_part g l = (16 - length l.path) + (16 - length l.path) + (16 - le
 
 abbrev pub invariant-read_parts-loop-read : goal.invariant-read_parts-loop-read
 invariant-read_parts-loop-read g l = record {
-  so_far : ReadSoFar (g.C.Readable.kind (version_of l.version)) l.above l.count l._read l.bytes
-      l.rest l.initial.list.items l.list.items;
-  spelled : ListedSoFar (g.C.Readable.kind (version_of l.version)) l.above l._read l.bytes l.rest
-      l.initial.list.items l.list.items;
+  so_far : ReadSoFar (g.C.Readable.kind (version_of l.version)) l.above l.count l._read
+      l.initial.reader l.reader l.initial.list.items l.list.items;
+  spelled : ListedSoFar (g.C.Readable.kind (version_of l.version)) l.above l._read l.initial.reader
+      l.reader l.initial.list.items l.list.items;
 }

@@ -1,9 +1,0 @@
-use Rattle.std.proofs.Common.{◌≡◌, ◌++◌}
-use Rattle.syn_wire.specs.inner.Names.{AreNames, names_spelling}
-use Rattle.syn_wire.proofs.path.read_names.Given as goal
-
-abbrev pub invariant-loop-read : goal.invariant-loop-read
-invariant-loop-read l = record {
-  so_far : AreNames l._read l.names.items;
-  spelled : l.bytes ≡ names_spelling l.names.items ++ l.rest;
-}
