@@ -1,5 +1,5 @@
 -- The coordinator's machine keeps what an archive has in memory.
-use Rattle.std.proofs.Common.{◌≡◌, ℕ, List, refl, sym, ap₂, subst}
+use Rattle.std.proofs.Common.{◌≡◌, ◌<◌, ◌^◌, ℕ, List, Some, inr, refl, sym, ap₂, subst}
 use Rattle.syn_journal.specs.Machines.{IsLawful, IsReadAs}
 use Rattle.syn_journal.specs.Refusals.{refusal_of as refusal_of_journal}
 use Rattle.syn_journal.specs.declared.error.JournalError.{JournalError}
@@ -15,8 +15,11 @@ use Rattle.syn_archive.specs.Refusals.{of_journal, refusal_of}
 use Rattle.syn_archive.specs.declared.agreed.Agreed.{Agreed}
 use Rattle.syn_archive.specs.declared.error.ArchiveError.{ArchiveError}
 use Rattle.syn_archive.specs.declared.error.ArchiveError.TheVariants as error
-use Rattle.syn_archive.specs.inner.Agreements.{Gives, IsUnreadAgain, RemembersAs, agreed_archive}
-use Rattle.syn_archive.specs.inner.Agreements.{kept_as}
+use Rattle.syn_archive.specs.inner.Agreements.{Gives, IsUnread, IsUnreadAgain, RemembersAs}
+use Rattle.syn_archive.specs.inner.Agreements.{agreed_archive, kept_as}
+use Rattle.syn_archive.specs.inner.Openings.{OneStands}
+use Rattle.syn_archive.proofs.MeaningLemmas.{not_other}
+use Rattle.syn_archive.proofs.OpeningLemmas.{not_old}
 
 pub is_lawful : StandsForSound → ArchiveImageStands → RecordGoesOn → (pair : ℕ) →
     IsLawful (kept_as pair) (λ agreed. archive_spelling agreed.pair (agreed_archive agreed))
@@ -52,9 +55,23 @@ by_journal journal.Memory = refl
 by_journal journal.NoImage = refl
 by_journal journal.Damaged = refl
 
-pub is_read_as : (pair : ℕ) → IsReadAs pair (kept_as pair) (λ agreed. agreed.pair) Gives
-    (λ old new. new.pair ≡ old.pair) IsUnreadAgain of_journal refusal_of
-is_read_as pair = record {
+-- what is wanted and stands there is refused for lack of memory alone
+refused_at_first : OneStands → (e : ArchiveError) (pair : ℕ) (kept : Archive) (image : Bytes)
+    (payloads : List Bytes) → pair < 2 ^ 64 → ArchiveStandsFor pair image payloads kept →
+    IsUnread e (Some pair) image payloads → refusal_of e ≡ why.Memory
+refused_at_first one error.Memory pair kept image payloads fits stands unread = refl
+refused_at_first one error.Damaged pair kept image payloads fits stands unread =
+    absurd (unread.1 pair kept fits stands)
+refused_at_first one error.WrongPair pair kept image payloads fits stands unread =
+    absurd (not_other one (Some pair) (record { image = image; payloads = payloads }) pair kept fits
+    stands (inr refl) unread)
+refused_at_first one error.OldVersion pair kept image payloads fits stands unread =
+    absurd (not_old pair image payloads kept stands unread)
+refused_at_first one _ pair kept image payloads fits stands unread = absurd unread
+
+pub is_read_as : OneStands → (pair : ℕ) → IsReadAs pair (kept_as pair) (λ agreed. agreed.pair) Gives
+    (λ old new. new.pair ≡ old.pair) IsUnread IsUnreadAgain of_journal refusal_of
+is_read_as one pair = record {
   of_pair = λ agreed kept is. is.pair_is;
   same_pair = λ old new same. same;
   some = λ image payloads kept stands. (
@@ -63,7 +80,9 @@ is_read_as pair = record {
   );
   given = λ image payloads kept agreed stands is. stands_of pair image payloads agreed kept stands
       is;
-  read = λ e agreed before kept image payloads is goes stands unread.
+  read = λ e kept image payloads fits stands unread. refused_at_first one e pair kept image payloads
+      fits stands unread;
+  read_again = λ e agreed before kept image payloads is goes stands unread.
       refused_for_memory e agreed image payloads kept
       (subst (λ n. ArchiveStandsFor n image payloads kept) (sym is.pair_is) stands) unread;
   by_journal = by_journal;

@@ -22,7 +22,7 @@ use Rattle.syn_archive.specs.Calls.{Compacts, Writes}
 use Rattle.syn_archive.specs.Machines.{CompactsImage, Fails, IsDown, IsMachine, IsShown, Journal}
 use Rattle.syn_archive.specs.Machines.{KeepsRecord, ReadsDisk, Runs, breaks, breaks_off, compacts}
 use Rattle.syn_archive.specs.Machines.{failed_reading, keeps, moves_down, moves_on, read, refuses}
-use Rattle.syn_archive.specs.Machines.{stays, stopped_reading, unread}
+use Rattle.syn_archive.specs.Machines.{Starts, stays, stopped_reading, unread}
 use Rattle.syn_archive.specs.declared.archive.Archive.{Archive}
 use Rattle.syn_archive.specs.declared.keeping.Keeping.{Keeping}
 use Rattle.syn_archive.specs.declared.keeping.Keeping.TheVariants as keeping
@@ -224,6 +224,19 @@ module _ {D : Type 0} {disk : Ghosts D} (old new : Archive D disk) (pair : ℕ) 
   reads_disk ended (machine.unread calls arms some meets it) =
       unread calls arms some meets
       (of_machine new pair (after_device machine_is machine_is.status arms 0) still_settled it)
+
+pub starts : {D : Type 0} {disk : Ghosts D} (new : Archive D disk) (pair : ℕ) (before : Journal) →
+    machine.Starts (kept_as pair) new.machine before → Starts new pair before
+starts new pair before it =
+    let now = of_machine new pair it.next (λ _. (it.opened.idle, it.opened.settled)) it.is in
+    record {
+      calls = it.calls;
+      next = it.next;
+      added = it.added;
+      opens = it.opens;
+      is = now;
+      runs = when_up new pair it.next it.opened.up now;
+    }
 
 -- ---- nothing was written
 

@@ -208,7 +208,8 @@ keeps_stands keeps =
     record { value = keeps.value; means = keeps.journal.means; stands = keeps.stands }
 
 -- the wanted pair is no other
-not_other : OneStands → (wanted : Option ℕ) (value : Value) (number : ℕ) (kept : model.Archive) →
+pub not_other : OneStands → (wanted : Option ℕ) (value : Value) (number : ℕ)
+    (kept : model.Archive) →
     number < 2 ^ 64 → ArchiveStandsFor number value.image value.payloads kept →
     IsWanted wanted number → StandsForOther wanted value.image value.payloads → ⊥
 not_other one wanted value number kept fits stands (inl none) other =

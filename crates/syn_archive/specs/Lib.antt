@@ -1,3 +1,4 @@
+pub mod Keepings
 pub mod Archive
 pub mod Disks
 pub mod Refusals

@@ -9,7 +9,7 @@ use Rattle.syn_headline.specs.Coordinator.{Keeps, archive_layout}
 use Rattle.syn_headline.specs.Machine.{Arms, Compacts, Journaled, Meets, Opens, Status}
 use Rattle.syn_headline.specs.Machine.{Up, Halted, Down, after_device, unarmed}
 use Rattle.syn_journal.specs.Calls.{armed_at}
-use Rattle.syn_journal.specs.Keepings.{of_archive}
+use Rattle.syn_archive.specs.Keepings.{of_archive}
 use Rattle.syn_journal.specs.Meaning.{MayBeOf}
 use Rattle.syn_model.specs.Archive.{CanKeep, Kept}
 use Rattle.syn_model.specs.Archive as model
@@ -117,3 +117,13 @@ pub data ReadsDisk {D : Type 0} {disk : Ghosts D} (new : Archive D disk) (pair :
   unread : (calls : ℕ) (arms : Arms) → 1 ≤ calls → Meets machine.arms calls Up arms 0 →
       IsMachine new pair (after_device machine machine.status arms 0) →
       ReadsDisk new pair machine (Some Memory)
+
+-- A machine that was down is opened, which gives what its disk may mean, and it runs
+pub record Starts {D : Type 0} {disk : Ghosts D} (new : Archive D disk) (pair : ℕ)
+    (machine : Journal) : Type 0 where
+  pub calls : ℕ
+  pub next : Journal
+  pub added : List Kept
+  pub opens : Opens (archive_layout pair) CanKeep machine calls next added
+  pub is : IsMachine new pair next
+  pub runs : Runs new next

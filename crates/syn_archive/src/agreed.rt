@@ -95,6 +95,7 @@ impl State for Agreed {
 
     fn keeping_laws() {
         archive_laws();
+        opening_laws();
     }
 
     fn refused(error: JournalError) -> ArchiveError {

@@ -25,7 +25,8 @@
 //!   `memory`). After any other refusal its journal is as it was (`unchanged`).
 //! - What `next_session`, `record`, `record_dir`, `checkpoint` and `reopen` are to the model's
 //!   machine that the archive is (`IsMachine`) is one clause of each, `world` (`KeepsRecord`,
-//!   `CompactsImage`, `ReadsDisk`), also where its device fails or stops.
+//!   `CompactsImage`, `ReadsDisk`), also where its device fails or stops; and so what `open` is to
+//!   one that was down (`Starts`).
 //! - `open` shows what the disk stands for (`given`), and stands for each archive that the disk
 //!   stands for, whatever its pair (`stands`, `each`). It changes nothing (`device`: `Reads`). It
 //!   is refused 18 only where no half is open, and 26 only where the image begins as one of the

@@ -8,10 +8,11 @@ use Rattle.std.proofs.lemmas.Bool.Decides.{nat_tests}
 use Rattle.syn_disk.specs.Arms.{Arms as DiskArms, is_zero, is_stopped, is_refused, one_fewer}
 use Rattle.syn_disk.specs.Arms.{after_call}
 use Rattle.syn_disk.specs.Calls.{Makes}
-use Rattle.syn_headline.specs.Machine.{Up, Halted, IsBefore, after_calls, Meets, all_made}
+use Rattle.syn_headline.specs.Machine.{Arms, Down, Status, Up, Halted, IsBefore, after_calls, Meets}
+use Rattle.syn_headline.specs.Machine.{all_made, unarmed}
 use Rattle.syn_headline.specs.Machine.{one_fails, one_stops}
 use Rattle.syn_journal.specs.Calls.{armed_at, CallsMeet, goes_on, goes_down, MadeCallsMeet}
-use Rattle.syn_journal.specs.Calls.{StopsAfter, BrokenCallsMeet, MadeReadsMeet}
+use Rattle.syn_journal.specs.Calls.{StopsAfter, BrokenCallsMeet, IsFree, MadeReadsMeet, StaysFree}
 
 -- a stop comes so many calls later: never, or it is still to come, or with the last of these calls
 abbrev fewer : ℕ → Option ℕ → Option ℕ
@@ -273,3 +274,35 @@ broken_calls_meet most old new running b =
 pub made_reads_meet : MadeReadsMeet
 made_reads_meet least old new running r =
     (r.calls, r.enough, made_calls_meet r.calls old new running r.made)
+
+-- where nothing is armed no stop comes, and nothing is armed then
+pub never_stops : (calls failed : ℕ) (now : Arms) → Meets unarmed calls Down now failed → ⊥
+never_stops calls _ _ (one_stops made less before stop) = omega (arith, stop)
+
+none_left : (n : ℕ) → 0 - n ≡ 0
+none_left n = omega arith
+
+pub still_unarmed : (calls failed : ℕ) (status : Status) (now : Arms) →
+    Meets unarmed calls status now failed → now ≡ unarmed
+still_unarmed calls _ _ _ (all_made fail stop) =
+    ap₂ (λ f s. record { fail = f; stop = s }) (none_left calls) (none_left calls)
+still_unarmed calls _ _ _ (one_fails made less fail stop) =
+    ap₂ (λ f s. record { fail = f; stop = s }) (none_left (suc made)) (none_left (suc made))
+still_unarmed calls _ _ _ (one_stops made less before stop) = refl
+
+-- an opening leaves free what was free
+free_after : (old now : DiskArms) (calls : ℕ) (status : Status) (failed : ℕ) → IsFree old →
+    CallsMeet old now calls status failed → IsFree now
+free_after old now calls status failed free (goes_on goes meets) = record {
+  goes = goes;
+  unarmed_is = still_unarmed calls failed status (armed_at now)
+      (subst (λ a. Meets a calls status (armed_at now) failed) free.unarmed_is meets);
+}
+free_after old now calls status failed free (goes_down stopped meets) =
+    absurd (never_stops calls 0 unarmed
+    (subst (λ a. Meets a calls Down unarmed 0) free.unarmed_is meets))
+
+pub stays_free : StaysFree
+stays_free least old now free makes =
+    let found = made_reads_meet least old now free.goes makes in
+    free_after old now found.0 Up 0 free found.2

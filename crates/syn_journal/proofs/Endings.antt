@@ -14,7 +14,7 @@ use Rattle.syn_journal.specs.declared.error.JournalError.TheVariants as journal
 use Rattle.syn_journal.specs.declared.journal.Journal.{Journal}
 use Rattle.syn_model.specs.Refusal as why
 use Rattle.syn_model.specs.Refusal.{Refusal}
-use Rattle.syn_journal.specs.Endings.{CountsFailures, MakesOrBreaks}
+use Rattle.syn_journal.specs.Endings.{CountsFailures, MakesOrBreaks, ReadsOrBreaks}
 use Rattle.syn_journal.specs.Journaled.{Compacts, IsOfCheckpoint}
 
 -- ---- which refusal of the journal it is
@@ -59,6 +59,16 @@ makes journal.Halted calls old new h = h
 makes journal.Memory calls old new h = h
 makes journal.NoImage calls old new h = h
 makes journal.Damaged calls old new h = h
+
+pub reads_or_breaks : (e : JournalError) (least : ℕ) (old new : Arms) →
+    by_journal.AfterReads least e old new → ReadsOrBreaks least (Some (refusal_of e)) old new
+reads_or_breaks journal.Full least old new h = h
+reads_or_breaks journal.JournalFull least old new h = h
+reads_or_breaks journal.Device least old new h = h
+reads_or_breaks journal.Halted least old new h = h
+reads_or_breaks journal.Memory least old new h = h
+reads_or_breaks journal.NoImage least old new h = h
+reads_or_breaks journal.Damaged least old new h = h
 
 of_checkpoint : (e : JournalError) → by_journal.IsCheckpointRefusal e →
     IsOfCheckpoint (Some (refusal_of e))

@@ -15,6 +15,7 @@ pub mod Endings
 pub mod Migrations
 pub mod Results
 pub mod Spent
+mod StartLemmas
 pub mod CallLemmas
 pub mod DiskLemmas
 pub mod ImageLemmas

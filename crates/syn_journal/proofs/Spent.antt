@@ -1,5 +1,5 @@
 -- What a device saw of a call that was refused.
-use Rattle.std.proofs.Common.{◌≡◌, ◌≢◌, ◌<◌, ℕ, false, Some, refl, subst}
+use Rattle.std.proofs.Common.{◌≡◌, ◌≢◌, ◌<◌, ℕ, false, None, Some, refl, subst, sym}
 use Rattle.syn_disk.specs.Calls.{Breaks, BreaksSometime, MakesAtLeast}
 use Rattle.syn_disk.specs.declared.disk.Disk.{Ghosts}
 use Rattle.syn_model.specs.Refusal.{Refusal, Device}
@@ -50,3 +50,14 @@ module _ {D : Type 0} {disk : Ghosts D} (why : Refusal) (old new : D) where
   read_broke is reads =
       let broke = subst (λ w. Reads disk (Some w) old new) is reads in
       (broke.failures, broke.arms)
+
+-- what was read is read too where anything but 9 is answered after it
+pub read_on : {D : Type 0} {disk : Ghosts D} (why : Refusal) → is_device why ≡ false →
+    (old new : D) → Reads disk None old new → Reads disk (Some why) old new
+read_on {D} {disk} why other old new reads = record {
+  untouched = reads.untouched;
+  failures =
+      subst (λ b. Grows b (disk.failures old) (disk.failures new)) (sym other) reads.failures;
+  arms =
+      subst (λ b. BreaksOrReads b 1 (disk.arms old) (disk.arms new)) (sym other) reads.arms;
+}

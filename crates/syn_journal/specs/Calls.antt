@@ -46,3 +46,12 @@ MadeReadsMeet = (least : ℕ) (old new : DiskArms) → is_stopped old ≡ false 
 -- second: so where no call of the disk failed, none of the machine's did
 abbrev pub CountsNoMore : {V W : Type 0} → ℕ → ℕ → Journaled V W → Journaled V W → Type 0
 CountsNoMore before after old new = new.failures + before ≤ old.failures + after
+
+-- a disk with these arms was not stopped, and nothing is armed at it
+pub record IsFree (arms : DiskArms) : Type 0 where
+  pub goes : is_stopped arms ≡ false
+  pub unarmed_is : armed_at arms ≡ unarmed
+
+-- and so it is after calls none of which failed
+abbrev pub StaysFree : Type 0
+StaysFree = (least : ℕ) (old new : DiskArms) → IsFree old → MakesAtLeast least old new → IsFree new

@@ -6,7 +6,6 @@ pub mod Places
 pub mod Refusals
 pub mod Calls
 pub mod Meaning
-pub mod Keepings
 pub mod Endings
 pub mod Openings
 pub mod Journaled

@@ -1,7 +1,7 @@
 -- Which machine of the model keeps the state of a machine, and what each call is to it.
-use Rattle.std.specs.Prelude.{◌≡◌, ◌≢◌, ◌⊎◌, ◌≤◌, ◌++◌, ℕ, suc, true, false, List, [], ◌∷◌}
-use Rattle.std.specs.Prelude.{Option, Some, None}
-use Rattle.syn_disk.specs.Arms.{is_stopped}
+use Rattle.std.specs.Prelude.{◌≡◌, ◌≢◌, ◌⊎◌, ◌≤◌, ◌<◌, ◌^◌, ◌++◌, ℕ, suc, true, false, List, []}
+use Rattle.std.specs.Prelude.{◌∷◌, Option, Some, None}
+use Rattle.syn_disk.specs.Arms.{Arms as DiskArms, is_stopped}
 use Rattle.syn_disk.specs.declared.disk.Disk.{Ghosts}
 use Rattle.syn_headline.specs.Machine.{Arms, IsBefore, Meets, Opens, Status, Up, Halted, Down}
 use Rattle.syn_headline.specs.Machine.{after_device, cut, room_after, unarmed, with_image}
@@ -48,7 +48,8 @@ GoesOn {W = W} kept_as before kept = (kept ≡ before)
 -- What a state of this pair owes, so that what is read of a disk is what its machine keeps
 pub record IsReadAs {S V W E : Type 0} (number : ℕ) (kept_as : KeptAs S V W) (pair : S → ℕ)
     (gives : Bytes → List Bytes → S → Type 0) (follows : S → S → Type 0)
-    (unread : E → S → Bytes → List Bytes → Type 0) (of_journal : JournalError → E)
+    (unread : E → Option ℕ → Bytes → List Bytes → Type 0)
+    (unread_again : E → S → Bytes → List Bytes → Type 0) (of_journal : JournalError → E)
     (why : E → Refusal) : Type 0 where
   pub of_pair : (state : S) (kept : V) → kept_as.Remembers state kept → pair state ≡ number
   pub same_pair : (old new : S) → follows old new → pair new ≡ pair old
@@ -58,10 +59,14 @@ pub record IsReadAs {S V W E : Type 0} (number : ℕ) (kept_as : KeptAs S V W) (
   pub given : (image : Bytes) (payloads : List Bytes) (kept : V) (state : S) →
       kept_as.keeping.Stands image payloads kept → kept_as.Remembers state kept →
       gives image payloads state
-  -- lack of memory alone refuses to read what goes on from a state
-  pub read : (error : E) (state : S) (before kept : V) (image : Bytes) (payloads : List Bytes) →
-      kept_as.Remembers state before → GoesOn kept_as before kept →
-      kept_as.keeping.Stands image payloads kept → unread error state image payloads →
+  -- lack of memory alone refuses to read what stands there
+  pub read : (error : E) (kept : V) (image : Bytes) (payloads : List Bytes) → number < 2 ^ 64 →
+      kept_as.keeping.Stands image payloads kept → unread error (Some number) image payloads →
+      why error ≡ Memory
+  -- or to read what goes on from a state
+  pub read_again : (error : E) (state : S) (before kept : V) (image : Bytes)
+      (payloads : List Bytes) → kept_as.Remembers state before → GoesOn kept_as before kept →
+      kept_as.keeping.Stands image payloads kept → unread_again error state image payloads →
       why error ≡ Memory
   pub by_journal : (error : JournalError) → why (of_journal error) ≡ refusal_of error
 
@@ -171,3 +176,33 @@ module _ {D S V W : Type 0} {disk : Ghosts D} (kept_as : KeptAs S V W)
     unread : (calls : ℕ) (arms : Arms) → 1 ≤ calls → Meets machine.arms calls Up arms 0 →
         IsMachine kept_as new (after_device machine machine.status arms 0) →
         ReadsDisk (Some Memory)
+
+-- ---- a machine that is down
+
+-- Nothing is armed at its device, and each content that a stop may leave there may be the machine's
+pub record Rests {D V W : Type 0} (arms : D → DiskArms) (may_leave : D → Bytes → Type 0)
+    (keeping : Keeping V W) (device : D) (machine : model.Journaled V W) : Type 0 where
+  pub down : machine.status ≡ Down
+  pub unarmed_is : machine.arms ≡ unarmed
+  pub armed : armed_at (arms device) ≡ unarmed
+  pub goes : is_stopped (arms device) ≡ false
+  pub leaves : (bytes : Bytes) → may_leave device bytes → MayBeOf keeping machine bytes
+
+-- An opening of that device gives what it may mean, and the machine runs
+pub record Starts {D S V W : Type 0} {disk : Ghosts D} (kept_as : KeptAs S V W)
+    (new : Journaled D S disk) (machine : model.Journaled V W) : Type 0 where
+  pub calls : ℕ
+  pub next : model.Journaled V W
+  pub added : List W
+  pub opens : Opens kept_as.keeping.layout kept_as.keeping.CanAdd machine calls next added
+  pub opened : IsOpened next
+  pub is : IsMachine kept_as new next
+
+-- or it is refused, since its device failed or for lack of memory: then the machine is still down
+pub data RestsStill {D V W : Type 0} (arms : D → DiskArms) (may_leave : D → Bytes → Type 0)
+    (keeping : Keeping V W) (device : D) (machine : model.Journaled V W) : Refusal → Type 0 where
+  device_failed : (calls : ℕ) (now : Arms) → Meets machine.arms calls Halted now 1 →
+      Rests arms may_leave keeping device (after_device machine Down now 1) →
+      RestsStill arms may_leave keeping device machine Device
+  without_memory : Rests arms may_leave keeping device machine →
+      RestsStill arms may_leave keeping device machine Memory

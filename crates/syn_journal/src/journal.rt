@@ -259,8 +259,9 @@ impl<D: Disk> Journal<D> {
         self.halted = true;
     }
 
-    /// Adds a payload. At `Ok` it is durable: from then on each stop leaves it. A record takes
-    /// `RECORD_OVERHEAD` bytes more than its payload.
+    /// Adds a payload. At `Ok` it is durable: from then on each stop leaves it. A record needs
+    /// `RECORD_OVERHEAD` bytes more than its payload, the last of which is the gate of the record
+    /// that comes next.
     ///
     /// It is refused `Halted`, `JournalFull` where the record does not fit in the current half,
     /// `Memory`, and `Device`, after which the journal is halted.

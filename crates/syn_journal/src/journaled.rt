@@ -22,7 +22,7 @@ mod batch;
 mod migrate;
 mod open;
 
-/// A machine that keeps a state in a journal on its disk. It outlives stops of its machine.
+/// A state in memory, with the journal that keeps it on a disk through any stop.
 #[derive(Drop)]
 pub struct Journaled<D: Disk, S> {
     journal: Journal<D>,

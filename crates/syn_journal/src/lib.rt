@@ -38,6 +38,7 @@
 //!   from before (`shows`), where it was halted then.
 //! - `left_of` is how many bytes are left for records, and `bytes_left` the same of a value; a
 //!   record takes `record_size` of them (`layout_laws`).
+//! - An opening leaves nothing armed at a disk at which nothing was (`opening_laws`).
 //! - `room` is the length of the longest payload that fits. `Takes` says of a length that it fits,
 //!   and `IsTooLong` that it does not.
 //! - Of a disk that can be armed, a journal can be armed, which changes nothing that it stands for
@@ -68,11 +69,12 @@
 //!   (`follows`). After any refusal the state is as it was. After 11 the machine goes on, and after
 //!   any other it is halted (`halts`).
 //! - What `write`, `checkpoint` and `reopen` are to the model's machine that keeps the state
-//!   (`IsMachine`) is one clause of each, `machine`: `WritesRecord`, `WritesImage`, `ReadsDisk`. It
-//!   holds also where the device fails, which halts that machine, and where it stops, so that the
-//!   machine is down (`IsDown`). `MayMean` says what its disk may mean then: what the machine
-//!   keeps; that with the record that was being written; or the image alone that an unfinished
-//!   checkpoint leaves. Each case has its room and its generation.
+//!   (`IsMachine`) is one clause of each, `machine`: `WritesRecord`, `WritesImage`, `ReadsDisk`;
+//!   and so what `open` is to one that was down (`Rests`: `Starts`, `RestsStill`). It holds also
+//!   where the device fails, which halts that machine, and where it stops, so that the machine is
+//!   down (`IsDown`). `MayMean` says what its disk may mean then: what the machine keeps; that with
+//!   the record that was being written; or the image alone that an unfinished checkpoint leaves.
+//!   Each case has its room and its generation.
 //! - `migrate` reads what the disk gives in an older version, and writes it as one image with the
 //!   next generation (`migrated`: `Migrated`). At any moment the disk has what it had, or that
 //!   image alone (`device`: `Migrates`). It is refused as an opening or a checkpoint is (`refused`:
@@ -98,7 +100,7 @@ pub use error::JournalError;
 pub use half::HALF_SIZE;
 pub use journal::{Journal, Opened, Reopened};
 pub use journaled::Journaled;
-pub use laws::layout_laws;
+pub use laws::{layout_laws, opening_laws};
 pub use layout::{MAX_IMAGE, RECORD_HEADER};
 pub use place::Place;
 pub use state::State;

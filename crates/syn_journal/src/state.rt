@@ -73,7 +73,7 @@ pub trait State {
     fn keeping_laws()
         ensures written { (number : ℕ) → IsLawful (kept_as number) spelling }
         ensures read { (number : ℕ) → IsReadAs number (kept_as number) pair gives follows
-            unread_again of_journal why };
+            unread unread_again of_journal why };
 
     /// The answer to a refusal of the journal.
     fn refused(error: JournalError) -> Self::Error

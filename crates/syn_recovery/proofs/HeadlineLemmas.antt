@@ -21,7 +21,8 @@ use Rattle.syn_headline.specs.Reported.{EachReportTells}
 use Rattle.syn_headline.specs.Picture as picture
 use Rattle.syn_journal.specs.Meaning.{Keeping, IsDiskOf, IsOf, MayBeOf, as_kept, with_record}
 use Rattle.syn_journal.specs.Meaning.{compacted}
-use Rattle.syn_recovery.specs.Machines.{of_side, of_archive}
+use Rattle.syn_archive.specs.Keepings.{of_archive}
+use Rattle.syn_replica.specs.Keepings.{of_side}
 use Rattle.syn_recovery.specs.Headline.{Disks, disk_of, DisksStand, IsOpenedFrom, DisksAreStart}
 use Rattle.syn_recovery.specs.Headline.{Headline}
 use Rattle.syn_headline.proofs.StandLemmas.{at_start}

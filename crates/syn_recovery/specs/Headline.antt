@@ -15,7 +15,8 @@ use Rattle.syn_headline.specs.Headline.{ReportsItsConflicts, CountsItsItems, Car
 use Rattle.syn_headline.specs.Headline.{HeldIsMarked, PreferenceLeavesOne}
 use Rattle.syn_headline.specs.Reported.{EachReportTells}
 use Rattle.syn_journal.specs.Meaning.{IsDiskOf, IsOf, MayBeOf}
-use Rattle.syn_recovery.specs.Machines.{of_side, of_archive}
+use Rattle.syn_archive.specs.Keepings.{of_archive}
+use Rattle.syn_replica.specs.Keepings.{of_side}
 
 -- what three disks hold
 pub record Disks : Type 0 where

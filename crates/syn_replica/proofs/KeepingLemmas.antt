@@ -1,5 +1,5 @@
 -- The machine of a side keeps what a replica has in memory.
-use Rattle.std.proofs.Common.{◌≡◌, ◌≤◌, ◌∙◌, ℕ, List, [], ◌∷◌, ◌++◌, length, Some, refl}
+use Rattle.std.proofs.Common.{◌≡◌, ◌≤◌, ◌<◌, ◌^◌, ◌∙◌, ℕ, List, [], ◌∷◌, ◌++◌, length, Some, refl}
 use Rattle.std.proofs.Common.{sym, ap, ap₂, subst, inl, inr, arith}
 use Rattle.std.proofs.lemmas.List.{length-append}
 use Rattle.syn_journal.specs.Machines.{GoesOn, IsLawful, IsReadAs}
@@ -14,8 +14,11 @@ use Rattle.syn_replica.specs.ErrorRefusals.{refusal_of}
 use Rattle.syn_replica.specs.Readings.{OneIsGiven}
 use Rattle.syn_replica.specs.declared.error.ReplicaError.{ReplicaError}
 use Rattle.syn_replica.specs.declared.error.ReplicaError.TheVariants.{Damaged, Journal, Memory}
+use Rattle.syn_replica.specs.declared.error.ReplicaError.TheVariants.{OldVersion, WrongPair}
 use Rattle.syn_replica.specs.declared.remembered.Remembered.{Remembered}
-use Rattle.syn_replica.specs.inner.Memories.{Gives, IsUnreadAgain, MayFollow, RemembersAs, kept_as}
+use Rattle.syn_replica.specs.inner.Memories.{Gives, IsUnread, IsUnreadAgain, MayFollow, RemembersAs}
+use Rattle.syn_replica.specs.inner.Memories.{kept_as}
+use Rattle.syn_replica.proofs.VersionLemmas.{not_old}
 
 pub is_lawful : ImageStands → PayloadGoesOn → (pair : ℕ) →
     IsLawful (kept_as pair) (λ memory. image_spelling memory.pair memory.standing)
@@ -67,8 +70,23 @@ module _ (one : OneIsGiven) (memory : Remembered) (image : Bytes) (payloads : Li
       absurd (other.differ (sym (asked_is memory.pair other.asked other.wanted_is) ∙ same))
   refused_for_memory _ unread = absurd unread.1
 
+-- what is wanted and stands there is refused for lack of memory alone
+refused_at_first : OneIsGiven → (e : ReplicaError) (pair : ℕ) (history : History) (image : Bytes)
+    (payloads : List Bytes) → pair < 2 ^ 64 → StandsFor pair image payloads history →
+    IsUnread e (Some pair) image payloads → refusal_of e ≡ why.Memory
+refused_at_first one Memory pair history image payloads fits stands unread = refl
+refused_at_first one Damaged pair history image payloads fits stands unread =
+    absurd (unread.1 pair (standing_of history) fits stands.gives)
+refused_at_first one WrongPair pair history image payloads fits stands unread =
+    let same = (one current_version image payloads pair unread.pair (standing_of history)
+    unread.standing fits unread.fits stands.gives unread.gives).0 in
+    absurd (unread.differ (sym (asked_is pair unread.asked unread.wanted_is) ∙ same))
+refused_at_first one OldVersion pair history image payloads fits stands unread =
+    absurd (not_old pair image payloads (standing_of history) stands.gives unread)
+refused_at_first one _ pair history image payloads fits stands unread = absurd unread
+
 pub is_read_as : OneIsGiven → (pair : ℕ) → IsReadAs pair (kept_as pair) (λ memory. memory.pair)
-    Gives MayFollow IsUnreadAgain (λ by. Journal by) refusal_of
+    Gives MayFollow IsUnread IsUnreadAgain (λ by. Journal by) refusal_of
 is_read_as one pair = record {
   of_pair = λ memory history is. is.pair_is;
   same_pair = λ old new follows. follows.pair;
@@ -78,7 +96,9 @@ is_read_as one pair = record {
   );
   given = λ image payloads history memory stands is. given pair image payloads memory history stands
       is;
-  read = λ e memory before history image payloads is goes stands unread.
+  read = λ e history image payloads fits stands unread. refused_at_first one e pair history image
+      payloads fits stands unread;
+  read_again = λ e memory before history image payloads is goes stands unread.
       refused_for_memory one memory image payloads history
       (subst (λ n. StandsFor n image payloads history) (sym is.pair_is) stands)
       (let here : memory.standing.position ≡ length before =

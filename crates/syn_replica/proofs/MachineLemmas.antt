@@ -21,7 +21,7 @@ use Rattle.syn_model.specs.Refusal as why
 use Rattle.syn_model.specs.Standing.{standing_after}
 use Rattle.syn_replica.specs.Disks.{event_size}
 use Rattle.syn_replica.specs.ErrorRefusals.{refusal_of}
-use Rattle.syn_replica.specs.Machines.{IsDown, IsMachine, Journal, ReadsDisk, StandsAs}
+use Rattle.syn_replica.specs.Machines.{IsDown, IsMachine, Journal, ReadsDisk, StandsAs, Starts}
 use Rattle.syn_replica.specs.Machines.{WritesImage, WritesRecord, WritesUnlessDone, failed}
 use Rattle.syn_replica.specs.Machines.{failed_reading, image_failed, image_refused, image_stopped}
 use Rattle.syn_replica.specs.Machines.{image_written, read, refused, stopped, stopped_after}
@@ -250,3 +250,14 @@ module _ {D : Type 0} {disk : Ghosts D} (new : Replica D disk) (pair : ℕ) (now
       failed_reading calls arms meets (of_machine new pair (after_device now Halted arms 1) is)
   reads_disk ended (machine.unread calls arms some meets is) =
       unread calls arms some meets (of_machine new pair (after_device now now.status arms 0) is)
+
+pub starts : {D : Type 0} {disk : Ghosts D} (new : Replica D disk) (pair : ℕ) (now : Journal) →
+    machine.Starts (kept_as pair) new.machine now → Starts new pair now
+starts new pair now it = record {
+  calls = it.calls;
+  next = it.next;
+  events = it.added;
+  opens = it.opens;
+  opened = it.opened;
+  is = of_machine new pair it.next it.is;
+}

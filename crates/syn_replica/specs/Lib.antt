@@ -1,3 +1,4 @@
+pub mod Keepings
 pub mod Disks
 pub mod Edits
 pub mod Steps

@@ -6,7 +6,7 @@ use Rattle.syn_headline.specs.Machine.{Arms, Journaled, Meets, Opens, Status, Up
 use Rattle.syn_headline.specs.Machine.{after_device, unarmed, with_image, with_record}
 use Rattle.syn_headline.specs.SideMachine.{side_layout}
 use Rattle.syn_journal.specs.Calls.{armed_at}
-use Rattle.syn_journal.specs.Keepings.{of_side}
+use Rattle.syn_replica.specs.Keepings.{of_side}
 use Rattle.syn_journal.specs.Machines.{compacting, writing}
 use Rattle.syn_journal.specs.Meaning.{IsOpened, MayBeOf}
 use Rattle.syn_model.specs.Event.{Event}
@@ -102,3 +102,12 @@ module _ {D : Type 0} {disk : Ghosts D} (new : Replica D disk) (pair : ℕ) (mac
     unread : (calls : ℕ) (arms : Arms) → 1 ≤ calls → Meets machine.arms calls Up arms 0 →
         IsMachine new pair (after_device machine machine.status arms 0) →
         ReadsDisk (Some Memory)
+
+  -- A machine that was down is opened, which gives what its disk may mean, and it runs
+  pub record Starts : Type 0 where
+    pub calls : ℕ
+    pub next : Journal
+    pub events : List Event
+    pub opens : Opens (side_layout pair) IsAllowed machine calls next events
+    pub opened : IsOpened next
+    pub is : IsMachine new pair next

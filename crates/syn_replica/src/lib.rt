@@ -25,7 +25,8 @@
 //!   that are then left for records.
 //! - What `edit`, `begin`, `replace`, `checkpoint` and `reopen` are to the model's machine that the
 //!   replica is (`IsMachine`) is one clause of each, `world` (`WritesRecord`, `WritesImage`,
-//!   `ReadsDisk`), also where its device fails or stops.
+//!   `ReadsDisk`), also where its device fails or stops; and so what `open` is to one that was down
+//!   (`Starts`).
 //! - `checkpoint` leaves the same history standing, and its image alone in the journal
 //!   (`acknowledged`). At any moment of it the disk stands for that history, as it was kept or by
 //!   the image alone with the next generation (`any_moment`: `KeepsOrCompacts`).

@@ -70,7 +70,10 @@ impl<D: Disk> Replica<D> {
     ghost use Rattle.syn_replica.specs.Replica.{generation_shown, IsHalted, Stands};
     ghost use Rattle.syn_replica.specs.Replica.{KeepsBeforeOrAfter, tried_shown};
     ghost use Rattle.syn_replica.specs.Calls.{Writes};
-    ghost use Rattle.syn_replica.specs.Machines.{IsMachine, Journal as Machine, WritesRecord};
+    ghost use Rattle.syn_replica.specs.Machines.{IsMachine, Journal as Machine, Starts};
+    ghost use Rattle.syn_replica.specs.Machines.{WritesRecord};
+    ghost use Rattle.syn_replica.specs.Keepings.{of_side};
+    ghost use Rattle.syn_journal.specs.Machines.{Rests, RestsStill};
 
     /// Formats the disk as a replica of the pair, with no events.
     ///
@@ -132,6 +135,13 @@ impl<D: Disk> Replica<D> {
         ensures device { MatchResult result
             (λ replica. Reads D.Disk None disk (disk_of replica))
             (λ refused. Reads D.Disk (Some (refusal_of refused.0)) disk refused.1) }
+
+        // What it is to the model's machine of the pair, which was down.
+        ensures world { (number : ℕ) (machine : Machine) → pair ≡ Some number → number < 2 ^ 64
+            → Rests D.arms D.may_leave (of_side number) disk machine → MatchResult result
+            (λ replica. Starts replica number machine)
+            (λ refused. RestsStill D.arms D.may_leave (of_side number) refused.1 machine
+            (refusal_of refused.0)) }
     {
         opening_laws();
         let machine = Journaled::open(alloc, disk, pair)?;

@@ -14,15 +14,17 @@ use Rattle.syn_disk.specs.declared.disk.Disk.{Ghosts}
 use Rattle.syn_headline.specs.Acknowledged.{history_of}
 use Rattle.syn_headline.specs.Headline.{IsPair, formatted}
 use Rattle.syn_headline.specs.Network.{Which, Left, Right}
-use Rattle.syn_world.specs.Starts.{CanStart, IsFree, IsFromOutside}
+use Rattle.syn_world.specs.Starts.{CanStart, IsFromOutside}
+use Rattle.syn_journal.specs.Calls.{IsFree}
 use Rattle.syn_model.specs.Archive.{new_archive}
 use Rattle.syn_model.specs.ArchiveImage.{ArchiveStandsFor}
 use Rattle.syn_model.specs.Image.{StandsFor}
 use Rattle.syn_model.specs.Refusal.{Refusal, Device, Memory, number}
-use Rattle.syn_recovery.specs.Calls.{armed_at}
+use Rattle.syn_journal.specs.Calls.{armed_at}
 use Rattle.syn_recovery.specs.Headline.{disk_of}
-use Rattle.syn_recovery.specs.Machines.{of_archive, of_side}
-use Rattle.syn_recovery.specs.Meaning.{IsDiskOf}
+use Rattle.syn_archive.specs.Keepings.{of_archive}
+use Rattle.syn_replica.specs.Keepings.{of_side}
+use Rattle.syn_journal.specs.Meaning.{IsDiskOf}
 use Rattle.syn_refusal.specs.Refusals.{cause_of}
 use Rattle.syn_refusal.specs.declared.refusal.Refusal as refusals
 use Rattle.syn_replica.specs.Refusals.{IsOneOf, format_refusals}

@@ -5,7 +5,8 @@ ghost use Rattle.syn_disk.specs.Cut.{arms_of};
 ghost use Rattle.syn_headline.specs.Headline.{formatted};
 ghost use Rattle.syn_world.specs.Starts.{CanStart};
 ghost use Rattle.syn_model.specs.Archive.{new_archive};
-ghost use Rattle.syn_recovery.specs.Machines.{of_archive, of_side};
+ghost use Rattle.syn_archive.specs.Keepings.{of_archive};
+ghost use Rattle.syn_replica.specs.Keepings.{of_side};
 ghost use Rattle.syn_simulate.specs.Starts.{IsOutside, StartsFormatted};
 ghost use Rattle.syn_world.specs.Openings.{StandFor};
 

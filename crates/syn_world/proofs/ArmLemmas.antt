@@ -9,7 +9,7 @@ use Rattle.syn_headline.specs.MachineSteps.{with_device}
 use Rattle.syn_headline.specs.SideMachine.{SideMachine, side_kind}
 use Rattle.syn_world.specs.Sides.{RunsAs}
 use Rattle.syn_model.specs.History.{History}
-use Rattle.syn_recovery.specs.Calls.{armed_at}
+use Rattle.syn_journal.specs.Calls.{armed_at}
 use Rattle.syn_replica.specs.Machines.{StandsAs}
 use Rattle.syn_replica.specs.Replica.{IsHalted, SameMemory, Stands, disk_of, generation_shown}
 use Rattle.syn_replica.specs.Replica.{left_shown, tried_shown}
@@ -17,7 +17,7 @@ use Rattle.syn_replica.specs.declared.replica.Replica.{Replica}
 use Rattle.syn_world.proofs.SideLemmas.{side_of}
 use Rattle.syn_world.proofs.SideLemmas.{not_down, still_staged}
 use Rattle.syn_journal.proofs.DiskLemmas.{may_be_still}
-use Rattle.syn_recovery.specs.Machines.{of_side}
+use Rattle.syn_replica.specs.Keepings.{of_side}
 
 -- what stands or remembers still does
 pub stands_as : {D : Type 0} {disk : Ghosts D} (old new : Replica D disk) (history : History)

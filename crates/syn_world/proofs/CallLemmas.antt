@@ -43,7 +43,7 @@ use Rattle.syn_world.proofs.CoordinatorHostLemmas.{is_not_down}
 use Rattle.syn_world.proofs.CountLemmas.{checkpoint_once, counts_so, start_once, tick_once}
 use Rattle.syn_world.proofs.SideLemmas.{up_not_down}
 use Rattle.syn_model.specs.Which.{Which}
-use Rattle.syn_recovery.specs.Calls.{CountsNoMore}
+use Rattle.syn_journal.specs.Calls.{CountsNoMore}
 
 -- a machine that a call left down: nothing is armed, no session runs, and nothing was said
 pub record IsCut (next : CoordinatorMachine) (made : Call) : Type 0 where

@@ -28,7 +28,7 @@ use Rattle.syn_world.specs.declared.coordinator.CoordinatorHost.{CoordinatorHost
 use Rattle.syn_coordinator.specs.Machines.{Journal}
 use Rattle.syn_coordinator.proofs.DueLemmas.{when_halted}
 use Rattle.syn_model.specs.Archive.{Kept}
-use Rattle.syn_recovery.specs.Calls.{CountsNoMore}
+use Rattle.syn_journal.specs.Calls.{CountsNoMore}
 use Rattle.syn_session.specs.Refusals.{CountsFailures}
 use Rattle.syn_session.specs.declared.error.SessionError.{SessionError}
 use Rattle.syn_session.specs.declared.error.SessionError.TheVariants as session_error

@@ -3,7 +3,7 @@ use Rattle.std.proofs.Common.{◌≡◌, arith, subst, sym}
 use Rattle.syn_disk.specs.declared.disk.Disk.{Ghosts}
 use Rattle.syn_headline.specs.Network.{Left, Right}
 use Rattle.syn_headline.specs.World.{World as ModelWorld, At, Coordinator}
-use Rattle.syn_recovery.specs.Calls.{CountsNoMore}
+use Rattle.syn_journal.specs.Calls.{CountsNoMore}
 use Rattle.syn_world.specs.Failures.{Counts, CountAlike, FailWithDisks, failures_on}
 use Rattle.syn_world.specs.declared.world.Disks.{Disks}
 

@@ -12,7 +12,8 @@ use Rattle.syn_headline.specs.SideMachine.{SideMachine}
 use Rattle.syn_headline.specs.World.{World as ModelWorld, At, Coordinator, Runs, Step, side_of}
 use Rattle.syn_world.specs.Coordinators.{IsCoordinator, archive_disk}
 use Rattle.syn_world.specs.Sides.{IsHost, side_disk}
-use Rattle.syn_world.specs.Starts.{CountsFailure, IsFree, IsFromOutside}
+use Rattle.syn_world.specs.Starts.{CountsFailure, IsFromOutside}
+use Rattle.syn_journal.specs.Calls.{IsFree}
 use Rattle.syn_world.specs.declared.coordinator.CoordinatorHost.{CoordinatorHost}
 use Rattle.syn_world.specs.declared.coordinator.CoordinatorHost.TheVariants as machine
 use Rattle.syn_world.specs.declared.side.SideHost.{SideHost}
@@ -22,8 +23,9 @@ use Rattle.syn_model.specs.Refusal as why
 use Rattle.syn_refusal.specs.Refusals.{cause_of}
 use Rattle.syn_recovery.specs.Headline.{Disks as Shown, DisksStand, Headline, IsCrashSafe}
 use Rattle.syn_recovery.specs.Headline.{IsOpenedFrom, MayBeLeft, disk_of}
-use Rattle.syn_recovery.specs.Machines.{of_archive, of_side}
-use Rattle.syn_recovery.specs.Meaning.{MayBeOf}
+use Rattle.syn_archive.specs.Keepings.{of_archive}
+use Rattle.syn_replica.specs.Keepings.{of_side}
+use Rattle.syn_journal.specs.Meaning.{MayBeOf}
 use Rattle.syn_world.specs.Headlines.{AreSafe, EndsSafely, IsSafeRun, MayHold, MayRun, Recovers}
 use Rattle.syn_world.specs.Headlines.{RefusedComeBack}
 use Rattle.syn_refusal.specs.declared.refusal.Refusal.{Refusal}
@@ -42,14 +44,14 @@ module _ {D : Type 0} {disk : Ghosts D} (pair : ℕ) where
       → (bytes : Bytes) → disk.may_leave (side_disk side) bytes
       → MayBeOf (of_side pair) model.journal bytes
   side_left (host.Up side) model runs bytes left = runs.is.keeps.left bytes left
-  side_left (host.Down side) model rests bytes left = rests.leaves bytes left
+  side_left (host.Down side) model rests bytes left = rests.rests.leaves bytes left
 
   archive_left : (coordinator : CoordinatorHost D disk) (model : CoordinatorMachine)
       → IsCoordinator pair coordinator model → (bytes : Bytes)
       → disk.may_leave (archive_disk coordinator) bytes
       → MayBeOf (of_archive pair) model.journal bytes
   archive_left (machine.Up coordinator) model stands bytes left = stands.journal.leaves bytes left
-  archive_left (machine.Down rest) model rests bytes left = rests.leaves bytes left
+  archive_left (machine.Down rest) model rests bytes left = rests.rests.leaves bytes left
 
 -- and so of all machines
 pub world_left : {D : Type 0} {disk : Ghosts D} (world : Running D disk) (model : ModelWorld)

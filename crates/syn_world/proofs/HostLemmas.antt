@@ -21,7 +21,7 @@ module _ {D : Type 0} {disk : Ghosts D} (pair : ℕ) (self : SideHost D disk) (s
   rests = subst (λ s. IsHost pair s machine) self_is is
 
   pub down : machine.journal.status ≡ Down
-  down = rests.down
+  down = rests.rests.down
 
   -- its disk has counted so many failed calls
   abbrev failed : ℕ

@@ -1,14 +1,10 @@
 -- What an opening of a side's disk gives.
-use Rattle.std.proofs.Common.{◌≡◌, ◌⊎◌, ◌∙◌, ◌-◌, ◌<◌, ℕ, false, List, [], ◌∷◌, ◌++◌, Option, Some}
+use Rattle.std.proofs.Common.{◌≡◌, ◌⊎◌, ◌∙◌, ◌-◌, ℕ, List, [], ◌∷◌, ◌++◌, Option, Some}
 use Rattle.std.proofs.Common.{None, inl, inr, refl, sym, ap, subst, arith, length-append}
-use Rattle.std.specs.Prelude.{◌^◌, length}
+use Rattle.std.specs.Prelude.{length}
 use Rattle.syn_agent.specs.Agents.{staging_of}
-use Rattle.syn_agent.specs.Machines.{IsOf, IsUpAs}
 use Rattle.syn_agent.specs.declared.agent.Agent.{Agent}
-use Rattle.syn_disk.specs.Arms.{Arms as DiskArms, is_stopped}
-use Rattle.syn_disk.specs.Calls.{BreaksSometime, MakesAtLeast}
-use Rattle.syn_disk.specs.Stops.{Untouched}
-use Rattle.syn_headline.specs.Machine.{Status, Up, Halted, Down, Arms, Meets, unarmed, Opens}
+use Rattle.syn_headline.specs.Machine.{Down, Opens}
 use Rattle.syn_headline.specs.Machine.{Journaled, Layout, opened, recovered}
 use Rattle.syn_headline.specs.MachineSteps.{OpensDown, no_memory_to_open, open_fails, opens}
 use Rattle.syn_headline.specs.MachineSteps.{with_device}
@@ -23,36 +19,23 @@ use Rattle.syn_world.specs.declared.side.SideHost.TheVariants as host
 use Rattle.syn_journal.specs.Layout.{HasJournal, Value, bytes_left}
 use Rattle.syn_disk.specs.declared.disk.Disk.{Ghosts}
 use Rattle.syn_model.specs.Event.{Event}
-use Rattle.syn_model.specs.History.{History, IsAllowed}
-use Rattle.syn_model.specs.Image.{StandsFor}
+use Rattle.syn_model.specs.History.{IsAllowed}
 use Rattle.syn_model.specs.Path.{Bytes}
-use Rattle.syn_model.specs.Refusal as why
+use Rattle.syn_model.specs.Refusal.{Refusal}
 use Rattle.syn_model.specs.Spelling.{event_spelling}
-use Rattle.syn_recovery.specs.Calls.{BrokenCallsMeet, CallsMeet, MadeReadsMeet, armed_at, goes_down}
-use Rattle.syn_recovery.specs.Calls.{goes_on}
-use Rattle.syn_recovery.specs.Machines.{SidesOpen, of_side}
-use Rattle.syn_recovery.specs.Meaning.{MayBeOf, MayMean, MeansAsKept, as_kept, with_record}
-use Rattle.syn_recovery.specs.Meaning.{compacted}
+use Rattle.syn_journal.specs.Endings.{CountsFailures}
+use Rattle.syn_replica.specs.Keepings.{of_side}
+use Rattle.syn_journal.specs.Machines.{RestsStill, device_failed, without_memory}
 use Rattle.syn_refusal.specs.Refusals.{cause_of}
 use Rattle.syn_refusal.specs.declared.refusal.Refusal.{Refusal as Code}
-use Rattle.syn_replica.specs.Disks.{DiskStands}
-use Rattle.syn_replica.specs.Replica.{Stands, disk_of, generation_shown, left_shown, pair_of}
+use Rattle.syn_replica.specs.Replica.{Stands, disk_of, generation_shown, left_shown}
 use Rattle.syn_replica.specs.Replica.{position_shown}
 use Rattle.syn_replica.specs.declared.replica.Replica.{Replica}
 use Rattle.syn_world.proofs.SideLemmas.{failed_by, side_of}
 use Rattle.syn_world.proofs.SideLemmas.{none_not_some, still_staged, up_not_down}
-use Rattle.syn_coordinator.proofs.DownLemmas.{never_stops, still_unarmed}
-use Rattle.syn_journal.proofs.DiskLemmas.{may_be_still, one_generation, one_value}
-
--- what the machine's disk means stands for some history
-pub some_history : (pair : ℕ) (machine : Journal) (value : Value) (generation : ℕ)
-    → MayMean (of_side pair) machine value generation
-    → (StandsFor pair value.image value.payloads machine.value)
-    ⊎ ((event : Event) × (machine.writing ≡ Some event)
-    × StandsFor pair value.image value.payloads (machine.value ++ event ∷ []))
-some_history pair machine value generation (as_kept m) = inl m.stands
-some_history pair machine value generation (with_record m) = inr (m.added, m.writing, m.stands)
-some_history pair machine value generation (compacted m) = inl m.stands
+use Rattle.syn_replica.specs.Machines.{StandsAs, Starts}
+use Rattle.syn_journal.specs.Meaning.{MeansAsKept}
+use Rattle.syn_journal.proofs.DiskLemmas.{one_generation, one_value}
 
 -- what an opening gives of the machine's events
 pub gives : (pair : ℕ) (machine : Journal) (calls : ℕ) (new : Journal) (events : List Event)
@@ -104,180 +87,82 @@ knows {D} {disk} pair replica bytes value generation new same has means stands =
     )
 
 module _ {D : Type 0} (disk : Ghosts D) (pair : ℕ) (side : DownSide D) (machine : SideMachine)
-    (rests : RestsAs disk.arms disk.may_leave pair side machine)
-    (stays : (d : D) → disk.may_leave d (disk.seen d)) (reads : MadeReadsMeet) where
-  here : MayBeOf (of_side pair) machine.journal (disk.seen side.disk)
-  here = rests.leaves (disk.seen side.disk) (stays side.disk)
-
-  met : (now : Arms) (calls : ℕ) (status : Status) (failed : ℕ)
-      → Meets (armed_at (disk.arms side.disk)) calls status now failed
-      → Meets machine.journal.arms calls status now failed
-  met now calls status failed =
-      subst (λ a. Meets a calls status now failed) (rests.armed ∙ sym rests.unarmed_is)
-
-  -- nothing is armed, so that no stop comes
-  goes_so : (calls : ℕ) (status : Status) (failed : ℕ) (now : DiskArms)
-      → CallsMeet (disk.arms side.disk) now calls status failed
-      → (is_stopped now ≡ false)
-      × Meets machine.journal.arms calls status (armed_at now) failed
-      × (armed_at now ≡ unarmed)
-  goes_so calls status failed now (goes_on goes meets) = (
-    goes,
-    met (armed_at now) calls status failed meets,
-    still_unarmed calls failed status (armed_at now)
-        (subst (λ a. Meets a calls status (armed_at now) failed) rests.armed meets),
-  )
-  goes_so calls status failed now (goes_down stopped meets) = absurd (never_stops calls 0
-      unarmed (subst (λ a. Meets a calls Down unarmed 0) rests.armed meets))
-
+    (rests : RestsAs disk.arms disk.may_leave pair side machine) where
   -- it is opened
-  module _ (replica : Replica D disk) (agent : Agent) (outcome : Outcome) (tried : Option Bytes)
-      (tries : TriesWriting machine tried) (fits : pair < 2 ^ 64)
-      (untouched : Untouched disk.seen disk.may_leave disk.moment disk.left_since side.disk
-      (disk_of replica))
-      (each : (number : ℕ) (history : History) → number < 2 ^ 64
-      → DiskStands number (disk.seen side.disk) history
-      → (number ≡ pair_of replica) × Stands replica history)
-      (is_new : staging_of agent ≡ None)
-      (is_up : (next : SideMachine) → IsUpAs pair replica agent next
-      → IsOf pair replica agent next)
-      (gains : Gains outcome side.position (position_shown replica) tried) (sides : SidesOpen)
-      (same : failed_by replica ≡ disk.failures side.disk) where
-    opened_so : (calls : ℕ) → is_stopped (disk.arms (disk_of replica)) ≡ false →
-        Meets machine.journal.arms calls Up (armed_at (disk.arms (disk_of replica))) 0 →
-        CallIsStep pair machine (disk.failures side.disk) (OpensDown (side_kind pair) machine)
-        (record { side = host.Up (side_of replica agent); outcome = outcome })
-    opened_so calls goes meets =
-        let arms_now = armed_at (disk.arms (disk_of replica)) in
-        let found = sides pair machine.journal calls arms_now here.value here.generation meets
-        here.means in
-        let stood = each pair found.new.value fits (record {
-          value = here.value;
-          means = here.journal.means;
-          stands = found.means.stands;
-        }) in
-        let known = knows pair replica (disk.seen side.disk) here.value here.generation found.new
-        untouched.same here.journal found.means stood.1 in
-        let next = with_journal machine found.new in
-        record {
-          next = next;
-          events = found.added;
-          step = subst (λ r. OpensDown (side_kind pair) machine next found.added r)
-              (sym gains.refuses)
-              (opens calls found.new found.added rests.down found.opens);
-          acknowledges = gained_so pair machine.journal calls found.new found.added outcome
-              side.position (position_shown replica) tried gains tries rests.position_is
-              (ap (λ s. s.position) stood.1.remembers.standing) found.opens;
+  pub open_ok : (replica : Replica D disk) (agent : Agent) (outcome : Outcome)
+      (tried : Option Bytes) → TriesWriting machine tried → Starts replica pair machine.journal →
+      staging_of agent ≡ None → Gains outcome side.position (position_shown replica) tried →
+      failed_by replica ≡ disk.failures side.disk →
+      CallIsStep pair machine (disk.failures side.disk) (OpensDown (side_kind pair) machine)
+      (record { side = host.Up (side_of replica agent); outcome = outcome })
+  open_ok replica agent outcome tried tries starts is_new gains same =
+      let next = with_journal machine starts.next in
+      let stands : Stands replica starts.next.value =
+      subst (λ s. StandsAs s replica starts.next.value) starts.opened.up starts.is.stands in
+      record {
+        next = next;
+        events = starts.events;
+        step = subst (λ r. OpensDown (side_kind pair) machine next starts.events r)
+            (sym gains.refuses)
+            (opens starts.calls starts.next starts.events rests.rests.down starts.opens);
+        acknowledges = gained_so pair machine.journal starts.calls starts.next starts.events
+            outcome side.position (position_shown replica) tried gains tries rests.position_is
+            (ap (λ s. s.position) stands.remembers.standing) starts.opens;
+        is = record {
           is = record {
-            is = is_up next (record {
-              pair_is = sym stood.0;
-              up = found.opened.up;
-              stands = stood.1;
-              room = known.0;
-              generation = known.1;
-              armed = found.armed;
-              runs = goes;
-              staging = still_staged found.new.status machine.staging
-                  (λ down. up_not_down (sym found.opened.up ∙ down))
-                  ∙ (rests.unstaged ∙ sym is_new);
-            });
-            idle = λ _. found.opened.idle;
-            tries = λ told writing.
-                absurd (none_not_some told (sym found.opened.idle ∙ writing));
+            keeps = starts.is;
+            staging = still_staged starts.next.status machine.staging
+                (λ down. up_not_down (sym starts.opened.up ∙ down))
+                ∙ (rests.unstaged ∙ sym is_new);
           };
-          counts =
-              omega (
-                arith,
-                same,
-                opens_counts (side_layout pair) IsAllowed machine.journal calls
-                    found.new found.added found.opens,
-              );
-        }
-
-    pub open_ok : MakesAtLeast 1 (disk.arms side.disk) (disk.arms (disk_of replica)) →
-        CallIsStep pair machine (disk.failures side.disk) (OpensDown (side_kind pair) machine)
-        (record { side = host.Up (side_of replica agent); outcome = outcome })
-    open_ok makes =
-        let found = reads 1 (disk.arms side.disk) (disk.arms (disk_of replica)) rests.goes makes in
-        let met = goes_so found.0 Up 0 (disk.arms (disk_of replica)) found.2 in
-        opened_so found.0 met.0 met.1
+          idle = λ _. starts.opened.idle;
+          tries = λ told writing.
+              absurd (none_not_some told (sym starts.opened.idle ∙ writing));
+        };
+        counts =
+            omega (
+              arith,
+              same,
+              opens_counts (side_layout pair) IsAllowed machine.journal starts.calls
+                  starts.next starts.events starts.opens,
+            );
+      }
 
   -- it is not, and its disk comes back
-  module _ (back : D) (untouched : Untouched disk.seen disk.may_leave disk.moment disk.left_since
-      side.disk back) (refusal : Code) where
-    abbrev rest : DownSide D
-    rest = record { disk = back; position = side.position; tried = side.tried }
-
-    pub open_failed : cause_of refusal ≡ why.Device → disk.failures side.disk < disk.failures back
-        → BrokenCallsMeet
-        → BreaksSometime (disk.arms side.disk) (disk.arms back)
-        → CallIsStep {D = D} {disk = disk} pair machine (disk.failures side.disk)
-        (OpensDown (side_kind pair) machine)
-        (record { side = host.Down rest; outcome = Refused refusal })
-    open_failed is_device more broken breaks =
-        let met = goes_so breaks.0 Halted 1 (disk.arms back)
-        (broken breaks.0 (disk.arms side.disk) (disk.arms back) rests.goes breaks.1) in
-        let next = with_device (side_kind pair) machine Down (armed_at (disk.arms back)) 1 in
-        record {
-          next = next;
-          events = [];
-          step = subst (λ r. OpensDown (side_kind pair) machine next [] (r ∷ [])) (sym is_device)
-              (open_fails breaks.0 (armed_at (disk.arms back)) 1 rests.down met.1);
-          acknowledges = refl;
-          is = record {
-            down = refl;
-            unarmed_is = met.2;
-            unstaged = refl;
-            position_is = rests.position_is;
-            tries = rests.tries;
-            armed = met.2;
-            goes = met.0;
-            leaves = λ bytes may. may_be_still (of_side pair) machine.journal Down
-                (armed_at (disk.arms back)) 1 bytes
-                (rests.leaves bytes (untouched.nothing_new bytes may));
-          };
-          counts = omega (arith, more);
-        }
-
-    pub open_refused : cause_of refusal ≡ why.Memory
-        → disk.failures back ≡ disk.failures side.disk
-        → MakesAtLeast 1 (disk.arms side.disk) (disk.arms back)
-        → CallIsStep {D = D} {disk = disk} pair machine (disk.failures side.disk)
-        (OpensDown (side_kind pair) machine)
-        (record { side = host.Down rest; outcome = Refused refusal })
-    open_refused is_memory same makes =
-        let found = reads 1 (disk.arms side.disk) (disk.arms back) rests.goes makes in
-        let met = goes_so found.0 Up 0 (disk.arms back) found.2 in
-        record {
-          next = machine;
-          events = [];
-          step = subst (λ r. OpensDown (side_kind pair) machine machine [] (r ∷ [])) (sym is_memory)
-              (no_memory_to_open rests.down);
-          acknowledges = refl;
-          is = record {
-            down = rests.down;
-            unarmed_is = rests.unarmed_is;
-            unstaged = rests.unstaged;
-            position_is = rests.position_is;
-            tries = rests.tries;
-            armed = met.2;
-            goes = met.0;
-            leaves = λ bytes may. rests.leaves bytes (untouched.nothing_new bytes may);
-          };
-          counts = omega (arith, same);
-        }
-
--- what the disk means stands for some history of the pair
-pub some_stands : (pair : ℕ) (machine : Journal) (bytes : Bytes)
-    → MayBeOf (of_side pair) machine bytes → (history : History) × DiskStands pair bytes history
-some_stands pair machine bytes may =
-    elim (some_history pair machine may.value may.generation may.means) [
-      | inl as_is ↦ (
-        machine.value,
-        record { value = may.value; means = may.journal.means; stands = as_is },
-      )
-      | inr more ↦ (
-        machine.value ++ more.0 ∷ [],
-        record { value = may.value; means = may.journal.means; stands = more.2 },
-      )
-    ]
+  pub open_not : (back : D) (refusal : Code) (reason : Refusal) → cause_of refusal ≡ reason →
+      CountsFailures (Some reason) (disk.failures side.disk) (disk.failures back) →
+      RestsStill disk.arms disk.may_leave (of_side pair) back machine.journal reason →
+      CallIsStep {D = D} {disk = disk} pair machine (disk.failures side.disk)
+      (OpensDown (side_kind pair) machine) (record {
+        side = host.Down (record { disk = back; position = side.position; tried = side.tried });
+        outcome = Refused refusal;
+      })
+  open_not back refusal _ is_device more (device_failed calls now meets still) = record {
+    next = with_device (side_kind pair) machine Down now 1;
+    events = [];
+    step = subst (λ r. OpensDown (side_kind pair) machine
+        (with_device (side_kind pair) machine Down now 1) [] (r ∷ [])) (sym is_device)
+        (open_fails calls now 1 rests.rests.down meets);
+    acknowledges = refl;
+    is = record {
+      rests = still;
+      unstaged = refl;
+      position_is = rests.position_is;
+      tries = rests.tries;
+    };
+    counts = omega (arith, more);
+  }
+  open_not back refusal _ is_memory same (without_memory still) = record {
+    next = machine;
+    events = [];
+    step = subst (λ r. OpensDown (side_kind pair) machine machine [] (r ∷ [])) (sym is_memory)
+        (no_memory_to_open rests.rests.down);
+    acknowledges = refl;
+    is = record {
+      rests = still;
+      unstaged = rests.unstaged;
+      position_is = rests.position_is;
+      tries = rests.tries;
+    };
+    counts = omega (arith, same);
+  }

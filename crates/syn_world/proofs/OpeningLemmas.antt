@@ -16,7 +16,7 @@ use Rattle.syn_coordinator.specs.Coordinators.{in_report}
 use Rattle.syn_session.specs.Reports.{report_model}
 use Rattle.syn_session.specs.Sendings.{messages_of}
 use Rattle.syn_image.specs.declared.kept.Kept.{Kept as Record}
-use Rattle.syn_recovery.specs.Calls.{CountsNoMore}
+use Rattle.syn_journal.specs.Calls.{CountsNoMore}
 use Rattle.syn_world.specs.Failures.{disks_in, failures_in, last_of}
 use Rattle.syn_world.specs.Worlds.{EndsSo, Goes, GoesSo, IsListed, IsRunning, RunsMachines}
 use Rattle.syn_world.specs.Worlds.{TellsFound}

@@ -102,7 +102,7 @@ up_stands pair (host.Up side) machine runs up =
     subst (λ s. StandsAs s side.replica machine.journal.value) up runs.is.keeps.stands in
     ap (λ standing. standing.tree) stands.remembers.standing
 up_stands pair (host.Down rest) machine rests up =
-    absurd (let apart : Up ≡ Down = sym up ∙ rests.down in cc)
+    absurd (let apart : Up ≡ Down = sym up ∙ rests.rests.down in cc)
 
 up_archive : {D : Type 0} {disk : Ghosts D} (pair : ℕ) (coordinator : CoordinatorHost D disk)
     (model : CoordinatorMachine) → IsCoordinator pair coordinator model
@@ -110,7 +110,7 @@ up_archive : {D : Type 0} {disk : Ghosts D} (pair : ℕ) (coordinator : Coordina
     → IsSomeAnd (archive_at coordinator) (λ archive. shown archive ≡ model.journal.value)
 up_archive pair (machine.Up coordinator) model stands up = stands.journal.remembers
 up_archive pair (machine.Down rest) model rests up =
-    absurd (let apart : Up ≡ Down = sym up ∙ rests.down in cc)
+    absurd (let apart : Up ≡ Down = sym up ∙ rests.rests.down in cc)
 
 opened_holds : {D : Type 0} {disk : Ghosts D} (pair : ℕ) (bytes : Shown) (now : Stores)
     (world : World D disk) → OpensFrom pair bytes now world → Holds world now

@@ -16,7 +16,7 @@ use Rattle.syn_world.specs.Coordinators.{CoordinatorStep, IsCoordinator, archive
 use Rattle.syn_world.specs.Outcomes.{Tells}
 use Rattle.syn_world.specs.declared.coordinator.CoordinatorCall.{CoordinatorCall}
 use Rattle.syn_model.specs.Refusal.{Refusal}
-use Rattle.syn_recovery.specs.Calls.{CountsNoMore}
+use Rattle.syn_journal.specs.Calls.{CountsNoMore}
 use Rattle.syn_world.specs.Failures.{disks_in, failures_in, last_of}
 use Rattle.syn_world.specs.Worlds.{EndsSo, Goes, GoesSo, IsListed, IsRunning, RunsMachines}
 use Rattle.syn_world.specs.declared.running.Running.{Running}

@@ -9,22 +9,23 @@ use Rattle.syn_archive.specs.Archive as archives
 use Rattle.syn_archive.specs.Disks.{DiskKeeps, IsWanted}
 use Rattle.syn_archive.specs.Disks as archive_disks
 use Rattle.syn_archive.specs.declared.archive.Archive.{Archive}
-use Rattle.syn_disk.specs.Arms.{Arms as DiskArms}
 use Rattle.syn_disk.specs.Calls.{MakesAtLeast}
 use Rattle.syn_disk.specs.Stops.{Untouched}
 use Rattle.syn_disk.specs.declared.disk.Disk.{Ghosts}
-use Rattle.syn_headline.specs.Machine.{Status, Up, Down, Journaled, Meets, unarmed}
+use Rattle.syn_headline.specs.Machine.{Up, Journaled, unarmed}
 use Rattle.syn_headline.specs.SideMachine.{SideMachine}
-use Rattle.syn_world.specs.Starts.{CanStart, IsFree, StartsCoordinator, StartsSide}
+use Rattle.syn_world.specs.Starts.{CanStart, StartsCoordinator, StartsSide}
+use Rattle.syn_journal.specs.Calls.{IsFree}
 use Rattle.syn_journal.specs.Layout.{Value, bytes_left}
 use Rattle.syn_journal.specs.declared.error.JournalError.{JournalError}
 use Rattle.syn_journal.specs.declared.error.JournalError.TheVariants as error
 use Rattle.syn_model.specs.Archive.{Archive as KeptArchive}
 use Rattle.syn_model.specs.History.{History}
 use Rattle.syn_model.specs.Path.{Bytes}
-use Rattle.syn_recovery.specs.Calls.{CallsMeet, MadeReadsMeet, armed_at, goes_down, goes_on}
-use Rattle.syn_recovery.specs.Machines.{of_archive, of_side}
-use Rattle.syn_recovery.specs.Meaning.{MayBeOf, MeansAsKept, as_kept}
+use Rattle.syn_journal.specs.Calls.{StaysFree}
+use Rattle.syn_archive.specs.Keepings.{of_archive}
+use Rattle.syn_replica.specs.Keepings.{of_side}
+use Rattle.syn_journal.specs.Meaning.{MayBeOf, MeansAsKept, as_kept}
 use Rattle.syn_replica.specs.Disks.{DiskStands, IsOpenRefusal}
 use Rattle.syn_replica.specs.Replica.{Stands, disk_of, pair_of}
 use Rattle.syn_replica.specs.declared.error.ReplicaError.{ReplicaError}
@@ -37,26 +38,7 @@ use Rattle.syn_coordinator.specs.declared.coordinator.Coordinator.{Coordinator}
 use Rattle.syn_world.proofs.SideLemmas.{side_of}
 use Rattle.syn_world.proofs.OpenLemmas.{knows}
 use Rattle.syn_world.proofs.SideLemmas.{none_not_some}
-use Rattle.syn_coordinator.proofs.DownLemmas.{never_stops, still_unarmed}
 use Rattle.syn_journal.proofs.DiskLemmas.{one_generation, one_value}
-
--- a disk that was read is free as it was
-free_after : (old now : DiskArms) (calls : ℕ) (status : Status) (failed : ℕ) → IsFree old
-    → CallsMeet old now calls status failed → IsFree now
-free_after old now calls status failed free (goes_on goes meets) = record {
-  goes = goes;
-  unarmed_is = still_unarmed calls failed status (armed_at now)
-      (subst (λ a. Meets a calls status (armed_at now) failed) free.unarmed_is meets);
-}
-free_after old now calls status failed free (goes_down stopped meets) =
-    absurd (never_stops calls 0 unarmed
-    (subst (λ a. Meets a calls Down unarmed 0) free.unarmed_is meets))
-
-free_still : (old now : DiskArms) → IsFree old → MadeReadsMeet → MakesAtLeast 1 old now
-    → IsFree now
-free_still old now free reads makes =
-    let found = reads 1 old now free.goes makes in
-    free_after old now found.0 Up 0 free found.2
 
 -- the journal of a machine that was just opened
 abbrev opened_as : {V W : Type 0} → V → Value → ℕ → Journaled V W
@@ -120,15 +102,15 @@ module _ {D : Type 0} (disk : Ghosts D) (pair : ℕ) (device : D) (history : His
       → ((number : ℕ) (events : History) → number < 2 ^ 64
       → DiskStands number (disk.seen device) events
       → (number ≡ pair_of replica) × Stands replica events)
-      → MadeReadsMeet → MakesAtLeast 1 (disk.arms device) (disk.arms (disk_of replica))
+      → StaysFree → MakesAtLeast 1 (disk.arms device) (disk.arms (disk_of replica))
       → staging_of agent ≡ None
       → ((next : SideMachine) → IsUpAs pair replica agent next → IsOf pair replica agent next)
       → StartsSide pair (disk.seen device) history (side_of replica agent)
-  side_starts replica agent untouched each reads makes is_new is_up =
+  side_starts replica agent untouched each stays_free makes is_new is_up =
       let stood = each pair history fits stands_for in
       let known = knows pair replica (disk.seen device) can.is_disk.value can.is_disk.generation
       machine.journal untouched.same can.is_disk.journal means stood.1 in
-      let free = free_still (disk.arms device) (disk.arms (disk_of replica)) can.free reads makes in
+      let free = stays_free 1 (disk.arms device) (disk.arms (disk_of replica)) can.free makes in
       record {
         machine = machine;
         runs = record {
@@ -260,12 +242,12 @@ module _ {D : Type 0} (disk : Ghosts D) (pair : ℕ) (device : D) (kept : KeptAr
       → disk.may_leave (archives.disk_of archive) bytes
       → DiskKeeps (archives.pair_of archive) found (archives.left_shown archive)
       (archives.generation_shown archive) bytes)
-      → ((d : D) → disk.may_leave d (disk.seen d)) → MadeReadsMeet
+      → ((d : D) → disk.may_leave d (disk.seen d)) → StaysFree
       → MakesAtLeast 1 (disk.arms device) (disk.arms (archives.disk_of archive))
       → ((number : ℕ) (of : Journal) → IsMachine archive number of → of.writing ≡ None
       → StandsAs coordinator number (record { journal = of; running = None }))
       → StartsCoordinator pair (disk.seen device) kept coordinator
-  coordinator_starts archive coordinator untouched each on_disk stays reads makes is_new =
+  coordinator_starts archive coordinator untouched each on_disk stays stays_free makes is_new =
       coordinator_opens archive untouched (each pair kept fits archive_stands_for) on_disk stays
-      (free_still (disk.arms device) (disk.arms (archives.disk_of archive)) can.free reads makes)
+      (stays_free 1 (disk.arms device) (disk.arms (archives.disk_of archive)) can.free makes)
       coordinator is_new

@@ -16,8 +16,9 @@ use Rattle.syn_model.specs.Archive.{Archive}
 use Rattle.syn_model.specs.History.{History}
 use Rattle.syn_refusal.specs.Refusals.{cause_of}
 use Rattle.syn_recovery.specs.Headline.{disk_of}
-use Rattle.syn_recovery.specs.Machines.{of_archive, of_side}
-use Rattle.syn_recovery.specs.Meaning.{IsOf}
+use Rattle.syn_archive.specs.Keepings.{of_archive}
+use Rattle.syn_replica.specs.Keepings.{of_side}
+use Rattle.syn_journal.specs.Meaning.{IsOf}
 use Rattle.syn_coordinator.specs.Coordinators.{device_of}
 use Rattle.syn_coordinator.specs.declared.coordinator.Coordinator.{Coordinator}
 use Rattle.syn_replica.specs.Replica.{disk_of as replica_disk}

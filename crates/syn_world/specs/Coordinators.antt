@@ -8,7 +8,7 @@ use Rattle.syn_headline.specs.MachineSteps.{Effect}
 use Rattle.syn_world.specs.declared.coordinator.CoordinatorHost.{CoordinatorHost}
 use Rattle.syn_world.specs.declared.coordinator.CoordinatorHost.TheVariants as host
 use Rattle.syn_model.specs.Refusal.{Refusal}
-use Rattle.syn_recovery.specs.Calls.{CountsNoMore}
+use Rattle.syn_journal.specs.Calls.{CountsNoMore}
 
 abbrev pub IsCoordinator : {D : Type 0} → {disk : Ghosts D} → ℕ → CoordinatorHost D disk →
     CoordinatorMachine → Type 0

@@ -6,7 +6,8 @@ use Rattle.syn_disk.specs.declared.disk.Disk.{Ghosts}
 use Rattle.syn_headline.specs.Acknowledged.{Stores}
 use Rattle.syn_headline.specs.Runs.{stores_of}
 use Rattle.syn_headline.specs.World.{World as ModelWorld}
-use Rattle.syn_world.specs.Starts.{HoldsArchive, HoldsReplica, IsFree, RefusesArchive, RefusesSide}
+use Rattle.syn_world.specs.Starts.{HoldsArchive, HoldsReplica, RefusesArchive, RefusesSide}
+use Rattle.syn_journal.specs.Calls.{IsFree}
 use Rattle.syn_model.specs.Path.{Bytes}
 use Rattle.syn_recovery.specs.Headline.{Disks as Shown, DisksStand, IsOpenedFrom}
 use Rattle.syn_refusal.specs.declared.refusal.Refusal.{Refusal}

@@ -21,9 +21,9 @@ use Rattle.syn_message.specs.Replies.{IsLawfulReply, reply_of}
 use Rattle.syn_model.specs.Event.{Event}
 use Rattle.syn_model.specs.Path.{Bytes}
 use Rattle.syn_model.specs.Spelling.{event_spelling}
-use Rattle.syn_recovery.specs.Calls.{CountsNoMore, armed_at}
-use Rattle.syn_recovery.specs.Machines.{of_side}
-use Rattle.syn_recovery.specs.Meaning.{MayBeOf}
+use Rattle.syn_journal.specs.Calls.{CountsNoMore}
+use Rattle.syn_journal.specs.Machines.{Rests}
+use Rattle.syn_replica.specs.Keepings.{of_side}
 use Rattle.syn_refusal.specs.declared.refusal.Refusal.{Refusal}
 use Rattle.syn_replica.specs.Machines.{LeavesMachine}
 use Rattle.syn_replica.specs.Replica.{disk_of, position_shown, tried_shown}
@@ -42,19 +42,14 @@ pub record RunsAs {D : Type 0} {disk : Ghosts D} (pair : ℕ) (side : UpSide D d
   pub idle : machine.journal.status ≡ Up → machine.journal.writing ≡ None
   pub tries : TriesWriting machine (tried_shown side.replica)
 
--- The machine is down, and its disk may be left so. Nothing is armed at it, and so many events were
+-- The machine is down and rests on the disk. Nothing is staged, and so many events were
 -- acknowledged
 pub record RestsAs {D : Type 0} (arms : D → Arms) (may_leave : D → Bytes → Type 0) (pair : ℕ)
     (side : DownSide D) (machine : SideMachine) : Type 0 where
-  pub down : machine.journal.status ≡ Down
-  pub unarmed_is : machine.journal.arms ≡ unarmed
+  pub rests : Rests arms may_leave (of_side pair) side.disk machine.journal
   pub unstaged : machine.staging ≡ None
   pub position_is : side.position ≡ length machine.journal.value
   pub tries : TriesWriting machine (option_map (λ spelled. spelled.items) side.tried)
-  pub armed : armed_at (arms side.disk) ≡ unarmed
-  pub goes : is_stopped (arms side.disk) ≡ false
-  pub leaves : (bytes : Bytes) → may_leave side.disk bytes →
-      MayBeOf (of_side pair) machine.journal bytes
 
 -- A replica is left so as its machine stops; this is what was sent to its disk last
 pub record StopsAs {D : Type 0} {disk : Ghosts D} (pair position : ℕ) (tried : Option Bytes)

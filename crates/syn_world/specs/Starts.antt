@@ -1,13 +1,12 @@
 -- What the disk of one machine stands for, and the machine that is opened from it.
-use Rattle.std.specs.Prelude.{◌≡◌, ◌≢◌, ◌⊎◌, ◌<◌, ℕ, None, Option, false}
+use Rattle.std.specs.Prelude.{◌≡◌, ◌≢◌, ◌⊎◌, ◌<◌, ℕ, None, Option}
 use Rattle.syn_archive.specs.Disks.{DiskStands}
 use Rattle.syn_archive.specs.Disks as archive_disks
 use Rattle.syn_archive.specs.Refusals as archives
 use Rattle.syn_archive.specs.declared.error.ArchiveError.{ArchiveError}
-use Rattle.syn_disk.specs.Arms.{Arms, is_stopped}
+use Rattle.syn_disk.specs.Arms.{Arms}
 use Rattle.syn_disk.specs.declared.disk.Disk.{Ghosts}
 use Rattle.syn_headline.specs.Runs.{IsJustOpened}
-use Rattle.syn_headline.specs.Machine.{unarmed}
 use Rattle.syn_headline.specs.SideMachine.{SideMachine}
 use Rattle.syn_world.specs.Sides.{RunsAs}
 use Rattle.syn_world.specs.declared.side.UpSide.{UpSide}
@@ -16,9 +15,10 @@ use Rattle.syn_model.specs.History.{History}
 use Rattle.syn_model.specs.Path.{Bytes}
 use Rattle.syn_model.specs.Refusal as why
 use Rattle.syn_model.specs.Standing.{Standing}
-use Rattle.syn_recovery.specs.Calls.{armed_at}
-use Rattle.syn_recovery.specs.Machines.{of_archive, of_side}
-use Rattle.syn_recovery.specs.Meaning.{IsDiskOf, IsOf, Keeping}
+use Rattle.syn_journal.specs.Calls.{IsFree}
+use Rattle.syn_archive.specs.Keepings.{of_archive}
+use Rattle.syn_replica.specs.Keepings.{of_side}
+use Rattle.syn_journal.specs.Meaning.{IsDiskOf, IsOf, Keeping}
 use Rattle.syn_refusal.specs.Refusals.{cause_of}
 use Rattle.syn_refusal.specs.declared.refusal.Refusal.{Refusal}
 use Rattle.syn_replica.specs.Disks.{DiskGives, IsOpenRefusal}
@@ -28,12 +28,7 @@ use Rattle.syn_coordinator.specs.Coordinators.{Stands}
 use Rattle.syn_coordinator.specs.Machines.{Journal}
 use Rattle.syn_coordinator.specs.declared.coordinator.Coordinator.{Coordinator}
 
--- a disk with these arms was not stopped, and nothing is armed at it
-pub record IsFree (arms : Arms) : Type 0 where
-  pub goes : is_stopped arms ≡ false
-  pub unarmed_is : armed_at arms ≡ unarmed
-
--- and its bytes stand for what its machine keeps
+-- The disk is free, and its bytes stand for what its machine keeps
 pub record CanStart {V W : Type 0} (keeping : Keeping V W) (arms : Arms) (bytes : Bytes)
     (kept : V) : Type 0 where
   pub free : IsFree arms

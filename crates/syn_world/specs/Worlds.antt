@@ -26,8 +26,9 @@ use Rattle.syn_model.specs.Event.{Event}
 use Rattle.syn_model.specs.Path.{Bytes}
 use Rattle.syn_model.specs.Refusal.{Refusal}
 use Rattle.syn_model.specs.Spelling.{event_spelling}
-use Rattle.syn_recovery.specs.Machines.{of_archive, of_side}
-use Rattle.syn_recovery.specs.Meaning.{MayBeOf}
+use Rattle.syn_archive.specs.Keepings.{of_archive}
+use Rattle.syn_replica.specs.Keepings.{of_side}
+use Rattle.syn_journal.specs.Meaning.{MayBeOf}
 use Rattle.syn_refusal.specs.Refusals.{cause_of}
 use Rattle.syn_refusal.specs.declared.refusal.Refusal.{Refusal as Code}
 use Rattle.syn_replica.specs.declared.replica.Replica.{Replica}

@@ -6,9 +6,9 @@ ghost use Rattle.syn_headline.specs.Coordinator.{CoordinatorMachine, coordinator
 ghost use Rattle.syn_headline.specs.MachineSteps.{Checkpoint, Does, Fail, Stop, refused_by};
 ghost use Rattle.syn_world.specs.CoordinatorSteps.{CallIsStep, Settles};
 ghost use Rattle.syn_world.specs.Outcomes.{TellsRefused};
-ghost use Rattle.syn_recovery.specs.Calls.{armed_at};
-ghost use Rattle.syn_recovery.specs.Machines.{of_archive};
-ghost use Rattle.syn_recovery.specs.Meaning.{MayBeOf};
+ghost use Rattle.syn_journal.specs.Calls.{armed_at};
+ghost use Rattle.syn_archive.specs.Keepings.{of_archive};
+ghost use Rattle.syn_journal.specs.Meaning.{MayBeOf};
 ghost use Rattle.syn_coordinator.specs.Coordinators.{Stands, device_of, with_arms};
 
 use crate::coordinator::settle::{down, halted, settle};

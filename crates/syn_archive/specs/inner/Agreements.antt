@@ -6,7 +6,7 @@ use Rattle.syn_model.specs.Archive.{Archive, Kept}
 use Rattle.syn_model.specs.ArchiveImage.{ArchiveStandsFor, ArchiveStandsForIn}
 use Rattle.syn_model.specs.MarkSpelling.{IsOldArchiveImage}
 use Rattle.syn_model.specs.Version.{One}
-use Rattle.syn_journal.specs.Keepings.{of_archive}
+use Rattle.syn_archive.specs.Keepings.{of_archive}
 use Rattle.syn_journal.specs.Machines.{KeptAs}
 use Rattle.syn_mark.specs.Changes.{IsPreparedFor, after_change}
 use Rattle.syn_image.specs.declared.kept.ArchiveImage.{ArchiveImage}

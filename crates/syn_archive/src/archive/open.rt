@@ -18,7 +18,9 @@ impl<D: Disk> Archive<D> {
     ghost use Rattle.syn_archive.specs.Archive.{pair_of, shown, disk_of, Stands};
     ghost use Rattle.syn_archive.specs.Archive.{KeepsBeforeOrAfter};
     ghost use Rattle.syn_archive.specs.Calls.{Reopens};
-    ghost use Rattle.syn_archive.specs.Machines.{IsMachine, Journal, ReadsDisk};
+    ghost use Rattle.syn_archive.specs.Machines.{IsMachine, Journal, ReadsDisk, Starts};
+    ghost use Rattle.syn_archive.specs.Keepings.{of_archive};
+    ghost use Rattle.syn_journal.specs.Machines.{Rests, RestsStill};
 
     /// Opens what the disk holds.
     ///
@@ -54,6 +56,13 @@ impl<D: Disk> Archive<D> {
         ensures device { MatchResult result
             (λ archive. Reads D.Disk None disk (disk_of archive))
             (λ refused. Reads D.Disk (Some (refusal_of refused.0)) disk refused.1) }
+
+        // What it is to the model's machine of the pair, which was down.
+        ensures world { (number : ℕ) (machine : Journal) → pair ≡ Some number → number < 2 ^ 64
+            → Rests D.arms D.may_leave (of_archive number) disk machine → MatchResult result
+            (λ archive. Starts archive number machine)
+            (λ refused. RestsStill D.arms D.may_leave (of_archive number) refused.1 machine
+            (refusal_of refused.0)) }
     {
         opening_laws();
         let machine = Journaled::open(alloc, disk, pair)?;

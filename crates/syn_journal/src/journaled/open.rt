@@ -1,5 +1,6 @@
 //! An opening: a machine finds out what a disk, or its own, gives.
-ghost use Rattle.std.specs.Prelude.{◌≡◌, ◌≢◌, ◌⊎◌, ℕ, None, Some, Option, true, false, IfOk, IfErr};
+ghost use Rattle.std.specs.Prelude.{◌≡◌, ◌≢◌, ◌⊎◌, ◌<◌, ◌^◌, ℕ, None, Some, Option, true, false};
+ghost use Rattle.std.specs.Prelude.{IfOk, IfErr};
 ghost use Rattle.std.specs.Prelude.{OnOk, MatchResult};
 ghost use Rattle.syn_headline.specs.Machine as model;
 ghost use Rattle.syn_journal.specs.Journal as journal;
@@ -19,7 +20,7 @@ use syn_refusal::Refusal;
 impl<D: Disk, S: State + Drop> Journaled<D, S> {
     ghost use Rattle.syn_journal.specs.Journaled.{journal_of, state_of, disk_of, IsHalted};
     ghost use Rattle.syn_journal.specs.Journaled.{Opened as IsOpened, KeepsReadings, ShowsDisk};
-    ghost use Rattle.syn_journal.specs.Machines.{IsMachine, ReadsDisk};
+    ghost use Rattle.syn_journal.specs.Machines.{IsMachine, ReadsDisk, Rests, RestsStill, Starts};
 
     /// Opens what the disk holds, of the wanted pair, or of any.
     ///
@@ -38,7 +39,16 @@ impl<D: Disk, S: State + Drop> Journaled<D, S> {
         ensures device { MatchResult result
             (λ machine. Reads D.Disk None disk (disk_of machine))
             (λ refused. Reads D.Disk (Some (S.why refused.0)) disk refused.1) }
+
+        // What it is to the model's machine of the wanted pair, which was down.
+        ensures machine { (number : ℕ) (machine : model.Journaled S.Kept S.Added)
+            → wanted ≡ Some number → number < 2 ^ 64
+            → Rests D.arms D.may_leave (S.kept_as number).keeping disk machine
+            → MatchResult result (λ made. Starts (S.kept_as number) made machine)
+            (λ refused. RestsStill D.arms D.may_leave (S.kept_as number).keeping refused.1 machine
+            (S.why refused.0)) }
     {
+        S::keeping_laws();
         let opened = match Journal::open(alloc, disk) {
             Ok(opened) => opened,
             Err((error, disk)) => return Err((S::refused(error), disk)),

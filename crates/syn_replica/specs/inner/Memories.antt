@@ -1,7 +1,7 @@
 -- What an image and payloads give a replica to remember, and why they give it nothing.
 use Rattle.std.specs.Prelude.{◌≡◌, ◌≤◌, ◌<◌, ◌⊎◌, ◌^◌, ℕ, List, Option, Some}
 use Rattle.syn_model.specs.Path.{Bytes}
-use Rattle.syn_journal.specs.Keepings.{of_side}
+use Rattle.syn_replica.specs.Keepings.{of_side}
 use Rattle.syn_journal.specs.Machines.{KeptAs}
 use Rattle.syn_model.specs.Event.{Event}
 use Rattle.syn_model.specs.History.{History, IsHistory, standing_of}

@@ -1,4 +1,4 @@
-//! What is asked of what a replica keeps in memory.
+//! What a replica reads and prepares in memory, before its journal is touched.
 ghost use Rattle.std.specs.Prelude.{◌≡◌, ◌⊎◌, None, Some, IfOk, IfErr};
 ghost use Rattle.syn_history.specs.Events.{event_of, token_of};
 ghost use Rattle.syn_model.specs.History.{History, standing_of};

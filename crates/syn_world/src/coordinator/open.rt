@@ -8,7 +8,7 @@ ghost use Rattle.syn_world.specs.Coordinators.{IsCoordinator, archive_disk};
 ghost use Rattle.syn_world.specs.Starts.{CanStart, CountsFailure, HoldsArchive, IsFromOutside};
 ghost use Rattle.syn_world.specs.Starts.{RefusesArchive, StartsCoordinator};
 ghost use Rattle.syn_model.specs.Archive.{Archive as KeptArchive};
-ghost use Rattle.syn_recovery.specs.Machines.{of_archive};
+ghost use Rattle.syn_archive.specs.Keepings.{of_archive};
 ghost use Rattle.syn_coordinator.specs.Coordinators.{Stands, device_of};
 ghost use Rattle.syn_coordinator.specs.Openings.{RestsWith};
 
@@ -20,7 +20,7 @@ use syn_archive::Archive;
 use syn_coordinator::Coordinator;
 use syn_disk::Disk;
 use syn_image::Kept;
-use syn_recovery::device_laws;
+use syn_journal::opening_laws;
 use syn_refusal::Refusal;
 
 /// Opens the disk of the pair's archive, with no session and nothing known of it. Nothing is
@@ -50,7 +50,7 @@ pub fn start_coordinator<D: SimulatedDisk>(
         (λ refused. CountsFailure refused.0 (D.Limit.failures disk)
         (D.Limit.failures refused.1)) }
 {
-    device_laws();
+    opening_laws();
     match Archive::open(alloc, disk, Some(pair)) {
         Ok(archive) => {
             archive.keeps_on_disk();

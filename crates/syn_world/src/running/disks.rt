@@ -6,7 +6,7 @@ ghost use Rattle.syn_headline.specs.SideMachine.{SideMachine};
 ghost use Rattle.syn_headline.specs.World.{World as ModelWorld};
 ghost use Rattle.syn_world.specs.Coordinators.{IsCoordinator, archive_disk};
 ghost use Rattle.syn_world.specs.Sides.{IsHost, side_disk};
-ghost use Rattle.syn_world.specs.Starts.{IsFree};
+ghost use Rattle.syn_journal.specs.Calls.{IsFree};
 
 use super::Running;
 use crate::world::Disks;

@@ -4,8 +4,8 @@ ghost use Rattle.syn_headline.specs.MachineSteps.{Checkpoint, Does, Fail, Open, 
 ghost use Rattle.syn_headline.specs.SideMachine.{SideMachine, UserEdits, side_kind};
 ghost use Rattle.syn_world.specs.declared.outcome.Outcome.TheVariants as outcomes;
 ghost use Rattle.syn_message.specs.Requests.{request_of};
-ghost use Rattle.syn_recovery.specs.Machines.{of_side};
-ghost use Rattle.syn_recovery.specs.Meaning.{MayBeOf};
+ghost use Rattle.syn_replica.specs.Keepings.{of_side};
+ghost use Rattle.syn_journal.specs.Meaning.{MayBeOf};
 ghost use Rattle.syn_replica.specs.Edits.{event_by};
 
 use super::{SideAnswer, SideCall, SideHost};

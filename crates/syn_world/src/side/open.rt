@@ -9,10 +9,9 @@ use super::{DownSide, SideCall, SideHost, UpSide};
 use crate::disk::SimulatedDisk;
 use crate::outcome::Outcome;
 use std::alloc::{AllocError, Global};
-use syn_agent::{Agent, machine_laws};
-use syn_recovery::{device_laws, opening_laws};
+use syn_agent::Agent;
 use syn_refusal::Refusal;
-use syn_replica::{Replica, disk_laws};
+use syn_replica::Replica;
 
 impl<D: SimulatedDisk> DownSide<D> {
     ghost use Rattle.syn_world.specs.Sides.{CallIsStep, RestsAs};
@@ -26,9 +25,6 @@ impl<D: SimulatedDisk> DownSide<D> {
             → CallIsStep pair machine (D.Limit.failures self.disk)
             (Does (side_kind pair) machine Open) result }
     {
-        device_laws();
-        opening_laws();
-        disk_laws();
         let DownSide {
             disk,
             position,
@@ -37,7 +33,6 @@ impl<D: SimulatedDisk> DownSide<D> {
         match Replica::open(alloc, disk, Some(pair)) {
             Ok(replica) => {
                 let agent = Agent::new();
-                machine_laws(&replica, &agent);
                 let outcome = gained(position, replica.position(), tried);
                 SideCall {
                     side: SideHost::Up(UpSide { replica, agent }),

@@ -10,7 +10,7 @@ ghost use Rattle.syn_world.specs.Sides.{replica_in};
 ghost use Rattle.syn_world.specs.Starts.{CanStart, CountsFailure, HoldsReplica, IsFromOutside};
 ghost use Rattle.syn_world.specs.Starts.{RefusesSide, StartsSide};
 ghost use Rattle.syn_model.specs.History.{History};
-ghost use Rattle.syn_recovery.specs.Machines.{of_side};
+ghost use Rattle.syn_replica.specs.Keepings.{of_side};
 ghost use Rattle.syn_replica.specs.Replica.{disk_of, pair_of};
 
 use super::{SideHost, UpSide};
@@ -18,7 +18,7 @@ use crate::disk::SimulatedDisk;
 use std::alloc::Global;
 use syn_agent::{Agent, machine_laws};
 use syn_disk::Disk;
-use syn_recovery::device_laws;
+use syn_journal::opening_laws;
 use syn_refusal::Refusal;
 use syn_replica::{Replica, disk_laws};
 
@@ -92,7 +92,7 @@ pub fn start_side<D: SimulatedDisk>(
         (λ refused. CountsFailure refused.0 (D.Limit.failures disk)
         (D.Limit.failures refused.1)) }
 {
-    device_laws();
+    opening_laws();
     disk_laws();
     match Replica::open(alloc, disk, pair) {
         Ok(replica) => {

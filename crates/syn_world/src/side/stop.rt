@@ -5,7 +5,7 @@ ghost use Rattle.syn_disk.specs.Arms.{is_stopped};
 ghost use Rattle.syn_headline.specs.Machine.{Down, unarmed};
 ghost use Rattle.syn_headline.specs.MachineSteps.{with_device};
 ghost use Rattle.syn_headline.specs.SideMachine.{SideMachine, side_kind};
-ghost use Rattle.syn_recovery.specs.Calls.{armed_at};
+ghost use Rattle.syn_journal.specs.Calls.{armed_at};
 ghost use Rattle.syn_replica.specs.Replica.{disk_of, tried_shown};
 
 use super::{DownSide, SideCall, SideHost, UpSide};

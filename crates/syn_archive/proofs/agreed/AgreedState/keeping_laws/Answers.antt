@@ -6,4 +6,4 @@ returns-clause-written c number =
     let laws = c.archive_laws.ensures in is_lawful laws.sound laws.image laws.record number
 
 pub returns-clause-read : goal.returns-clause-read
-returns-clause-read c number = is_read_as number
+returns-clause-read c number = is_read_as c.opening_laws.ensures.one number

@@ -1,6 +1,7 @@
 use Rattle.std.proofs.Common.{◌≡◌, ◌⊎◌}
-use Rattle.syn_model.proofs.ExitLemmas.{if_err_of_exit}
+use Rattle.syn_model.proofs.ExitLemmas.{if_err_of_exit, match_of_exit}
 use Rattle.syn_archive.specs.declared.error.ArchiveError.TheVariants.{Device, Memory}
+use Rattle.syn_archive.proofs.MachineLemmas.{starts}
 use Rattle.syn_archive.proofs.MeaningLemmas.{lawful_refusal, open_refusal, stands_for_each}
 use Rattle.syn_archive.proofs.archive.Archive.open.Goals as goal
 
@@ -17,3 +18,13 @@ returns-in_err-machine-clause-lawful g c number kept fits stands is =
     (λ refused. (refused.0 ≡ Device) ⊎ (refused.0 ≡ Memory)) c.from_residual.ensures.1
     (lawful_refusal c.opening_laws.ensures.one refused.0 c.args.pair seen number kept fits stands is
     (open_refusal refused.0 c.args.pair seen c.in_err-machine.ensures.refused))
+
+pub returns-clause-world : goal.returns-clause-world
+returns-clause-world g c number machine wanted fits rests =
+    starts (record { machine = c.in_ok-machine.machine }) number machine
+    (c.in_ok-machine.ensures.machine number machine wanted fits rests)
+
+pub returns-in_err-machine-clause-world : goal.returns-in_err-machine-clause-world
+returns-in_err-machine-clause-world g c number machine wanted fits rests =
+    match_of_exit c.from_residual.result c.in_err-machine.field-0.0 _ _ c.from_residual.ensures.1
+    (c.in_err-machine.ensures.machine number machine wanted fits rests)

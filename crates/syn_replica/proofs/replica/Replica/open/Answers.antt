@@ -1,5 +1,6 @@
-use Rattle.syn_model.proofs.ExitLemmas.{is_err_of_exit}
+use Rattle.syn_model.proofs.ExitLemmas.{is_err_of_exit, match_of_exit}
 use Rattle.syn_replica.specs.Refusals.{IsOneOf, hiding_refusals}
+use Rattle.syn_replica.proofs.MachineLemmas.{starts}
 use Rattle.syn_replica.proofs.MeaningLemmas.{hidden, open_refusal}
 use Rattle.syn_replica.proofs.StandLemmas.{opened_each}
 use Rattle.syn_replica.proofs.replica.Replica.open.Goals as goal
@@ -16,3 +17,12 @@ returns-in_err-machine-clause-wrong_pair g c other =
     is_err_of_exit c.from_residual.result refused (λ refused. IsOneOf hiding_refusals refused.0)
     c.from_residual.ensures.1 (hidden refused.0 c.args.pair seen
     (open_refusal refused.0 c.args.pair seen c.in_err-machine.ensures.refused) other)
+
+pub returns-clause-world : goal.returns-clause-world
+returns-clause-world g c number machine wanted fits rests =
+    starts _ number machine (c.in_ok-machine.ensures.machine number machine wanted fits rests)
+
+pub returns-in_err-machine-clause-world : goal.returns-in_err-machine-clause-world
+returns-in_err-machine-clause-world g c number machine wanted fits rests =
+    match_of_exit c.from_residual.result c.in_err-machine.field-0.0 _ _ c.from_residual.ensures.1
+    (c.in_err-machine.ensures.machine number machine wanted fits rests)

@@ -19,4 +19,4 @@ returns-in-Down g c pair machine is =
     refused_call pair machine _ _ (down_still c.in-Down.is)
     c.refused.result _ _
     (Does (coordinator_kind pair) machine Checkpoint) rests c.refused.ensures.coordinator
-    c.refused.ensures.outcome refl (is_down rests.down)
+    c.refused.ensures.outcome refl (is_down rests.rests.down)

@@ -4,7 +4,7 @@ use Rattle.syn_headline.specs.Coordinator.{coordinator_kind}
 use Rattle.syn_headline.specs.Machine.{Arms}
 use Rattle.syn_headline.specs.MachineSteps.{arming, is_done, is_down, with_device}
 use Rattle.syn_world.specs.Coordinators.{IsCoordinator, archive_disk}
-use Rattle.syn_recovery.specs.Calls.{armed_at}
+use Rattle.syn_journal.specs.Calls.{armed_at}
 use Rattle.syn_coordinator.specs.Coordinators.{Stands}
 use Rattle.syn_world.proofs.CoordinatorHostLemmas.{is_not_down, same_arms}
 use Rattle.syn_world.proofs.coordinator.CoordinatorHost.fail.Goals as goal
@@ -37,7 +37,7 @@ returns-in-Down g c pair machine is =
     let rests = subst (λ s. IsCoordinator pair s machine) c.in-Down.is is in
     record {
       next = machine;
-      step = is_down rests.down;
+      step = is_down rests.rests.down;
       is = rests;
       counts = omega (arith, ap (λ s. g.D.Disk.failures (archive_disk s)) c.in-Down.is);
     }

@@ -16,7 +16,7 @@ returns-in-Down g c pair machine is =
     let rests = subst (λ s. IsCoordinator pair s machine) c.in-Down.is is in
     record {
       next = machine;
-      step = is_down rests.down;
+      step = is_down rests.rests.down;
       is = rests;
       counts = omega (arith, ap (λ s. g.D.Disk.failures (archive_disk s)) c.in-Down.is);
     }

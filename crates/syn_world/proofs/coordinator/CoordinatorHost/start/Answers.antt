@@ -21,4 +21,4 @@ returns-in-Down g c pair machine is =
     c.refused.result _ _ (Starts pair
     (option_map which_of c.args.preference) machine) rests
     c.refused.ensures.coordinator c.refused.ensures.outcome refl
-    (is_down rests.down)
+    (is_down rests.rests.down)

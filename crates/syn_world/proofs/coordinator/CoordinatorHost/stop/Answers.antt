@@ -6,10 +6,10 @@ use Rattle.syn_headline.specs.Coordinator.{coordinator_kind, no_call}
 use Rattle.syn_headline.specs.Machine.{Arms, Down, unarmed}
 use Rattle.syn_headline.specs.MachineSteps.{Does, Stop, arming, is_done, with_device}
 use Rattle.syn_world.specs.Coordinators.{IsCoordinator, archive_disk}
-use Rattle.syn_recovery.specs.Calls.{armed_at}
-use Rattle.syn_coordinator.specs.Coordinators.{Stands, device_of}
+use Rattle.syn_journal.specs.Calls.{armed_at}
+use Rattle.syn_coordinator.specs.Coordinators.{Stands, device_of, tried_shown}
 use Rattle.syn_journal.proofs.DiskLemmas.{may_be_still}
-use Rattle.syn_recovery.specs.Machines.{of_archive}
+use Rattle.syn_archive.specs.Keepings.{of_archive}
 use Rattle.syn_world.proofs.CoordinatorHostLemmas.{is_not_down, same_arms, tries_stopped}
 use Rattle.syn_world.proofs.StopLemmas.{stops_after, stops_down}
 use Rattle.syn_world.proofs.coordinator.CoordinatorHost.stop.Goals as goal
@@ -32,7 +32,7 @@ returns-then-calls-eq0 g c pair machine is =
         idle = refl;
         leaves = λ bytes may. may_be_still (of_archive pair) machine.journal Down unarmed 0 bytes
             (stands.journal.leaves bytes may);
-        tries = tries_stopped c.in-Up.coordinator.tried machine.journal stands.tries;
+        tries = tries_stopped (tried_shown c.in-Up.coordinator) machine.journal stands.tries;
       });
       counts =
           omega (
@@ -75,7 +75,7 @@ returns-in-Down g c pair machine is =
     let rests = subst (λ s. IsCoordinator pair s machine) c.in-Down.is is in
     record {
       next = machine;
-      step = stops_down (coordinator_kind pair) machine c.args.calls rests.down;
+      step = stops_down (coordinator_kind pair) machine c.args.calls rests.rests.down;
       is = rests;
       counts = omega (arith, ap (λ s. g.D.Disk.failures (archive_disk s)) c.in-Down.is);
     }

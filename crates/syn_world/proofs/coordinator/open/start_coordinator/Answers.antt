@@ -12,7 +12,7 @@ returns-in-Ok-clause-starts g c kept can =
     let fits : c.args.pair < 2 ^ 64 = omega arith in
     coordinator_starts g.D.Disk c.args.pair c.args.disk kept fits can c.in-Ok.archive c.new.result
     c.in-Ok.ensures.device.untouched c.in-Ok.ensures.each c.keeps_on_disk.ensures
-    g.met.D.Disk.seen_may_stay c.device_laws.ensures.reads c.in-Ok.ensures.device.arms
+    g.met.D.Disk.seen_may_stay c.opening_laws.ensures c.in-Ok.ensures.device.arms
     c.new.ensures.stands
 
 pub returns-in-Ok-clause-holds : goal.returns-in-Ok-clause-holds

@@ -1,5 +1,5 @@
 use Rattle.std.proofs.Common.{◌∙◌, ◌-◌, ap, refl, sym}
-use Rattle.syn_recovery.specs.Calls.{armed_at}
+use Rattle.syn_journal.specs.Calls.{armed_at}
 use Rattle.syn_replica.specs.Replica.{disk_of}
 use Rattle.syn_world.proofs.ArmLemmas.{stands_as, still_runs}
 use Rattle.syn_world.proofs.side.UpSide.arm.Goals as goal

@@ -3,7 +3,7 @@ use Rattle.syn_headline.specs.Machine.{Down, unarmed}
 use Rattle.syn_headline.specs.MachineSteps.{with_device}
 use Rattle.syn_headline.specs.SideMachine.{side_kind}
 use Rattle.syn_journal.proofs.DiskLemmas.{may_be_still}
-use Rattle.syn_recovery.specs.Machines.{of_side}
+use Rattle.syn_replica.specs.Keepings.{of_side}
 use Rattle.syn_world.proofs.SideLemmas.{position_is}
 use Rattle.syn_world.proofs.side.UpSide.stop.Goals as goal
 

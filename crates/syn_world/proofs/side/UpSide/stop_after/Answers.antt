@@ -6,7 +6,7 @@ use Rattle.syn_headline.specs.Machine.{Arms}
 use Rattle.syn_headline.specs.MachineSteps.{with_device}
 use Rattle.syn_headline.specs.SideMachine.{side_kind}
 use Rattle.syn_world.specs.Sides.{RunsAs}
-use Rattle.syn_recovery.specs.Calls.{armed_at}
+use Rattle.syn_journal.specs.Calls.{armed_at}
 use Rattle.syn_replica.specs.Replica.{disk_of}
 use Rattle.syn_world.proofs.side.UpSide.stop_after.Goals as goal
 

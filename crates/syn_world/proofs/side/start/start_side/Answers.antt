@@ -8,7 +8,7 @@ use Rattle.syn_world.proofs.side.start.start_side.Goals as goal
 pub returns-in-Ok-clause-starts : goal.returns-in-Ok-clause-starts
 returns-in-Ok-clause-starts g c number history fits can =
     side_starts g.D.Disk number c.args.disk history fits can c.in-Ok.replica c.new-agent.result
-    c.in-Ok.ensures.device.untouched c.in-Ok.ensures.each c.device_laws.ensures.reads
+    c.in-Ok.ensures.device.untouched c.in-Ok.ensures.each c.opening_laws.ensures
     c.in-Ok.ensures.device.arms c.new-agent.ensures (c.machine_laws.ensures number)
 
 pub returns-in-Ok-clause-holds : goal.returns-in-Ok-clause-holds

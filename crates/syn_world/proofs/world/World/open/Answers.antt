@@ -1,6 +1,6 @@
 use Rattle.std.proofs.Common.{◌∙◌, Some, ap, arith, inl, inr, refl, subst, sym}
 use Rattle.syn_world.specs.Starts.{CanStart, HoldsReplica, StartsCoordinator}
-use Rattle.syn_recovery.specs.Machines.{of_archive}
+use Rattle.syn_archive.specs.Keepings.{of_archive}
 use Rattle.syn_world.specs.Openings.{AreOfPair, shown_on}
 use Rattle.syn_world.specs.Worlds.{pair_by}
 use Rattle.syn_world.specs.Openings.{refuses_archive, refuses_left, refuses_right}
