@@ -8,10 +8,10 @@ use Rattle.syn_disk.specs.declared.disk.Disk.{Ghosts}
 use Rattle.syn_headline.specs.Machine.{after_device}
 use Rattle.syn_journal.specs.Journal.{SameReadings}
 use Rattle.syn_model.specs.Archive as model
-use Rattle.syn_recovery.specs.Calls.{armed_at}
+use Rattle.syn_journal.specs.Calls.{armed_at}
 use Rattle.syn_coordinator.specs.Machines.{Fails, IsMachine, Journal, Runs}
 use Rattle.syn_journal.proofs.DiskLemmas.{may_be_still}
-use Rattle.syn_recovery.specs.Machines.{of_archive}
+use Rattle.syn_archive.specs.Keepings.{of_archive}
 
 module _ {D : Type 0} {disk : Ghosts D} (old new : Archive D disk) (pair : ℕ) (machine : Journal)
     (is : IsMachine old pair machine) (goes : is_stopped (disk.arms (disk_of new)) ≡ false)

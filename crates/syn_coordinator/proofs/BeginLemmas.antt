@@ -18,10 +18,10 @@ use Rattle.syn_recon.specs.Items.{items_of}
 use Rattle.syn_refusal.specs.declared.refusal.Refusal.TheVariants as refusal
 use Rattle.syn_model.specs.Dirty.{IsScanBy}
 use Rattle.syn_scan.specs.Found.{Found, position_of, scan_of}
-use Rattle.syn_coordinator.specs.Coordinators.{written}
+use Rattle.syn_coordinator.specs.Recorders.{written}
 use Rattle.syn_coordinator.specs.Machines.{IsMachine, Journal}
 use Rattle.syn_session.specs.Scanning.{WasListedAt, WasNoDirectoryAt, found_of}
-use Rattle.syn_coordinator.specs.declared.coordinator.Coordinator.{Coordinator}
+use Rattle.syn_coordinator.specs.declared.recorder.Recorder.{Recorder}
 use Rattle.syn_session.specs.declared.plan_progress.PlanProgress.{PlanProgress}
 use Rattle.syn_session.specs.declared.peer.PeerState.{PeerState}
 use Rattle.syn_coordinator.specs.declared.ended.Ended.{Ended}
@@ -85,7 +85,7 @@ scanned_before plan cursor (Fetch path since offset) this = absurd this
 scanned_before plan cursor (Stage item offset bytes) this = absurd this
 scanned_before plan cursor (Replace item path since size) this = absurd this
 
-module _ {D : Type 0} {disk : Ghosts D} (old : Coordinator D disk) (pair : ℕ) (journal : Journal)
+module _ {D : Type 0} {disk : Ghosts D} (old : Recorder D disk) (pair : ℕ) (journal : Journal)
     (running : Running) (taken : Exchange) (session : Session)
     (is_machine : IsMachine old.archive pair journal)
     (fault : fault_of running.taken taken.side taken.request taken.reply ≡ None)
@@ -129,7 +129,7 @@ module _ {D : Type 0} {disk : Ghosts D} (old : Coordinator D disk) (pair : ℕ) 
           (makes_plan (hearing running taken) journal.value left right
           (items_of made.items.items) items scanned.begun on_left on_right)
 
-      module _ (new : Coordinator D disk) (progress : PlanProgress) where
+      module _ (new : Recorder D disk) (progress : PlanProgress) where
         abbrev later : Session
         later = record session { progress = Some progress }
 
@@ -286,7 +286,7 @@ module _ (pair : ℕ) (journal : Journal) (before session : Session) (running : 
         (found_on before Right) running.taken (reached_by running) (λ transfer.
         WaitsFor transfer running.taken carrying_then.to q)) asked_it carrying_then.carries)))
 
-    module _ (law : WaitsForItem) {D : Type 0} {disk : Ghosts D} (old new : Coordinator D disk)
+    module _ (law : WaitsForItem) {D : Type 0} {disk : Ghosts D} (old new : Recorder D disk)
         (nothing : written old ≡ []) (later : PlanProgress) where
       abbrev next : Session
       next = record session { progress = Some later }

@@ -4,9 +4,9 @@ use Rattle.std.proofs.Common.{sym}
 use Rattle.std.proofs.lemmas.Bool.{false≢true}
 use Rattle.syn_archive.specs.Archive.{IsHalted, Stands, disk_of}
 use Rattle.syn_archive.specs.declared.archive.Archive.{Archive}
-use Rattle.syn_coordinator.specs.Coordinators.{BreaksOff, BreaksUnsent, device_of}
-use Rattle.syn_coordinator.specs.Coordinators.{FailsOrStops as Counted}
-use Rattle.syn_coordinator.specs.declared.coordinator.Coordinator.{Coordinator}
+use Rattle.syn_coordinator.specs.Recorders.{BreaksOff, BreaksUnsent}
+use Rattle.syn_coordinator.specs.Recorders.{FailsOrStops as Counted}
+use Rattle.syn_coordinator.specs.declared.recorder.Recorder.{Recorder}
 use Rattle.syn_coordinator.specs.declared.ended.Ended.{Ended}
 use Rattle.syn_coordinator.specs.inner.Advancing.{BreaksAs}
 use Rattle.syn_coordinator.specs.inner.Taking.{TakesEnd, at_once, ends, goes_down}
@@ -42,10 +42,10 @@ keeps_not_halted new pair machine kept done (moves_on journal keeps up is) halte
 keeps_not_halted new pair machine kept done (moves_down journal keeps stopped down leaves) halted =
     stopped
 
-module _ {D : Type 0} {disk : Ghosts D} (old new : Coordinator D disk) where
+module _ {D : Type 0} {disk : Ghosts D} (old new : Recorder D disk) where
   abbrev FailsOrStops : Type 0
-  FailsOrStops = (disk.failures (device_of old) < disk.failures (device_of new))
-      ⊎ (is_stopped (disk.arms (device_of new)) ≡ true)
+  FailsOrStops = (disk.failures (disk_of old.archive) < disk.failures (disk_of new.archive))
+      ⊎ (is_stopped (disk.arms (disk_of new.archive)) ≡ true)
 
   counted_so : Counted old new → FailsOrStops
   counted_so (inl grew) = inl grew
@@ -71,11 +71,11 @@ module _ {D : Type 0} {disk : Ghosts D} (old new : Coordinator D disk) where
       (goes_down ended walk after walks stopped down leaves tries) breaks halted = inr stopped
 
 -- and so it was where the calls before and after it left the archive
-pub fails_or_stops : {D : Type 0} {disk : Ghosts D} (first old new last : Coordinator D disk) →
+pub fails_or_stops : {D : Type 0} {disk : Ghosts D} (first old new last : Recorder D disk) →
     old.archive ≡ first.archive → last.archive ≡ new.archive → FailsOrStops old new →
     FailsOrStops first last
 fails_or_stops {D} {disk} first old new last before later how =
-    subst (λ a. (disk.failures (disk_of a) < disk.failures (device_of last))
-    ⊎ (is_stopped (disk.arms (device_of last)) ≡ true)) before
-    (subst (λ b. (disk.failures (device_of old) < disk.failures (disk_of b))
+    subst (λ a. (disk.failures (disk_of a) < disk.failures (disk_of last.archive))
+    ⊎ (is_stopped (disk.arms (disk_of last.archive)) ≡ true)) before
+    (subst (λ b. (disk.failures (disk_of old.archive) < disk.failures (disk_of b))
     ⊎ (is_stopped (disk.arms (disk_of b)) ≡ true)) (sym later) how)

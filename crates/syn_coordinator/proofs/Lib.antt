@@ -21,7 +21,6 @@ pub mod OnwardLemmas
 pub mod BeginLemmas
 pub mod BreakLemmas
 pub mod HaltLemmas
-pub mod MachineLemmas
 pub mod StayLemmas
 pub mod OutcomeLemmas
 pub mod DueLemmas

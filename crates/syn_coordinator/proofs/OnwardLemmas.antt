@@ -12,7 +12,7 @@ use Rattle.syn_model.specs.Refusal.{Refusal as Why}
 use Rattle.syn_scan.specs.Found.{Found}
 use Rattle.syn_coordinator.specs.Machines.{IsMachine, Journal}
 use Rattle.syn_session.specs.declared.answering.ItemProgress.TheVariants as carrying
-use Rattle.syn_coordinator.specs.declared.coordinator.Coordinator.{Coordinator}
+use Rattle.syn_coordinator.specs.declared.recorder.Recorder.{Recorder}
 use Rattle.syn_session.specs.declared.plan_progress.PlanProgress.{PlanProgress}
 use Rattle.syn_session.specs.declared.session.Asks.{Asks}
 use Rattle.syn_session.specs.Passing.{refused_at}
@@ -27,7 +27,7 @@ use Rattle.syn_coordinator.proofs.PassLemmas.{turn_further}
 use Rattle.syn_coordinator.proofs.WalkLemmas.{passes_refused}
 
 module _ {D : Type 0} {disk : Ghosts D} (pair : ℕ) (taken : Exchange) (journal : Journal)
-    (before : Reached) (left right : Found) (all : List Exchange) (old middle : Coordinator D disk)
+    (before : Reached) (left right : Found) (all : List Exchange) (old middle : Recorder D disk)
     (was progress : PlanProgress) (planned : Planned)
     (out : IsCarriedOut was left right all before planned)
     (past : IsPast old middle pair taken journal before progress left right) where
@@ -59,7 +59,7 @@ module _ {D : Type 0} {disk : Ghosts D} (pair : ℕ) (taken : Exchange) (journal
   unfolding come
   at_next = at_turn pair taken journal before left right all old middle progress come
 
-  module _ (new : Coordinator D disk) (later : PlanProgress) where
+  module _ (new : Recorder D disk) (later : PlanProgress) where
     pub asks_later : (asks : Asks) →
         AsksSo middle new pair taken past.3.journal past.3.after later left right all asks →
         AsksLater old new pair taken journal before later left right all asks
@@ -109,20 +109,20 @@ refused_so pair taken journal before left right all progress planned out why ref
 module _ {D : Type 0} {disk : Ghosts D} (pair : ℕ) (taken : Exchange) (journal : Journal)
     (before : Reached) (left right : Found) (all : List Exchange) where
   -- it asks for the same item again
-  pub carries_further : (coordinator : Coordinator D disk) (progress : PlanProgress) →
-      IsMachine coordinator.archive pair journal → IsQuiet coordinator journal → (asks : Asks) →
+  pub carries_further : (recorder : Recorder D disk) (progress : PlanProgress) →
+      IsMachine recorder.archive pair journal → IsQuiet recorder journal → (asks : Asks) →
       TakesAnswer journal.value left right all before taken progress (Ok (carrying.Asks asks)) →
-      CarriesOn coordinator coordinator pair taken journal before progress left right all asks
-  carries_further coordinator progress is quiet asks took = record {
+      CarriesOn recorder recorder pair taken journal before progress left right all asks
+  carries_further recorder progress is quiet asks took = record {
     fault = took.0;
     asks_so =
-        asks_here pair taken journal before left right coordinator is quiet progress
+        asks_here pair taken journal before left right recorder is quiet progress
         (all ++ taken ∷ []) asks took.1.1;
     last = λ last. absurd (false≢true (sym took.1.0 ∙ last));
   }
 
   -- it is past the item
-  pub goes_later : (old new : Coordinator D disk) (progress : PlanProgress) →
+  pub goes_later : (old new : Recorder D disk) (progress : PlanProgress) →
       fault_of all taken.side taken.request taken.reply ≡ None →
       (result : Result Asks Ended) → MatchResult result
       (AsksLater old new pair taken journal before progress left right (all ++ taken ∷ []))

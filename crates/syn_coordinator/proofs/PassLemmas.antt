@@ -17,9 +17,9 @@ use Rattle.syn_refusal.specs.Refusals.{cause_of}
 use Rattle.syn_refusal.specs.declared.refusal.Refusal.{Refusal}
 use Rattle.syn_refusal.specs.declared.refusal.Refusal.TheVariants as refusal
 use Rattle.syn_scan.specs.Found.{Found}
-use Rattle.syn_coordinator.specs.Coordinators.{written}
+use Rattle.syn_coordinator.specs.Recorders.{written}
 use Rattle.syn_coordinator.specs.Machines.{IsMachine, Journal}
-use Rattle.syn_coordinator.specs.declared.coordinator.Coordinator.{Coordinator}
+use Rattle.syn_coordinator.specs.declared.recorder.Recorder.{Recorder}
 use Rattle.syn_session.specs.declared.plan_progress.Carried.{Carried}
 use Rattle.syn_session.specs.Carrying.{AsksOne}
 use Rattle.syn_session.specs.declared.plan_progress.PlanProgress.{PlanProgress}
@@ -91,7 +91,7 @@ module _ {D : Type 0} {disk : Ghosts D} (pair : ℕ) (taken : Exchange) (journal
       is course_is (remembers_still journal.status tried journal
       (tries_none tried journal untried quiet) _ refl)
 
-  module _ (old new : Coordinator D disk) (was later : PlanProgress) (all : List Exchange)
+  module _ (old new : Recorder D disk) (was later : PlanProgress) (all : List Exchange)
       (at : IsAtItem was left right all before) where
     -- nothing was asked for the item after
     pub on_past : IsPast old new pair taken journal before later left right →
@@ -112,29 +112,29 @@ module _ {D : Type 0} {disk : Ghosts D} (pair : ℕ) (taken : Exchange) (journal
         next = ap suc (sym at.course_is.cursor) ∙ past.2
 
   -- memory is refused, and the progress stays
-  pub ends_here : (coordinator : Coordinator D disk) → IsMachine coordinator.archive pair journal →
-      IsQuiet coordinator journal → (was later : PlanProgress) →
+  pub ends_here : (recorder : Recorder D disk) → IsMachine recorder.archive pair journal →
+      IsQuiet recorder journal → (was later : PlanProgress) →
       IsPlanProgress was left right before →
       later ≡ was → (how : Ended) → how ≡ Early refusal.Memory →
-      EndsSo coordinator coordinator pair taken journal before later left right how
-  ends_here coordinator is quiet was later course_is same how memory = (
+      EndsSo recorder recorder pair taken journal before later left right how
+  ends_here recorder is quiet was later course_is same how memory = (
     [],
     sym (append-nil _),
-    subst (λ e. Ends coordinator.archive coordinator.tried pair taken journal before
+    subst (λ e. Ends recorder.archive recorder.tried pair taken journal before
         [] later left right e) (sym memory)
-        (subst (λ c. Ends coordinator.archive coordinator.tried pair taken journal before
+        (subst (λ c. Ends recorder.archive recorder.tried pair taken journal before
         [] c left right (Early refusal.Memory)) (sym same)
-        (ends_for_memory coordinator.archive coordinator.tried pair taken journal before was left
+        (ends_for_memory recorder.archive recorder.tried pair taken journal before was left
         right is quiet.0 quiet.1 course_is)),
   )
 
   -- it asks for the item that it has come to
-  pub asks_here : (coordinator : Coordinator D disk) → IsMachine coordinator.archive pair journal →
-      IsQuiet coordinator journal → (progress : PlanProgress) (all : List Exchange) (asks : Asks) →
+  pub asks_here : (recorder : Recorder D disk) → IsMachine recorder.archive pair journal →
+      IsQuiet recorder journal → (progress : PlanProgress) (all : List Exchange) (asks : Asks) →
       Carries journal.value progress left right all before
       (λ transfer. AsksOne transfer all asks) →
-      AsksSo coordinator coordinator pair taken journal before progress left right all asks
-  asks_here coordinator is quiet progress all asks carries = (
+      AsksSo recorder recorder pair taken journal before progress left right all asks
+  asks_here recorder is quiet progress all asks carries = (
     [],
     sym (append-nil _),
     record {
@@ -156,11 +156,11 @@ module _ {D : Type 0} {disk : Ghosts D} (pair : ℕ) (taken : Exchange) (journal
 module _ {D : Type 0} {disk : Ghosts D} (pair : ℕ) (taken : Exchange) (journal : Journal)
     (before : Reached) (left right : Found) (all : List Exchange) where
   -- before the first
-  pub no_turn : (coordinator : Coordinator D disk) → IsMachine coordinator.archive pair journal →
-      IsQuiet coordinator journal → (progress : PlanProgress) →
+  pub no_turn : (recorder : Recorder D disk) → IsMachine recorder.archive pair journal →
+      IsQuiet recorder journal → (progress : PlanProgress) →
       IsAtItem progress left right all before →
-      HasCome coordinator coordinator pair taken journal before progress left right all
-  no_turn coordinator is quiet progress at = (
+      HasCome recorder recorder pair taken journal before progress left right all
+  no_turn recorder is quiet progress at = (
     [],
     sym (append-nil _),
     record {
@@ -175,7 +175,7 @@ module _ {D : Type 0} {disk : Ghosts D} (pair : ℕ) (taken : Exchange) (journal
     quiet.0,
   )
 
-  module _ (first middle : Coordinator D disk) (progress : PlanProgress)
+  module _ (first middle : Recorder D disk) (progress : PlanProgress)
       (come : HasCome first middle pair taken journal before progress left right all) where
     -- where a turn begins
     pub at_turn : IsAtItem progress left right all come.2.after
@@ -201,7 +201,7 @@ module _ {D : Type 0} {disk : Ghosts D} (pair : ℕ) (taken : Exchange) (journal
           progress left right come.2.is come.5 (come.2.passes.quiet quiet) come.2.course_is))),
     )
 
-    module _ (last : Coordinator D disk) (later : PlanProgress) where
+    module _ (last : Recorder D disk) (later : PlanProgress) where
       both : (kept : List Kept) → written last ≡ written middle ++ kept →
           written last ≡ written first ++ (come.0 ++ kept)
       both kept more =

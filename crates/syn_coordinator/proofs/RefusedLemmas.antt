@@ -222,9 +222,10 @@ module _ {D : Type 0} {disk : Ghosts D} (old new : Coordinator D disk) (pair : �
       goes Down never = absurd (never refl)
 
   stands_with : (status : Status) → status ≢ Down → (journal : Journal) → journal.status ≡ status →
-      IsMachine new.archive pair journal → (is_some machine.running ≡ true →
+      IsMachine new.recorder.archive pair journal → (is_some machine.running ≡ true →
       (journal.value ≡ machine.journal.value) × (journal.writing ≡ None)) →
-      (is_some machine.running ≡ true → new.tried ≡ None) → Tries new.tried journal →
+      (is_some machine.running ≡ true → new.recorder.tried ≡ None) →
+      Tries new.recorder.tried journal →
       Stands new pair (with_archive machine journal)
   stands_with status up journal is_status is keeps untried tries =
       let running = still_running status up journal is_status in record {
@@ -240,15 +241,18 @@ module _ {D : Type 0} {disk : Ghosts D} (old new : Coordinator D disk) (pair : �
       }
 
   -- nothing was tried at a machine that is up, and a checkpoint writes no record
-  tries_none_up : Runs old.archive machine.journal → new.tried ≡ old.tried → (journal : Journal) →
-      Compacts (archive_layout pair) machine.journal journal → Tries new.tried journal
+  tries_none_up : Runs old.recorder.archive machine.journal →
+      new.recorder.tried ≡ old.recorder.tried → (journal : Journal) →
+      Compacts (archive_layout pair) machine.journal journal → Tries new.recorder.tried journal
   tries_none_up was same_tried journal compacts =
-      tries_none new.tried journal
-      (same_tried ∙ untried_up old.tried machine.journal stands.tries was.up)
+      tries_none new.recorder.tried journal
+      (same_tried ∙ untried_up old.recorder.tried machine.journal stands.tries was.up)
       ((compact_keeps pair machine.journal journal compacts).1 ∙ was.idle)
 
-  pub checkpoint_does : Runs old.archive machine.journal → new.tried ≡ old.tried →
-      (status : Status) → status ≢ Down → CompactsSo new.archive pair machine.journal status →
+  pub checkpoint_does : Runs old.recorder.archive machine.journal →
+      new.recorder.tried ≡ old.recorder.tried →
+      (status : Status) → status ≢ Down → CompactsSo new.recorder.archive pair machine.journal
+      status →
       Does old new pair (Checkpoints (coordinator_kind pair) machine) [] []
   checkpoint_does was same_tried status up (moves_on journal compacts is_status is) =
       goes_on _ _ (checkpoints journal compacts)
@@ -264,33 +268,37 @@ module _ {D : Type 0} {disk : Ghosts D} (old new : Coordinator D disk) (pair : �
 
   -- it forgets what was tried once it is opened again
   tries_again : (kept : List Kept) (journal : Journal) →
-      Reopened pair machine.journal journal kept → journal.status ≡ Up → new.tried ≡ None →
-      Tries new.tried journal
+      Reopened pair machine.journal journal kept → journal.status ≡ Up → new.recorder.tried ≡ None →
+      Tries new.recorder.tried journal
   tries_again kept journal again up forgets =
-      tries_none new.tried journal forgets
+      tries_none new.recorder.tried journal forgets
       (opened_quiet pair machine.journal journal kept again up)
 
   tries_cut : (kept : List Kept) (journal : Journal) → Reopened pair machine.journal journal kept →
-      journal.status ≡ Down → new.tried ≡ old.tried → Tries new.tried journal
+      journal.status ≡ Down → new.recorder.tried ≡ old.recorder.tried →
+      Tries new.recorder.tried journal
   tries_cut kept journal again down same_tried =
       subst (λ t. Tries t journal) (sym same_tried)
-      (cut_tries pair old.tried machine.journal journal kept again down stands.tries)
+      (cut_tries pair old.recorder.tried machine.journal journal kept again down stands.tries)
 
   tries_unopened : (met left : Status) → (machine.journal.status ≢ Up → left ≢ Up) →
-      (journal : Journal) → NotReopened machine.journal met left journal → new.tried ≡ old.tried →
-      Tries new.tried journal
+      (journal : Journal) → NotReopened machine.journal met left journal →
+      new.recorder.tried ≡ old.recorder.tried →
+      Tries new.recorder.tried journal
   tries_unopened met left stops journal not_opened same_tried =
-      subst (λ t. Tries t journal) (sym same_tried) (unopened_tries pair old.tried
+      subst (λ t. Tries t journal) (sym same_tried) (unopened_tries pair old.recorder.tried
       machine.journal journal met left stops not_opened stands.tries)
 
   -- what it gave is what the archive shows
   gives : (found : Option Kept) (kept : List Kept) (journal : Journal) →
       Reopened pair machine.journal journal kept → journal.status ≡ Up →
-      IsMachine new.archive pair journal → found ≡ found_in old.tried new.archive →
+      IsMachine new.recorder.archive pair journal → found ≡ found_in old.recorder.tried
+      new.recorder.archive →
       kept ≡ listed found
   gives found kept journal (opened_again calls now some least opens) up is e =
-      let runs = runs_up new.archive pair journal is up in
-      found_is new.archive pair machine.journal old.tried calls journal kept stands.tries opens
+      let runs = runs_up new.recorder.archive pair journal is up in
+      found_is new.recorder.archive pair machine.journal old.recorder.tried calls journal kept
+      stands.tries opens
       runs.room runs.generation ∙ ap listed (sym e)
   gives found kept journal (cut_off calls arms failures meets) up is e =
       absurd (up_not_down (sym up))
@@ -336,9 +344,10 @@ module _ {D : Type 0} {disk : Ghosts D} (old new : Coordinator D disk) (pair : �
       reopen_is_cut calls arms failures meets
 
   pub reopen_does : (found : Option Kept) → (is_stopped (disk.arms (device_of new)) ≡ false →
-      (new.tried ≡ None) × (found ≡ found_in old.tried new.archive)) →
-      (is_stopped (disk.arms (device_of new)) ≡ true → (new.tried ≡ old.tried) × (found ≡ None)) →
-      Moves new.archive pair
+      (new.recorder.tried ≡ None) × (found ≡ found_in old.recorder.tried new.recorder.archive)) →
+      (is_stopped (disk.arms (device_of new)) ≡ true →
+      (new.recorder.tried ≡ old.recorder.tried) × (found ≡ None)) →
+      Moves new.recorder.archive pair
       (λ journal. (kept : List Kept) × Reopened pair machine.journal journal kept) Up →
       Does old new pair (λ next call. Reopens (coordinator_kind pair) machine next call [])
       (listed found) []
@@ -353,9 +362,10 @@ module _ {D : Type 0} {disk : Ghosts D} (old new : Coordinator D disk) (pair : �
       (gives_none found again.0 journal again.1 down (stays stopped).1)
       (tries_cut again.0 journal again.1 down (stays stopped).0)
 
-  pub not_reopened : new.tried ≡ old.tried → (met left : Status) (reason : Refusal) →
+  pub not_reopened : new.recorder.tried ≡ old.recorder.tried →
+      (met left : Status) (reason : Refusal) →
       left ≢ Down → (machine.journal.status ≢ Up → left ≢ Up) → IsRefusedSo met left reason →
-      Moves new.archive pair (NotReopened machine.journal met left) left →
+      Moves new.recorder.archive pair (NotReopened machine.journal met left) left →
       Does old new pair (ReopensNot pair machine reason) [] []
   not_reopened same_tried met left reason up stops so
       (moves_on journal not_opened is_status is) =

@@ -17,8 +17,8 @@ use Rattle.syn_model.specs.Archive as model
 use Rattle.syn_model.specs.Archive.{Kept, CanKeep}
 use Rattle.syn_model.specs.ArchiveImage.{ArchiveStandsFor}
 use Rattle.syn_model.specs.Refusal as why
-use Rattle.syn_recovery.specs.Machines.{of_archive}
-use Rattle.syn_recovery.specs.Meaning.{MayBeOf, MayMean, as_kept, with_record, compacted}
+use Rattle.syn_archive.specs.Keepings.{of_archive}
+use Rattle.syn_journal.specs.Meaning.{MayBeOf, MayMean, as_kept, with_record, compacted}
 
 -- The machine was opened again by so many device calls; or it went down among them
 pub data Reopened (pair : ℕ) (machine : Journal) : Journal → List Kept → Type 0 where

@@ -3,7 +3,6 @@ use Rattle.std.proofs.Common.{◌≡◌, ℕ, Bool, true, false, not, if◌then�
 use Rattle.std.proofs.Common.{Option, Some, None, refl, sym, ap, ap₂, ◌∙◌, subst}
 use Rattle.std.specs.Prelude.{◌&&◌, is_some, unwrap_or}
 use Rattle.std.proofs.lemmas.Bool.{false≢true}
-use Rattle.syn_archive.specs.declared.archive.Archive.{Archive}
 use Rattle.syn_disk.specs.declared.disk.Disk.{Ghosts}
 use Rattle.syn_headline.specs.Coordinator.{AsksNext, CoordinatorMachine, CoordinatorTakes, EndsFor}
 use Rattle.syn_headline.specs.Coordinator.{Exchange, IsExpected, Running, asked_in}
@@ -17,13 +16,14 @@ use Rattle.syn_model.specs.Refusal.{Memory}
 use Rattle.syn_refusal.specs.Refusals.{cause_of}
 use Rattle.syn_coordinator.specs.Coordinators.{Does, Stands, in_report, report_shown, runs}
 use Rattle.syn_coordinator.specs.Coordinators as does
+use Rattle.syn_coordinator.specs.Recorders.{written}
+use Rattle.syn_coordinator.specs.declared.recorder.Recorder.{Recorder}
 use Rattle.syn_coordinator.specs.Machines.{IsMachine}
 use Rattle.syn_coordinator.specs.declared.coordinator.Coordinator.{Coordinator}
 use Rattle.syn_coordinator.specs.Tries.{Tries}
 use Rattle.syn_coordinator.specs.declared.ended.Ended.{Ended}
 use Rattle.syn_session.specs.declared.session.Asks.{Asks}
 use Rattle.syn_session.specs.declared.session.Session.{Session}
-use Rattle.syn_coordinator.specs.declared.tried.Unconfirmed.{Unconfirmed}
 use Rattle.syn_coordinator.specs.inner.Answered.{Answered, goes_down, goes_on, reported}
 use Rattle.syn_session.specs.Answering.{IsAnswering, IsAskedOn, asks_of, exchange_of}
 use Rattle.syn_session.specs.Answering.{messages_asked}
@@ -64,7 +64,7 @@ module _ (pair : ℕ) (machine : CoordinatorMachine) (running : Running) (taken 
 
   module _ {D : Type 0} {disk : Ghosts D} (new : Coordinator D disk) (session next : Session)
       (kept : List Kept) (asks : Asks)
-      (on : TakesOn new.archive pair machine.journal running taken session kept asks)
+      (on : TakesOn new.recorder.archive pair machine.journal running taken session kept asks)
       (quiet : machine.journal.writing ≡ None)
       (asked : (side : Which) →
       IsAskedOn (peer_of session side) (peer_of next side) (asks_of asks side))
@@ -106,7 +106,7 @@ module _ (pair : ℕ) (machine : CoordinatorMachine) (running : Running) (taken 
         on.may.fresh on.now.value on.may.may on.may.some
 
     -- it asks both sides for what comes next
-    pub asked_so : new.tried ≡ None → new.running ≡ Some next → (messages : List Message) →
+    pub asked_so : new.recorder.tried ≡ None → new.running ≡ Some next → (messages : List Message) →
         messages ≡ messages_asked session asks →
         Answered new pair machine running taken kept messages
     asked_so untried runs_it messages sent =
@@ -124,7 +124,7 @@ module _ (pair : ℕ) (machine : CoordinatorMachine) (running : Running) (taken 
               (subst (λ r. IsSession on.now.value next (says r)) (sym same) is_session);
           quiet = λ _. on.quiet quiet;
           untried = λ _. untried;
-          tries = tries_none new.tried on.now untried (on.quiet quiet);
+          tries = tries_none new.recorder.tried on.now untried (on.quiet quiet);
         }) refl
         (ap (λ r. sent_now r (asks_of asks Left) (asks_of asks Right)) same
         ∙ (sym (sends_that heard session next asks on.heard asked number preferred on.may.may_wait
@@ -141,8 +141,8 @@ module _ (pair : ℕ) (machine : CoordinatorMachine) (running : Running) (taken 
 
     -- memory is refused as it asks
     asks_none : (session : Session) (kept : List Kept) (asks : Asks) →
-        machine.journal.writing ≡ None → new.tried ≡ None →
-        TakesOn new.archive pair machine.journal running taken session kept asks →
+        machine.journal.writing ≡ None → new.recorder.tried ≡ None →
+        TakesOn new.recorder.archive pair machine.journal running taken session kept asks →
         ((now : Running) → Tells session now →
         report_shown new ≡ Some (report_of now (Some Memory))) →
         Answered new pair machine running taken kept []
@@ -151,25 +151,26 @@ module _ (pair : ℕ) (machine : CoordinatorMachine) (running : Running) (taken 
         goes_on _ _ (model.ends on.after.plan on.walks.logged (walk_at on.now on.after) kept
         (Some Memory) on.walks.fault on.walks.has on.walks.goes (model.no_memory on.status))
         (no_session new pair on.now on.is is_over
-        (tries_none new.tried on.now untried (on.quiet quiet))) refl refl
+        (tries_none new.recorder.tried on.now untried (on.quiet quiet))) refl refl
         (ap (λ r. report_of r (Some Memory) ∷ []) same
         ∙ report_is (reaching running taken on.after) (Some Memory) (told _ on.tells))
 
-    pub asks_no_more : machine.journal.writing ≡ None → new.tried ≡ None →
-        (archive : Archive D disk) (session : Session) (had kept : List Kept) (asks : Asks)
-        (messages : List Message) → new.archive ≡ archive → kept ≡ had → messages ≡ [] →
-        TakesOn archive pair machine.journal running taken session had asks → ((now : Running) →
-        Tells session now → report_shown new ≡ Some (report_of now (Some Memory))) →
-        Answered new pair machine running taken kept messages
-    asks_no_more quiet untried archive session had kept asks messages same same_kept nothing on
-        told =
-        subst (λ m. Answered new pair machine running taken kept m) (sym nothing)
-        (subst (λ k. Answered new pair machine running taken k []) (sym same_kept)
-        (asks_none session had asks quiet untried (subst
-        (λ a. TakesOn a pair machine.journal running taken session had asks) (sym same) on) told))
+    pub asks_no_more : (recorder : Recorder D disk) → new.recorder ≡ recorder →
+        machine.journal.writing ≡ None → recorder.tried ≡ None → (session : Session)
+        (asks : Asks) (messages : List Message) → messages ≡ [] →
+        TakesOn recorder.archive pair machine.journal running taken session (written recorder)
+        asks → ((now : Running) → Tells session now →
+        report_shown new ≡ Some (report_of now (Some Memory))) →
+        Answered new pair machine running taken (written new.recorder) messages
+    asks_no_more recorder same quiet untried session asks messages nothing on told =
+        subst (Answered new pair machine running taken (written new.recorder)) (sym nothing)
+        (asks_none session (written new.recorder) asks quiet (ap (λ r. r.tried) same ∙ untried)
+        (subst (λ (r : Recorder D disk). TakesOn r.archive pair machine.journal running taken
+        session (written r) asks) (sym same) on) told)
 
     ends_now : (session : Session) (kept : List Kept) (ended : Ended) →
-        TakesEnd new.archive new.tried pair machine.journal running taken session kept ended →
+        TakesEnd new.recorder.archive new.recorder.tried pair machine.journal running taken session
+        kept ended →
         ((now : Running) → Tells session now →
         report_shown new ≡ Some (report_of now (ended_by ended))) →
         Answered new pair machine running taken kept []
@@ -191,20 +192,17 @@ module _ (pair : ℕ) (machine : CoordinatorMachine) (running : Running) (taken 
         goes_down _ _ (model.stops after.plan walks.logged walk kept walks.fault walks.has
         walks.goes down) stopped down leaves refl tries
 
-    pub ends_so : (archive : Archive D disk) (tried : Option Unconfirmed) (session : Session)
-        (had kept : List Kept) (ended : Ended) (messages : List Message) → new.archive ≡ archive →
-        new.tried ≡ tried → kept ≡ had → messages ≡ [] →
-        TakesEnd archive tried pair machine.journal running taken session had ended →
-        ((now : Running) → Tells session now →
+    pub ends_so : (recorder : Recorder D disk) → new.recorder ≡ recorder → (session : Session)
+        (ended : Ended) (messages : List Message) → messages ≡ [] →
+        TakesEnd recorder.archive recorder.tried pair machine.journal running taken session
+        (written recorder) ended → ((now : Running) → Tells session now →
         report_shown new ≡ Some (report_of now (ended_by ended))) →
-        Answered new pair machine running taken kept messages
-    ends_so archive tried session had kept ended messages same same_tried same_kept nothing
-        takes_end told =
-        subst (λ m. Answered new pair machine running taken kept m) (sym nothing)
-        (subst (λ k. Answered new pair machine running taken k []) (sym same_kept)
-        (ends_now session had ended (subst (λ t. TakesEnd new.archive t pair machine.journal
-        running taken session had ended) (sym same_tried) (subst (λ a. TakesEnd a tried pair
-        machine.journal running taken session had ended) (sym same) takes_end)) told))
+        Answered new pair machine running taken (written new.recorder) messages
+    ends_so recorder same session ended messages nothing takes_end told =
+        subst (Answered new pair machine running taken (written new.recorder)) (sym nothing)
+        (ends_now session (written new.recorder) ended
+        (subst (λ (r : Recorder D disk). TakesEnd r.archive r.tried pair machine.journal running
+        taken session (written r) ended) (sym same) takes_end) told)
 
 -- ---- an answer that comes
 
@@ -231,8 +229,9 @@ module _ {D : Type 0} {disk : Ghosts D} (old new : Coordinator D disk) (pair : �
       (takes running request now call expected took) stopped down leaves same_kept tries
 
   -- it was not
-  pub ignored_does : Stands old pair machine → new.archive ≡ old.archive →
-      new.running ≡ old.running → new.tried ≡ old.tried → ((running : Running) (request : Request) →
+  pub ignored_does : Stands old pair machine → new.recorder.archive ≡ old.recorder.archive →
+      new.running ≡ old.running → new.recorder.tried ≡ old.recorder.tried →
+      ((running : Running) (request : Request) →
       IsExpected machine from session number running request → ⊥) → (kept : List Kept)
       (messages : List Message) → kept ≡ [] → messages ≡ [] →
       Does old new pair (CoordinatorTakes pair machine from session number reply) kept messages
@@ -253,13 +252,13 @@ module _ {D : Type 0} {disk : Ghosts D} (old new : Coordinator D disk) (pair : �
       by false = refl
 
   -- no session runs, or no request waits for it
-  none_runs : Stands old pair machine → old.running ≡ None → (running : Running)
+  pub none_runs : Stands old pair machine → old.running ≡ None → (running : Running)
       (request : Request) → IsExpected machine from session number running request → ⊥
   none_runs stands none running request expected =
       false≢true (sym (run_alike machine.journal.value old.running machine.running stands.running
       ∙ ap is_some none) ∙ ap is_some expected.runs)
 
-  none_waits : Stands old pair machine → (ran : Session) → old.running ≡ Some ran →
+  pub none_waits : Stands old pair machine → (ran : Session) → old.running ≡ Some ran →
       (ran.number ≡ session → asked_in (waiting_of (peer_of ran from)) number ≡ None) →
       (running : Running) (request : Request) →
       IsExpected machine from session number running request → ⊥
@@ -273,18 +272,6 @@ module _ {D : Type 0} {disk : Ghosts D} (old new : Coordinator D disk) (pair : �
     where
       some_is : {a b : Running} → Some a ≡ Some b → a ≡ b
       some_is {a} e = ap (λ o. unwrap_or o a) e
-
-  -- neither is the case that an answer is expected
-  pub none_expected : Stands old pair machine → ((ran : Session) → old.running ≡ Some ran →
-      ran.number ≡ session → asked_in (waiting_of (peer_of ran from)) number ≡ None) →
-      (running : Running) (request : Request) →
-      IsExpected machine from session number running request → ⊥
-  none_expected stands silent = by old.running refl
-    where
-      by : (o : Option Session) → old.running ≡ o → (running : Running) (request : Request) →
-          IsExpected machine from session number running request → ⊥
-      by None none = none_runs stands none
-      by (Some ran) was = none_waits stands ran was (silent ran was)
 
   -- the session that runs, and what it expected
   pub expects : Stands old pair machine → (ran next : Session) (request : Request) →

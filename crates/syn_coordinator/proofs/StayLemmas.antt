@@ -7,7 +7,7 @@ use Rattle.syn_disk.specs.declared.disk.Disk.{Ghosts}
 use Rattle.syn_journal.specs.Journal as journal
 use Rattle.syn_model.specs.Archive as model
 use Rattle.syn_model.specs.ArchiveImage.{ArchiveStandsFor}
-use Rattle.syn_recovery.specs.Calls.{armed_at}
+use Rattle.syn_journal.specs.Calls.{armed_at}
 use Rattle.syn_coordinator.specs.Machines.{Journal, LeavesMachine, Runs, Fails, IsMachine}
 
 module _ {D : Type 0} {disk : Ghosts D} (old new : Archive D disk)

@@ -1,12 +1,11 @@
 -- What a coordinator shows, which of the model's machines it is, and what a call does.
 use Rattle.std.specs.Option.{option_map_or}
 use Rattle.std.specs.Prelude.{◌≡◌, ◌⊎◌, ◌<◌, ◌++◌, ℕ, nat_lt, Bool, true}
-use Rattle.std.specs.Prelude.{false, not, ◌&&◌, List, [], ◌∷◌, map, Option, Some, None, length}
+use Rattle.std.specs.Prelude.{false, not, ◌&&◌, List, [], ◌∷◌, Option, Some, None, length}
 use Rattle.std.specs.Prelude.{option_map, is_some, if◌then◌else◌}
 use Rattle.syn_archive.specs.Archive.{IsHalted, disk_of}
 use Rattle.syn_archive.specs.declared.archive.Archive.{Archive}
-use Rattle.syn_coordinator.specs.declared.coordinator.Broken.{Broken}
-use Rattle.syn_coordinator.specs.declared.coordinator.Broken.TheVariants.{Nothing, AsTried, Copied}
+use Rattle.syn_coordinator.specs.Recorders as of
 use Rattle.syn_coordinator.specs.declared.coordinator.Coordinator.{Coordinator}
 use Rattle.syn_disk.specs.Arms.{is_stopped}
 use Rattle.syn_disk.specs.declared.disk.Disk.{Ghosts}
@@ -17,28 +16,20 @@ use Rattle.syn_headline.specs.MachineSteps.{Reopens, causes_at, full_generation}
 use Rattle.syn_headline.specs.Network.{Message, Which}
 use Rattle.syn_headline.specs.Report.{Report}
 use Rattle.syn_coordinator.specs.Machines.{IsMachine, LeavesMachine}
-use Rattle.syn_coordinator.specs.Tries.{Tries, record_of}
+use Rattle.syn_coordinator.specs.Tries.{Tries}
 use Rattle.syn_coordinator.specs.declared.tried.Unconfirmed.{Unconfirmed}
 use Rattle.syn_model.specs.Archive.{Kept}
 use Rattle.syn_model.specs.Refusal.{Cause, Refusal}
 use Rattle.syn_model.specs.Refusal as why
 use Rattle.syn_session.specs.Reports.{report_model}
 use Rattle.syn_session.specs.Sessions.{IsRunning}
-use Rattle.syn_image.specs.Archives.{kept_of}
-
--- what was answered 9 in the last call that could write: what was tried last, or what was so before
--- another opening
-abbrev pub broken_by : Broken → Option Unconfirmed → Option Kept
-broken_by Nothing tried = None
-broken_by AsTried tried = option_map record_of tried
-broken_by (Copied kept) tried = Some (kept_of kept)
 
 module _ {D : Type 0} {disk : Ghosts D} (coordinator : Coordinator D disk) where
   abbrev pub archive_of : Archive D disk
-  archive_of = coordinator.archive
+  archive_of = coordinator.recorder.archive
 
   abbrev pub device_of : D
-  device_of = disk_of coordinator.archive
+  device_of = disk_of coordinator.recorder.archive
 
   -- the report of the session that ended last, since the last start
   abbrev pub report_shown : Option Report
@@ -46,14 +37,14 @@ module _ {D : Type 0} {disk : Ghosts D} (coordinator : Coordinator D disk) where
 
   -- what the last call that could write wrote into the archive, and what was answered 9 in it
   abbrev pub written : List Kept
-  written = map kept_of coordinator.written.items
+  written = of.written coordinator.recorder
 
   abbrev pub broken : Option Kept
-  broken = broken_by coordinator.broke coordinator.tried
+  broken = of.broken coordinator.recorder
 
   -- the record that was tried last and not kept, until the archive is opened again
   abbrev pub tried_shown : Option Unconfirmed
-  tried_shown = coordinator.tried
+  tried_shown = coordinator.recorder.tried
 
   -- a session runs
   abbrev pub runs : Bool
@@ -61,7 +52,7 @@ module _ {D : Type 0} {disk : Ghosts D} (coordinator : Coordinator D disk) where
 
   -- it is this machine of the pair
   pub record Stands (pair : ℕ) (machine : CoordinatorMachine) : Type 0 where
-    pub journal : IsMachine coordinator.archive pair machine.journal
+    pub journal : IsMachine coordinator.recorder.archive pair machine.journal
     pub running : IsRunning machine.journal.value coordinator.running machine.running
     -- no record was cut off under a session that still runs
     pub quiet : is_some machine.running ≡ true → machine.journal.writing ≡ None
@@ -102,35 +93,17 @@ pub data Does {D : Type 0} {disk : Ghosts D} (old new : Coordinator D disk) (pai
       Tries (tried_shown new) machine.journal → Does old new pair Step kept messages
 
 module _ {D : Type 0} {disk : Ghosts D} (old new : Coordinator D disk) where
-  -- no device call failed, and nothing was answered 9
-  pub record BreaksNothing : Type 0 where
-    pub broken_is : broken new ≡ broken old
-    pub tried_is : tried_shown new ≡ tried_shown old
-    pub counted : disk.failures (device_of new) ≡ disk.failures (device_of old)
-
   -- a device call failed, or the machine stopped
   abbrev pub FailsOrStops : Type 0
-  FailsOrStops = (disk.failures (device_of old) < disk.failures (device_of new))
-      ⊎ ((is_stopped (disk.arms (device_of new)) ≡ true)
-      × (disk.failures (device_of new) ≡ disk.failures (device_of old)))
+  FailsOrStops = of.FailsOrStops old.recorder new.recorder
 
-  -- so it was before a record was sent to the disk, and no more is told as answered 9
-  pub record BreaksUnsent : Type 0 where
-    pub broken_is : broken new ≡ broken old
-    pub tried_is : tried_shown new ≡ tried_shown old
-    pub counted : FailsOrStops
-
-  -- so it was after a record was sent, which was not kept and is told as answered 9
-  pub record BreaksOff : Type 0 where
-    pub broken_is : broken new ≡ option_map record_of (tried_shown new)
-    pub is_told : is_some (broken new) ≡ true
-    pub counted : FailsOrStops
+  -- a record was sent to the disk, and is told as answered 9
+  abbrev pub BreaksOff : Type 0
+  BreaksOff = of.BreaksOff old.recorder new.recorder
 
   -- nothing is told as answered 9: no device call failed, or none of a record
-  pub record TellsNone : Type 0 where
-    pub broken_is : broken new ≡ None
-    pub tried_is : tried_shown new ≡ tried_shown old
-    pub counted : (disk.failures (device_of new) ≡ disk.failures (device_of old)) ⊎ FailsOrStops
+  abbrev pub TellsNone : Type 0
+  TellsNone = of.TellsNone old.recorder new.recorder
 
   -- where the archive of a machine that was up is halted now, a device call failed, unless the
   -- machine stopped

@@ -1,5 +1,6 @@
 pub mod Coordinators
 pub mod Openings
+pub mod Recorders
 pub mod Machines
 pub mod Tries
 pub mod Steps

@@ -1,33 +1,25 @@
 -- What an opening of a coordinator's disk gives, whose machine was down.
-use Rattle.std.specs.Prelude.{◌≡◌, ℕ, false, List, [], ◌∷◌, Option, None}
+use Rattle.std.specs.Prelude.{◌≡◌, ℕ, List, [], ◌∷◌, Option, None}
 use Rattle.syn_coordinator.specs.Coordinators.{Stands}
 use Rattle.syn_coordinator.specs.declared.coordinator.Coordinator.{Coordinator}
-use Rattle.syn_disk.specs.Arms.{Arms as DiskArms, is_stopped}
+use Rattle.syn_disk.specs.Arms.{Arms as DiskArms}
 use Rattle.syn_disk.specs.declared.disk.Disk.{Ghosts}
 use Rattle.syn_headline.specs.Coordinator.{CoordinatorMachine, coordinator_kind, no_call}
-use Rattle.syn_headline.specs.Machine.{Down, unarmed}
 use Rattle.syn_headline.specs.MachineSteps.{OpensDown}
 use Rattle.syn_coordinator.specs.Tries.{Tries}
+use Rattle.syn_archive.specs.Keepings.{of_archive}
+use Rattle.syn_journal.specs.Machines.{Rests}
 use Rattle.syn_coordinator.specs.declared.tried.Unconfirmed.{Unconfirmed}
 use Rattle.syn_model.specs.Archive.{Kept}
 use Rattle.syn_model.specs.Path.{Bytes}
 use Rattle.syn_model.specs.Refusal.{Refusal}
-use Rattle.syn_recovery.specs.Calls.{armed_at}
-use Rattle.syn_recovery.specs.Machines.{of_archive}
-use Rattle.syn_recovery.specs.Meaning.{MayBeOf}
 
--- The machine is down, with nothing armed and no session; its disk may be left so, and this was
--- tried last
+-- The machine is down and rests on the device; it runs no session, and this was tried last
 pub record RestsWith {D : Type 0} (arms : D → DiskArms) (may_leave : D → Bytes → Type 0)
     (pair : ℕ) (device : D) (tried : Option Unconfirmed)
     (machine : CoordinatorMachine) : Type 0 where
-  pub down : machine.journal.status ≡ Down
-  pub unarmed_is : machine.journal.arms ≡ unarmed
+  pub rests : Rests arms may_leave (of_archive pair) device machine.journal
   pub idle : machine.running ≡ None
-  pub armed : armed_at (arms device) ≡ unarmed
-  pub goes : is_stopped (arms device) ≡ false
-  pub leaves : (bytes : Bytes) → may_leave device bytes →
-      MayBeOf (of_archive pair) machine.journal bytes
   pub tries : Tries tried machine.journal
 
 -- the coordinator is the machine that was opened, which gave this

@@ -1,16 +1,15 @@
 //! A coordinator over its archive.
-ghost use Rattle.std.specs.Prelude.{◌≡◌, ◌≢◌, ◌∷◌, [], ℕ, is_some, Some, None, Err};
-ghost use Rattle.std.specs.Prelude.{IfErr, IfOk, MatchResult, OnErr, OnOk, false, map, option_map};
-ghost use Rattle.std.specs.Prelude.{◌+◌, ◌<◌, ◌^◌, ◌⊎◌, ◌&&◌, not};
+ghost use Rattle.std.specs.Prelude.{◌≡◌, ◌≢◌, [], ℕ, is_some, Some, None, Err};
+ghost use Rattle.std.specs.Prelude.{IfErr, IfOk, MatchResult, OnOk, false, map, option_map};
+ghost use Rattle.std.specs.Prelude.{◌+◌, ◌<◌, ◌^◌, ◌&&◌, not};
 ghost use Rattle.syn_archive.specs.Archive.{IsHalted, session_shown};
 ghost use Rattle.syn_coordinator.specs.inner.Walking.{ended_by};
 ghost use Rattle.syn_disk.specs.Arms.{is_stopped};
 ghost use Rattle.syn_headline.specs.Coordinator.{CoordinatorMachine, CoordinatorStarts};
 ghost use Rattle.syn_headline.specs.Coordinator.{CoordinatorTicks, Running, report_of};
-ghost use Rattle.syn_headline.specs.Machine.{Halted, Up};
 ghost use Rattle.syn_coordinator.specs.Machines.{IsMachine, Journal};
-ghost use Rattle.syn_coordinator.specs.Steps.{KeepsSo};
 ghost use Rattle.syn_path.specs.Sides.{which_of};
+ghost use Rattle.syn_refusal.specs.Refusals.{cause_of};
 ghost use Rattle.syn_model.specs.Archive.{Archive as Keeping, Session as Begun};
 ghost use Rattle.syn_model.specs.Refusal.{Memory, first_cause};
 ghost use Rattle.syn_session.specs.Refusals.{CountsFailures, refusal_of};
@@ -22,8 +21,9 @@ ghost use Rattle.syn_image.specs.Archives.{kept_of};
 
 use crate::Unconfirmed;
 use crate::ended::Ended;
+use crate::recorder::Recorder;
 use std::alloc::Global;
-use syn_archive::{Archive, ArchiveError};
+use syn_archive::Archive;
 use syn_disk::Disk;
 use syn_image::Kept;
 use syn_path::Side;
@@ -31,8 +31,6 @@ use syn_refusal::Refusal;
 use syn_session::{Report, Sending, Session, SessionError};
 
 mod answers;
-mod carried;
-mod carrying;
 mod journal;
 mod opening;
 
@@ -43,24 +41,9 @@ const SESSION_RECORD: usize = 9;
 /// both last agreed on.
 #[derive(Drop)]
 pub struct Coordinator<D: Disk> {
-    archive: Archive<D>,
+    recorder: Recorder<D>,
     running: Option<Session>,
     report: Option<Report>,
-    written: Vec<Kept>,
-    /// What was tried last and not kept, until the archive is opened again.
-    tried: Option<Unconfirmed>,
-    broke: Broken,
-}
-
-/// The record that was sent to the disk and refused 9 in the last call that could write.
-#[derive(Drop)]
-pub(crate) enum Broken {
-    /// Nothing was.
-    Nothing,
-    /// It is what was tried last.
-    AsTried,
-    /// It is this, and the archive was opened again since.
-    Copied(Kept),
 }
 
 impl<D: Disk> Coordinator<D> {
@@ -70,7 +53,6 @@ impl<D: Disk> Coordinator<D> {
     ghost use Rattle.syn_coordinator.specs.Coordinators.{is_waiting, report_shown, runs};
     ghost use Rattle.syn_coordinator.specs.Coordinators.{items_planned};
     ghost use Rattle.syn_coordinator.specs.Coordinators.{tried_shown, written};
-    ghost use Rattle.syn_coordinator.specs.Tries.{HoldsTried};
 
     /// A coordinator over the archive, with no session. It takes no memory.
     pub fn new(alloc: Global, archive: Archive<D>) -> Coordinator<D>
@@ -84,12 +66,9 @@ impl<D: Disk> Coordinator<D> {
         ensures tried { tried_shown result ≡ None }
     {
         Coordinator {
-            archive,
+            recorder: Recorder::new(alloc, archive),
             running: None,
             report: None,
-            written: Vec::new(alloc),
-            tried: None,
-            broke: Broken::Nothing,
         }
     }
 
@@ -97,14 +76,14 @@ impl<D: Disk> Coordinator<D> {
     pub fn archive(&self) -> &Archive<D>
         ensures { result.now ≡ archive_of self.now }
     {
-        &self.archive
+        &self.recorder.archive
     }
 
     /// Whether its machine has stopped, so that no device call is made any more.
     pub fn is_cut(&self) -> bool
         ensures { result ≡ is_stopped (D.Disk.arms (device_of self.now)) }
     {
-        self.archive.is_cut()
+        self.recorder.archive.is_cut()
     }
 
     /// The archive. A session that runs is given up.
@@ -124,8 +103,7 @@ impl<D: Disk> Coordinator<D> {
         // By calls, or the prover would look here at all that each holds.
         drop(self.running);
         drop(self.report);
-        drop(self.written);
-        (self.archive, self.tried)
+        self.recorder.into_parts()
     }
 
     /// Whether a session runs.
@@ -172,18 +150,7 @@ impl<D: Disk> Coordinator<D> {
         ensures written { map kept_of result.0.now ≡ written self.now }
         ensures broken { option_map (λ kept. kept_of kept.now) result.1 ≡ broken self.now }
     {
-        (&self.written, self.last_broken())
-    }
-
-    /// What was answered 9 in the last call that could write.
-    fn last_broken(&self) -> Option<&Kept>
-        ensures { option_map (λ kept. kept_of kept.now) result ≡ broken self.now }
-    {
-        match &self.broke {
-            Broken::Nothing => None,
-            Broken::AsTried => Some(self.tried.as_ref()?.kept()),
-            Broken::Copied(kept) => Some(kept),
-        }
+        self.recorder.kept()
     }
 
     /// The record that was being written as a device call failed or the machine stopped, until the
@@ -191,7 +158,7 @@ impl<D: Disk> Coordinator<D> {
     pub fn tried(&self) -> Option<&Unconfirmed>
         ensures { option_map (λ tried. tried.now) result ≡ tried_shown self.now }
     {
-        self.tried.as_ref()
+        self.recorder.tried()
     }
 
     /// Starts a session: its number is kept in the archive, and both sides are to begin it. It
@@ -244,12 +211,20 @@ impl<D: Disk> Coordinator<D> {
             × (tried_shown self.new ≡ tried_shown self.old)) }
     {
         self.check_start()?;
-        let number = self.archive.last_session() + 1;
-        let mut written = Vec::new(alloc);
-        written.push(Kept::Session(number))?;
-        let (session, sends) = first_requests(alloc, number, self.archive.pair(), preference)?;
-        self.keep_session(alloc, session, written)?;
-        Ok(sends)
+        let archive = &self.recorder.archive;
+        let number = archive.last_session() + 1;
+        let (session, sends) = first_requests(alloc, number, archive.pair(), preference)?;
+        match self.recorder.keep_session(alloc, number) {
+            Ok(()) => {
+                self.run(session);
+                Ok(sends)
+            }
+            Err(error) => {
+                drop(session);
+                drop(sends);
+                Err(error)
+            }
+        }
     }
 
     /// Why a session cannot be started, but for lack of memory and a device that fails.
@@ -262,114 +237,30 @@ impl<D: Disk> Coordinator<D> {
         ensures up { OnOk result (¬ IsHalted (archive_of self.now)) }
         ensures fits { OnOk result (session_shown (archive_of self.now) + 1 < 2 ^ 64) }
     {
-        if self.archive.is_halted() {
+        if self.recorder.archive.is_halted() {
             return Err(SessionError::Halted);
         }
         if self.running.is_some() {
             return Err(SessionError::Busy);
         }
-        if self.archive.last_session() == u64::MAX {
+        if self.recorder.archive.last_session() == u64::MAX {
             return Err(SessionError::Full);
         }
-        if self.archive.room() < SESSION_RECORD {
+        if self.recorder.archive.room() < SESSION_RECORD {
             return Err(SessionError::JournalFull);
         }
         Ok(())
     }
 
-    /// Keeps the number of the session in the archive, and lets the session run. Refused 9 where a
-    /// device call fails, and 11 where memory is refused.
-    fn keep_session(
-        &mut self,
-        alloc: Global,
-        session: Session,
-        records: Vec<Kept>,
-    ) -> Result<(), SessionError>
-        requires up { ¬ IsHalted (archive_of self.old) }
-        requires fits { session_shown (archive_of self.old) + 1 < 2 ^ 64 }
-        requires number { session.number ≡ session_shown (archive_of self.old) + 1 }
-        ensures ok { (pair : ℕ) (machine : CoordinatorMachine) → Stands self.old pair machine
-            → let kept = Begun (session_shown (archive_of self.old) + 1) in
-            OnOk result (KeepsSo (archive_of self.new) pair machine.journal kept (kept ∷ []) Up) }
-        ensures device { (pair : ℕ) (machine : CoordinatorMachine) → Stands self.old pair machine
-            → let kept = Begun (session_shown (archive_of self.old) + 1) in
-            result ≡ Err SessionError.Device
-            → KeepsSo (archive_of self.new) pair machine.journal kept [] Halted }
-        ensures memory { (pair : ℕ) (machine : CoordinatorMachine) → Stands self.old pair machine
-            → IfErr result (λ e. (e ≡ SessionError.Device)
-            ⊎ ((e ≡ SessionError.Memory) × Stands self.new pair machine)) }
-        ensures failures { MatchResult result
-            (λ _. D.failures (device_of self.new) ≡ D.failures (device_of self.old))
-            (λ e. CountsFailures e (D.failures (device_of self.old))
-            (D.failures (device_of self.new))) }
-        ensures report { MatchResult result (λ _. report_shown self.new ≡ None)
-            (λ _. report_shown self.new ≡ report_shown self.old) }
-        ensures running { OnOk result (self.new.running ≡ Some session) }
-        ensures stays { OnErr result (self.new.running ≡ self.old.running) }
-        ensures written { OnOk result (self.new.written ≡ records) }
-        ensures whole { OnOk result (broken self.new ≡ None) }
-        ensures breaks { result ≡ Err SessionError.Device → (written self.new ≡ [])
-            × (broken self.new ≡ Some (Begun (session_shown (archive_of self.old) + 1))) }
-        ensures kept { IfErr result (λ e. e ≢ SessionError.Device
-            → (self.new.written ≡ self.old.written) × (self.new.broke ≡ self.old.broke)
-            × (self.new.tried ≡ self.old.tried)) }
-        ensures untried { OnOk result (self.new.tried ≡ self.old.tried) }
-        ensures tried { result ≡ Err SessionError.Device
-            → HoldsTried (archive_of self.new) (Begun (session_shown (archive_of self.old) + 1))
-            (tried_shown self.new) }
-    {
-        match self.archive.next_session(alloc) {
-            Ok(_) => {
-                self.run(session, records);
-                Ok(())
-            }
-            Err(error) => {
-                let number = session.number;
-                // By a call, or the prover would look here at each kind of session that is let go.
-                drop(session);
-                Err(self.not_begun(alloc, error, number))
-            }
-        }
-    }
-
-    /// Lets the session run, whose number was kept by these records.
-    fn run(&mut self, session: Session, records: Vec<Kept>)
-        ensures archive { self.new.archive ≡ self.old.archive }
+    /// Lets the session run, whose number was kept.
+    fn run(&mut self, session: Session)
+        ensures recorder { self.new.recorder ≡ self.old.recorder }
         ensures running { self.new.running ≡ Some session }
         ensures report { self.new.report ≡ None }
-        ensures written { self.new.written ≡ records }
-        ensures whole { self.new.broke ≡ Broken.Nothing }
-        ensures tried { self.new.tried ≡ self.old.tried }
     {
         // What was there is let go by calls, as in `into_parts`.
         drop(self.running.replace(session));
         drop(self.report.take());
-        self.written = records;
-        self.broke = Broken::Nothing;
-    }
-
-    /// What a session is refused whose number was not kept. After a device call that failed, it is
-    /// what was tried last.
-    fn not_begun(&mut self, alloc: Global, error: ArchiveError, number: u64) -> SessionError
-        ensures archive { self.new.archive ≡ self.old.archive }
-        ensures running { self.new.running ≡ self.old.running }
-        ensures report { self.new.report ≡ self.old.report }
-        ensures device { result ≡ SessionError.Device → (error ≡ ArchiveError.Device)
-            × (self.new.written.items ≡ []) × (self.new.broke ≡ Broken.AsTried)
-            × HoldsTried (archive_of self.new) (Begun number) (tried_shown self.new) }
-        ensures other { (result ≡ SessionError.Device) ⊎ ((result ≡ SessionError.Memory)
-            × (error ≢ ArchiveError.Device) × (self.new ≡ self.old)) }
-    {
-        match error {
-            ArchiveError::Device => {
-                self.written = Vec::new(alloc);
-                self.tried = Some(Unconfirmed::new(Kept::Session(number), &self.archive));
-                self.broke = Broken::AsTried;
-                SessionError::Device
-            }
-            // What else refuses a session was looked at before.
-            _ => SessionError::Memory,
-        }
     }
 
     /// Some time went by without an answer: each request that waits is to be sent again. It answers
@@ -388,34 +279,32 @@ impl<D: Disk> Coordinator<D> {
             return Vec::new(alloc);
         };
         if session.is_worn() {
-            self.end(alloc, Ended::Early(Refusal::NoAnswer));
-            return Vec::new(alloc);
+            return self.end(alloc, Ended::Early(Refusal::NoAnswer));
         }
         match session.waiting(alloc) {
             Ok(sends) => {
                 session.count_resend();
                 sends
             }
-            Err(_) => {
-                self.end(alloc, Ended::Early(Refusal::Memory));
-                Vec::new(alloc)
-            }
+            Err(_) => self.end(alloc, Ended::Early(Refusal::Memory)),
         }
     }
 
-    /// Ends the session that runs, if one does, and keeps its report. It takes no memory.
-    fn end(&mut self, alloc: Global, ended: Ended)
+    /// Ends the session that runs, if one does, and keeps its report. Nothing is sent then. It
+    /// takes no memory.
+    fn end(&mut self, alloc: Global, ended: Ended) -> Vec<Sending>
         ensures running { self.new.running ≡ None }
-        ensures archive { self.new.archive ≡ self.old.archive }
-        ensures kept { (self.new.written ≡ self.old.written) × (self.new.broke ≡ self.old.broke)
-            × (self.new.tried ≡ self.old.tried) }
+        ensures recorder { self.new.recorder ≡ self.old.recorder }
         ensures report { (session : Ran) (running : Running) → self.old.running ≡ Some session
             → Tells session running
             → report_shown self.new ≡ Some (report_of running (ended_by ended)) }
+        ensures silent { result.items ≡ [] }
     {
         if let Some(session) = self.running.take() {
-            self.finish(alloc, session, ended);
+            let report = session.into_report(alloc, refusal_in(ended));
+            drop(self.report.replace(report));
         }
+        Vec::new(alloc)
     }
 }
 
@@ -443,5 +332,16 @@ fn first_requests(
             drop(session);
             Err(error)
         }
+    }
+}
+
+/// What ended the session early, if anything did.
+fn refusal_in(ended: Ended) -> Option<Refusal>
+    ensures { option_map cause_of result ≡ ended_by ended }
+{
+    match ended {
+        Ended::Settled => None,
+        Ended::Early(why) => Some(why),
+        Ended::Failed => Some(Refusal::Device),
     }
 }

@@ -175,8 +175,8 @@ fn has_room<D: Disk>(archive: &Archive<D>, kept: &ItemRecord) -> bool
     }
 }
 
-/// Writes a checkpoint, so that the journal has room again. Without one, the error is how what is
-/// due ends.
+/// Writes a checkpoint, so that the journal has room again. Where none is written, the error is
+/// what becomes of the record.
 fn make_room<D: Disk>(alloc: Global, archive: &mut Archive<D>) -> Result<(), RecordOutcome>
     ensures room { (pair : ℕ) (machine : Journal) → IsMachine archive.old pair machine
         → MakesRoomNow archive.new pair machine result }
@@ -195,7 +195,7 @@ fn make_room<D: Disk>(alloc: Global, archive: &mut Archive<D>) -> Result<(), Rec
     Ok(())
 }
 
-/// Writes a checkpoint. Without one, the error is how what is due ends.
+/// Writes a checkpoint. Where none is written, the error is what becomes of the record.
 fn checkpoint<D: Disk>(alloc: Global, archive: &mut Archive<D>) -> Result<(), RecordOutcome>
     ensures made { (pair : ℕ) (machine : Journal) → IsMachine archive.old pair machine
         → Checkpoints archive.new pair machine result }

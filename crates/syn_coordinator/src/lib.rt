@@ -62,6 +62,7 @@
 mod coordinator;
 mod due;
 mod ended;
+mod recorder;
 mod tried;
 
 pub use coordinator::Coordinator;

@@ -4,15 +4,15 @@
 //! # What it promises
 //!
 //! `IsSession archive session running`: it is the running session of a machine that has this
-//! archive. What waits on its two lines is the same, and so are
-//! its scans, or its way through its plan.
+//! archive. What waits on its two lines is the same, and so are its scans, or its way through its
+//! plan.
 //!
 //! - `Session::new` has both sides begin the session (`begun`, `sends`). `waiting` is what waits on
 //!   both lines, left first and in rising number, and `count_resend` counts that each is sent
 //!   again. `is_worn` says whether one may be sent again no more. `waits_on` says whether a request
 //!   waits on a side.
 //! - What waits on a side may wait there, and its numbers rise (`IsPeer`: `may`, `rising`).
-//! - `answered` gives the request that waits for the answer of that number, which waits no more
+//! - `take_waiting` gives the request that waits for the answer of that number, which waits no more
 //!   (`some`: `HasTaken`). Where none does, nothing changes (`none`).
 //! - `hear` takes the answer to a begin or to a listing (`step`: `Hears`). It gives the listings
 //!   that are next, or nothing where each directory of both sides was answered. Or the session

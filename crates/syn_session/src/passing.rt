@@ -6,6 +6,7 @@ ghost use Rattle.syn_headline.specs.Report.{conflict_at, is_carrying};
 ghost use Rattle.syn_headline.specs.Session.{record_for};
 ghost use Rattle.syn_model.specs.Archive.{Kept};
 ghost use Rattle.syn_model.specs.Decision.{Conflict, path_of};
+ghost use Rattle.syn_recon.specs.Items.{item_of};
 ghost use Rattle.syn_refusal.specs.Refusals.{cause_of};
 ghost use Rattle.syn_scan.specs.Found.{Found};
 
@@ -14,6 +15,7 @@ use crate::plan_progress::PlanProgress;
 use std::alloc::Global;
 use syn_model::plan_laws;
 use syn_path::Path;
+use syn_recon::Item;
 use syn_refusal::Refusal;
 
 impl PlanProgress {
@@ -79,16 +81,18 @@ impl PlanProgress {
         self.pass_refused(why, path)
     }
 
-    /// Past an item whose record is kept, and that was carried, or only marked.
-    pub fn pass_kept(&mut self, was_carried: bool)
+    /// Past the item that it has come to, if any is left, whose record is kept.
+    pub fn pass_kept(&mut self)
         ensures passes { (left right : Found) (reached : Reached) (planned : Planned) (what : Kept)
             → IsPlanProgress self.old left right reached
             → slice_get (plan_in self.old left right) self.old.cursor ≡ Some planned
             → record_for planned planned.item ≡ Some what
-            → is_carrying planned.item ≡ was_carried
             → IsPlanProgress self.new left right (kept_at reached what) }
     {
-        if was_carried {
+        let Some(item) = self.items.get(self.cursor as usize) else {
+            return;
+        };
+        if is_carried(item) {
             self.pass_carried();
         } else {
             self.pass_marked();
@@ -127,4 +131,11 @@ fn one_more(count: u32) -> u32
     ensures { count + 1 < 2 ^ 32 → result ≡ count + 1 }
 {
     count.saturating_add(1)
+}
+
+/// Whether what stands at its path goes from one side to the other.
+fn is_carried(item: &Item) -> bool
+    ensures { result ≡ is_carrying (item_of item.now) }
+{
+    matches!(item, Item::ToLeft(_) | Item::ToRight(_))
 }

@@ -60,7 +60,7 @@ impl PeerState {
     }
 
     /// The request that waits for the answer of that number, which has come; none where none does.
-    pub(crate) fn answered(&mut self, number: u32) -> Option<Request>
+    pub(crate) fn take_waiting(&mut self, number: u32) -> Option<Request>
         ensures request { option_map (λ request. request_of request) result
             ≡ asked_in (waiting_of self.old) number }
         ensures some { IfSome result (λ _. HasTaken self.old self.new number) }

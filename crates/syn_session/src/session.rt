@@ -128,9 +128,9 @@ impl Session {
         self.right.count_resend();
     }
 
-    /// The request that waits for the answer of that number from the side, in that session; none
-    /// where none does.
-    pub fn answered(&mut self, from: Side, session: u64, number: u32) -> Option<Request>
+    /// Takes out the request that waits for the answer of that number from the side, in that
+    /// session; none where none does.
+    pub fn take_waiting(&mut self, from: Side, session: u64, number: u32) -> Option<Request>
         ensures some { IfSome result (λ request. (self.old.number ≡ session)
             × IsAnswering self.old self.new (which_of from) number (request_of request)) }
         ensures none { result ≡ None → (self.new ≡ self.old) × (self.old.number ≡ session
@@ -140,8 +140,8 @@ impl Session {
             return None;
         }
         match from {
-            Side::Left => self.left.answered(number),
-            Side::Right => self.right.answered(number),
+            Side::Left => self.left.take_waiting(number),
+            Side::Right => self.right.take_waiting(number),
         }
     }
 

@@ -3,8 +3,8 @@ use Rattle.std.specs.Prelude.{◌≡◌, ◌⊎◌, ℕ, true, List, [], ◌∷�
 use Rattle.std.specs.Prelude.{None}
 use Rattle.syn_archive.specs.Archive.{disk_of}
 use Rattle.syn_archive.specs.declared.archive.Archive.{Archive}
-use Rattle.syn_coordinator.specs.Coordinators.{BreaksNothing, BreaksOff, BreaksUnsent}
-use Rattle.syn_coordinator.specs.declared.coordinator.Coordinator.{Coordinator}
+use Rattle.syn_coordinator.specs.Recorders.{BreaksNothing, BreaksOff, BreaksUnsent}
+use Rattle.syn_coordinator.specs.declared.recorder.Recorder.{Recorder}
 use Rattle.syn_coordinator.specs.declared.ended.Ended.{Ended}
 use Rattle.syn_coordinator.specs.declared.ended.Ended.TheVariants.{Early, Failed, Settled}
 use Rattle.syn_disk.specs.Arms.{is_stopped}
@@ -55,21 +55,21 @@ kept_by what Unsent = []
 kept_by what due.Unconfirmed = []
 
 -- what was due breaks off only where it ends for the device
-abbrev pub BreaksBy : {D : Type 0} → {disk : Ghosts D} → Coordinator D disk → Coordinator D disk →
+abbrev pub BreaksBy : {D : Type 0} → {disk : Ghosts D} → Recorder D disk → Recorder D disk →
     RecordOutcome → Type 0
 BreaksBy old new Unsent = BreaksUnsent old new
 BreaksBy old new due.Unconfirmed = BreaksOff old new
 BreaksBy old new _ = BreaksNothing old new
 
 -- and so does a session that ends
-abbrev pub BreaksAs : {D : Type 0} → {disk : Ghosts D} → Coordinator D disk → Coordinator D disk →
+abbrev pub BreaksAs : {D : Type 0} → {disk : Ghosts D} → Recorder D disk → Recorder D disk →
     Ended → Type 0
 BreaksAs old new Failed = BreaksUnsent old new ⊎ BreaksOff old new
 BreaksAs old new _ = BreaksNothing old new
 
 -- a call goes through the plan of its session: as long as it goes on nothing breaks
-abbrev pub Breaks : {D : Type 0} → {disk : Ghosts D} → {A : Type 0} → Coordinator D disk →
-    Coordinator D disk → Result A Ended → Type 0
+abbrev pub Breaks : {D : Type 0} → {disk : Ghosts D} → {A : Type 0} → Recorder D disk →
+    Recorder D disk → Result A Ended → Type 0
 Breaks old new result = MatchResult result (λ _. BreaksNothing old new) (BreaksAs old new)
 
 -- It goes past the item, whose record is kept or refused; or the session ends at it; or the machine

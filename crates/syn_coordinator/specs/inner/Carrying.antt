@@ -1,7 +1,7 @@
 -- What an answer for the item that a session has come to comes to, where that item is carried.
 use Rattle.std.specs.Prelude.{◌≡◌, ◌⊎◌, ◌≤◌, ◌≢◌, ℕ, suc, true, List, [], ◌∷◌, ◌++◌, None, Some}
-use Rattle.syn_coordinator.specs.Coordinators.{archive_of, written}
-use Rattle.syn_coordinator.specs.declared.coordinator.Coordinator.{Coordinator}
+use Rattle.syn_coordinator.specs.Recorders.{written}
+use Rattle.syn_coordinator.specs.declared.recorder.Recorder.{Recorder}
 use Rattle.syn_coordinator.specs.declared.ended.Ended.{Ended}
 use Rattle.syn_coordinator.specs.declared.ended.Ended.TheVariants.{Early}
 use Rattle.syn_coordinator.specs.inner.Settling.{AsksSo, EndsSo, IsQuiet}
@@ -16,7 +16,7 @@ use Rattle.syn_session.specs.Stages.{IsPlanProgress, Reached}
 use Rattle.syn_session.specs.declared.plan_progress.PlanProgress.{PlanProgress}
 use Rattle.syn_session.specs.declared.session.Asks.{Asks}
 
-module _ {D : Type 0} {disk : Ghosts D} (old new : Coordinator D disk) (pair : ℕ)
+module _ {D : Type 0} {disk : Ghosts D} (old new : Recorder D disk) (pair : ℕ)
     (taken : Exchange) (journal : Journal) (before : Reached) (progress : PlanProgress)
     (left right : Found) (all : List Exchange) where
   -- it asks for a later item
@@ -36,7 +36,7 @@ module _ {D : Type 0} {disk : Ghosts D} (old new : Coordinator D disk) (pair : �
     at_once : (why : Refusal) →
         (fault_of all taken.side taken.request taken.reply ≡ Some (cause_of why))
         ⊎ (cause_of why ≡ Memory) →
-        written new ≡ written old → IsMachine (archive_of new) pair journal →
+        written new ≡ written old → IsMachine new.archive pair journal →
         IsQuiet new journal → IsPlanProgress progress left right before → EndsCarrying (Early why)
     afterwards : (ended : Ended) → fault_of all taken.side taken.request taken.reply ≡ None →
         EndsSo old new pair taken journal before progress left right ended → EndsCarrying ended

@@ -1,7 +1,7 @@
 -- What a call that carries out a plan has come to, with what it wrote.
 use Rattle.std.specs.Prelude.{◌≡◌, ◌≤◌, ◌++◌, ℕ, suc, List, None}
-use Rattle.syn_coordinator.specs.Coordinators.{archive_of, tried_shown, written}
-use Rattle.syn_coordinator.specs.declared.coordinator.Coordinator.{Coordinator}
+use Rattle.syn_coordinator.specs.Recorders.{written}
+use Rattle.syn_coordinator.specs.declared.recorder.Recorder.{Recorder}
 use Rattle.syn_coordinator.specs.declared.ended.Ended.{Ended}
 use Rattle.syn_coordinator.specs.inner.Walking.{Comes, ComesToAsk, Ends}
 use Rattle.syn_disk.specs.declared.disk.Disk.{Ghosts}
@@ -14,30 +14,30 @@ use Rattle.syn_session.specs.declared.plan_progress.PlanProgress.{PlanProgress}
 use Rattle.syn_session.specs.declared.session.Asks.{Asks}
 
 -- nothing is being written, and nothing is remembered that was
-abbrev pub IsQuiet : {D : Type 0} → {disk : Ghosts D} → Coordinator D disk → Journal → Type 0
-IsQuiet coordinator journal = (tried_shown coordinator ≡ None) × (journal.writing ≡ None)
+abbrev pub IsQuiet : {D : Type 0} → {disk : Ghosts D} → Recorder D disk → Journal → Type 0
+IsQuiet recorder journal = (recorder.tried ≡ None) × (journal.writing ≡ None)
 
-module _ {D : Type 0} {disk : Ghosts D} (old new : Coordinator D disk) (pair : ℕ)
+module _ {D : Type 0} {disk : Ghosts D} (old new : Recorder D disk) (pair : ℕ)
     (taken : Exchange) (journal : Journal) (before : Reached) (progress : PlanProgress)
     (left right : Found) where
   -- it is past this item
   abbrev pub IsPast : Type 0
   IsPast = (kept : List Kept) × (written new ≡ written old ++ kept)
       × (suc before.cursor ≡ progress.cursor)
-      × Comes (archive_of new) pair taken journal before kept progress left right
-      × (tried_shown new ≡ None)
+      × Comes new.archive pair taken journal before kept progress left right
+      × (new.tried ≡ None)
 
   -- the session ends so
   abbrev pub EndsSo : Ended → Type 0
   EndsSo ended = (kept : List Kept) × (written new ≡ written old ++ kept)
-      × Ends (archive_of new) (tried_shown new) pair taken journal before kept progress left right
+      × Ends new.archive new.tried pair taken journal before kept progress left right
       ended
 
   -- it asks for this
   abbrev pub AsksSo : List Exchange → Asks → Type 0
   AsksSo all asks = (kept : List Kept) × (written new ≡ written old ++ kept)
-      × ComesToAsk (archive_of new) pair taken journal before kept progress left right all asks
-      × (tried_shown new ≡ None)
+      × ComesToAsk new.archive pair taken journal before kept progress left right all asks
+      × (new.tried ≡ None)
 
   -- it is past this item, and nothing was asked for the next
   abbrev pub PassesOn : List Exchange → Type 0
@@ -46,7 +46,7 @@ module _ {D : Type 0} {disk : Ghosts D} (old new : Coordinator D disk) (pair : �
   -- it is past some items, and nothing was asked for the next
   abbrev pub HasCome : List Exchange → Type 0
   HasCome all = (kept : List Kept) × (written new ≡ written old ++ kept)
-      × Comes (archive_of new) pair taken journal before kept progress left right
+      × Comes new.archive pair taken journal before kept progress left right
       × (before.cursor ≤ progress.cursor)
       × AreAskedBefore (plan_in progress left right) progress.cursor all
-      × (tried_shown new ≡ None)
+      × (new.tried ≡ None)

@@ -1,5 +1,5 @@
 //! The coordinator's archive as a whole: a checkpoint, another opening, and the arms of its device.
-ghost use Rattle.std.specs.Prelude.{◌≡◌, ◌≢◌, ◌<◌, [], ℕ, true, false, Err, IfErr, OnOk, IfOk};
+ghost use Rattle.std.specs.Prelude.{◌≡◌, ◌≢◌, ◌<◌, [], ℕ, false, Err, IfErr, OnOk, IfOk};
 ghost use Rattle.std.specs.Prelude.{MatchResult, None, Option, Some, option_map};
 ghost use Rattle.syn_archive.specs.Refusals.{refusal_of};
 ghost use Rattle.syn_coordinator.specs.Coordinators.{with_arms};
@@ -9,13 +9,11 @@ ghost use Rattle.syn_disk.specs.Disk.{SameOutcomes};
 ghost use Rattle.syn_headline.specs.Coordinator.{CoordinatorMachine, coordinator_kind};
 ghost use Rattle.syn_headline.specs.MachineSteps.{Checkpoints, Reopens};
 ghost use Rattle.syn_journal.specs.Endings.{CountsFailures, ended};
-ghost use Rattle.syn_coordinator.specs.declared.tried.Unconfirmed.{Unconfirmed};
 ghost use Rattle.syn_model.specs.Refusal.{first_cause};
-ghost use Rattle.syn_recovery.specs.Calls.{armed_at};
+ghost use Rattle.syn_journal.specs.Calls.{armed_at};
 
-use super::{Broken, Coordinator};
-use crate::found;
-use std::alloc::{AllocError, Global};
+use super::Coordinator;
+use std::alloc::Global;
 use syn_archive::ArchiveError;
 use syn_disk::{Arm, Disk, Limit};
 use syn_image::Kept;
@@ -56,9 +54,9 @@ impl<D: Disk> Coordinator<D> {
         ensures halts { HaltsByFailure self.old self.new }
     {
         archive_laws();
-        let generation = self.archive.generation();
+        let generation = self.recorder.archive.generation();
         is_long(generation);
-        match self.archive.checkpoint(alloc) {
+        match self.recorder.archive.checkpoint(alloc) {
             Ok(()) => Ok(()),
             Err(error) => Err(error),
         }
@@ -67,9 +65,9 @@ impl<D: Disk> Coordinator<D> {
 
 impl<D: Disk> Coordinator<D> {
     ghost use Rattle.syn_coordinator.specs.Coordinators.{Does, KeepsReadings, ReopensNot, Stands};
-    ghost use Rattle.syn_coordinator.specs.Coordinators.{archive_of, device_of, broken, broken_by};
+    ghost use Rattle.syn_coordinator.specs.Coordinators.{device_of, broken};
     ghost use Rattle.syn_coordinator.specs.Coordinators.{report_shown, runs, tried_shown, written};
-    ghost use Rattle.syn_coordinator.specs.Tries.{found_in, listed};
+    ghost use Rattle.syn_coordinator.specs.Tries.{listed};
     ghost use Rattle.syn_image.specs.Archives.{kept_of};
 
     /// Opens the archive's own disk again. A session that runs goes on; an archive that was halted
@@ -102,51 +100,14 @@ impl<D: Disk> Coordinator<D> {
         ensures failures { CountsFailures (ended refusal_of result)
             (D.Disk.failures (device_of self.old)) (D.Disk.failures (device_of self.new)) }
     {
-        let broke = self.copied_broken(alloc)?;
-        match self.archive.reopen(alloc) {
-            Ok(()) => Ok(self.recovered(broke)),
+        let broke = self.recorder.copied_broken(alloc)?;
+        match self.recorder.archive.reopen(alloc) {
+            Ok(()) => Ok(self.recorder.recovered(broke)),
             Err(error) => {
                 drop(broke);
                 Err(error)
             }
         }
-    }
-
-    /// What was answered 9 in the last call that could write, in memory of its own. Refused where
-    /// memory is refused.
-    fn copied_broken(&self, alloc: Global) -> Result<Broken, AllocError>
-        ensures { IfOk result (λ broke. (tried : Option Unconfirmed)
-            → broken_by broke tried ≡ broken self.now) }
-    {
-        let Some(kept) = self.last_broken() else {
-            return Ok(Broken::Nothing);
-        };
-        Ok(Broken::Copied(kept.copy(alloc)?))
-    }
-
-    /// What was tried, where the archive has it now; and it is forgotten, but for this copy of what
-    /// was answered 9. Where the machine is stopped it is still remembered, and nothing is
-    /// answered.
-    fn recovered(&mut self, broke: Broken) -> Option<Kept>
-        requires broke { (tried : Option Unconfirmed) → broken_by broke tried ≡ broken self.old }
-        ensures goes { is_stopped (D.Disk.arms (device_of self.new)) ≡ false
-            → (tried_shown self.new ≡ None) × (option_map kept_of result
-            ≡ found_in (tried_shown self.old) (archive_of self.new)) }
-        ensures stopped { is_stopped (D.Disk.arms (device_of self.new)) ≡ true
-            → (tried_shown self.new ≡ tried_shown self.old)
-            × (option_map kept_of result ≡ None) }
-        ensures archive { self.new.archive ≡ self.old.archive }
-        ensures running { self.new.running ≡ self.old.running }
-        ensures report { self.new.report ≡ self.old.report }
-        ensures written { self.new.written ≡ self.old.written }
-        ensures broken { broken self.new ≡ broken self.old }
-    {
-        if self.archive.is_cut() {
-            drop(broke);
-            return None;
-        }
-        self.broke = broke;
-        found(self.tried.take(), &self.archive)
     }
 }
 
@@ -173,6 +134,6 @@ impl<D: Limit> Coordinator<D> {
             ≡ D.Disk.failures (device_of self.old) }
         ensures same { KeepsReadings self.old self.new }
     {
-        self.archive.arm(arm);
+        self.recorder.archive.arm(arm);
     }
 }

@@ -14,7 +14,6 @@ use std::alloc::Global;
 use syn_archive::{Archive, ArchiveError};
 use syn_disk::Disk;
 use syn_image::Kept;
-use syn_recovery::{device_laws, opening_laws};
 
 impl<D: Disk> Coordinator<D> {
     /// Opens the disk of a coordinator whose machine was down, and which had tried this last. It
@@ -42,11 +41,8 @@ impl<D: Disk> Coordinator<D> {
             (λ refused. CountsFailures (Some (refusal_of refused.0)) (D.failures disk)
             (D.failures refused.1)) }
     {
-        device_laws();
-        opening_laws();
         match Archive::open(alloc, disk, Some(pair)) {
             Ok(archive) => {
-                archive.keeps_on_disk();
                 let kept = found(tried, &archive);
                 let coordinator = Coordinator::new(alloc, archive);
                 Ok((coordinator, kept))

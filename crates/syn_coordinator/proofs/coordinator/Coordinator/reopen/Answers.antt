@@ -18,7 +18,7 @@ use Rattle.syn_coordinator.proofs.coordinator.Coordinator.reopen.Goals as goal
 
 pub returns-in-Ok-clause-ok : goal.returns-in-Ok-clause-ok
 returns-in-Ok-clause-ok g c pair machine stands =
-    reopen_does c.args.self.now c.recovered.new.self pair machine stands c.recovered.ensures.running
+    reopen_does c.args.self.now _ pair machine stands refl
     (option_map kept_of c.recovered.result) c.recovered.ensures.goes c.recovered.ensures.stopped
     (subst (λ a. Moves a pair
     (λ journal. (kept : List Kept) × Reopened pair machine.journal journal kept) Up)
@@ -38,12 +38,14 @@ pub returns-in-Err-clause-memory : goal.returns-in-Err-clause-memory
 returns-in-Err-clause-memory g c pair machine stands other =
     let is = stands.journal in
     let why = subst (λ p. IsReopenRefusal c.in-Err.error p
-    (g.D.Disk.seen (disk_of c.args.self.now.archive))) is.pair_is c.in-Err.ensures.refusals in
-    let memory = only_memory pair machine.journal (g.D.Disk.seen (disk_of c.args.self.now.archive))
+    (g.D.Disk.seen (disk_of c.args.self.now.recorder.archive))) is.pair_is c.in-Err.ensures.refusals
+    in
+    let memory = only_memory pair machine.journal (g.D.Disk.seen (disk_of
+    c.args.self.now.recorder.archive))
     (is.leaves _ (g.met.D.Disk.seen_may_stay _)) c.in-Err.error other why in (
       memory,
       not_reopened c.args.self.now _ pair machine stands refl refl _ _ _
-          (not_down c.args.self.now.archive machine.journal is.state) (λ up. up)
+          (not_down c.args.self.now.recorder.archive machine.journal is.state) (λ up. up)
           (λ calls arms failures meets. no_memory_to_reopen calls arms failures meets)
           (reopen_stayed c.reopen.new.self pair machine.journal (subst
           (λ e. ReadsDisk c.reopen.new.self pair machine.journal (Some (refusal_of e))) memory
@@ -56,7 +58,8 @@ returns-in_err-broke-clause-memory g c pair machine stands =
     (λ other. (
       refl,
       not_reopened c.args.self.now c.args.self.now pair machine stands refl refl _ _ _
-          (not_down c.args.self.now.archive machine.journal stands.journal.state) (λ up. up)
+          (not_down c.args.self.now.recorder.archive machine.journal stands.journal.state)
+          (λ up. up)
           (λ calls arms failures meets. no_memory_to_reopen calls arms failures meets)
-          (reopen_early c.args.self.now.archive pair machine.journal stands.journal),
+          (reopen_early c.args.self.now.recorder.archive pair machine.journal stands.journal),
     ))

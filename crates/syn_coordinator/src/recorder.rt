@@ -1,0 +1,243 @@
+//! The archive of a coordinator, and what became of the records that its calls wrote.
+ghost use Rattle.std.specs.Prelude.{◌≡◌, ◌≢◌, ◌∷◌, ◌++◌, ◌+◌, ◌<◌, ◌^◌, ◌⊎◌, [], ℕ, Err};
+ghost use Rattle.std.specs.Prelude.{IfErr, IfOk, MatchResult, None, Option, OnOk, Some, false};
+ghost use Rattle.std.specs.Prelude.{map, option_map, true};
+ghost use Rattle.syn_archive.specs.Archive.{IsHalted, disk_of, session_shown};
+ghost use Rattle.syn_coordinator.specs.Machines.{IsMachine, Journal};
+ghost use Rattle.syn_coordinator.specs.RecordOutcome.{Settles, TriesBy};
+ghost use Rattle.syn_coordinator.specs.Steps.{KeepsSo};
+ghost use Rattle.syn_coordinator.specs.Tries.{HoldsTried, found_in};
+ghost use Rattle.syn_coordinator.specs.declared.tried.Unconfirmed.{Unconfirmed};
+ghost use Rattle.syn_coordinator.specs.inner.Advancing.{kept_by};
+ghost use Rattle.syn_disk.specs.Arms.{is_stopped};
+ghost use Rattle.syn_headline.specs.Machine.{Halted, Up};
+ghost use Rattle.syn_image.specs.Archives.{kept_for, kept_of};
+ghost use Rattle.syn_model.specs.Archive.{Session as Begun};
+ghost use Rattle.syn_session.specs.Refusals.{CountsFailures};
+
+use crate::{RecordOutcome, Unconfirmed, found, keep_due};
+use std::alloc::{AllocError, Global};
+use syn_archive::{Archive, ArchiveError};
+use syn_disk::Disk;
+use syn_image::{ItemRecord, Kept};
+use syn_refusal::Refusal;
+use syn_session::SessionError;
+
+mod carried;
+mod taking;
+mod walk;
+
+/// The archive of a coordinator, with what the last call that could write wrote into it.
+#[derive(Drop)]
+pub(crate) struct Recorder<D: Disk> {
+    pub(crate) archive: Archive<D>,
+    written: Vec<Kept>,
+    /// What was tried last and not kept, until the archive is opened again.
+    tried: Option<Unconfirmed>,
+    broke: Broken,
+}
+
+/// The record that was sent to the disk and refused 9 in the last call that could write.
+#[derive(Drop)]
+pub(crate) enum Broken {
+    /// Nothing was.
+    Nothing,
+    /// It is what was tried last.
+    AsTried,
+    /// It is this, and the archive was opened again since.
+    Copied(Kept),
+}
+
+impl<D: Disk> Recorder<D> {
+    ghost use Rattle.syn_coordinator.specs.Recorders.{broken, broken_by, written};
+    ghost use Rattle.syn_coordinator.specs.inner.Advancing.{BreaksBy};
+
+    /// The archive, into which nothing was written yet. It takes no memory.
+    pub(crate) fn new(alloc: Global, archive: Archive<D>) -> Recorder<D>
+        ensures archive { result.archive ≡ archive }
+        ensures written { written result ≡ [] }
+        ensures broken { broken result ≡ None }
+        ensures tried { result.tried ≡ None }
+    {
+        Recorder {
+            archive,
+            written: Vec::new(alloc),
+            tried: None,
+            broke: Broken::Nothing,
+        }
+    }
+
+    /// The archive, and what was tried and not kept.
+    pub(crate) fn into_parts(self) -> (Archive<D>, Option<Unconfirmed>)
+        ensures archive { result.0 ≡ self.archive }
+        ensures tried { result.1 ≡ self.tried }
+    {
+        drop(self.written);
+        (self.archive, self.tried)
+    }
+
+    /// What the last call that could write wrote, in order, and what was answered 9 in it.
+    pub(crate) fn kept(&self) -> (&[Kept], Option<&Kept>)
+        ensures written { map kept_of result.0.now ≡ written self.now }
+        ensures broken { option_map (λ kept. kept_of kept.now) result.1 ≡ broken self.now }
+    {
+        (&self.written, self.last_broken())
+    }
+
+    /// What was answered 9 in the last call that could write.
+    fn last_broken(&self) -> Option<&Kept>
+        ensures { option_map (λ kept. kept_of kept.now) result ≡ broken self.now }
+    {
+        match &self.broke {
+            Broken::Nothing => None,
+            Broken::AsTried => Some(self.tried.as_ref()?.kept()),
+            Broken::Copied(kept) => Some(kept),
+        }
+    }
+
+    /// The record that was being written as a device call failed or the machine stopped, until the
+    /// archive is opened again.
+    pub(crate) fn tried(&self) -> Option<&Unconfirmed>
+        ensures { option_map (λ tried. tried.now) result ≡ self.now.tried }
+    {
+        self.tried.as_ref()
+    }
+
+    /// A call begins that can write: what the one before wrote is told no more.
+    pub(crate) fn forget(&mut self, alloc: Global)
+        ensures archive { self.new.archive ≡ self.old.archive }
+        ensures tried { self.new.tried ≡ self.old.tried }
+        ensures written { written self.new ≡ [] }
+        ensures whole { broken self.new ≡ None }
+    {
+        self.written = Vec::new(alloc);
+        self.broke = Broken::Nothing;
+    }
+
+    /// Keeps the number of the next session in the archive. Refused 9 where a device call fails,
+    /// and 11 where memory is refused.
+    pub(crate) fn keep_session(&mut self, alloc: Global, number: u64) -> Result<(), SessionError>
+        requires up { ¬ IsHalted self.old.archive }
+        requires fits { session_shown self.old.archive + 1 < 2 ^ 64 }
+        requires number { number ≡ session_shown self.old.archive + 1 }
+        ensures ok { (pair : ℕ) (journal : Journal) → IsMachine self.old.archive pair journal
+            → OnOk result (KeepsSo self.new.archive pair journal (Begun number)
+            (Begun number ∷ []) Up) }
+        ensures device { (pair : ℕ) (journal : Journal) → IsMachine self.old.archive pair journal
+            → result ≡ Err SessionError.Device
+            → KeepsSo self.new.archive pair journal (Begun number) [] Halted }
+        ensures memory { (pair : ℕ) (journal : Journal) → IsMachine self.old.archive pair journal
+            → IfErr result (λ e. (e ≡ SessionError.Device)
+            ⊎ ((e ≡ SessionError.Memory) × IsMachine self.new.archive pair journal)) }
+        ensures failures { MatchResult result
+            (λ _. D.failures (disk_of self.new.archive) ≡ D.failures (disk_of self.old.archive))
+            (λ e. CountsFailures e (D.failures (disk_of self.old.archive))
+            (D.failures (disk_of self.new.archive))) }
+        ensures written { OnOk result (written self.new ≡ Begun number ∷ []) }
+        ensures whole { OnOk result (broken self.new ≡ None) }
+        ensures untried { OnOk result (self.new.tried ≡ self.old.tried) }
+        ensures breaks { result ≡ Err SessionError.Device → (written self.new ≡ [])
+            × (broken self.new ≡ Some (Begun number))
+            × HoldsTried self.new.archive (Begun number) self.new.tried }
+        ensures stays { IfErr result (λ e. e ≢ SessionError.Device
+            → (written self.new ≡ written self.old) × (broken self.new ≡ broken self.old)
+            × (self.new.tried ≡ self.old.tried)) }
+    {
+        let mut records = Vec::new(alloc);
+        records.push(Kept::Session(number))?;
+        match self.archive.next_session(alloc) {
+            Ok(_) => {
+                self.written = records;
+                self.broke = Broken::Nothing;
+                Ok(())
+            }
+            Err(error) => Err(self.not_begun(alloc, error, number)),
+        }
+    }
+
+    /// What a session is refused whose number was not kept. After a device call that failed, it is
+    /// what was tried last.
+    fn not_begun(&mut self, alloc: Global, error: ArchiveError, number: u64) -> SessionError
+        ensures archive { self.new.archive ≡ self.old.archive }
+        ensures device { result ≡ SessionError.Device → (error ≡ ArchiveError.Device)
+            × (self.new.written.items ≡ []) × (self.new.broke ≡ Broken.AsTried)
+            × HoldsTried self.new.archive (Begun number) self.new.tried }
+        ensures other { (result ≡ SessionError.Device) ⊎ ((result ≡ SessionError.Memory)
+            × (error ≢ ArchiveError.Device) × (self.new ≡ self.old)) }
+    {
+        match error {
+            ArchiveError::Device => {
+                self.written = Vec::new(alloc);
+                self.tried = Some(Unconfirmed::new(Kept::Session(number), &self.archive));
+                self.broke = Broken::AsTried;
+                SessionError::Device
+            }
+            // What else refuses a session was looked at before.
+            _ => SessionError::Memory,
+        }
+    }
+
+    /// Keeps what is due in the archive, and tells it among what was written, or as answered 9
+    /// where it was sent to the disk and not kept. The session ends 11 where memory is refused.
+    pub(crate) fn keep(&mut self, alloc: Global, kept: ItemRecord) -> RecordOutcome
+        ensures settles { (pair : ℕ) (journal : Journal)
+            → IsMachine self.old.archive pair journal
+            → Settles self.new.archive pair journal (kept_for kept) result }
+        ensures written { written self.new ≡ written self.old ++ kept_by (kept_for kept) result }
+        ensures tried { TriesBy self.new.archive (kept_for kept) self.old.tried
+            self.new.tried result }
+        ensures breaks { BreaksBy self.old self.new result }
+    {
+        if self.written.reserve(1).is_err() {
+            drop(kept);
+            return RecordOutcome::Ends(Refusal::Memory);
+        }
+        let due = keep_due(alloc, &mut self.archive, &kept);
+        match due {
+            RecordOutcome::Recorded => self.written.push_reserved(Kept::from(kept)),
+            RecordOutcome::Refused(_) => drop(kept),
+            RecordOutcome::Unconfirmed => {
+                self.tried = Some(Unconfirmed::new(Kept::from(kept), &self.archive));
+                self.broke = Broken::AsTried;
+            }
+            RecordOutcome::Ends(_) => drop(kept),
+            RecordOutcome::Unsent => drop(kept),
+        }
+        due
+    }
+
+    /// A copy of the record that the last call that could write was refused 9. Refused where
+    /// memory is refused.
+    pub(crate) fn copied_broken(&self, alloc: Global) -> Result<Broken, AllocError>
+        ensures { IfOk result (λ broke. (tried : Option Unconfirmed)
+            → broken_by broke tried ≡ broken self.now) }
+    {
+        let Some(kept) = self.last_broken() else {
+            return Ok(Broken::Nothing);
+        };
+        Ok(Broken::Copied(kept.copy(alloc)?))
+    }
+
+    /// What was tried, where the archive has it now; and it is forgotten, but for this copy of what
+    /// was answered 9. Where the machine is stopped it is still remembered, and nothing is
+    /// answered.
+    pub(crate) fn recovered(&mut self, broke: Broken) -> Option<Kept>
+        requires broke { (tried : Option Unconfirmed) → broken_by broke tried ≡ broken self.old }
+        ensures goes { is_stopped (D.Disk.arms (disk_of self.new.archive)) ≡ false
+            → (self.new.tried ≡ None) × (option_map kept_of result
+            ≡ found_in self.old.tried self.new.archive) }
+        ensures stopped { is_stopped (D.Disk.arms (disk_of self.new.archive)) ≡ true
+            → (self.new.tried ≡ self.old.tried)
+            × (option_map kept_of result ≡ None) }
+        ensures archive { self.new.archive ≡ self.old.archive }
+        ensures written { written self.new ≡ written self.old }
+        ensures broken { broken self.new ≡ broken self.old }
+    {
+        if self.archive.is_cut() {
+            drop(broke);
+            return None;
+        }
+        self.broke = broke;
+        found(self.tried.take(), &self.archive)
+    }
+}

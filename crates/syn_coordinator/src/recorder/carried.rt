@@ -1,0 +1,112 @@
+//! How a session goes on after an answer for the item that is carried.
+ghost use Rattle.std.specs.Prelude.{◌≡◌, ℕ, List, MatchResult};
+ghost use Rattle.syn_headline.specs.Coordinator.{Exchange, IsDue, IsFor};
+ghost use Rattle.syn_headline.specs.Network.{Which};
+ghost use Rattle.syn_headline.specs.Planning.{Planned};
+ghost use Rattle.syn_headline.specs.Side.{Request as Asked, Refused};
+ghost use Rattle.syn_coordinator.specs.Machines.{IsMachine, Journal};
+ghost use Rattle.syn_message.specs.Replies.{reply_of};
+ghost use Rattle.syn_propagate.specs.Transfers.{WaitsFor};
+ghost use Rattle.syn_refusal.specs.Refusals.{cause_of};
+ghost use Rattle.syn_session.specs.Answering.{exchange_of};
+ghost use Rattle.syn_session.specs.Carrying.{IsCarriedOut};
+ghost use Rattle.syn_session.specs.Stages.{Carries, Reached};
+ghost use Rattle.syn_image.specs.Archives.{kept_for};
+
+use super::Recorder;
+use crate::ended::Ended;
+use std::alloc::Global;
+use syn_disk::Disk;
+use syn_image::ItemRecord;
+use syn_message::Reply;
+use syn_refusal::Refusal;
+use syn_scan::Scan;
+use syn_session::{Asks, ItemProgress, PlanProgress};
+
+impl<D: Disk> Recorder<D> {
+    ghost use Rattle.syn_coordinator.specs.inner.Advancing.{Breaks};
+    ghost use Rattle.syn_coordinator.specs.inner.Carrying.{AsksLater, CarriesOn, EndsCarrying};
+    ghost use Rattle.syn_coordinator.specs.inner.Settling.{EndsSo, IsQuiet};
+
+    /// Takes the answer for the item that the session has come to, which is carried, and goes on
+    /// through the plan until it asks for something, or the session ends.
+    ///
+    /// It ends 23 where the answer does not belong to what was asked, 11 where memory is refused,
+    /// and else as the walk through the plan does.
+    pub(super) fn on_carried(
+        &mut self,
+        alloc: Global,
+        progress: &mut PlanProgress,
+        left: &Scan,
+        right: &Scan,
+        reply: Reply,
+    ) -> Result<Asks, Ended>
+        ensures step { (pair : ℕ) (journal : Journal) (all : List Exchange) (before : Reached)
+            (to : Which) (number : ℕ) (request : Asked)
+            → IsMachine self.old.archive pair journal → IsQuiet self.old journal
+            → Carries journal.value progress.old left.now right.now all before
+            (λ transfer. WaitsFor transfer all to request)
+            → let taken = exchange_of to number request (reply_of reply) in MatchResult result
+            (CarriesOn self.old self.new pair taken journal before progress.new left.now right.now
+            all)
+            (EndsCarrying self.old self.new pair taken journal before progress.new left.now
+            right.now all) }
+        ensures breaks { Breaks self.old self.new result }
+    {
+        match progress.take_answer(alloc, reply)? {
+            ItemProgress::Asks(asks) => Ok(asks),
+            ItemProgress::Done(kept) => self.walk_after(alloc, progress, left, right, kept),
+            ItemProgress::Refused(why) => self.walk_past(alloc, progress, left, right, why),
+        }
+    }
+
+    /// Keeps in the archive what is due for an item that is in its place on the other side, and
+    /// goes on through the plan.
+    fn walk_after(
+        &mut self,
+        alloc: Global,
+        progress: &mut PlanProgress,
+        left: &Scan,
+        right: &Scan,
+        kept: ItemRecord,
+    ) -> Result<Asks, Ended>
+        ensures step { (pair : ℕ) (journal : Journal) (taken : Exchange) (all : List Exchange)
+            (before : Reached) (planned : Planned) → IsMachine self.old.archive pair journal
+            → IsQuiet self.old journal
+            → IsCarriedOut progress.old left.now right.now all before planned
+            → IsDue progress.old.cursor planned taken (kept_for kept)
+            → MatchResult result
+            (AsksLater self.old self.new pair taken journal before progress.new left.now right.now
+            all)
+            (EndsSo self.old self.new pair taken journal before progress.new left.now right.now) }
+        ensures breaks { Breaks self.old self.new result }
+    {
+        self.settle(alloc, progress, kept)?;
+        self.walk(alloc, progress, left, right)
+    }
+
+    /// Gives up an item for which a side refused what it was asked, and goes on through the plan.
+    fn walk_past(
+        &mut self,
+        alloc: Global,
+        progress: &mut PlanProgress,
+        left: &Scan,
+        right: &Scan,
+        why: Refusal,
+    ) -> Result<Asks, Ended>
+        ensures step { (pair : ℕ) (journal : Journal) (taken : Exchange) (all : List Exchange)
+            (before : Reached) (planned : Planned) → IsMachine self.old.archive pair journal
+            → IsQuiet self.old journal
+            → IsCarriedOut progress.old left.now right.now all before planned
+            → taken.reply ≡ Refused (cause_of why)
+            → IsFor progress.old.cursor planned taken.request
+            → MatchResult result
+            (AsksLater self.old self.new pair taken journal before progress.new left.now right.now
+            all)
+            (EndsSo self.old self.new pair taken journal before progress.new left.now right.now) }
+        ensures breaks { Breaks self.old self.new result }
+    {
+        self.give_up(alloc, progress, why)?;
+        self.walk(alloc, progress, left, right)
+    }
+}
