@@ -11,7 +11,7 @@ use syn_disk::Disk;
 use syn_lock::{Naming, Pass};
 use syn_refusal::Refusal;
 use syn_replica::Replica;
-use syn_serve::{SHORT_JOURNAL_ROOM, UpkeepStep, keep_up};
+use syn_serve::{ROOM_IN_SHORT_JOURNAL, UpkeepStep, keep_up};
 use syn_shared::{SharedError, SharedReplica};
 
 /// Makes a step for each ring of the bell, until it is told to end. In a quiet moment after that
@@ -31,7 +31,7 @@ pub(crate) fn keep<H: Wait + Clock + Log, D: Disk, L: Naming<Replica<D>>>(
     for _ in server.rt.forever() {
         let least = match server.bell.wait(server.rt) {
             Wake::Answered => server.least_room,
-            Wake::Quiet => SHORT_JOURNAL_ROOM,
+            Wake::Quiet => ROOM_IN_SHORT_JOURNAL,
             Wake::Over => return,
         };
         let step = keep_up(server.alloc, server.shared, &mut pass, least);

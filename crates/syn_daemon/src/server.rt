@@ -57,7 +57,7 @@ pub(crate) struct Service<'a, H, S, P> {
     pub(crate) least_room: usize,
 }
 
-/// That of a replica on a disk `D`, whose lock `L` names.
+/// The service of a replica on a disk `D`; `L` is the name of its lock.
 pub(crate) type Server<'a, H, D, L> = Service<'a, H, SharedReplica<D>, PassPool<Replica<D>, L>>;
 
 /// Serves the replica to whoever connects, up to 62 connections at once, until so many were opened

@@ -24,7 +24,7 @@ use syn_disk::Disk;
 use syn_path::Side;
 use syn_refusal::Refusal;
 use syn_shared::SharedReplica;
-use syn_sync::{Driver, Link, Watch};
+use syn_sync::{Driver, Link, SessionWatch};
 
 /// Drives one session, which prefers a side or none, with the servers at these addresses, each
 /// `HOST:PORT`, and closes both connections. The coordinator has the report.
@@ -32,7 +32,7 @@ use syn_sync::{Driver, Link, Watch};
 /// Refused 9 where an address cannot be resolved or reached, and 12 where both are of one server,
 /// which would be marked as agreeing with itself: no session runs then. Else refused as
 /// `Driver::run` is.
-pub fn sync<H: Net<Listener = TcpListener, Stream = TcpStream>, C: Disk, V: Watch>(
+pub fn sync<H: Net<Listener = TcpListener, Stream = TcpStream>, C: Disk, V: SessionWatch>(
     rt: &H,
     alloc: Global,
     coordinator: &mut Coordinator<C>,
@@ -65,7 +65,7 @@ pub fn sync<H: Net<Listener = TcpListener, Stream = TcpStream>, C: Disk, V: Watc
 }
 
 /// A connection to the server of a side. Where it cannot be reached, that is told.
-fn reach_side<H: Net<Stream = TcpStream>, V: Watch>(
+fn reach_side<H: Net<Stream = TcpStream>, V: SessionWatch>(
     rt: &H,
     address: &str,
     side: Side,
@@ -104,7 +104,7 @@ where
     C: Disk + Drop,
     G: Gates + Sync,
     K: Gates + Sync,
-    V: Watch,
+    V: SessionWatch,
     ensures drives { (pair : ℕ) (machine : CoordinatorMachine) → Stands coordinator pair machine
         → DrivesSession (option_map which_of preference) result.0 pair machine result.1 }
     ensures refused { (pair : ℕ) (machine : CoordinatorMachine) → Stands coordinator pair machine
@@ -178,7 +178,7 @@ where
 }
 
 /// Drives a session where both servers were started, and closes the connections.
-fn drive_started<C: Disk, V: Watch>(
+fn drive_started<C: Disk, V: SessionWatch>(
     alloc: Global,
     mut coordinator: Coordinator<C>,
     left: TcpStream,
@@ -198,7 +198,7 @@ fn drive_started<C: Disk, V: Watch>(
 }
 
 /// Drives one session over the two connections.
-fn drive<C: Disk, V: Watch>(
+fn drive<C: Disk, V: SessionWatch>(
     alloc: Global,
     coordinator: &mut Coordinator<C>,
     mut streams: Streams<'_>,

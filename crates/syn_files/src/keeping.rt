@@ -19,7 +19,7 @@ use syn_path::Side;
 use syn_print::show_report;
 use syn_refusal::Refusal;
 use syn_session::{End, Report, Sending};
-use syn_sync::{Progress, Watch, tell_unreached};
+use syn_sync::{Progress, SessionWatch, tell_unreached};
 use syn_user::SideConnection;
 
 /// Runs a session of the line's servers, and another one each time that a side has changed since.
@@ -57,7 +57,7 @@ where
 #[derive(Drop)]
 struct Lost<'e, E>(&'e mut E);
 
-impl<E: Write> Watch for Lost<'_, E> {
+impl<E: Write> SessionWatch for Lost<'_, E> {
     fn unreached(&mut self, side: Side, why: &io::Error) {
         tell_unreached(self.0, side, why);
     }
@@ -84,7 +84,7 @@ struct Counted<'w, V> {
     right: u64,
 }
 
-impl<V: Watch> Watch for Counted<'_, V> {
+impl<V: SessionWatch> SessionWatch for Counted<'_, V> {
     fn unreached(&mut self, side: Side, why: &io::Error) {
         self.watch.unreached(side, why);
     }
@@ -243,7 +243,7 @@ impl<'a> Watched<'a> {
 
 /// The positions of both sides. A side that cannot be reached is told, unless that was told since
 /// both were reached last.
-fn positions<H: Net<Stream = TcpStream>, V: Watch>(
+fn positions<H: Net<Stream = TcpStream>, V: SessionWatch>(
     rt: &H,
     alloc: Global,
     sides: &mut Sides<'_>,
@@ -268,7 +268,8 @@ fn positions<H: Net<Stream = TcpStream>, V: Watch>(
 }
 
 /// Runs one session, prints its report where that says something new, and answers what is known
-/// since. Where a side was lost, the next look tries again.
+/// since. Where a side cannot be reached, `sync` has told it, and the next look tries again; a
+/// connection that is lost in the session ends it 25.
 fn session<H, D, V, O>(
     rt: &H,
     alloc: Global,

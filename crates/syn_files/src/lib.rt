@@ -1,9 +1,10 @@
 //! What a line does with images that have names, and with replicas that are served.
 //!
 //! An image lies on a disk that is opened by its name. What such a disk is, `NamedDisks` leaves
-//! open: the program's are files of the system. An image is shown, checked, edited and migrated, a
-//! replica is served to others, written into a folder and made what one is, and a session runs
-//! between two replicas, or is planned.
+//! open: the program's are files of the system. An image is shown, checked, edited and migrated. A
+//! replica is served to others, exported to a folder, imported from one and reconciled with one. A
+//! session runs between two replicas, is planned, or is run again whenever one of them changed
+//! (`keep_servers`).
 //!
 //! # What it promises
 //!

@@ -12,7 +12,7 @@ use syn_folder::{EditedFolder, SystemFolder};
 use syn_path::Side;
 use syn_print::{counts_of, show_plan};
 use syn_reconcile::{
-    Outcome as Settlement, ReconcileError, Report, Settled, Watch, WhenEmpty, plan, reconcile,
+    ItemWatch, Outcome as Settlement, ReconcileError, Report, Settled, WhenEmpty, plan, reconcile,
 };
 use syn_replica::Replica;
 
@@ -219,7 +219,7 @@ struct ItemsTold<'e, E> {
     errors: &'e mut E,
 }
 
-impl<E: Write> Watch for ItemsTold<'_, E> {
+impl<E: Write> ItemWatch for ItemsTold<'_, E> {
     fn planned(&mut self, items: usize) {
         self.planned = items;
     }

@@ -23,7 +23,7 @@ use syn_refusal::Refusal;
 use syn_replica::Replica;
 use syn_session::Report;
 use syn_shared::SharedReplica;
-use syn_sync::{Progress, Unwatched, Watch};
+use syn_sync::{Progress, SessionWatch, Unwatched};
 
 /// Runs a session of the replicas and their archive, prints its report, and answers what it came
 /// to. Each item is told to `errors` where `telling` says so, and with the items their counts.
@@ -53,7 +53,7 @@ where
 }
 
 /// What watches a session and hears how it ended.
-pub(crate) trait Told: Watch {
+pub(crate) trait Told: SessionWatch {
     /// The session ended with this report, which is not printed yet.
     fn ended(&mut self, report: &Report);
 }

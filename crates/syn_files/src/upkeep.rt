@@ -3,7 +3,7 @@
 use std::alloc::Global;
 use syn_coordinator::Coordinator;
 use syn_disk::Disk;
-use syn_serve::{SHORT_JOURNAL_ROOM, look_at};
+use syn_serve::{ROOM_IN_SHORT_JOURNAL, look_at};
 use syn_shared::SharedReplica;
 
 /// An archive's journal is short where it takes a payload of so many bytes. Its largest image has
@@ -17,7 +17,7 @@ pub(crate) fn shorten<D: Disk>(alloc: Global, replica: &SharedReplica<D>) {
         return;
     };
     match look_at(replica, &mut pass) {
-        Some(look) if look.room < SHORT_JOURNAL_ROOM => {
+        Some(look) if look.room < ROOM_IN_SHORT_JOURNAL => {
             let _made = replica.try_checkpoint(alloc, &mut pass);
         }
         _ => {}

@@ -13,7 +13,7 @@ ghost use Rattle.syn_reconcile.specs.UnderWay.{AreApart, IsStopped, ReachesMarks
 use crate::carry::carry;
 use crate::error::ReconcileError;
 use crate::report::Settled;
-use crate::watch::Watch;
+use crate::watch::ItemWatch;
 use std::alloc::Global;
 use syn_archive::Archive;
 use syn_disk::Disk;
@@ -25,7 +25,7 @@ use syn_replica::Replica;
 ///
 /// Refused as the replica or the archive refuses it, and 11 where memory is refused: what was
 /// carried out before stands then. The replica's disk comes back.
-pub(crate) fn carry_all<F: EditedFolder, R: Disk, A: Disk, W: Watch>(
+pub(crate) fn carry_all<F: EditedFolder, R: Disk, A: Disk, W: ItemWatch>(
     alloc: Global,
     folder: &mut F,
     replica: Replica<R>,

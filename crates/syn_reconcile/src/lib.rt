@@ -12,7 +12,7 @@
 //!   edits of the user in the replica, all of an item's at once, and what the replica changed is
 //!   put into the folder. The folder's tree, the replica's and the marks are then what the items
 //!   leave that were not refused, and the replica's history is the old one and edits of the user
-//!   (`carried`). Each item is told to a `Watch` as it is settled, of which no clause speaks.
+//!   (`carried`). Each item is told to an `ItemWatch` as it is settled, of which no clause speaks.
 //! - Where no item was refused, folder, replica and marks are what the plan leaves (`whole`), and
 //!   so what the definition of a synchronization asks (`synchronized`, `reconciled`).
 //! - A stop at any device call of either image leaves on the replica's disk what some of the
@@ -73,4 +73,4 @@ pub use error::ReconcileError;
 pub use report::{Outcome, Report, Settled};
 pub use run::{plan, reconcile};
 pub use shared::reconcile_shared;
-pub use watch::Watch;
+pub use watch::ItemWatch;

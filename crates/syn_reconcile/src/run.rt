@@ -21,7 +21,7 @@ use crate::checks::{WhenEmpty, check_empty, check_pair, check_whole};
 use crate::error::ReconcileError;
 use crate::items::carry_all;
 use crate::report::Report;
-use crate::watch::Watch;
+use crate::watch::ItemWatch;
 use std::alloc::Global;
 use syn_archive::Archive;
 use syn_disk::Disk;
@@ -105,7 +105,7 @@ pub(crate) fn plan_seen<F: EditedFolder, A: Disk>(
 /// Refused as `plan` is, before anything is changed, and as the replica or the archive refuses a
 /// change: what was carried out before stands then, and the same call goes on. The replica's disk
 /// comes back.
-pub fn reconcile<F: EditedFolder, R: Disk, A: Disk, W: Watch>(
+pub fn reconcile<F: EditedFolder, R: Disk, A: Disk, W: ItemWatch>(
     alloc: Global,
     folder: &mut F,
     replica: Replica<R>,

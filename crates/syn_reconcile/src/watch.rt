@@ -4,7 +4,7 @@ use crate::report::Settled;
 
 /// Is told what is planned and what came of each item, as it is known. It changes nothing of it. No
 /// clause says what it is told.
-pub trait Watch {
+pub trait ItemWatch {
     /// So many items are to be settled. None was yet.
     fn planned(&mut self, items: usize);
 

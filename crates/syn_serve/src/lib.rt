@@ -56,4 +56,4 @@ pub use error::ServeError;
 pub use gate::{Gate, Point};
 pub use message::{AnyReply, AnyRequest, decode_any_request, encode_any_reply};
 pub use serving::Serving;
-pub use upkeep::{Look, SHORT_JOURNAL_ROOM, UpkeepStep, keep_up, look_at};
+pub use upkeep::{Look, ROOM_IN_SHORT_JOURNAL, UpkeepStep, keep_up, look_at};

@@ -11,7 +11,7 @@ use syn_shared::{SharedError, SharedReplica};
 
 /// A replica's journal is short where it takes a payload of so many bytes. After the largest image,
 /// of 1,603,636 bytes, it takes one of 2,590,649: so a checkpoint makes each journal short.
-pub const SHORT_JOURNAL_ROOM: usize = 2_500_000;
+pub const ROOM_IN_SHORT_JOURNAL: usize = 2_500_000;
 
 /// What a checkpointer sees of a replica.
 #[derive(Clone, Copy, Debug, PartialEq, Eq)]

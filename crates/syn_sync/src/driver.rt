@@ -21,7 +21,7 @@ ghost use Rattle.syn_sync.specs.inner.Calling.{Calls, IsUnended, Starting};
 
 use crate::link::Link;
 use crate::readiness::Readiness;
-use crate::watch::Watch;
+use crate::watch::SessionWatch;
 use std::alloc::Global;
 use std::io::{Read, Write};
 use syn_coordinator::Coordinator;
@@ -69,7 +69,7 @@ impl<R: Read, W: Write> Driver<R, W> {
     ///
     /// Refused as `start` is, or as the checkpoint is; then no session ran. Refused 9 also where
     /// the coordinator's machine was stopped, and 25 where the session could not be ended.
-    pub fn run<D: Disk, S: Readiness, V: Watch>(
+    pub fn run<D: Disk, S: Readiness, V: SessionWatch>(
         &mut self,
         alloc: Global,
         coordinator: &mut Coordinator<D>,
@@ -106,7 +106,7 @@ impl<R: Read, W: Write> Driver<R, W> {
 
     /// Goes on with the session until it ends, a link closes, neither side is ready in time, or the
     /// coordinator waits for nothing.
-    fn go_on<D: Disk, S: Readiness, V: Watch>(
+    fn go_on<D: Disk, S: Readiness, V: SessionWatch>(
         &mut self,
         alloc: Global,
         coordinator: &mut Coordinator<D>,
@@ -223,7 +223,7 @@ impl<R: Read, W: Write> Driver<R, W> {
 }
 
 /// Tells the watch how many items the plan has, and what the coordinator wrote into its archive.
-fn tell_kept<D: Disk, V: Watch>(watch: &mut V, coordinator: &Coordinator<D>) {
+fn tell_kept<D: Disk, V: SessionWatch>(watch: &mut V, coordinator: &Coordinator<D>) {
     if let Some(items) = coordinator.planned() {
         watch.planned(items);
     }
@@ -232,7 +232,7 @@ fn tell_kept<D: Disk, V: Watch>(watch: &mut V, coordinator: &Coordinator<D>) {
 }
 
 /// Tells the watch each of the requests, in their order.
-fn tell_sent<V: Watch>(watch: &mut V, sends: &[Sending]) {
+fn tell_sent<V: SessionWatch>(watch: &mut V, sends: &[Sending]) {
     for sending in sends {
         watch.sent(sending);
     }

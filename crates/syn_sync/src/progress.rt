@@ -3,7 +3,7 @@ ghost use Rattle.std.specs.Prelude.{◌≡◌};
 ghost use Rattle.syn_sync.specs.Progresses.{writer_in};
 
 use crate::told::{carried_line, conflict_line, count_line, marked_line, refused_line};
-use crate::watch::{Watch, tell_unreached};
+use crate::watch::{SessionWatch, tell_unreached};
 use std::alloc::{AllocError, Global};
 use std::io::{self, Write};
 use syn_image::Kept;
@@ -192,7 +192,7 @@ impl<W: Write> Progress<W> {
     }
 }
 
-impl<W: Write> Watch for Progress<W> {
+impl<W: Write> SessionWatch for Progress<W> {
     fn unreached(&mut self, side: Side, why: &io::Error) {
         tell_unreached(&mut self.writer, side, why);
     }

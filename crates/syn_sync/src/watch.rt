@@ -8,7 +8,7 @@ use syn_session::Sending;
 
 /// Is told what happens in a session, as it happens. It sees the session, and changes nothing of
 /// it. No clause says what it is told.
-pub trait Watch {
+pub trait SessionWatch {
     /// The side cannot be reached, for this reason of the system. No session runs then.
     fn unreached(&mut self, side: Side, why: &io::Error);
 
@@ -39,7 +39,7 @@ pub fn tell_unreached<W: Write>(writer: &mut W, side: Side, why: &io::Error) {
 #[derive(Clone, Copy, Debug)]
 pub struct Unwatched;
 
-impl Watch for Unwatched {
+impl SessionWatch for Unwatched {
     fn unreached(&mut self, _side: Side, _why: &io::Error) {}
 
     fn sent(&mut self, _sending: &Sending) {}
