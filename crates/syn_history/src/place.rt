@@ -27,7 +27,7 @@ impl Model for Place {
 
 impl Place {
     /// The path, with a slot if that is wanted. Refused where memory is refused.
-    pub fn of(alloc: Global, path: &Path, has_slot: bool) -> Result<Place, AllocError>
+    pub(crate) fn of(alloc: Global, path: &Path, has_slot: bool) -> Result<Place, AllocError>
         ensures { IfOk result (λ place. place ≡ path.now) }
     {
         let own = path.copy(alloc)?;

@@ -26,7 +26,7 @@ pub enum Step {
 impl Step {
     /// The step of the event, with a slot for its path if that is wanted. Refused 11 where memory
     /// is refused, and for no other cause; the begin of a session takes none.
-    pub fn of(alloc: Global, event: &Event, has_slot: bool) -> Result<Step, HistoryError>
+    pub(crate) fn of(alloc: Global, event: &Event, has_slot: bool) -> Result<Step, HistoryError>
         ensures step { IfOk result (λ step. step ≡ step_of (event_of event.now)) }
         ensures memory { IfErr result (λ e. e ≡ HistoryError.Memory) }
     {
