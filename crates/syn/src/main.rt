@@ -1,18 +1,18 @@
 //! A crash-safe synchronizer of file trees: the program.
 //!
 //! `syn format KIND PAIR FILE` makes a replica or an archive. `syn put FILE USER PATH` puts
-//! standard input into a replica. `syn mkdir FILE USER PATH` makes a directory,
-//! `syn rm FILE USER PATH` removes what is there, and `syn chmod FILE USER PATH MODE` changes a
-//! file's mode. `syn show FILE [PATH]` prints an image, `syn check FILE` its numbers, and
-//! `syn log FILE [N]` its last events. `syn migrate FILE` makes an image of version 1 one of
-//! version 2. `syn export FILE DIR [PATH]` writes a replica into a folder, and
-//! `syn import FILE USER DIR [PATH]` makes it what a folder is.
+//! standard input into a replica. `syn mkdir FILE USER PATH` makes a directory, `syn rm FILE USER
+//! PATH` removes what is there, and `syn chmod FILE USER PATH MODE` changes a file's mode. `syn
+//! show FILE [PATH]` prints an image, `syn check FILE` its numbers, and `syn log FILE [N]` its last
+//! events. `syn migrate FILE` makes an image of version 1 one of version 2. `syn export FILE DIR
+//! [PATH]` writes a replica into a folder, and `syn import FILE USER DIR [PATH]` makes it what a
+//! folder is. `syn reconcile` makes a folder and a replica the same, by what both last agreed on.
 //!
 //! `syn serve FILE ADDR` serves a replica to users, who give `--served` and its address in the
 //! place of FILE, and to sessions. `syn sync ARCHIVE LEFT RIGHT` runs a session of two that are
-//! served, and `syn run LEFT RIGHT ARCHIVE` of two in files. `syn plan LEFT RIGHT ARCHIVE` prints
-//! what it would do. `syn simulate SCRIPT` runs the steps of a script on machines in memory, and
-//! prints what comes of them.
+//! served, with `--every` one whenever something changed, and `syn run LEFT RIGHT ARCHIVE` of two
+//! in files. `syn plan LEFT RIGHT ARCHIVE` prints what it would do. `syn simulate SCRIPT` runs the
+//! steps of a script on machines in memory, and prints what comes of them.
 //!
 //! The exit status is 0 where the command was done, 1 where it was refused, and 2 where the words
 //! are no command. It is 3 where a session is incomplete, and 4 where it is complete with

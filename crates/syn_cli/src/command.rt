@@ -219,7 +219,8 @@ pub enum Command<'a> {
     Simulate { script: &'a str, is_traced: bool },
 }
 
-/// A command, and whether a refusal of it is to be explained.
+/// A command, and whether more is to be told of it: each item of a session, and what a refusal
+/// means.
 #[derive(Clone, Copy, Debug, PartialEq, Eq)]
 pub struct Arguments<'a> {
     pub command: Command<'a>,

@@ -61,7 +61,7 @@ pub fn read_words<'a>(alloc: Global, words: &'a [&'a str]) -> Result<Arguments<'
     asked_of(name, found, is_verbose(&matches, found))
 }
 
-/// Whether a refusal is to be explained: the flag may stand before the command or after it.
+/// Whether more is to be told of the command: the flag may stand before the command or after it.
 fn is_verbose(matches: &ArgMatches<'_>, found: &ArgMatches<'_>) -> bool
     ensures { IsTrue result ↔ (IsSet (rows_of (found_of matches.now)) (codes "verbose")
         ⊎ IsSet (rows_of (found_of found.now)) (codes "verbose")) }
