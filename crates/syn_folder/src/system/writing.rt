@@ -79,6 +79,8 @@ fn put<F: Files>(
     parts: &mut Vec<Part>,
 ) -> io::Result<()> {
     check_above(alloc, files, root, path)?;
+    // A file that no part tells of would stay there after a refusal.
+    parts.reserve(1)?;
     let part = Part {
         path: path.copy(alloc)?,
         mode,
@@ -94,7 +96,8 @@ fn put<F: Files>(
     if let Some(earlier) = parts.iter().position(|other| other.path == part.path) {
         parts.swap_remove(earlier);
     }
-    Ok(parts.push(part)?)
+    parts.push_reserved(part);
+    Ok(())
 }
 
 /// Where the part that is for the path lies: beside it, with its name behind that of a part.
