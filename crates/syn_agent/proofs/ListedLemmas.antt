@@ -30,6 +30,8 @@ use Rattle.syn_model.specs.Tree.{Content, Directory, File, IsPart, IsTree, Pair,
 use Rattle.std.specs.FinMap.{get, len}
 use Rattle.syn_model.proofs.ContentsLemmas.{digest_is_bytes}
 use Rattle.syn_tree.specs.Contents.{IsLawful}
+use Rattle.syn_model.proofs.BaseLemmas.{both_hold, equal_of}
+use Rattle.syn_model.proofs.PathLemmas.{strip_prefix-is}
 
 name_total : IsTotalOrder name_cmp
 name_total = nat_list_cmp_total
@@ -43,19 +45,10 @@ name_exact = slice_cmp-IsAntisymmetric nat_cmp-IsAntisymmetric
 path_exact : IsAntisymmetric path_cmp
 path_exact = slice_cmp-IsAntisymmetric name_exact
 
-equal_of : (o : Ordering) → is_eq o ≡ true → o ≡ Equal
-equal_of Less e = absurd (let k : false ≡ true = e in cc)
-equal_of Equal e = refl
-equal_of Greater e = absurd (let k : false ≡ true = e in cc)
-
 less_of : (o : Ordering) → T (is_lt o) → o ≡ Less
 less_of Less h = refl
 less_of Equal h = absurd h
 less_of Greater h = absurd h
-
-parts : (a b : Bool) → T (a && b) → T a × T b
-parts true b h = (tt, h)
-parts false b h = absurd h
 
 -- A name in a directory, with what stands there
 
@@ -68,21 +61,6 @@ row path pair = option_map (λ name. (name, pair.1))
 
 abbrev rows : Path → List Pair → List Row
 rows path pairs = filter_map {Y = Row} (row path) pairs
-
-strip_is : (prefix path rest : Path) → strip_prefix prefix path ≡ Some rest
-    → path ≡ prefix ++ rest
-strip_is [] path rest is = same_Some _ _ is
-strip_is (name ∷ prefix) [] rest is = absurd (none-some _ is)
-strip_is (name ∷ prefix) (first ∷ path) rest is =
-    by (eq_by_cmp name_cmp name first) refl is (λ more. strip_is prefix path rest more)
-  where
-    by : (b : Bool) → eq_by_cmp name_cmp name first ≡ b
-        → (if b then strip_prefix prefix path else None) ≡ Some rest
-        → (strip_prefix prefix path ≡ Some rest → path ≡ prefix ++ rest)
-        → first ∷ path ≡ (name ∷ prefix) ++ rest
-    by true same is more = ap₂ (λ n p. n ∷ p)
-        (sym (name_exact name first (equal_of (name_cmp name first) same))) (more is)
-    by false same is more = absurd (none-some _ is)
 
 only_is : (path : Path) (name : Name) → only_name path ≡ Some name → path ≡ name ∷ []
 only_is [] name is = absurd (none-some _ is)
@@ -99,7 +77,7 @@ row_last : (path : Path) (pair : Pair) (rest : Path) (o : Option Name) (found : 
 row_last path pair rest None found at only is = absurd (none-some _ is)
 row_last path pair rest (Some name) found at only is =
     let same : (name, pair.1) ≡ found = same_Some _ _ is in (
-      strip_is path pair.0 rest at ∙ (ap (λ r. path ++ r) (only_is rest name only)
+      strip_prefix-is path pair.0 rest at ∙ (ap (λ r. path ++ r) (only_is rest name only)
           ∙ ap (λ (r : Row). path ++ r.0 ∷ []) same),
       ap (λ (r : Row). r.1) same,
     )
@@ -141,7 +119,7 @@ below_rows path name (pair ∷ pairs) below =
   where
     both : T (is_lt (path_cmp (path ++ name ∷ []) pair.0))
         × T (below_all path_cmp (path ++ name ∷ []) pairs)
-    both = parts (is_lt (path_cmp (path ++ name ∷ []) pair.0))
+    both = both_hold (is_lt (path_cmp (path ++ name ∷ []) pair.0))
         (below_all path_cmp (path ++ name ∷ []) pairs) below
 
     by : (o : Option Row) → row path pair ≡ o → IsBelow name (rows path pairs)
@@ -160,7 +138,7 @@ rise_rows path [] sorted = tt
 rise_rows path (pair ∷ pairs) sorted = by (row path pair) refl (rise_rows path pairs both.1)
   where
     both : T (below_all path_cmp pair.0 pairs) × T (is_sorted path_cmp pairs)
-    both = parts (below_all path_cmp pair.0 pairs) (is_sorted path_cmp pairs) sorted
+    both = both_hold (below_all path_cmp pair.0 pairs) (is_sorted path_cmp pairs) sorted
 
     by : (o : Option Row) → row path pair ≡ o → Rise (rows path pairs)
         → Rise (cons_option o (rows path pairs))
@@ -303,13 +281,14 @@ more_at : (pair : Pair) (pairs others : List Pair) → T (below_all path_cmp pai
     → Each (IsAt pairs) others → Each (IsAt (pair ∷ pairs)) others
 more_at pair pairs [] below h = tt
 more_at pair pairs (other ∷ others) below h =
-    let both = parts (is_lt (path_cmp pair.0 other.0)) (below_all path_cmp pair.0 others) below in
+    let both = both_hold (is_lt (path_cmp pair.0 other.0)) (below_all path_cmp pair.0 others) below
+    in
     (further pair other pairs (less_of _ both.0) h.0, more_at pair pairs others both.1 h.1)
 
 each_is_at : (pairs : List Pair) → T (is_sorted path_cmp pairs) → Each (IsAt pairs) pairs
 each_is_at [] sorted = tt
 each_is_at (pair ∷ pairs) sorted =
-    let both = parts (below_all path_cmp pair.0 pairs) (is_sorted path_cmp pairs) sorted in (
+    let both = both_hold (below_all path_cmp pair.0 pairs) (is_sorted path_cmp pairs) sorted in (
       ap (λ o. cond (is_eq o) (Some pair.1) (find path_cmp pair.0 pairs))
           (tied_itself path_total pair.0),
       more_at pair pairs pairs both.0 (each_is_at pairs both.1),

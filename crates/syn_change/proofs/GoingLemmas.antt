@@ -9,13 +9,13 @@ use Rattle.syn_model.specs.Event.{Edit, after_edit}
 use Rattle.syn_model.specs.Refusal.{Refusal}
 use Rattle.syn_model.specs.Standing.{edit_refusal}
 use Rattle.syn_model.specs.Tree.{Tree}
-use Rattle.syn_placed.proofs.RisingLemmas.{each-append, each-map}
 use Rattle.syn_tree.specs.Edits.{edit_of}
 use Rattle.syn_tree.specs.Refusals.{refusal_of}
 use Rattle.syn_tree.specs.declared.edit.Edit.{Edit as Planned}
 use Rattle.syn_tree.specs.declared.error.TreeError.{TreeError}
 use Rattle.syn_tree.specs.declared.error.TreeError.TheVariants.{Memory}
 use Rattle.syn_change.specs.Changes.{GoesOn, IsRefusedAmong, after_edits, are_alike}
+use Rattle.syn_model.proofs.BaseLemmas.{each_append, each_with}
 
 -- of two lists none of which is alike with one of the other, no two are alike
 distinct-append : (xs ys : List Edit) → IsDistinct are_alike xs → IsDistinct are_alike ys →
@@ -24,7 +24,7 @@ distinct-append : (xs ys : List Edit) → IsDistinct are_alike xs → IsDistinct
 unfolding IsDistinct
 distinct-append [] ys one two apart = two
 distinct-append (x ∷ xs) ys one two apart = (
-  each-append (λ y. are_alike x y ≡ false) xs ys one.0 apart.0,
+  each_append (λ y. are_alike x y ≡ false) xs ys one.0 apart.0,
   distinct-append xs ys one.1 two apart.1,
 )
 
@@ -45,7 +45,7 @@ goes_weaker P Q old new edits more f on = record {
   added = on.added;
   are = on.are;
   make = on.make;
-  each = each-map P Q f on.added on.each;
+  each = each_with P Q f on.added on.each;
   once = on.once;
 }
 
@@ -54,7 +54,7 @@ pub refused_weaker : (P Q : Edit → Type 0) (old : Tree) (refusal : Refusal) �
 refused_weaker P Q old refusal f among = record {
   made = among.made;
   next = among.next;
-  each = each-map P Q f among.made among.each;
+  each = each_with P Q f among.made among.each;
   this = f among.next among.this;
   refused = among.refused;
 }
@@ -73,12 +73,12 @@ goes_twice P Q R a b c es fs gs f g apart first second = record {
       fold-append after_edit a first.added second.added
       ∙ (ap (λ t. after_edits t second.added) first.make ∙ second.make);
   each =
-      each-append R first.added second.added (each-map P R f first.added first.each)
-      (each-map Q R g second.added second.each);
+      each_append R first.added second.added (each_with P R f first.added first.each)
+      (each_with Q R g second.added second.each);
   once =
       distinct-append first.added second.added first.once second.once
-      (each-map P (λ x. AllByRecursion (λ y. are_alike x y ≡ false) second.added)
-      (λ x p. each-map Q (λ y. are_alike x y ≡ false) (λ y q. apart x y p q) second.added
+      (each_with P (λ x. AllByRecursion (λ y. are_alike x y ≡ false) second.added)
+      (λ x p. each_with Q (λ y. are_alike x y ≡ false) (λ y q. apart x y p q) second.added
       second.each) first.added first.each);
 }
 
@@ -90,8 +90,8 @@ refused_later P Q R a b es fs refusal f g first after = record {
   made = first.added ++ after.made;
   next = after.next;
   each =
-      each-append R first.added after.made (each-map P R f first.added first.each)
-      (each-map Q R g after.made after.each);
+      each_append R first.added after.made (each_with P R f first.added first.each)
+      (each_with Q R g after.made after.each);
   this = g after.next after.this;
   refused =
       ap (λ t. edit_refusal t after.next) (fold-append after_edit a first.added after.made

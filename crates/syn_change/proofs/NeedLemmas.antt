@@ -17,6 +17,8 @@ use Rattle.syn_tree.specs.declared.edit.Edit.{Edit as Planned}
 use Rattle.syn_change.specs.Changes.{AreChanges, ChangesMode, GoesOn, HasBytes, HasMode, IsAddition}
 use Rattle.syn_change.specs.Changes.{IsLess, IsNeeded, IsNeededFor, PutsBytes, after_edits}
 use Rattle.syn_change.specs.Changes.{are_alike, are_of_one_kind, can_stay, is_removal}
+use Rattle.syn_change.proofs.GoingLemmas.{goes_twice}
+use Rattle.syn_model.proofs.BaseLemmas.{and_false}
 
 -- a mode that is set after a put is one that the put does not leave
 pub mode_needed : (t between : Tree) (p : Path) (b : Bytes) (mode : ℕ) (e : Edit) →
@@ -35,10 +37,6 @@ mode_needed t between p b mode e has kept changes = (
 pub put_and_mode : (t u : Tree) (p q : Path) (b : Bytes) (mode : ℕ) (x y : Edit) →
     PutsBytes t p b x → ChangesMode u q mode y → are_alike x y ≡ false
 put_and_mode t u p q b mode x y puts changes = ap₂ are_alike puts.0 changes.0
-
-and_false : (b : Bool) → (b && false) ≡ false
-and_false true = refl
-and_false false = refl
 
 -- edits at two paths are not alike
 pub apart : (x y : Edit) → edited_path x ≢ edited_path y → are_alike x y ≡ false
@@ -101,6 +99,19 @@ pub apart_from : (front : Pairs) (path : Path) (x y : Edit) → find path_cmp pa
 apart_from front path x y none among is =
     apart x y (λ same. true≢false (sym among
     ∙ (ap (λ p. is_some (find path_cmp p front)) (same ∙ is) ∙ ap is_some none)))
+
+-- what is planned for one pair more goes on from what was planned for those before it
+pub goes_in_turn : (P Q : Edit → Type 0) (front : Pairs) (pair : Pair) (a b c : Tree)
+    (es fs gs : List Planned) → find path_cmp pair.0 front ≡ None →
+    ((e : Edit) → Q e → P e × (edited_path e ≡ pair.0)) →
+    GoesOn (λ e. P e × IsAmong front (edited_path e)) a es b fs → GoesOn Q b fs c gs →
+    GoesOn (λ e. P e × IsAmong (front ++ pair ∷ []) (edited_path e)) a es c gs
+goes_in_turn P Q front pair a b c es fs gs none needs =
+    goes_twice (λ e. P e × IsAmong front (edited_path e)) Q
+    (λ e. P e × IsAmong (front ++ pair ∷ []) (edited_path e)) a b c es fs gs
+    (λ e is. (is.0, still_among front (pair ∷ []) (edited_path e) is.1))
+    (λ e is. let need = needs e is in (need.0, last_among front pair (edited_path e) need.1))
+    (λ x y in_front is. apart_from front pair.0 x y none in_front.1 (needs y is).1)
 
 -- an edit is an addition at the path of one of the pairs
 abbrev pub IsAdditionIn : Tree → Tree → Pairs → Edit → Type 0

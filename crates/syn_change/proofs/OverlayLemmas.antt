@@ -15,14 +15,14 @@ use Rattle.syn_model.specs.Refusal.{Refusal, Cause, first_cause, Root, NoParent,
 use Rattle.syn_model.specs.Refusal.{Absent, Exists}
 use Rattle.syn_model.specs.Standing.{edit_refusal, full_causes}
 use Rattle.syn_model.proofs.PathLemmas.{same_path, path_itself, strip_prefix-is}
-use Rattle.syn_model.proofs.PathLemmas.{strip_prefix-append}
-use Rattle.syn_model.proofs.HistoryLemmas.{get-at_root, get-below_root, same_file}
+use Rattle.syn_model.proofs.HistoryLemmas.{get-below_root, same_file}
 use Rattle.syn_model.proofs.TreeLemmas.{within, beside}
 use Rattle.syn_placed.specs.Pairs.{Pairs, rooted}
 use Rattle.syn_placed.proofs.RisingLemmas.{Rising}
 use Rattle.syn_placed.proofs.FindLemmas.{find_after}
 use Rattle.syn_placed.proofs.TreeLemmas.{rising-entries}
 use Rattle.syn_change.specs.Changes.{HasBytes, HasMode, IsOverlaid, IsPlaced, StaysElsewhere}
+use Rattle.syn_tree.proofs.CheckLemmas.{put_there}
 
 -- ---- one edit
 
@@ -66,13 +66,6 @@ module _ (t : Tree) (p : Path) (c : Content) (parents : HasParents t)
       replaced None is = beside t p (at_root c) q is
       replaced (Some r) is = within t p (at_root c) q r is ∙ below r is
 
--- and is there
-stands_there : (t : Tree) (p : Path) (c : Content) → get (replace t p (at_root c)) p ≡ Some c
-stands_there t p c =
-    within t p (at_root c) p [] (ap (strip_prefix p) (sym (append-nil p)) ∙ strip_prefix-append p
-    [])
-    ∙ get-at_root c []
-
 absent_is_free : (o : Option Content) → is_some o ≡ false → is_directory_content o ≡ false
 absent_is_free None is = refl
 absent_is_free (Some x) is = absurd (true≢false is)
@@ -85,7 +78,7 @@ dir_placed t p new parents none is =
     let free = absent_is_free (get t p) (third (is_root p) (not (is_directory t (parent p)))
     (is_present t p) Root NoParent Exists (full_causes (after_edit t (MakeDir p))) none) in
     subst (IsPlaced t (p, Directory)) (sym is) record {
-      there = stands_there t p Directory;
+      there = put_there t p Directory;
       elsewhere = stays_elsewhere t p Directory parents free;
     }
 
@@ -98,7 +91,7 @@ put_placed t p b new parents none is =
     IsDirectory (full_causes (after_edit t (Put p b))) none in
     let put = File (put_contents (get t p) b) in
     subst (λ u. (get u p ≡ Some put) × StaysElsewhere t p u) (sym is)
-    (stands_there t p put, stays_elsewhere t p put parents free)
+    (put_there t p put, stays_elsewhere t p put parents free)
 
 -- a mode that is set is there, over the same bytes, and all else stays
 module _ (t : Tree) (p : Path) (mode : ℕ) (new : Tree) (parents : HasParents t)
@@ -115,7 +108,7 @@ module _ (t : Tree) (p : Path) (mode : ℕ) (new : Tree) (parents : HasParents t
       let part = File (contents_with mode was.bytes) in
       let made : new ≡ replace t p (at_root part) =
       is ∙ ap (λ o. replace t p (with_mode o mode)) found in (
-        λ b has. ap (λ u. get u p) made ∙ (stands_there t p part ∙ ap (λ c. Some (File
+        λ b has. ap (λ u. get u p) made ∙ (put_there t p part ∙ ap (λ c. Some (File
             (contents_with mode c.bytes))) (same_file was (contents_with has.0 b)
             (same_Some _ _ (sym found ∙ has.1)))),
         subst (StaysElsewhere t p) (sym made)

@@ -1,8 +1,7 @@
 -- A part of a tree keeps the limits that the tree keeps.
-use Rattle.std.proofs.Common.{ℕ, ◌≢◌, ◌⊎◌, inl, inr, None, Some, append-nil, false, true≢false}
+use Rattle.std.proofs.Common.{◌≢◌, ◌⊎◌, inl, inr, None, Some, append-nil, false, true≢false}
 use Rattle.std.proofs.Common.{◌≡◌, ◌≤◌, ◌∙◌, true, ◌&&◌, length, refl, sym, ap, ap₂, arith, nat_le}
 use Rattle.std.proofs.lemmas.Bool.{and_parts}
-use Rattle.std.proofs.lemmas.Bool.Decides.{nat_tests}
 use Rattle.std.proofs.lemmas.List.Sums.{length-filter, count_by-le-length}
 use Rattle.std.specs.FinMap.{entries, get, len, len-entries}
 use Rattle.syn_model.specs.Limits.{fits_part, fits_paths, fits_replica, greatest_spelling}
@@ -17,12 +16,7 @@ use Rattle.syn_tree.proofs.RootedLemmas.{part_shorter}
 use Rattle.syn_tree.specs.declared.error.TreeError.{TreeError}
 use Rattle.syn_tree.specs.declared.error.TreeError.TheVariants.{Absent, Full, Memory}
 use Rattle.syn_change.proofs.RemovalLemmas.{only_memory}
-
-less_nodes : (m n : ℕ) → m ≤ n → nat_le n 1024 ≡ true → nat_le m 1024 ≡ true
-less_nodes m n h k = grind (arith, nat_tests)
-
-less_size : (m n : ℕ) → m ≤ n → nat_le n 526336 ≡ true → nat_le m 526336 ≡ true
-less_size m n h k = grind (arith, nat_tests)
+use Rattle.syn_tree.proofs.CheckLemmas.{less_nodes, less_size}
 
 -- where the part keeps the limits of files, directories and paths
 pub part_fits : (t : Tree) (at : Path) → fits_replica t ≡ true →

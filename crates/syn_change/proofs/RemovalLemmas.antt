@@ -13,12 +13,12 @@ use Rattle.syn_model.specs.Refusal.{Refusal, Full}
 use Rattle.syn_model.specs.Standing.{edit_refusal}
 use Rattle.syn_model.specs.Tree.{Tree, Content, Directory, File, HasParents, IsTree, Pair, absent}
 use Rattle.syn_model.specs.Tree.{is_directory_content, replace}
-use Rattle.syn_model.proofs.PathLemmas.{same_path, strip_prefix-append, strip_prefix-is}
+use Rattle.syn_model.proofs.PathLemmas.{same_path, strip_prefix-append, strip_prefix-is, last_of}
 use Rattle.syn_model.proofs.TreeLemmas.{within, beside, same_tree}
 use Rattle.syn_placed.specs.Pairs.{Pairs, rooted}
 use Rattle.syn_placed.proofs.ParentLemmas.{place_allowed}
 use Rattle.syn_placed.proofs.OrderLemmas.{first_of_all}
-use Rattle.syn_placed.proofs.RisingLemmas.{After, Rising, each-append, each-map}
+use Rattle.syn_placed.proofs.RisingLemmas.{After, Rising}
 use Rattle.syn_tree.proofs.CheckLemmas.{remove_answer, rest_fits}
 use Rattle.syn_tree.proofs.LawfulLemmas.{each-find}
 use Rattle.syn_placed.proofs.FindLemmas.{after_more}
@@ -29,6 +29,7 @@ use Rattle.syn_change.specs.Changes.{IsLess, IsOverlaid, IsRemoval, IsTrimmed, I
 use Rattle.syn_change.specs.Changes.{can_stay}
 use Rattle.syn_change.proofs.NeedLemmas.{IsAmong}
 use Rattle.syn_change.proofs.StandingLemmas.{found_in_front, rising_below}
+use Rattle.syn_model.proofs.BaseLemmas.{each_append, each_with}
 
 none_some : (o : Option Content) → o ≡ None → IsSome o → ⊥
 none_some o none some = true≢false (sym some ∙ ap is_some none)
@@ -54,11 +55,6 @@ none_stays (Some Directory) = refl
 none_stays (Some (File c)) = refl
 
 -- ---- one removal
-
--- a path below the root is its parent with a name
-last_of : (n : Name) (p : Path) → (m : Name) × (n ∷ p ≡ parent (n ∷ p) ++ m ∷ [])
-last_of n [] = (n, refl)
-last_of n (x ∷ p) = let r = last_of x p in (r.0, ap (λ q. n ∷ q) r.1)
 
 -- what cannot stay is not the root, and stands in a directory
 pub stands_below : (t wanted : Tree) (p : Path) → IsTree t → IsTree wanted →
@@ -168,8 +164,8 @@ pub removed_more : (old wanted : Tree) (front : Pairs) (work : Tree) (pair : Pai
     AreRemoved old wanted front work → IsWithout work wanted pair.0 new →
     AreRemoved old wanted (front ++ pair ∷ []) new
 removed_more old wanted front work pair new so_far step = record {
-  fine = each-append (IsFine wanted new) front (pair ∷ [])
-      (each-map (IsFine wanted work) (IsFine wanted new)
+  fine = each_append (IsFine wanted new) front (pair ∷ [])
+      (each_with (IsFine wanted work) (IsFine wanted new)
       (λ e fine. still _ _ (get wanted e.0) (step.less e.0) fine) front so_far.fine)
       (step.trimmed, tt);
   less = λ q. both (get wanted q) (step.less q) (so_far.less q);

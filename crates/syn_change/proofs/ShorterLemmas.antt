@@ -16,13 +16,13 @@ use Rattle.syn_model.proofs.HistoryLemmas.{same_file}
 use Rattle.syn_model.proofs.PathLemmas.{path_itself, path_total, same_path}
 use Rattle.syn_placed.specs.Pairs.{Pairs, rooted}
 use Rattle.syn_placed.proofs.FindLemmas.{find_after}
-use Rattle.syn_placed.proofs.RisingLemmas.{each-map}
 use Rattle.syn_tree.specs.declared.edit.Edit.{Edit as Planned}
 use Rattle.syn_change.specs.Changes.{GoesOn, HasBytes, IsAddition, IsOverlaid, are_alike}
 use Rattle.syn_change.specs.inner.Shorter.{AreShortened, IsShortenedAt, IsShorterFirst, Shortens}
 use Rattle.syn_change.specs.inner.Shorter.{ShortensTo, is_longer, shortened}
 use Rattle.syn_change.proofs.NeedLemmas.{IsAmong}
 use Rattle.syn_change.proofs.StandingLemmas.{rising_below}
+use Rattle.syn_model.proofs.BaseLemmas.{each_with}
 
 -- ---- one pair after the other
 
@@ -181,7 +181,7 @@ module _ (old wanted work : Tree) (short : AreShortened old wanted work) where
     are = two.are ∙ ap (λ xs. xs ++ two.added) one.are;
     shorten = one.each;
     others =
-        each-map (IsAddition work wanted) (λ e. ¬ Shortens old wanted e) added_no_shorter two.added
+        each_with (IsAddition work wanted) (λ e. ¬ Shortens old wanted e) added_no_shorter two.added
         two.each;
   }
 

@@ -67,3 +67,16 @@ pair_stands tree front pair others all =
     get-entries tree pair.0
     ∙ (sym (ap (find path_cmp pair.0) all)
     ∙ found_in ((root, Directory) ∷ front) pair others (rising_below tree _ all))
+
+-- the next pair of a tree's list: it stands in the tree, and none before it is at its path
+pub next_of : (tree : Tree) (front : Pairs) (pair : Pair) (others rest : Pairs) →
+    rest ≡ pair ∷ others → rooted (front ++ rest) ≡ entries tree →
+    (rooted (front ++ pair ∷ others) ≡ entries tree)
+    × (find path_cmp pair.0 front ≡ None) × (get tree pair.0 ≡ Some pair.1)
+next_of tree front pair others rest next whole =
+    let all : rooted (front ++ pair ∷ others) ≡ entries tree =
+    ap (λ xs. rooted (front ++ xs)) (sym next) ∙ whole in (
+      all,
+      none_in_front front pair others (rising_below tree _ all).1,
+      pair_stands tree front pair others all,
+    )

@@ -9,19 +9,18 @@ use Rattle.std.specs.FinMap.{find}
 use Rattle.std.proofs.lemmas.Bool.{or_cases, and_parts, or_right}
 use Rattle.std.proofs.lemmas.Option.{none-some, same_Some}
 use Rattle.syn_model.specs.Path.{Path, path_cmp, is_prefix}
-use Rattle.syn_model.proofs.PathLemmas.{path_total, same_path, path_itself}
+use Rattle.syn_model.proofs.PathLemmas.{path_total, same_path, path_itself, prefix-append, not_less}
 use Rattle.syn_model.proofs.DirtyLemmas.{prefix_chain}
-use Rattle.syn_placed.proofs.OrderLemmas.{between, not_before, under_prefix}
+use Rattle.syn_placed.proofs.OrderLemmas.{between, not_before}
 use Rattle.syn_dirty.specs.Paths.{is_among}
 use Rattle.syn_dirty.specs.inner.Rows.{Row, Rows, begins_first, changed}
 use Rattle.syn_dirty.proofs.RowLemmas.{AfterRow, RisingRows}
+use Rattle.syn_model.proofs.BaseLemmas.{and_false, and_true}
+use Rattle.syn_model.proofs.PathLemmas.{prefix_itself}
 
 -- a row at or below the path differs
 abbrev pub touched : Rows → Path → Bool
 touched rows path = list_any (λ row. row.1 && is_prefix path row.0) rows
-
-late : (p q : Path) → path_cmp p q ≡ Less → is_lt (path_cmp q p) ≡ false
-late p q h = ap is_lt (path_total.antisymm q p ∙ ap ordering_reverse h)
 
 touched_up : (p q : Path) (rows : Rows) → is_prefix p q ≡ true → touched rows q ≡ true →
     touched rows p ≡ true
@@ -43,18 +42,10 @@ touched_between p m [] less a e = absurd (true≢false (sym e))
 touched_between p m (row ∷ rows) less a e =
     let rest = touched_between p m rows less a.1 in
     elim (or_cases (row.1 && is_prefix p row.0) (touched rows p) e) as (λ _. is_prefix p m ≡ true) [
-      | inl here ↦ between p m row.0 (late p m less) a.0
+      | inl here ↦ between p m row.0 (not_less p m less) a.0
           (and_parts row.1 (is_prefix p row.0) here).1
       | inr there ↦ rest there
     ]
-
-never : (a : Bool) → (a && false) ≡ false
-never true = refl
-never false = refl
-
-always : (a : Bool) → (a && true) ≡ a
-always true = refl
-always false = refl
 
 -- the first path that changed tells whether one at or below an earlier path did
 pub begins_touched : (p : Path) (rows : Rows) → AfterRow p rows → RisingRows rows →
@@ -68,13 +59,14 @@ begins_touched p (row ∷ rows) a up =
     ∷ changed rows else changed rows) ≡ ((row.1 && is_prefix p row.0) || touched rows p)) [
       | true ↦ λ e. elim (is_prefix p row.0)
           as (λ b. is_prefix p row.0 ≡ b → b ≡ ((row.1 && b) || touched rows p)) [
-            | true ↦ λ pre. sym (ap (λ b. b || touched rows p) (always row.1) ∙ elim (or_cases row.1
+            | true ↦ λ pre. sym (ap (λ b. b || touched rows p) (and_true row.1)
+                ∙ elim (or_cases row.1
                 (begins_first row.0 (changed rows)) e) as (λ _. (row.1 || touched rows p) ≡ true) [
                   | inl differs ↦ ap (λ b. b || touched rows p) differs
                   | inr below ↦ or_right row.1 (touched rows p)
                       (touched_up p row.0 rows pre (sym there ∙ below))
                 ])
-            | false ↦ λ out. sym (ap (λ b. b || touched rows p) (never row.1)
+            | false ↦ λ out. sym (ap (λ b. b || touched rows p) (and_false row.1)
                 ∙ nothing p row rows a up out (touched rows p) refl)
           ] refl
       | false ↦ λ e. here ∙ sym (ap (λ b. (b && is_prefix p row.0) || touched rows p)
@@ -108,9 +100,6 @@ found_later p q (row ∷ rows) a e =
       | false ↦ λ _ more. rest more
     ] refl e
 
-pub prefix_self : (q : Path) → is_prefix q q ≡ true
-prefix_self q = ap (is_prefix q) (sym (append-nil q)) ∙ under_prefix q []
-
 -- at the first row's own path
 itself : (p : Path) (row : Row) (rows : Rows) → eq_by_cmp path_cmp p row.0 ≡ true →
     p ≡ row.0 → RisingRows (row ∷ rows) →
@@ -121,9 +110,9 @@ itself : (p : Path) (row : Row) (rows : Rows) → eq_by_cmp path_cmp p row.0 ≡
     else changed rows) p ≡ ((row.1 && is_prefix p row.0) || touched rows p)
 itself p row rows same at up rest there b e =
     let right : ((row.1 && is_prefix p row.0) || touched rows p) ≡ b =
-    ap₂ (λ c d. (row.1 && c) || d) (ap (λ w. is_prefix w row.0) at ∙ prefix_self row.0)
+    ap₂ (λ c d. (row.1 && c) || d) (ap (λ w. is_prefix w row.0) at ∙ prefix_itself row.0)
     (ap (touched rows) at ∙ sym there)
-    ∙ (ap (λ c. c || begins_first row.0 (changed rows)) (always row.1) ∙ e) in
+    ∙ (ap (λ c. c || begins_first row.0 (changed rows)) (and_true row.1) ∙ e) in
     ap (λ c. is_among (if c then row.0 ∷ changed rows else changed rows) p) e
     ∙ (elim b as (λ c. is_among (if c then row.0 ∷ changed rows else changed rows) p ≡ c) [
       | true ↦ ap (λ c. c || is_among (changed rows) p) same
@@ -155,7 +144,7 @@ beside p row rows up false e =
     ∙ sym (ap (λ c. c && ((row.1 && is_prefix p row.0) || touched rows p)) e)
 beside p row rows up true e =
     let later = found_later row.0 p rows up.0 e in
-    ap (λ c. is_some (find path_cmp p rows) && (c || touched rows p)) (sym (never row.1)
+    ap (λ c. is_some (find path_cmp p rows) && (c || touched rows p)) (sym (and_false row.1)
     ∙ ap (λ c. row.1 && c) (sym (outside p row later (is_prefix p row.0) refl)))
 
 -- a path changed where it has a row, and one at or below it differs

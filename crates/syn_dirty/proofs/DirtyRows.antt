@@ -15,20 +15,21 @@ use Rattle.syn_model.specs.Path.{Path, path_cmp, is_prefix}
 use Rattle.syn_model.specs.Tree.{Tree, Content, HasParents, subtree, is_directory_content}
 use Rattle.syn_model.specs.Dirty.{Scan, dirty, has_unstable, is_unstable, is_same_tree}
 use Rattle.syn_model.specs.Dirty.{is_same_content}
-use Rattle.syn_model.proofs.PathLemmas.{path_total, same_path, is_prefix-is}
+use Rattle.syn_model.proofs.PathLemmas.{path_total, same_path, is_prefix-is, prefix-append}
 use Rattle.syn_model.proofs.TreeLemmas.{same_tree, get-subtree}
 use Rattle.syn_model.proofs.DirtyLemmas.{same_content, tree_itself, dirty-closed, dirty-safe}
 use Rattle.syn_model.proofs.DirtyLemmas.{content_itself}
 use Rattle.syn_model.proofs.DirectoryLemmas.{same_content_at}
 use Rattle.syn_placed.proofs.TreeLemmas.{rising-entries}
-use Rattle.syn_placed.proofs.OrderLemmas.{under_prefix}
 use Rattle.syn_scan.specs.Found.{Found, IsFound, scan_of}
 use Rattle.syn_dirty.specs.Paths.{AreInOrder}
 use Rattle.syn_dirty.specs.inner.Rows.{Rows, compared, with_set, changed}
 use Rattle.syn_dirty.proofs.RowLemmas.{RisingRows, combined, rising_compared, find_compared}
 use Rattle.syn_dirty.proofs.RowLemmas.{rising_with_set, find_with_set}
-use Rattle.syn_dirty.proofs.ChangedLemmas.{prefix_self, touched, touched_by, toucher, among_changed}
+use Rattle.syn_dirty.proofs.ChangedLemmas.{touched, touched_by, toucher, among_changed}
 use Rattle.syn_dirty.proofs.ChangedLemmas.{rising_changed}
+use Rattle.syn_model.proofs.BaseLemmas.{and_false}
+use Rattle.syn_model.proofs.PathLemmas.{prefix_itself}
 
 combined_alike : (o : Option Content) → (combined o o ≡ None) ⊎ (combined o o ≡ Some false)
 combined_alike None = inl refl
@@ -100,8 +101,8 @@ itself_unstable q (u ∷ us) h =
       | inl same ↦
           let at = same_path q u same in
           ap₂ (λ a b. (a && b) || list_any (λ other. is_prefix q other && is_prefix other q) us)
-          (ap (is_prefix q) (sym at) ∙ prefix_self q)
-          (ap (λ w. is_prefix w q) (sym at) ∙ prefix_self q)
+          (ap (is_prefix q) (sym at) ∙ prefix_itself q)
+          (ap (λ w. is_prefix w q) (sym at) ∙ prefix_itself q)
       | inr there ↦ or_right (is_prefix q u && is_prefix u q) _ (rest there)
     ]
 
@@ -111,10 +112,6 @@ not_itself q [] h = refl
 not_itself q (u ∷ us) h =
     let both = or_parts (is_prefix q u) (list_any (is_prefix q) us) h in
     ap₂ (λ a b. (a && is_prefix u q) || b) both.0 (not_itself q us both.1)
-
-never : (a : Bool) → (a && false) ≡ false
-never true = refl
-never false = refl
 
 module _ (found : Found) (archive : Tree) (f : IsFound found) (parents : HasParents archive) where
   abbrev scan : Scan
@@ -184,7 +181,7 @@ module _ (found : Found) (archive : Tree) (f : IsFound found) (parents : HasPare
       let q = p ++ r in
       same_of (get found.marks q) (get archive q) (λ differs.
       true≢false (sym (touched_by p q rows (row_at q
-      ∙ ap (option_map (λ d. d || is_unstable scan q)) differs) (under_prefix p r)) ∙ h))
+      ∙ ap (option_map (λ d. d || is_unstable scan q)) differs) (prefix-append p r)) ∙ h))
 
   clean_at : (p : Path) → touched rows p ≡ false → dirty scan archive p ≡ false
   clean_at p h =
@@ -238,4 +235,4 @@ module _ (found : Found) (archive : Tree) (f : IsFound found) (parents : HasPare
       both p true e = ap₂ (λ a b. a && b) (has_row p e) e ∙ sym e
       both p false e =
           ap (λ b. is_some (find path_cmp p rows) && b) e
-          ∙ (never (is_some (find path_cmp p rows)) ∙ sym e)
+          ∙ (and_false (is_some (find path_cmp p rows)) ∙ sym e)

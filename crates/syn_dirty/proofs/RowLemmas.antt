@@ -10,11 +10,12 @@ use Rattle.std.specs.FinMap.Entries.{by_order}
 use Rattle.syn_model.specs.Path.{Path, path_cmp}
 use Rattle.syn_model.specs.Tree.{Content, Pair}
 use Rattle.syn_model.specs.Dirty.{is_same_content}
-use Rattle.syn_model.proofs.PathLemmas.{path_total, same_path}
+use Rattle.syn_model.proofs.PathLemmas.{path_total, same_path, turned}
 use Rattle.syn_placed.specs.Pairs.{Pairs}
-use Rattle.syn_placed.proofs.RisingLemmas.{Rising, After, each-map}
+use Rattle.syn_placed.proofs.RisingLemmas.{Rising, After}
 use Rattle.syn_placed.proofs.FindLemmas.{find_after}
 use Rattle.syn_dirty.specs.inner.Rows.{Rows, alone, among, compared, with_set}
+use Rattle.syn_model.proofs.BaseLemmas.{each_with}
 
 -- after a path, and so for each row and those after it
 abbrev pub AfterRow : Path → Rows → Type 0
@@ -26,11 +27,8 @@ RisingRows (row ∷ rows) = AfterRow row.0 rows × RisingRows rows
 
 pub after_more : (q p : Path) (es : Pairs) → path_cmp q p ≡ Less → After p es → After q es
 after_more q p es less h =
-    each-map (λ e. path_cmp p e.0 ≡ Less) (λ e. path_cmp q e.0 ≡ Less)
+    each_with (λ e. path_cmp p e.0 ≡ Less) (λ e. path_cmp q e.0 ≡ Less)
     (λ e k. path_total.trans q p e.0 less k) es h
-
-turned : (p q : Path) → path_cmp p q ≡ Greater → path_cmp q p ≡ Less
-turned p q h = path_total.antisymm q p ∙ ap ordering_reverse h
 
 -- ---- in path order
 

@@ -24,13 +24,14 @@ use Rattle.circular_buffer.specs.Buffer.{keep_last}
 use Rattle.syn_model.specs.Path.{Path, path_cmp, is_prefix, comparable}
 use Rattle.syn_model.specs.Standing.{Touch}
 use Rattle.syn_model.proofs.PathLemmas.{path_total, path_exact, same_path, path_itself}
-use Rattle.syn_path.proofs.PathLemmas.{prefix_from_test, test_from_append}
-use Rattle.syn_placed.proofs.RisingLemmas.{each-append, sorted_of}
+use Rattle.syn_path.proofs.PathLemmas.{prefix_from_test}
 use Rattle.syn_placed.proofs.KeyedLemmas.{rises}
 use Rattle.syn_placed.proofs.KeyedParts.{IsFoundBy, found_any, any_found}
 use Rattle.syn_history.specs.Past.{tells}
 use Rattle.syn_history.specs.Index.{newest_first, last_positions, IsEarlier, forgotten, without}
 use Rattle.syn_history.specs.Index.{entry_tells, is_touched_at}
+use Rattle.syn_model.proofs.BaseLemmas.{is_true, each_append}
+use Rattle.syn_model.proofs.PathLemmas.{prefix-append}
 
 abbrev pair_of : Touch → Path × ℕ
 pair_of touch = (touch.path, touch.position)
@@ -46,7 +47,7 @@ falling_snoc : (es : List (Path × ℕ)) (x : Path × ℕ) → Falling es →
     AllByRecursion (λ e. x.1 < e.1) es → Falling (es ++ x ∷ [])
 falling_snoc [] x h low = (tt, tt)
 falling_snoc (e ∷ es) x h low = (
-  each-append (λ f. f.1 < e.1) es (x ∷ []) h.0 (low.0, tt),
+  each_append (λ f. f.1 < e.1) es (x ∷ []) h.0 (low.0, tt),
   falling_snoc es x h.1 low.1,
 )
 
@@ -54,7 +55,7 @@ each_newest : (P : Path × ℕ → Type 0) (touches : List Touch) →
     AllByRecursion (λ touch. P (pair_of touch)) touches → AllByRecursion P (newest_first touches)
 each_newest P [] h = tt
 each_newest P (t ∷ ts) h =
-    each-append P (newest_first ts) (pair_of t ∷ []) (each_newest P ts h.1) (h.0, tt)
+    each_append P (newest_first ts) (pair_of t ∷ []) (each_newest P ts h.1) (h.0, tt)
 
 later_all : (t : Touch) (ts : List Touch) → AllPairs IsEarlier (t ∷ ts) →
     AllByRecursion (λ touch. t.position < touch.position) ts
@@ -351,7 +352,7 @@ index_tells since path ts h =
     let es = map.entries m in
     bool_same (list_any p es) (list_any (tells since path) ts)
     (λ some.
-    let f = any_found p es (rises es (sorted_of _ (map.entries_sorted m))) some in
+    let f = any_found p es (rises es (is_true _ (map.entries_sorted m))) some in
     sym (any_newest p ts) ∙ found_any p f.entry.0 f.entry.1 (newest_first ts)
     (sym (get_last ts f.entry.0) ∙ (map.get-entries m f.entry.0 ∙ f.found)) f.passes)
     (λ some.
@@ -395,7 +396,7 @@ above_tells since path m depth h =
     let k = take depth path in
     let told = told_by since (map.get m k) h in
     let over : is_prefix k path ≡ true =
-    ap (is_prefix k) (sym (take-append-drop depth path)) ∙ test_from_append k (drop depth path) in
+    ap (is_prefix k) (sym (take-append-drop depth path)) ∙ prefix-append k (drop depth path) in
     found_any (entry_tells since path) k told.0 (map.entries m)
     (sym (map.get-entries m k) ∙ told.1)
     (and_from (nat_le since told.0) (comparable k path) told.2
@@ -408,7 +409,7 @@ pub none_tells : (since : ℕ) (path : Path) (m : FinMap path_cmp ℕ) →
     list_any (entry_tells since path) (map.entries m) ≡ false
 none_tells since path m below above =
     false_from_ne_true (list_any p es) (λ some.
-    told (any_found p es (rises es (sorted_of _ (map.entries_sorted m))) some))
+    told (any_found p es (rises es (is_true _ (map.entries_sorted m))) some))
   where
     p : Path × ℕ → Bool
     p = entry_tells since path
@@ -427,7 +428,7 @@ none_tells since path m below above =
     by_rest e [] found late is =
         let same : path ≡ e.0 = sym is ∙ append-nil e.0 in
         no_below e found late (ap (λ q. is_prefix q e.0) same
-        ∙ (ap (is_prefix e.0) (sym (append-nil e.0)) ∙ test_from_append e.0 []))
+        ∙ (ap (is_prefix e.0) (sym (append-nil e.0)) ∙ prefix-append e.0 []))
     by_rest e (n ∷ r) found late is =
         let short : length e.0 < length path =
         omega (arith, ap length is, length-append e.0 (n ∷ r)) in

@@ -1,19 +1,25 @@
 -- What a stop leaves during an append.
 use Rattle.std.proofs.Common.{◌≡◌, ◌<◌, inl, inr, ℕ, ◌+◌, ◌++◌, ◌∷◌, [], List, length, get_or, ap}
 use Rattle.std.proofs.Common.{arith, append-nil, drop, length-append, length-drop, sym, take, ◌-◌}
-use Rattle.std.proofs.Common.{◌∙◌}
+use Rattle.std.proofs.Common.{◌∙◌, false}
 use Rattle.std.proofs.lemmas.List.{take_all}
 use Rattle.std.specs.Global.{Vec}
 use Rattle.std.proofs.lemmas.Bool.{cases_eq}
 use Rattle.std.specs.Int.{w32, to_be_bytes}
+use Rattle.syn_disk.specs.Disk.{Only, overwritten}
+use Rattle.syn_disk.specs.Stops.{LeavesOnly}
+use Rattle.syn_disk.specs.declared.disk.Disk.{Ghosts}
 use Rattle.syn_journal.specs.Batches.{bytes_of_each, records_size, with_payloads}
 use Rattle.syn_journal.specs.inner.Commit.{IsBodyOf, IsStagedOrOpened, body_of_record}
 use Rattle.syn_journal.specs.declared.half.Half.{Half}
+use Rattle.syn_journal.specs.Journal.{Stands}
 use Rattle.syn_journal.specs.Layout.{half_size, open_gate, records_of, start_of, Value}
-use Rattle.syn_journal.specs.Layout.{IsBeforeOrAfter}
-use Rattle.syn_journal.specs.inner.Whole.{IsWhole}
-use Rattle.syn_journal.proofs.Whole.{after_gate, still_closed, now_open, long}
-use Rattle.syn_journal.proofs.Meanings.{has}
+use Rattle.syn_journal.specs.Layout.{IsBeforeOrAfter, is_open, meaning, other_half, value_or_empty}
+use Rattle.syn_journal.specs.declared.journal.Journal.{Journal}
+use Rattle.syn_journal.specs.inner.Whole.{IsInStep, IsWhole}
+use Rattle.syn_journal.proofs.Whole.{after_gate, still_closed, now_open, long, appended, other_kept}
+use Rattle.syn_journal.proofs.Meanings.{has, in_step, stands_whole}
+use Rattle.syn_journal.proofs.Moments.{weakened}
 
 -- what is written of one payload
 pub one_body : (payload body : List ℕ) → body ≡ body_of_record payload →
@@ -63,3 +69,45 @@ module _ (disk : List ℕ) (half : Half) (generation gate : ℕ) (value : Value)
         | inr closed ↦ inl (has after half generation gate value (still_closed disk half generation
             gate value whole more bytes body is fits after torn closed))
       ]
+
+-- payloads that are appended to a journal
+module _ {D : Type 0} {disk : Ghosts D} (journal : Journal D disk) (more : List (List ℕ))
+    (bytes : ℕ) (body : List ℕ) (is : IsBodyOf more bytes body)
+    (fits : journal.gate + bytes < half_size) where
+  pub append_moments : (value : Value) → Stands journal value → (new : D) →
+      LeavesOnly disk.moment disk.left_since journal.disk new
+      (IsStagedOrOpened (disk.seen journal.disk) (start_of journal.half + journal.gate) body) →
+      LeavesOnly disk.moment disk.left_since journal.disk new (IsBeforeOrAfter value
+      journal.generation (with_payloads value more) journal.generation)
+  append_moments value stands new run =
+      weakened disk.moment disk.left_since journal.disk new _ _
+      (before_or_after (disk.seen journal.disk) journal.half journal.generation journal.gate value
+      (stands_whole journal value stands) more bytes body is fits) run
+
+  abbrev pub Opened : List ℕ → Type 0
+  Opened after =
+      let gate = start_of journal.half + journal.gate in
+      after ≡ overwritten (overwritten (disk.seen journal.disk) (gate + 1) body) gate
+      (open_gate ∷ [])
+
+  pub append_whole : (value : Value) → Stands journal value → (after : List ℕ) → Opened after →
+      IsWhole after journal.half journal.generation (journal.gate + bytes)
+      (with_payloads value more)
+  append_whole value stands after written =
+      rw written (appended (disk.seen journal.disk) journal.half journal.generation journal.gate
+      value (stands_whole journal value stands) more bytes body is fits)
+
+  pub append_in_step : journal.halted ≡ false → (new : D) → Opened (disk.seen new) →
+      Only (disk.seen new) (disk.may_leave new) →
+      IsInStep (disk.seen new) (disk.may_leave new) journal.half journal.generation
+      (journal.gate + bytes) journal.other_is_open
+  append_in_step running new written durable =
+      let step = journal.in_step running in
+      let whole : IsWhole (disk.seen new) journal.half journal.generation (journal.gate + bytes)
+      (with_payloads (value_or_empty (meaning (disk.seen journal.disk))) more) =
+      rw written (appended (disk.seen journal.disk) journal.half journal.generation journal.gate _
+      step.whole more bytes body is fits) in
+      in_step (disk.seen new) journal.half journal.generation (journal.gate + bytes) _ whole _
+      journal.other_is_open (ap (λ after. is_open after (other_half journal.half)) written
+      ∙ other_kept (disk.seen journal.disk) journal.half journal.generation journal.gate _
+      step.whole more bytes body is fits ∙ step.other) durable

@@ -11,7 +11,8 @@ use Rattle.syn_journal.specs.declared.error.JournalError.TheVariants.{Device, No
 one_more : (m n : ℕ) → suc m + n ≡ suc (m + n)
 one_more m n = omega arith
 
-makes_more : (m n : ℕ) (old mid new : Arms) → Makes m old mid → Makes n mid new →
+-- some calls and then others
+pub makes_more : (m n : ℕ) (old mid new : Arms) → Makes m old mid → Makes n mid new →
     Makes (m + n) old new
 unfolding Makes
 makes_more zero n old mid new first second =

@@ -9,9 +9,12 @@ use Rattle.std.proofs.lemmas.Nat.{from_be_bytes-to_be_bytes_4}
 use Rattle.std.specs.Int.{w32, to_be_bytes, from_be_bytes}
 use Rattle.std.specs.Prelude.{if◌then◌else◌, Err}
 use Rattle.syn_disk.specs.Disk.{Only}
+use Rattle.syn_disk.specs.declared.disk.Disk.{Ghosts}
 use Rattle.syn_disk.specs.declared.disk.TheConstants.{DISK_SIZE}
+use Rattle.syn_journal.specs.Journal.{Stands}
 use Rattle.syn_journal.specs.declared.half.Half.{Half}
 use Rattle.syn_journal.specs.declared.half.Half.TheVariants.{First, Second}
+use Rattle.syn_journal.specs.declared.journal.Journal.{Journal}
 use Rattle.syn_journal.specs.Layout.{half_size, longest_image, start_of, other_half, is_open}
 use Rattle.syn_journal.specs.Layout.{HasJournal, Value, Fault, damaged, records, image_length_at}
 use Rattle.syn_journal.specs.Layout.{with_image, bytes_from, value_at, value_in, meaning}
@@ -167,3 +170,11 @@ module _ (disk : List ℕ) (half : Half) (generation gate : ℕ) (value : Value)
       IsInStep disk may_leave half generation gate other_is_open
   in_step may_leave other_is_open other durable =
       record { whole = whole_by_meaning; other = other; durable = durable }
+
+-- the half of a journal is whole, with the value that the journal stands for
+pub stands_whole : {D : Type 0} {disk : Ghosts D} (journal : Journal D disk) (value : Value) →
+    Stands journal value →
+    IsWhole (disk.seen journal.disk) journal.half journal.generation journal.gate value
+stands_whole {disk = disk} journal value stands =
+    subst (λ v. IsWhole (disk.seen journal.disk) journal.half journal.generation journal.gate v)
+    (ap value_or_empty stands.holds.means) (journal.in_step stands.running).whole

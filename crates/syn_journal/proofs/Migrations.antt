@@ -1,14 +1,15 @@
 -- An opening and then a checkpoint, as one migration.
-use Rattle.std.proofs.Common.{◌≡◌, ◌⊎◌, ◌≤◌, ◌+◌, ◌∙◌, ℕ, zero, suc, Bool, true, false, List, inl}
+use Rattle.std.proofs.Common.{◌≡◌, ◌⊎◌, ◌≤◌, ◌+◌, ◌∙◌, ℕ, Bool, true, false, List, inl}
 use Rattle.std.proofs.Common.{inr, ⊎_elim, sym, ap, subst, Option, Some, None, Result, Ok, arith}
 use Rattle.std.proofs.Common.{true≢false}
 use Rattle.std.specs.Result.{result_ok}
 use Rattle.std.proofs.lemmas.Option.{same_Some}
 use Rattle.syn_disk.proofs.LeftLemmas.{leaves_weaker}
-use Rattle.syn_disk.specs.Arms.{Arms, after_call}
+use Rattle.syn_disk.specs.Arms.{Arms}
 use Rattle.syn_disk.specs.Calls.{Makes, MakesAtLeast}
 use Rattle.syn_disk.specs.Stops.{LeavesOnly, Untouched}
 use Rattle.syn_disk.specs.declared.disk.Disk.{Ghosts}
+use Rattle.syn_journal.proofs.Calls.{makes_more}
 use Rattle.syn_journal.specs.Journal as journal
 use Rattle.syn_journal.specs.Layout.{Fault, HasJournal, IsBeforeOrAfter, Value, generation_at}
 use Rattle.syn_journal.specs.Layout.{image_alone}
@@ -51,19 +52,6 @@ module _ {D : Type 0} (moment : D → ℕ) (left_since : D → ℕ → List ℕ 
   only_read seen may_leave old new P read =
       leaves_weaker moment left_since old new (may_leave old) _ (λ bytes was. inl was)
       read.any_moment
-
-one_more : (m n : ℕ) → suc m + n ≡ suc (m + n)
-one_more m n = omega arith
-
-makes_more : (m n : ℕ) (old mid new : Arms) → Makes m old mid → Makes n mid new →
-    Makes (m + n) old new
-unfolding Makes
-makes_more zero n old mid new first second =
-    subst (λ k. Makes k old new) (let e : n ≡ 0 + n = omega arith in e)
-    (subst (λ arms. Makes n arms new) first second)
-makes_more (suc m) n old mid new first second =
-    subst (λ k. Makes k old new) (sym (one_more m n))
-    (first.0, makes_more m n (after_call old) mid new first.1 second)
 
 -- reads, and then the device calls of a checkpoint
 all_made : (old mid new : Arms) → MakesAtLeast 1 old mid → Makes 6 mid new →

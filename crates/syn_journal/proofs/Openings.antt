@@ -8,6 +8,7 @@ use Rattle.std.proofs.lemmas.Nat.{from_be_bytes-to_be_bytes_4}
 use Rattle.std.proofs.lemmas.Bool.{cases_lt}
 use Rattle.std.proofs.lemmas.Bool.Decides.{nat_tests}
 use Rattle.std.specs.Int.{w32, to_be_bytes, from_be_bytes}
+use Rattle.syn_disk.specs.Disk.{Only}
 use Rattle.syn_disk.specs.declared.disk.TheConstants.{DISK_SIZE}
 use Rattle.std.specs.Prelude.{if◌then◌else◌, Err, IfOk, IfErr, IsErrAnd}
 use Rattle.syn_journal.specs.declared.half.Half.{Half}
@@ -18,10 +19,13 @@ use Rattle.syn_journal.specs.declared.error.JournalError.TheVariants.{Damaged}
 use Rattle.syn_journal.specs.Layout.{half_size, longest_image, open_gate, start_of, Value, Fault}
 use Rattle.syn_journal.specs.Layout.{no_image, damaged, current, meaning, value_in, spelled}
 use Rattle.syn_journal.specs.Layout.{records, image_length_at, with_image, bytes_from, value_at}
-use Rattle.syn_journal.specs.Layout.{record_of, records_of}
+use Rattle.syn_journal.specs.Layout.{is_open, other_half, record_of, records_of}
+use Rattle.syn_journal.specs.Opened.{value_read}
 use Rattle.syn_journal.specs.Refusals.{IsOpenRefusal}
+use Rattle.syn_journal.specs.declared.contents.Contents.{Contents}
 use Rattle.syn_journal.specs.inner.Reading.{IsReadRefusal}
-use Rattle.syn_journal.proofs.Meanings.{within_disk}
+use Rattle.syn_journal.specs.inner.Whole.{IsInStep, IsWhole}
+use Rattle.syn_journal.proofs.Meanings.{in_step, within_disk}
 use Rattle.syn_journal.proofs.Parts.{part_add}
 use Rattle.syn_journal.proofs.Records.{records_broken, records_of-push}
 
@@ -249,3 +253,21 @@ module _ (disk : List ℕ) (half : Half) (image : List ℕ) (fits : length image
       ∙ ap (λ (l : List ℕ). (to_be_bytes w32 (length image) ++ image) ++ l)
       (ap (λ k. take (gate - (13 + length image)) (drop k disk)) at ∙ next)
       ∙ append_assoc (to_be_bytes w32 (length image)) image (records_of payloads)
+
+-- what was read of a disk stands on it still after the reads
+module _ (old new : List ℕ) (found : Contents) (same : new ≡ old)
+    (whole : IsWhole old found.half found.generation found.gate
+    (value_read found.image found.records)) where
+  pub read_whole : IsWhole new found.half found.generation found.gate
+      (value_read found.image found.records)
+  read_whole =
+      subst (λ bytes. IsWhole bytes found.half found.generation found.gate
+      (value_read found.image found.records)) (sym same) whole
+
+  pub read_in_step : (may_leave : List ℕ → Type 0) →
+      found.other_is_open ≡ is_open old (other_half found.half) → Only new may_leave →
+      IsInStep new may_leave found.half found.generation found.gate found.other_is_open
+  read_in_step may_leave other durable =
+      in_step new found.half found.generation found.gate _ read_whole may_leave
+      found.other_is_open (ap (λ bytes. is_open bytes (other_half found.half)) same ∙ sym other)
+      durable

@@ -2,7 +2,7 @@
 use Rattle.std.proofs.Common.{◌≡◌, ◌≤◌, ◌<◌, ◌+◌, ℕ, Bool, true, false, ◌&&◌, nat_le, [], ◌∷◌, ◌++◌}
 use Rattle.std.proofs.Common.{length, length-append, refl, sym, ap, ap₂, ◌∙◌, subst, Option, Some}
 use Rattle.std.proofs.Common.{None, is_some, inr, true≢false, if◌then◌else◌, not, arith, nat_lt}
-use Rattle.std.proofs.Common.{append-nil}
+use Rattle.std.proofs.Common.{◌-◌, append-nil}
 use Rattle.std.specs.List.{list_all}
 use Rattle.std.specs.Option.{option_map_or}
 use Rattle.std.specs.FinMap.{entries, get, get-empty, len, len-entries}
@@ -11,38 +11,32 @@ use Rattle.std.proofs.lemmas.Bool.Decides.{nat_tests}
 use Rattle.std.proofs.lemmas.List.Folds.{list_all-append}
 use Rattle.std.proofs.lemmas.Option.{none-some}
 use Rattle.syn_model.specs.Path.{Path, path_cmp, root, is_root, parent, strip_prefix, IsPath}
-use Rattle.syn_model.specs.Tree.{Tree, Pair, File, IsPart, replace, subtree, absent, is_present}
+use Rattle.syn_model.specs.Tree.{Tree, Pair, replace, absent, is_present}
 use Rattle.syn_model.specs.Tree.{is_directory, Directory, empty_directory}
-use Rattle.syn_model.specs.Contents.{HasDigest}
 use Rattle.syn_model.specs.Mark.{IsMarks}
 use Rattle.syn_model.specs.Laws.{ReplacedIsThere, SubtreeFitsPaths}
 use Rattle.syn_model.specs.Limits.{fits_archive, fits_path, fits_paths}
 use Rattle.syn_model.specs.Refusal.{Refusal, Root, NoParent, Full}
-use Rattle.syn_model.proofs.TreeLemmas.{same_tree, get-subtree, get-replace, replace-is_part}
+use Rattle.syn_model.proofs.TreeLemmas.{get-replace, replace-is_part}
 use Rattle.syn_placed.specs.Pairs.{Pairs, within, before, beyond, under}
 use Rattle.syn_tree.specs.Change.{taken_from}
-use Rattle.syn_placed.proofs.RisingLemmas.{replaced, three_parts, counted}
+use Rattle.syn_placed.proofs.RisingLemmas.{replaced, three_parts, counted, rising_of}
 use Rattle.syn_placed.proofs.TreeLemmas.{entries-replace, entries-absent, rising-entries}
-use Rattle.syn_placed.proofs.TreeLemmas.{part-under, entries-one}
 use Rattle.syn_tree.proofs.PartLemmas.{length_replaced, length_under}
 use Rattle.syn_tree.proofs.CheckLemmas.{path_fits}
-use Rattle.syn_tree.proofs.FitLemmas.{is_dir}
-use Rattle.syn_tree.proofs.ChangeLemmas.{nothing_part}
+use Rattle.syn_tree.proofs.ChangeLemmas.{nothing_part, taken_same}
 use Rattle.syn_mark.specs.Marks.{AreMarks}
 use Rattle.syn_mark.specs.Changes.{Replacement, ArePlaced, IsPreparedFor, PutPartFits, after_change}
 use Rattle.syn_mark.specs.Changes.{replace_refusal}
 use Rattle.syn_mark.specs.inner.Spaces.{IsSpaced}
 use Rattle.syn_mark.proofs.MarkLemmas.{are_marks}
+use Rattle.syn_model.proofs.BaseLemmas.{and_true}
+use Rattle.syn_model.proofs.RowLemmas.{entries-at_root}
+use Rattle.syn_model.proofs.ArchiveImageLemmas.{replaced_marks}
+use Rattle.syn_model.proofs.SyncLemmas.{directory_is}
 
 abbrev pub paths_fit : Pairs → Bool
 paths_fit es = list_all (λ pair. fits_path pair.0) es
-
-pub whole_part : (t : Tree) → subtree t root ≡ t
-whole_part t = same_tree (subtree t root) t (λ q. get-subtree t root q)
-
-and_true : (a : Bool) → (a && true) ≡ a
-and_true true = refl
-and_true false = refl
 
 true_and : (a b : Bool) → a ≡ true → (a && b) ≡ b
 true_and a b h = ap (λ x. x && b) h
@@ -85,19 +79,6 @@ fits_replaced t at u count fits counts =
 
 -- ---- marks put into marks
 
-replaced_marks : (t : Tree) (p : Path) (u : Tree) → IsPart (replace t p u) → IsMarks t → IsMarks u →
-    IsMarks (replace t p u)
-replaced_marks t p u part ht hu = record {
-  part = part;
-  digests =
-      λ path contents found. elim (strip_prefix p path)
-      as (λ rest. option_map_or (λ rest. get u rest) rest (get t path) ≡ Some (File contents) →
-      HasDigest contents) [
-        | None ↦ λ e. ht.digests path contents e
-        | Some rest ↦ λ e. hu.digests rest contents e
-      ] (sym (get-replace t p u path) ∙ found);
-}
-
 pub nothing_marks : IsMarks absent
 nothing_marks = record {
   part = nothing_part;
@@ -126,7 +107,7 @@ module _ (t : Tree) (change : Replacement) (ds added : Pairs) (same : ds ≡ ent
   made_marks items is =
       let u = after_change t change in
       let part = replace-is_part t change.at change.new marks.part placed.marks.part
-      (inr (is_dir (get t (parent change.at)) ready.parent)) placed.path.names in
+      (inr (directory_is (get t (parent change.at)) ready.parent)) placed.path.names in
       are_marks u items (made_entries items is)
       (ap is_some (get-replace t change.at change.new root ∙ ap (λ o. option_map_or
       (λ rest. get change.new rest) o (get t root)) (not_below change.at ready.below)) ∙ present)
@@ -192,15 +173,10 @@ allowed_paths t p u fits h =
     (allowed_parts t p u h).1.1).1 in
     sym (ap paths_fit (entries-replace t p u) ∙ paths_replaced t p (entries u) paths) ∙ after
 
--- what is added is taken from the place
-pub taken_is : (at : Path) (u : Tree) (added : Pairs) → added ≡ under at (entries u) →
-    taken_from at added ≡ u
-taken_is at u added e = ap (λ es. taken_from at es) e ∙ part-under at u
-
 pub spaced_of : (at at' : Path) (u : Tree) (added space : Pairs) → at' ≡ at → IsPath at →
     IsMarks u → added ≡ under at (entries u) → space ≡ [] → IsSpaced at' added space
 spaced_of at at' u added space same path marks e empty =
-    let taken = ap (λ p. taken_from p added) same ∙ taken_is at u added e in
+    let taken = ap (λ p. taken_from p added) same ∙ taken_same at u added e in
     record {
       placed = record {
         path = subst IsPath (sym same) path;
@@ -254,20 +230,23 @@ fits_none t at ds count e fits counts =
     sym (fits_count t absent at ds [] count e (sym entries-absent) fits (omega (arith, counts))
     ∙ and_true (nat_le count 4096))
 
-pub fits_some : (t u : Tree) (at : Path) (ds us : Pairs) (count : ℕ) (paths : Bool) →
-    ds ≡ entries t → us ≡ entries u → fits_archive t ≡ true →
-    count + length (within at ds) ≡ length ds + length us → count ≤ 4096 →
-    paths ≡ paths_fit (under at us) → paths ≡ fits_archive (replace t at u)
-fits_some t u at ds us count paths e f fits counts l p =
-    p ∙ sym (fits_count t u at ds us count e f fits counts
-    ∙ ap (λ b. b && paths_fit (under at us)) (few count l))
+pub fits_some : (whole parts paths : Bool) (count : ℕ) → whole ≡ (nat_le count 4096 && parts) →
+    count ≤ 4096 → paths ≡ parts → paths ≡ whole
+fits_some whole parts paths count limits l p =
+    p ∙ sym (limits ∙ ap (λ b. b && parts) (few count l))
 
-pub fits_not : (t u : Tree) (at : Path) (ds us : Pairs) (count : ℕ) → ds ≡ entries t →
-    us ≡ entries u → fits_archive t ≡ true → count + length (within at ds) ≡ length ds + length us →
-    4096 < count → nat_le count 4096 ≡ fits_archive (replace t at u)
-fits_not t u at ds us count e f fits counts l =
-    many count l ∙ sym (fits_count t u at ds us count e f fits counts
-    ∙ ap (λ b. b && paths_fit (under at us)) (many count l))
+pub fits_not : (whole parts : Bool) (count : ℕ) → whole ≡ (nat_le count 4096 && parts) →
+    4096 < count → nat_le count 4096 ≡ whole
+fits_not whole parts count limits l =
+    many count l ∙ sym (limits ∙ ap (λ b. b && parts) (many count l))
+
+-- the part that is replaced is counted among the entries
+pub part_counted : (at : Path) (ds part : Pairs) (count : ℕ) → AreMarks ds →
+    part ≡ within at ds → count ≡ length ds →
+    (length part ≤ count) × (count - length part + length (within at ds) ≡ length ds)
+part_counted at ds part count marks is all =
+    let counts = counted at ds (rising_of ds marks.rising) in
+    (omega (arith, ap length is, counts, all), omega (arith, ap length is, counts, all))
 
 -- what is put keeps the limits by itself
 pub put_part_fits : ReplacedIsThere → SubtreeFitsPaths → PutPartFits
@@ -304,5 +283,5 @@ fits_dir t at ds count e fits counts lawful =
     let one : paths_fit (under at us) ≡ true = ap (λ p. fits_path p && true) (append-nil at)
     ∙ ap (λ b. b && true) (path_fits at lawful) in
     next count ∙ sym (fits_count t empty_directory at ds us (count + 1) e
-    (sym (entries-one Directory)) fits (omega (arith, counts))
+    (sym (entries-at_root Directory)) fits (omega (arith, counts))
     ∙ (ap (λ b. nat_le (count + 1) 4096 && b) one ∙ and_true (nat_le (count + 1) 4096)))

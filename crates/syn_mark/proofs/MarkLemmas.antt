@@ -22,7 +22,7 @@ use Rattle.syn_model.proofs.SubtreeLemmas.{subtree-is_part, subtree-fits_paths}
 use Rattle.syn_placed.specs.Pairs.{Pairs, AreRising}
 use Rattle.syn_placed.proofs.RisingLemmas.{Rising, After, rising_of, are_rising, counted}
 use Rattle.syn_placed.proofs.TreeLemmas.{entries-rising, get-rising, rising-entries}
-use Rattle.syn_placed.proofs.TreeLemmas.{from_entries-same, entries-one, entries-subtree}
+use Rattle.syn_placed.proofs.TreeLemmas.{from_entries-same, entries-subtree}
 use Rattle.syn_placed.proofs.TreeLemmas.{within-taken}
 use Rattle.syn_tree.proofs.PartLemmas.{length_under}
 use Rattle.syn_tree.specs.Contents.{found_content}
@@ -30,12 +30,17 @@ use Rattle.syn_tree.specs.declared.content.Found.{Found}
 use Rattle.syn_tree.specs.Lists.{contents_at}
 use Rattle.syn_mark.specs.declared.mark.Mark.{Mark}
 use Rattle.syn_mark.specs.Marks.{content_of, contents_in, marks_with, AreMarks, IsDigestOrDirectory}
-use Rattle.syn_mark.specs.inner.Placings.{marked, marks_of}
+use Rattle.syn_mark.specs.Placings.{marked, marks_of}
+use Rattle.syn_model.proofs.RowLemmas.{entries-at_root}
 
 -- ---- a list of marks
 
 pub entries_of : (ds : Pairs) → AreMarks ds → entries (marks_with ds) ≡ ds
 entries_of ds h = entries-rising ds (rising_of ds h.rising)
+
+-- the list of the marks of which it is the view
+pub entries_are : (ds : Pairs) (t : Tree) → AreMarks ds → marks_with ds ≡ t → ds ≡ entries t
+entries_are ds t h is = sym (entries_of ds h) ∙ ap entries is
 
 pub get_of : (ds : Pairs) (q : Path) → AreMarks ds → get (marks_with ds) q ≡ find path_cmp q ds
 get_of ds q h = get-rising ds q (rising_of ds h.rising)
@@ -73,10 +78,10 @@ one_present c = ap is_some (get-at_root c root)
 pub one_fits : (c : Content) → fits_archive (at_root c) ≡ true
 one_fits c =
     ap₂ (λ n es. nat_le n 4096 && list_all (λ (pair : Pair). fits_path pair.0) es)
-    (len-entries (at_root c) ∙ ap length (entries-one c)) (entries-one c)
+    (len-entries (at_root c) ∙ ap length (entries-at_root c)) (entries-at_root c)
 
 pub one_entries : (c : Content) → (root, c) ∷ [] ≡ entries (at_root c)
-one_entries c = sym (entries-one c)
+one_entries c = sym (entries-at_root c)
 
 -- ---- the part at a path
 

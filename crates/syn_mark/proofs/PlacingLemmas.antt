@@ -14,7 +14,7 @@ use Rattle.syn_model.specs.Limits.{fits_path, fits_paths}
 use Rattle.syn_tree.specs.Contents.{IsLawful}
 use Rattle.syn_placed.specs.Pairs.{Pairs, rooted, AreRising}
 use Rattle.syn_tree.specs.Entries.{IsLawfulPair}
-use Rattle.syn_placed.proofs.RisingLemmas.{rising_of, each-map, each-both}
+use Rattle.syn_placed.proofs.RisingLemmas.{rising_of, each-both}
 use Rattle.syn_placed.proofs.CountLemmas.{no_root, child_is, child_of_parent}
 use Rattle.syn_tree.proofs.FitLemmas.{all_of, each_of}
 use Rattle.syn_placed.proofs.TreeLemmas.{get-with, entries-with}
@@ -22,8 +22,9 @@ use Rattle.syn_tree.proofs.CheckLemmas.{path_fits}
 use Rattle.syn_tree.proofs.LawfulLemmas.{each-find, each_found, below_root, closed_by, lawful_tree}
 use Rattle.syn_mark.specs.Marks.{marks_with, AreMarks, AreMarkPairs, IsMarkPair}
 use Rattle.syn_mark.specs.Marks.{IsDigestOrDirectory}
-use Rattle.syn_mark.specs.inner.Placings.{stands_in}
+use Rattle.syn_mark.specs.Placings.{stands_in}
 use Rattle.syn_mark.proofs.MarkLemmas.{entries_of, get_of}
+use Rattle.syn_model.proofs.BaseLemmas.{each_with}
 
 lawful_of : (c : Content) → IsDigestOrDirectory c → IsLawful c
 lawful_of Directory h = tt
@@ -39,7 +40,7 @@ pub placed_marks : (below : Pairs) → AreRising (rooted below) →
 placed_marks below rising stand lawful count =
     let tree : IsTree (marks_with (rooted below)) =
     lawful_tree below rising (closed_by below rising (each_of (stands_in below) below stand))
-    (each-map IsMarkPair IsLawfulPair (λ e k. (k.0, lawful_of e.1 k.1)) below lawful) in
+    (each_with IsMarkPair IsLawfulPair (λ e k. (k.0, lawful_of e.1 k.1)) below lawful) in
     let all = entries-with below rising in
     record {
       rising = rising;
@@ -50,7 +51,7 @@ placed_marks below rising stand lawful count =
             λ path contents found. (each-find (λ q c. IsDigestOrDirectory c) path (File contents)
             (rooted below) (
               tt,
-              each-map IsMarkPair (λ e. IsDigestOrDirectory e.1)
+              each_with IsMarkPair (λ e. IsDigestOrDirectory e.1)
                   (λ e k. k.1) below lawful,
             ) (sym (get-with below path rising) ∙ found)).1;
       };
@@ -58,7 +59,7 @@ placed_marks below rising stand lawful count =
           ap₂ (λ n es. nat_le n 4096 && list_all (λ (pair : Pair). fits_path pair.0) es)
           (len-entries (marks_with (rooted below)) ∙ ap length all) all
           ∙ ap₂ (λ a b. a && b) (few (length (rooted below)) count)
-          (all_of (λ pair. fits_path pair.0) below (each-map IsMarkPair
+          (all_of (λ pair. fits_path pair.0) below (each_with IsMarkPair
           (λ e. fits_path e.0 ≡ true) (λ e k. path_fits e.0 k.0) below lawful));
     }
 
@@ -103,7 +104,7 @@ pub marks_placed : (below : Pairs) → AreMarks (rooted below) →
 marks_placed below h =
     let rising = rising_of (rooted below) h.rising in
     all_of (stands_in below) below
-    (each-map (λ e. (path_cmp root e.0 ≡ Less) × (find path_cmp e.0 (rooted below) ≡ Some e.1))
+    (each_with (λ e. (path_cmp root e.0 ≡ Less) × (find path_cmp e.0 (rooted below) ≡ Some e.1))
     (λ e. stands_in below e ≡ true) (λ e k. one e k.0 k.1) below
     (each-both (λ e. path_cmp root e.0 ≡ Less) (λ e. find path_cmp e.0 (rooted below) ≡ Some e.1)
     below rising.0 (each_found (rooted below) rising).1))

@@ -1,3 +1,4 @@
 pub mod Marks
+pub mod Placings
 pub mod Changes
 pub mod inner

@@ -6,7 +6,7 @@ ghost use Rattle.syn_model.specs.Mark.{mark, mark_of};
 ghost use Rattle.syn_tree.specs.Contents.{found_content};
 ghost use Rattle.syn_tree.specs.Nodes.{node_tree};
 ghost use Rattle.syn_mark.specs.Marks.{content_of};
-ghost use Rattle.syn_mark.specs.inner.Placings.{marked};
+ghost use Rattle.syn_mark.specs.Placings.{marked};
 
 use crate::mark::Mark;
 use crate::tree::{MOST_NODES, MarkEntry, MarkTree};

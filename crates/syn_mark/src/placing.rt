@@ -9,7 +9,7 @@ ghost use Rattle.syn_model.specs.Mark.{IsMarks};
 ghost use Rattle.syn_placed.specs.Pairs.{rooted, under, AreRising};
 ghost use Rattle.syn_tree.specs.Lists.{stripped};
 ghost use Rattle.syn_mark.specs.Marks.{content_of, or_absent, AreMarkPairs};
-ghost use Rattle.syn_mark.specs.inner.Placings.{stands_in};
+ghost use Rattle.syn_mark.specs.Placings.{stands_in};
 
 use crate::copies::{below, push_under};
 use crate::lawful::is_entry;

@@ -31,7 +31,8 @@ use Rattle.syn_model.proofs.HistoryLemmas.{no_file, only, empty-is_tree}
 use Rattle.syn_model.proofs.RowLemmas.{entries-at_root}
 
 -- marks that are put into marks leave marks
-replaced_marks : (t : Tree) (p : Path) (u : Tree) → IsPart (replace t p u) → IsMarks t → IsMarks u →
+pub replaced_marks : (t : Tree) (p : Path) (u : Tree) → IsPart (replace t p u) → IsMarks t →
+    IsMarks u →
     IsMarks (replace t p u)
 replaced_marks t p u part ht hu = record {
   part = part;

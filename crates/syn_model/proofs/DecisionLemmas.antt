@@ -14,13 +14,12 @@ use Rattle.syn_model.specs.Which.{Which}
 use Rattle.syn_model.specs.Decision.{ToLeft, ToRight, MarkSame, MarkDir, Decision, Clean, Do}
 use Rattle.syn_model.specs.Decision.{DoAndGoOn, GoOn, contested, decision}
 use Rattle.syn_model.specs.Plan.{scan_of}
-use Rattle.syn_model.proofs.PathLemmas.{parent-append}
+use Rattle.syn_model.proofs.PathLemmas.{parent-append, prefix-append}
 use Rattle.syn_model.proofs.TreeLemmas.{same_tree, get-subtree, by_rest}
 use Rattle.syn_model.proofs.DirtyLemmas.{tree_itself, dirty-closed}
 use Rattle.syn_model.proofs.SyncLemmas.{directory_is}
 use Rattle.syn_model.proofs.QuietLemmas.{directory_of_mark}
 use Rattle.syn_model.proofs.DirectoryLemmas.{none_mark}
-use Rattle.syn_model.proofs.PlanOrder.{prefix-append}
 
 not_root : (p : Path) (n : Name) (q : Path) → is_root (p ++ n ∷ q) ≡ false
 not_root [] n q = refl

@@ -20,6 +20,7 @@ use Rattle.syn_model.proofs.MarkLemmas.{get-mark}
 use Rattle.syn_model.proofs.HistoryLemmas.{get-below_root}
 use Rattle.syn_model.proofs.QuietLemmas.{get-children, nothing_below}
 use Rattle.syn_model.proofs.PlanNames.{names_of_three}
+use Rattle.syn_model.proofs.BaseLemmas.{none_of}
 
 pub root_content : (t : Tree) (p : Path) → get (subtree t p) root ≡ get t p
 root_content t p = get-subtree t p root ∙ ap (get t) (append-nil p)
@@ -45,10 +46,6 @@ from_names t u p h each = same_tree (subtree t p) (subtree u p) (λ q. at q)
     at : (q : Path) → get (subtree t p) q ≡ get (subtree u p) q
     at [] = root_content t p ∙ (h ∙ sym (root_content u p))
     at (n ∷ q) = below_name t p n q ∙ (ap (λ w. get w q) (each n) ∙ sym (below_name u p n q))
-
-pub none_of : {X : Type 0} (o : Option X) → is_some o ≡ false → o ≡ None
-none_of None h = refl
-none_of (Some x) h = absurd (true≢false h)
 
 pub not_child : (t : Tree) (p : Path) (n : Name) →
     is_some (find name_cmp n (children t p)) ≡ false → get t (child p n) ≡ None

@@ -15,8 +15,8 @@ use Rattle.syn_model.specs.Version.{Version}
 use Rattle.syn_model.specs.Tree.{Tree, Content, Directory, File, IsPart, IsPartIn, IsTree, StandsIn}
 use Rattle.syn_model.specs.Tree.{at_root, empty_directory, absent, replace, is_directory}
 use Rattle.syn_model.specs.Tree.{is_present}
-use Rattle.syn_model.specs.Refusal.{Cause, first_cause, NoParent, Root, IsDirectory, Exists, Absent}
-use Rattle.syn_model.specs.Refusal.{OldSession}
+use Rattle.syn_model.specs.Refusal.{Refusal, Cause, first_cause, NoParent, Root, IsDirectory}
+use Rattle.syn_model.specs.Refusal.{Exists, Absent, OldSession}
 use Rattle.syn_model.specs.Event.{Edit, Put, MakeDir, Remove, Chmod, Event, Edited, Began}
 use Rattle.syn_model.specs.Event.{Replaced, AreBytes, put_mode, with_mode}
 use Rattle.syn_model.specs.Event.{after_edit, after_event, IsLawfulEdit, put_contents}
@@ -46,6 +46,20 @@ none-append (x ∷ xs) ys e =
     let first = first_cause-none x (xs ++ ys) e in
     let rest = none-append xs ys first.1 in
     (ap (λ b. if b then Some x.1 else first_cause xs) first.0 ∙ rest.0, rest.1)
+
+-- causes that do not stand are passed over
+pub first_skips : (xs ys : List Cause) → first_cause xs ≡ None →
+    first_cause (xs ++ ys) ≡ first_cause ys
+first_skips [] ys e = refl
+first_skips ((true, why) ∷ xs) ys e = absurd (none-some _ (sym e))
+first_skips ((false, why) ∷ xs) ys e = first_skips xs ys e
+
+-- and the first of some causes is the first of them before others
+pub first_stays : (xs ys : List Cause) (why : Refusal) → first_cause xs ≡ Some why →
+    first_cause (xs ++ ys) ≡ Some why
+first_stays [] ys why e = absurd (none-some _ e)
+first_stays ((true, other) ∷ xs) ys why e = e
+first_stays ((false, other) ∷ xs) ys why e = first_stays xs ys why e
 
 pub append-none : (xs ys : List Cause) → first_cause xs ≡ None → first_cause ys ≡ None →
     first_cause (xs ++ ys) ≡ None

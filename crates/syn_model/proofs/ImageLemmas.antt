@@ -51,7 +51,7 @@ formatted_stands pair = record {
   };
 }
 
-allowed-append : (standing : Standing) (events : List Event) (event : Event) →
+pub allowed-append : (standing : Standing) (events : List Event) (event : Event) →
     AllAllowedAt standing events → IsAllowedAt (fold standing_after standing events) event →
     AllAllowedAt standing (events ++ event ∷ [])
 allowed-append standing [] event all one = (one, tt)

@@ -24,8 +24,9 @@ use Rattle.syn_model.specs.MarkSpelling.{mark_spelling}
 use Rattle.syn_model.proofs.PathLemmas.{same_name, same_path, name_itself, path_itself}
 use Rattle.syn_model.proofs.TreeLemmas.{get-subtree}
 use Rattle.syn_model.proofs.QuietLemmas.{get-children}
-use Rattle.syn_model.proofs.SubtreeLemmas.{parts, subtree_entries}
+use Rattle.syn_model.proofs.SubtreeLemmas.{subtree_entries}
 use Rattle.syn_model.specs.Contents.{Contents, contents_front, contents_spelling, digest_spelling}
+use Rattle.syn_model.proofs.BaseLemmas.{is_true, both_hold, each_with}
 
 -- ---- sums
 
@@ -50,11 +51,6 @@ total_less f g (x ∷ xs) h =
 pub each_of : {X : Type 0} (P : X → Type 0) → ((x : X) → P x) → (xs : List X) → AllByRecursion P xs
 each_of P h [] = tt
 each_of P h (x ∷ xs) = (h x, each_of P h xs)
-
-pub each_with : {X : Type 0} (P Q : X → Type 0) → ((x : X) → P x → Q x) → (xs : List X) →
-    AllByRecursion P xs → AllByRecursion Q xs
-each_with P Q f [] h = tt
-each_with P Q f (x ∷ xs) h = (f x h.0, each_with P Q f xs h.1)
 
 total_none : {X : Type 0} (f : X → ℕ) (xs : List X) → AllByRecursion (λ x. f x ≡ 0) xs →
     total f xs ≡ 0
@@ -113,7 +109,7 @@ still_some n x xs h =
     elim (eq_by_cmp name_cmp n x.0)
     as (λ b. is_some (cond b (Some x.1) (find name_cmp n xs)) ≡ true) [ true ↦ refl | false ↦ h ]
 
-found_each : (xs : List (Name × Content)) →
+pub found_each : (xs : List (Name × Content)) →
     AllByRecursion (λ x. is_some (find name_cmp x.0 xs) ≡ true) xs
 found_each [] = tt
 found_each (x ∷ xs) = (
@@ -153,31 +149,28 @@ less_apart n m h = by (name_cmp n m) h
     by Equal e = absurd (true≢false (sym e))
     by Greater e = refl
 
-is_true : (b : Bool) → T b → b ≡ true
-is_true true h = refl
-is_true false h = absurd h
-
 others_later : (n : Name) (es : List Pair) → T (below_all path_cmp (n ∷ []) es) →
     AllByRecursion (IsOther n) (filter_map top es)
 others_later n [] h = tt
 others_later n (([], c) ∷ es) h =
-    others_later n es (parts (is_lt (path_cmp (n ∷ []) [])) (below_all path_cmp (n ∷ []) es) h).1
+    others_later n es (both_hold (is_lt (path_cmp (n ∷ []) []))
+    (below_all path_cmp (n ∷ []) es) h).1
 others_later n ((m ∷ [], c) ∷ es) h =
-    let both = parts (is_lt (path_cmp (n ∷ []) (m ∷ []))) (below_all path_cmp (n ∷ []) es) h in
+    let both = both_hold (is_lt (path_cmp (n ∷ []) (m ∷ []))) (below_all path_cmp (n ∷ []) es) h in
     (less_apart n m (is_true (is_lt (path_cmp (n ∷ []) (m ∷ []))) both.0), others_later n es both.1)
 others_later n ((m ∷ k ∷ q, c) ∷ es) h =
     others_later n es
-    (parts (is_lt (path_cmp (n ∷ []) (m ∷ k ∷ q))) (below_all path_cmp (n ∷ []) es) h).1
+    (both_hold (is_lt (path_cmp (n ∷ []) (m ∷ k ∷ q))) (below_all path_cmp (n ∷ []) es) h).1
 
 tops_apart : (es : List Pair) → T (is_sorted path_cmp es) → AreApart (filter_map top es)
 tops_apart [] h = tt
 tops_apart (([], c) ∷ es) h =
-    tops_apart es (parts (below_all path_cmp [] es) (is_sorted path_cmp es) h).1
+    tops_apart es (both_hold (below_all path_cmp [] es) (is_sorted path_cmp es) h).1
 tops_apart ((m ∷ [], c) ∷ es) h =
-    let both = parts (below_all path_cmp (m ∷ []) es) (is_sorted path_cmp es) h in
+    let both = both_hold (below_all path_cmp (m ∷ []) es) (is_sorted path_cmp es) h in
     (others_later m es both.0, tops_apart es both.1)
 tops_apart ((m ∷ k ∷ q, c) ∷ es) h =
-    tops_apart es (parts (below_all path_cmp (m ∷ k ∷ q) es) (is_sorted path_cmp es) h).1
+    tops_apart es (both_hold (below_all path_cmp (m ∷ k ∷ q) es) (is_sorted path_cmp es) h).1
 
 -- ---- what each pair takes
 
@@ -409,7 +402,7 @@ found_after : (p : Path) (c : Content) (xs all : List Pair) → T (below_all pat
     AllByRecursion (λ e. find path_cmp e.0 ((p, c) ∷ all) ≡ Some e.1) xs
 found_after p c [] all h found = tt
 found_after p c (x ∷ xs) all h found =
-    let both = parts (is_lt (path_cmp p x.0)) (below_all path_cmp p xs) h in (
+    let both = both_hold (is_lt (path_cmp p x.0)) (below_all path_cmp p xs) h in (
       ap (λ b. cond b (Some c) (find path_cmp x.0 all)) (not_itself p x.0
           (is_true (is_lt (path_cmp p x.0)) both.0)) ∙ found.0,
       found_after p c xs all both.1 found.1,
@@ -419,7 +412,7 @@ pairs_found : (es : List Pair) → T (is_sorted path_cmp es) →
     AllByRecursion (λ e. find path_cmp e.0 es ≡ Some e.1) es
 pairs_found [] h = tt
 pairs_found (e ∷ es) h =
-    let both = parts (below_all path_cmp e.0 es) (is_sorted path_cmp es) h in (
+    let both = both_hold (below_all path_cmp e.0 es) (is_sorted path_cmp es) h in (
       ap (λ b. cond b (Some e.1) (find path_cmp e.0 es)) (path_itself e.0),
       found_after e.0 e.1 es es both.0 (pairs_found es both.1),
     )

@@ -1,3 +1,4 @@
+pub mod BaseLemmas
 pub mod PathLemmas
 pub mod ContentsLemmas
 pub mod VersionLemmas

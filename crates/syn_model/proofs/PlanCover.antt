@@ -17,10 +17,10 @@ use Rattle.syn_model.specs.Decision.{IsReached, contested}
 use Rattle.syn_model.specs.Plan.{plan, most_names, items_from, names_below, with_items_below}
 use Rattle.syn_model.specs.Plan.{scan_of, IsDecided, IsConflict, PlanHasDecided}
 use Rattle.syn_model.specs.Plan.{ConflictsArePlanned}
-use Rattle.syn_model.proofs.PathLemmas.{same_name}
+use Rattle.syn_model.proofs.PathLemmas.{same_name, prefix-append}
 use Rattle.syn_model.proofs.DirtyLemmas.{dirty-closed}
 use Rattle.syn_model.proofs.SyncLemmas.{child_relevant}
-use Rattle.syn_model.proofs.PlanOrder.{below, prefix-append, plan_is_decided}
+use Rattle.syn_model.proofs.PlanOrder.{below, plan_is_decided}
 use Rattle.syn_model.proofs.QuietLemmas.{directory_of_mark}
 use Rattle.syn_model.proofs.DirectoryLemmas.{not_there, absent_below, mark_none}
 use Rattle.syn_model.proofs.DecisionLemmas.{left_dirty, right_dirty, by_decision, decided_by}

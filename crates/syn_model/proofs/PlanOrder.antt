@@ -24,17 +24,14 @@ use Rattle.syn_model.specs.Plan.{names_below, with_items_below, items_from, plan
 use Rattle.syn_model.specs.Plan.{StandsBefore, IsDecided, IsContested, OverwritesLawfully}
 use Rattle.syn_model.specs.Plan.{PlanIsInOrder}
 use Rattle.syn_model.specs.Plan.{PlanIsDecided, PlanOverwritesLawfully, is_mark_dir, PlanIsOrderly}
-use Rattle.syn_model.proofs.PathLemmas.{first_or, rest_of, name_total, name_itself}
+use Rattle.syn_model.proofs.PathLemmas.{first_or, rest_of, name_total, name_itself, prefix-append}
 use Rattle.syn_model.proofs.PathLemmas.{prefixes_comparable, is_prefix-is, strip_prefix-append}
 use Rattle.syn_model.proofs.DirtyLemmas.{prefix_chain}
 use Rattle.syn_model.proofs.PlanNames.{Apart, names_apart}
+use Rattle.syn_model.proofs.BaseLemmas.{each_append}
+use Rattle.syn_model.proofs.PathLemmas.{prefix_itself}
 
 -- ---- lists
-
-pub every-append : {X : Type 0} (P : X → Type 0) (xs ys : List X) → AllByRecursion P xs →
-    AllByRecursion P ys → AllByRecursion P (xs ++ ys)
-every-append P [] ys h k = k
-every-append P (x ∷ xs) ys h k = (h.0, every-append P xs ys h.1 k)
 
 pub every-weaker : {X : Type 0} {P Q : X → Type 0} → ((x : X) → P x → Q x) → (xs : List X) →
     AllByRecursion P xs → AllByRecursion Q xs
@@ -44,7 +41,7 @@ every-weaker f (x ∷ xs) h = (f x h.0, every-weaker f xs h.1)
 pub every-flat_map : {X Y : Type 0} (P : Y → Type 0) (f : X → List Y) (xs : List X) →
     ((x : X) → AllByRecursion P (f x)) → AllByRecursion P (flat_map f xs)
 every-flat_map P f [] h = tt
-every-flat_map P f (x ∷ xs) h = every-append P (f x) (flat_map f xs) (h x) (every-flat_map P f xs h)
+every-flat_map P f (x ∷ xs) h = each_append P (f x) (flat_map f xs) (h x) (every-flat_map P f xs h)
 
 -- each item stands well before each later one
 abbrev pub Ordered : List Item → Type 0
@@ -55,7 +52,7 @@ ordered-append : (xs ys : List Item) → Ordered xs → Ordered ys →
     AllByRecursion (λ x. AllByRecursion (StandsBefore x) ys) xs → Ordered (xs ++ ys)
 ordered-append [] ys h k between = k
 ordered-append (x ∷ xs) ys h k between =
-    (every-append (StandsBefore x) xs ys h.0 between.0, ordered-append xs ys h.1 k between.1)
+    (each_append (StandsBefore x) xs ys h.0 between.0, ordered-append xs ys h.1 k between.1)
 
 ordered_pairs : (xs : List Item) → Ordered xs → AllPairs StandsBefore xs
 ordered_pairs [] h = λ i j d lt within. absurd (omega arith)
@@ -76,9 +73,6 @@ siblings [] n m h =
 siblings (x ∷ p) n m h =
     ap (λ b. is_some (if b then strip_prefix (child p n) (child p m) else None) || is_some
     (if b then strip_prefix (child p m) (child p n) else None)) (name_itself x) ∙ siblings p n m h
-
-pub prefix-append : (p q : Path) → is_prefix p (p ++ q) ≡ true
-prefix-append p q = ap is_some (strip_prefix-append p q)
 
 joined : (p q x : Path) → is_prefix p x ≡ true → is_prefix q x ≡ true → comparable p q ≡ true
 joined p q x h k =
@@ -250,7 +244,7 @@ module _ (decide : Path → Decision) (fits : (path : Path) → FitsAt path (dec
   beside_each path name item at levels (other ∷ names) h =
       let parts = or_parts (eq_by_cmp name_cmp name other)
       (list_any (eq_by_cmp name_cmp name) names) h in
-      every-append (StandsBefore item) (from levels (child path other)) (under levels path names)
+      each_append (StandsBefore item) (from levels (child path other)) (under levels path names)
       (every-weaker (λ later there.
       let apart = or_parts (is_prefix (path_of item) (path_of later))
       (is_prefix (path_of later) (path_of item)) (apart_below (child path name) (child path other)
@@ -350,7 +344,7 @@ plan_is_decided preference left right archive =
 
 -- ---- what is overwritten
 
-contested_by : (left right : Scan) (archive : Tree) (path : Path) →
+pub contested_by : (left right : Scan) (archive : Tree) (path : Path) →
     dirty left archive path ≡ true → dirty right archive path ≡ true →
     (is_unstable left path || is_unstable right path) ≡ false →
     IsContested left right archive path
@@ -463,13 +457,10 @@ pub plan_in_order : PlanIsInOrder
 plan_in_order preference left right archive =
     ordered_pairs (plan preference left right archive) (plan-ordered preference left right archive)
 
-path_itself_prefix : (p : Path) → is_prefix p p ≡ true
-path_itself_prefix p = ap (is_prefix p) (sym (append-nil p)) ∙ prefix-append p []
-
 orderly : (earlier later : Item) → StandsBefore earlier later → (path_of earlier ≢ path_of later)
     × (is_mark_dir earlier ≡ false → comparable (path_of earlier) (path_of later) ≡ false)
 orderly earlier later order = (
-  λ same. true≢false (sym (ap (is_prefix (path_of later)) same ∙ path_itself_prefix (path_of later))
+  λ same. true≢false (sym (ap (is_prefix (path_of later)) same ∙ prefix_itself (path_of later))
       ∙ order.not_above),
   λ other. ap₂ (λ x y. x || y) (false_from_ne_true (is_prefix (path_of earlier) (path_of later))
       (λ e. true≢false (sym (ap is_mark_dir (order.below_directory e)) ∙ other))) order.not_above,

@@ -10,11 +10,12 @@ use Rattle.syn_model.specs.Decision.{Item, ToLeft, ToRight, MarkSame, MarkDir, C
 use Rattle.syn_model.specs.Plan.{StandsBefore, with_directory, IsRecordedFor, IsRecordedForEach}
 use Rattle.syn_model.specs.Plan.{ItemFindsArchive, Trees, after_item, carried_out, SidesStay}
 use Rattle.syn_model.specs.Plan.{ItemFindsSides}
-use Rattle.syn_model.proofs.PathLemmas.{is_prefix-is}
+use Rattle.syn_model.proofs.PathLemmas.{is_prefix-is, prefix-append}
 use Rattle.syn_model.proofs.TreeLemmas.{subtree-replace_other, beside}
 use Rattle.syn_model.proofs.DirtyLemmas.{prefix_chain}
-use Rattle.syn_model.proofs.PlanOrder.{Ordered, plan_before, prefix-append}
+use Rattle.syn_model.proofs.PlanOrder.{Ordered, plan_before}
 use Rattle.syn_model.proofs.DirectoryLemmas.{moved-directory, below_new_directory}
+use Rattle.syn_model.proofs.BaseLemmas.{each_of_both}
 
 -- at the item's path the archive is as it was when the plan was made
 abbrev Finds : Tree → Tree → Item → Type 0
@@ -81,11 +82,6 @@ finds_after archive old new earlier item parents order there here recorded =
         ∙ (directory_above archive old p n rest parents at_p (ap (subtree old) (sym is)
         ∙ (at_q ∙ ap (subtree archive) is)) ∙ ap (subtree archive) (sym is)))
 
-both_of_each : {X : Type 0} (P Q R : X → Type 0) → ((x : X) → P x → Q x → R x) → (xs : List X) →
-    AllByRecursion P xs → AllByRecursion Q xs → AllByRecursion R xs
-both_of_each P Q R f [] h k = tt
-both_of_each P Q R f (x ∷ xs) h k = (f x h.0 k.0, both_of_each P Q R f xs h.1 k.1)
-
 finds_after_all : (archive : Tree) → HasParents archive → (items : List Item) (old new : Tree)
     (item : Item) → Ordered items → AllByRecursion (λ earlier. StandsBefore earlier item) items →
     AllByRecursion (Finds archive old) items → Finds archive old item →
@@ -95,7 +91,7 @@ finds_after_all archive parents [] old new item order before there here same =
 finds_after_all archive parents (x ∷ xs) old new item order before there here recorded =
     let next = recorded.0 in
     finds_after_all archive parents xs next new item order.1 before.1
-    (both_of_each (StandsBefore x) (Finds archive old) (Finds archive next) (λ y stands at.
+    (each_of_both (StandsBefore x) (Finds archive old) (Finds archive next) (λ y stands at.
     finds_after archive old next x y parents stands there.0 at recorded.1) xs order.0 there.1)
     (finds_after archive old next x item parents before.0 there.0 here recorded.1) recorded.2
 

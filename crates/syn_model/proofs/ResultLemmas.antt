@@ -15,11 +15,11 @@ use Rattle.syn_model.specs.Plan.{most_names, after_item, carried_out, CanBePlann
 use Rattle.syn_model.specs.Plan.{PlanSynchronizes, PlanReconciles}
 use Rattle.syn_model.proofs.TreeLemmas.{subtree-replace, subtree-append}
 use Rattle.syn_model.proofs.MarkLemmas.{get-mark, mark-subtree}
-use Rattle.syn_model.proofs.DirectoryLemmas.{moved-directory, same_content_at, from_names, none_of}
+use Rattle.syn_model.proofs.DirectoryLemmas.{moved-directory, same_content_at, from_names}
 use Rattle.syn_model.proofs.DirectoryLemmas.{not_there, absent_below, mark_none}
 use Rattle.syn_model.proofs.CarryLemmas.{SameAt, same-deeper, SameContent, same_itself, same-then}
 use Rattle.syn_model.proofs.CarryLemmas.{untouched, beside_items}
-use Rattle.syn_model.proofs.PlanOrder.{below, decision-fits, items-at, prefix-append, siblings}
+use Rattle.syn_model.proofs.PlanOrder.{below, decision-fits, items-at, siblings}
 use Rattle.syn_model.proofs.PlanOrder.{every-weaker, items-below, name_alike}
 use native.Mathlib.Omega.{arith}
 use Rattle.std.specs.Ordering.{eq_by_cmp}
@@ -28,7 +28,7 @@ use Rattle.std.proofs.lemmas.Bool.{false_from_ne_true, and_parts, or_parts, or_r
 use Rattle.std.proofs.lemmas.List.Sums.{fold-append}
 use Rattle.syn_model.specs.Decision.{Item, ToLeft, ToRight, MarkSame, MarkDir, Decision, decision}
 use Rattle.syn_model.specs.Decision.{path_of, contested}
-use Rattle.syn_model.proofs.PathLemmas.{name_itself, same_name}
+use Rattle.syn_model.proofs.PathLemmas.{name_itself, same_name, prefix-append}
 use Rattle.syn_model.proofs.DirtyLemmas.{same_tree_is, tree_itself, dirty-closed, dirty-safe}
 use Rattle.syn_model.proofs.SyncLemmas.{directory_is, child_relevant}
 use Rattle.syn_model.proofs.QuietLemmas.{directory_of_mark}
@@ -39,6 +39,7 @@ use Rattle.syn_model.proofs.PlanNames.{Apart, names_apart}
 use Rattle.syn_model.proofs.PlaceLemmas.{same_by_mark, Result, moved-mark, start, Good, moved-good}
 use Rattle.syn_model.proofs.PlaceLemmas.{equal_parts, good-here, recorded_directory, recorded_here}
 use Rattle.syn_model.specs.Which.{Which, Left, Right}
+use Rattle.syn_model.proofs.BaseLemmas.{none_of}
 
 -- A plan from a path on, where both sides and the archive are still as they were
 module _ (preference : Option Which) (a b o : Tree) (left_parents : HasParents a)

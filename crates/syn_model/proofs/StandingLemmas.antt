@@ -1,15 +1,15 @@
 -- What an image keeps of a history goes on event by event.
 use Rattle.std.proofs.Common.{◌≡◌, ℕ, ◌+◌, ◌-◌, List, [], ◌∷◌, ◌++◌, length, take, drop, sym, ap}
 use Rattle.std.proofs.Common.{◌∙◌, subst, append_assoc, append-nil, add-zero, zero-add, suc, None}
-use Rattle.std.proofs.Common.{arith}
+use Rattle.std.proofs.Common.{arith, fold}
 use Rattle.std.proofs.lemmas.List.{length-append, length-drop, drop-drop, drop-append-le}
 use Rattle.std.proofs.lemmas.List.{take-append-le}
 use Rattle.std.proofs.lemmas.List.Sums.{fold-append}
 use Rattle.std.proofs.Math.Seq.{take-add}
 use Rattle.syn_model.specs.Event.{Event}
 use Rattle.syn_model.specs.Standing.{Touch, most_touches, surplus, above_last, touches_at}
-use Rattle.syn_model.specs.Standing.{session_after, token_after, AllAllowedAt}
-use Rattle.syn_model.specs.History.{History, touches_from}
+use Rattle.syn_model.specs.Standing.{session_after, token_after, standing_after, AllAllowedAt}
+use Rattle.syn_model.specs.History.{History, standing_of, touches_from}
 use Rattle.syn_model.specs.Laws.{StandingSteps, StandingAllows}
 use Rattle.syn_model.proofs.HistoryLemmas.{tree_of-append}
 
@@ -111,3 +111,12 @@ standing_allows history (event ∷ events) =
         next (more.1 all.1),
       ),
     )
+
+-- the standing after more events is that of the longer history
+pub standing_goes_on : (history events : History) →
+    standing_of (history ++ events) ≡ fold standing_after (standing_of history) events
+standing_goes_on history [] = ap standing_of (append-nil history)
+standing_goes_on history (event ∷ events) =
+    ap standing_of (sym (append_assoc history (event ∷ []) events))
+    ∙ (standing_goes_on (history ++ event ∷ []) events
+    ∙ ap (λ s. fold standing_after s events) (standing_steps history event))

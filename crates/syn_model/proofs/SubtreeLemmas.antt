@@ -22,17 +22,14 @@ use Rattle.syn_model.specs.Limits.{children, only_name, fits_content, fits_part,
 use Rattle.syn_model.specs.Limits.{fits_paths}
 use Rattle.syn_model.proofs.TreeLemmas.{get-subtree}
 use Rattle.syn_model.proofs.PathLemmas.{name_total, path_total, path_exact, strip_prefix-is}
+use Rattle.syn_model.proofs.BaseLemmas.{both_hold}
 
 pub joined : (a b : Bool) → T a → T b → T (a && b)
 joined true b p q = q
 joined false b p q = absurd p
 
-pub parts : (a b : Bool) → T (a && b) → T a × T b
-parts true b p = (tt, p)
-parts false b p = absurd p
-
 -- paths below one path compare by what follows it
-under_cmp : (p a b : Path) → path_cmp (p ++ a) (p ++ b) ≡ path_cmp a b
+pub under_cmp : (p a b : Path) → path_cmp (p ++ a) (p ++ b) ≡ path_cmp a b
 under_cmp [] a b = refl
 under_cmp (n ∷ p) a b =
     ap (λ o. ordering_then o (path_cmp (p ++ a) (p ++ b))) (tied_itself name_total n)
@@ -45,7 +42,7 @@ still_below : (p a rest : Path) (es : List Pair) → strip_prefix p a ≡ Some r
     T (below_all path_cmp a es) → T (below_all path_cmp rest (below p es))
 still_below p a rest [] h t = tt
 still_below p a rest (e ∷ es) h t =
-    let two = parts (is_lt (path_cmp a e.0)) (below_all path_cmp a es) t in
+    let two = both_hold (is_lt (path_cmp a e.0)) (below_all path_cmp a es) t in
     let more = still_below p a rest es h two.1 in
     elim (strip_prefix p e.0) as (λ o. strip_prefix p e.0 ≡ o →
     T (below_all path_cmp rest (cons_option (option_map (λ r. (r, e.1)) o) (below p es)))) [
@@ -61,7 +58,7 @@ still_sorted : (p : Path) (es : List Pair) → T (is_sorted path_cmp es) →
     T (is_sorted path_cmp (below p es))
 still_sorted p [] t = tt
 still_sorted p (e ∷ es) t =
-    let two = parts (below_all path_cmp e.0 es) (is_sorted path_cmp es) t in
+    let two = both_hold (below_all path_cmp e.0 es) (is_sorted path_cmp es) t in
     let more = still_sorted p es two.1 in
     elim (strip_prefix p e.0) as (λ o. strip_prefix p e.0 ≡ o →
     T (is_sorted path_cmp (cons_option (option_map (λ r. (r, e.1)) o) (below p es)))) [
@@ -186,7 +183,7 @@ smaller a b n l h = grind (arith, nat_tests)
 one_more : (a b : ℕ) → a ≤ b → suc a ≤ suc b
 one_more a b l = omega (arith, l)
 
-fits_later : (p q : Path) → fits_path (p ++ q) ≡ true → fits_path q ≡ true
+pub fits_later : (p q : Path) → fits_path (p ++ q) ≡ true → fits_path q ≡ true
 fits_later p q h =
     let two = and_parts (nat_le (length (p ++ q)) 16)
     (nat_le (length (path_spelling (p ++ q))) 255) h in

@@ -14,7 +14,7 @@ use Rattle.std.proofs.lemmas.Grind.{flat_map-append}
 use Rattle.std.proofs.lemmas.List.{take_more, take_all}
 use Rattle.syn_model.specs.Path.{Name, Path, name_cmp, strip_prefix, IsName, IsPath, path_spelling}
 use Rattle.syn_model.specs.Path.{is_prefix}
-use Rattle.syn_model.proofs.PathLemmas.{is_prefix-is, strip_prefix-append}
+use Rattle.syn_model.proofs.PathLemmas.{is_prefix-is}
 use Rattle.std.specs.Ordering.{eq_by_cmp}
 use Rattle.std.specs.Cmp.Lexicographic.{texts_ties}
 use Rattle.syn_path.specs.Paths.{NamesPath, text_of, IsPrefix, printed_name, printed_form}
@@ -152,9 +152,6 @@ is_prefix-starts_with (n ∷ p) (m ∷ q) =
 
 pub prefix_from_test : (p q : Path) → is_prefix p q ≡ true → IsPrefix p q
 prefix_from_test p q h = let rest = is_prefix-is p q h in (rest.0, sym rest.1)
-
-pub test_from_append : (p rest : Path) → is_prefix p (p ++ rest) ≡ true
-test_from_append p rest = ap is_some (strip_prefix-append p rest)
 
 -- the first name is printed, and then each other after a slash
 pub printed-split : (p : Path) (x : Name) → 0 < length p → x ≡ slice_index_or p 0 x → printed_name x

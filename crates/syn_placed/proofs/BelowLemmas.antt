@@ -6,11 +6,12 @@ use Rattle.std.proofs.Common.{true≢false, append-nil}
 use Rattle.std.specs.Ordering.{eq_by_cmp}
 use Rattle.syn_model.specs.Path.{Path, path_cmp, strip_prefix, is_prefix}
 use Rattle.syn_model.specs.Tree.{Pair}
-use Rattle.syn_model.proofs.PathLemmas.{path_itself, same_path, strip_prefix-is}
+use Rattle.syn_model.proofs.PathLemmas.{path_itself, same_path, strip_prefix-is, prefix-append}
 use Rattle.syn_placed.specs.Pairs.{Pairs, rooted, is_within, is_below, within}
-use Rattle.syn_placed.proofs.OrderLemmas.{not_before, first_of_all, under_prefix}
-use Rattle.syn_placed.proofs.RisingLemmas.{Rising, Each, each-map, each-both, each-filter}
+use Rattle.syn_placed.proofs.OrderLemmas.{not_before, first_of_all}
+use Rattle.syn_placed.proofs.RisingLemmas.{Rising, Each, each-both, each-filter}
 use Rattle.syn_placed.proofs.RisingLemmas.{filter-keeps, rising-filter}
+use Rattle.syn_model.proofs.BaseLemmas.{each_with}
 
 -- a path is no prefix of one that it stands after
 longer : (at p : Path) → path_cmp at p ≡ Less → is_prefix p at ≡ false
@@ -67,7 +68,7 @@ later at first x top less inside =
 rest_below : (at : Path) (first : Pair) (rest : Pairs) → Rising (first ∷ rest) →
     Each (is_within at) (first ∷ rest) → Each (is_below at) rest
 rest_below at first rest rising inside =
-    each-map (λ x. (path_cmp first.0 x.0 ≡ Less) × (is_within at x ≡ true)) (λ x. is_below at x
+    each_with (λ x. (path_cmp first.0 x.0 ≡ Less) × (is_within at x ≡ true)) (λ x. is_below at x
     ≡ true) (λ x k. below_of at x k.1 (later at first x inside.0 k.0 k.1)) rest
     (each-both (λ x. path_cmp first.0 x.0 ≡ Less)
     (λ x. is_within at x ≡ true) rest rising.0 inside.1)
@@ -80,7 +81,7 @@ without_first at es first rest h is same =
     let rising = subst Rising is (rising-filter (is_within at) es h) in
     let inside = subst (Each (is_within at)) is (each-filter (is_within at) es) in
     let here : is_prefix first.0 at ≡ true = ap (λ p. is_prefix p at) (same_path first.0 at same)
-    ∙ (ap (is_prefix at) (sym (append-nil at)) ∙ under_prefix at []) in
+    ∙ (ap (is_prefix at) (sym (append-nil at)) ∙ prefix-append at []) in
     let none : is_below at first ≡ false = ap₂ (λ a b. a && not b) inside.0 here in
     sym (sym (below-within at es) ∙ (ap (filter (is_below at)) is
     ∙ (ap (λ b. cond b (first ∷ filter (is_below at) rest) (filter (is_below at) rest)) none

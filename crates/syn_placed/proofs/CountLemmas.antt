@@ -10,14 +10,14 @@ use Rattle.syn_model.specs.Path.{Name, Path, path_cmp, strip_prefix, is_prefix, 
 use Rattle.syn_model.specs.Path.{is_root}
 use Rattle.syn_model.specs.Tree.{Tree, Content, Pair, subtree, is_present}
 use Rattle.syn_model.specs.Limits.{only_name, children}
-use Rattle.syn_model.proofs.PathLemmas.{name_itself, strip_prefix-is, parent-append}
+use Rattle.syn_model.proofs.PathLemmas.{name_itself, strip_prefix-is, parent-append, prefix-append}
 use Rattle.syn_model.proofs.TreeLemmas.{get-subtree}
 use Rattle.syn_placed.specs.Pairs.{Pairs, is_within, before, within, beyond, under, is_child}
-use Rattle.syn_placed.proofs.OrderLemmas.{under_prefix}
-use Rattle.syn_placed.proofs.RisingLemmas.{NoneOf, Rising, After, each-map, replaced, three_parts}
+use Rattle.syn_placed.proofs.RisingLemmas.{NoneOf, Rising, After, replaced, three_parts}
 use Rattle.syn_placed.proofs.RisingLemmas.{before_out, after_out}
 use Rattle.syn_placed.proofs.TreeLemmas.{taken, within-taken, rising-taken, entries-subtree}
 use Rattle.syn_placed.proofs.TreeLemmas.{rising-entries}
+use Rattle.syn_model.proofs.BaseLemmas.{each_with}
 
 -- how many of the pairs are children of a path
 abbrev pub kids : Path → Pairs → ℕ
@@ -96,20 +96,20 @@ child_inside : (at q x : Path) → is_prefix at x ≡ false → (b : Bool) → i
     b ≡ false
 child_inside at q x out true is =
     let c = child_is (at ++ q) x is in
-    absurd (true≢false (sym (under_prefix at (q ++ c.0 ∷ []))
+    absurd (true≢false (sym (prefix-append at (q ++ c.0 ∷ []))
     ∙ (ap (is_prefix at) (sym (c.1 ∙ append_assoc at q (c.0 ∷ []))) ∙ out)))
 child_inside at q x out false is = refl
 
 pub kids-outside : (at q : Path) (xs : Pairs) → NoneOf (is_within at) xs → kids (at ++ q) xs ≡ 0
 kids-outside at q xs h =
-    kids-none (at ++ q) xs (each-map (λ e. is_within at e ≡ false) (λ e. is_child (at ++ q) e.0
+    kids-none (at ++ q) xs (each_with (λ e. is_within at e ≡ false) (λ e. is_child (at ++ q) e.0
     ≡ false) (λ e out. child_inside at q e.0 out (is_child (at ++ q) e.0) refl) xs h)
 
 -- what stands deeper below a place is no child of a path beside it
 child_deeper : (at p : Path) (n : Name) (r : Path) → is_prefix at p ≡ false → (b : Bool) →
     is_child p (at ++ n ∷ r) ≡ b → b ≡ false
 child_deeper at p n r out true is =
-    absurd (true≢false (sym (under_prefix at (parent (n ∷ r)))
+    absurd (true≢false (sym (prefix-append at (parent (n ∷ r)))
     ∙ (ap (is_prefix at) (sym (parent-append at n r) ∙ child_parent p (at ++ n ∷ r) is) ∙ out)))
 child_deeper at p n r out false is = refl
 

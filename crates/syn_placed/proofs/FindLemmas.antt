@@ -9,8 +9,8 @@ use Rattle.syn_model.specs.Path.{Path, path_cmp, is_root}
 use Rattle.syn_model.specs.Tree.{Pair, Directory}
 use Rattle.syn_model.proofs.PathLemmas.{path_total, same_path, path_itself}
 use Rattle.syn_placed.specs.Pairs.{Pairs, rooted, is_before, before}
-use Rattle.syn_placed.proofs.OrderLemmas.{less_of}
-use Rattle.syn_placed.proofs.RisingLemmas.{Rising, After, none_before, filter-drops, each-map}
+use Rattle.syn_placed.proofs.RisingLemmas.{Rising, After, none_before, filter-drops}
+use Rattle.syn_model.proofs.BaseLemmas.{less_of, each_with}
 
 -- nothing is found where each path comes later
 pub find_after : (q : Path) (es : Pairs) → After q es → find path_cmp q es ≡ None
@@ -28,7 +28,7 @@ find_later q e es h =
 -- what comes after a path comes after those before it
 pub after_more : (q p : Path) (es : Pairs) → path_cmp q p ≡ Less → After p es → After q es
 after_more q p es less h =
-    each-map (λ e. path_cmp p e.0 ≡ Less) (λ e. path_cmp q e.0 ≡ Less)
+    each_with (λ e. path_cmp p e.0 ≡ Less) (λ e. path_cmp q e.0 ≡ Less)
     (λ e k. path_total.trans q p e.0 less k) es h
 
 none_there : (q : Path) (e : Pair) (es : Pairs) → After e.0 es → is_before q e ≡ false →

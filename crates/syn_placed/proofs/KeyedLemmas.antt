@@ -19,9 +19,10 @@ use Rattle.syn_placed.proofs.PointLemmas.{partitioned, point}
 use Rattle.syn_model.specs.Path.{Path, path_cmp}
 use Rattle.syn_model.proofs.PathLemmas.{path_total, path_exact, same_path, path_itself}
 use Rattle.syn_placed.specs.Keyed.{IsRising, comes_before, StandsAt, WouldStandAt}
-use Rattle.syn_placed.proofs.OrderLemmas.{less_of, before_more}
-use Rattle.syn_placed.proofs.RisingLemmas.{Each, NoneOf, each-map, each-filter, filter-keeps}
-use Rattle.syn_placed.proofs.RisingLemmas.{filter-drops, sorted_of, sorted}
+use Rattle.syn_placed.proofs.OrderLemmas.{before_more}
+use Rattle.syn_placed.proofs.RisingLemmas.{Each, NoneOf, each-filter, filter-keeps}
+use Rattle.syn_placed.proofs.RisingLemmas.{filter-drops}
+use Rattle.syn_model.proofs.BaseLemmas.{is_true, holds, less_of, each_with}
 
 -- ---- entries that rise
 
@@ -62,7 +63,7 @@ is_rest at e = not (comes_before at e)
 none_earlier : {V : Type 0} (at p : Path) (es : List (Path × V)) → Follow p es →
     is_lt (path_cmp p at) ≡ false → NoneOf (comes_before at) es
 none_earlier at p es h low =
-    each-map (λ e. path_cmp p e.0 ≡ Less) (λ e. comes_before at e ≡ false)
+    each_with (λ e. path_cmp p e.0 ≡ Less) (λ e. comes_before at e ≡ false)
     (λ e less. never e.0 less (is_lt (path_cmp e.0 at)) refl) es h
   where
     never : (q : Path) → path_cmp p q ≡ Less → (b : Bool) → is_lt (path_cmp q at) ≡ b → b ≡ false
@@ -70,12 +71,12 @@ none_earlier at p es h low =
     never q less false k = refl
 
 pub turned : {X : Type 0} (p : X → Bool) (xs : List X) → NoneOf p xs → Each (λ x. not (p x)) xs
-turned p xs h = each-map (λ x. p x ≡ false) (λ x. not (p x) ≡ true) (λ x k. ap not k) xs h
+turned p xs h = each_with (λ x. p x ≡ false) (λ x. not (p x) ≡ true) (λ x k. ap not k) xs h
 
 pub none_of_others : {X : Type 0} (p : X → Bool) (xs : List X) →
     NoneOf p (filter (λ x. not (p x)) xs)
 none_of_others p xs =
-    each-map (λ x. not (p x) ≡ true) (λ x. p x ≡ false) (λ x k. other (p x) k)
+    each_with (λ x. not (p x) ≡ true) (λ x. p x ≡ false) (λ x k. other (p x) k)
     (filter (λ x. not (p x)) xs) (each-filter (λ x. not (p x)) xs)
   where
     other : (b : Bool) → not b ≡ true → b ≡ false
@@ -124,7 +125,7 @@ find_after q (e ∷ es) h =
 follow_more : {V : Type 0} (q p : Path) (es : List (Path × V)) → path_cmp q p ≡ Less →
     Follow p es → Follow q es
 follow_more q p es less h =
-    each-map (λ e. path_cmp p e.0 ≡ Less) (λ e. path_cmp q e.0 ≡ Less)
+    each_with (λ e. path_cmp p e.0 ≡ Less) (λ e. path_cmp q e.0 ≡ Less)
     (λ e k. path_total.trans q p e.0 less k) es h
 
 -- where the first is neither before the path nor at it, all follow the path
@@ -322,14 +323,14 @@ pub removed_at : {V : Type 0} (at : Path) (n : ℕ) (es : List (Path × V)) (d :
 removed_at at n es d h stands =
     map.same_map path_total path_exact _ _ (λ q.
     map.get-from_sorted path_cmp (remove es n) q
-    (sorted _ (rising_removed n es d h stands.within))
+    (holds _ (rising_removed n es d h stands.within))
     ∙ (find_without at q (slice_index_or es n d) (take n es) (drop (suc n) es)
     (front_before at n es h stands.before) (stands.same d) (after_there at n es d h stands)
     ∙ (ap (λ zs. cond (eq_by_cmp path_cmp q at) None (find path_cmp q zs))
     (sym (split n es d stands.within))
     ∙ sym (map.get-remove path_total (map.from_sorted es) at q
     ∙ ap (cond (eq_by_cmp path_cmp q at) None)
-    (map.get-from_sorted path_cmp es q (sorted _ h))))))
+    (map.get-from_sorted path_cmp es q (holds _ h))))))
 
 -- ---- an entry that is not there
 
@@ -389,15 +390,15 @@ pub put_map : {V : Type 0} (es new : List (Path × V)) (at : Path) (v : V) → I
     new ≡ put path_cmp at v es → IsRising new →
     map.from_sorted {R = path_cmp} new ≡ map.insert (map.from_sorted es) at v
 put_map es new at v h is rising =
-    map.same_entries_map _ _ (map.entries-from_sorted path_cmp new (sorted _ rising)
+    map.same_entries_map _ _ (map.entries-from_sorted path_cmp new (holds _ rising)
     ∙ (is ∙ sym (map.entries-insert path_total (map.from_sorted es) at v
-    ∙ ap (put path_cmp at v) (map.entries-from_sorted path_cmp es (sorted _ h)))))
+    ∙ ap (put path_cmp at v) (map.entries-from_sorted path_cmp es (holds _ h)))))
 
 pub rising_put : {V : Type 0} (es new : List (Path × V)) (at : Path) (v : V) → IsRising es →
     new ≡ put path_cmp at v es → IsRising new
 rising_put es new at v h is =
     ap (is_sorted path_cmp) is
-    ∙ sorted_of _ (is_sorted-put path_cmp path_total at v es (sorted _ h))
+    ∙ is_true _ (is_sorted-put path_cmp path_total at v es (holds _ h))
 
 pub absent_removed : {V : Type 0} (m : FinMap path_cmp V) (at : Path) → map.get m at ≡ None →
     map.remove m at ≡ m

@@ -16,17 +16,18 @@ use Rattle.syn_model.specs.Path.{Path, path_cmp, is_prefix}
 use Rattle.syn_model.proofs.PathLemmas.{same_path, path_itself}
 use Rattle.syn_placed.specs.Keyed.{IsRising, comes_before, stands_within}
 use Rattle.syn_placed.proofs.OrderLemmas.{not_before, between}
-use Rattle.syn_placed.proofs.RisingLemmas.{Each, NoneOf, each-map, each-filter, filter-keeps}
+use Rattle.syn_placed.proofs.RisingLemmas.{Each, NoneOf, each-filter, filter-keeps}
 use Rattle.syn_placed.proofs.RisingLemmas.{filter-drops}
 use Rattle.syn_placed.proofs.KeyedLemmas.{Follow, Rising, IsPlace, find_after, front_before}
 use Rattle.syn_placed.proofs.KeyedLemmas.{not_none, none_of_others, turned}
+use Rattle.syn_model.proofs.BaseLemmas.{each_with}
 
 -- ---- what stands at and below a path
 
 within_out : {V : Type 0} (at p : Path) (es : List (Path × V)) → Follow p es →
     is_lt (path_cmp p at) ≡ false → is_prefix at p ≡ false → NoneOf (stands_within at) es
 within_out at p es h low out =
-    each-map (λ e. path_cmp p e.0 ≡ Less) (λ e. stands_within at e ≡ false)
+    each_with (λ e. path_cmp p e.0 ≡ Less) (λ e. stands_within at e ≡ false)
     (λ e less. never e.0 less (is_prefix at e.0) refl) es h
   where
     never : (q : Path) → path_cmp p q ≡ Less → (b : Bool) → is_prefix at q ≡ b → b ≡ false
@@ -77,7 +78,7 @@ within_placed at n es h low l found =
 before_out : {V : Type 0} (at : Path) (es : List (Path × V)) → Each (comes_before at) es →
     NoneOf (stands_within at) es
 before_out at es h =
-    each-map (λ e. comes_before at e ≡ true) (λ e. stands_within at e ≡ false)
+    each_with (λ e. comes_before at e ≡ true) (λ e. stands_within at e ≡ false)
     (λ e is. never e.0 is (is_prefix at e.0) refl) es h
   where
     never : (q : Path) → is_lt (path_cmp q at) ≡ true → (b : Bool) → is_prefix at q ≡ b → b ≡ false

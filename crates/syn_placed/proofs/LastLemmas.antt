@@ -7,7 +7,8 @@ use Rattle.syn_model.specs.Path.{Path, path_cmp}
 use Rattle.syn_model.specs.Tree.{Content, Pair}
 use Rattle.syn_model.proofs.PathLemmas.{path_total}
 use Rattle.syn_placed.specs.Pairs.{Pairs, rooted, AreRising}
-use Rattle.syn_placed.proofs.RisingLemmas.{Rising, After, rising_of, rising-append, each-map}
+use Rattle.syn_placed.proofs.RisingLemmas.{Rising, After, rising_of, rising-append}
+use Rattle.syn_model.proofs.BaseLemmas.{each_with}
 
 -- the last of the pairs
 pub record IsLast (pairs : Pairs) (last : Path) : Type 0 where
@@ -32,7 +33,7 @@ pub rising-more : (es : Pairs) (last : Path) (x : Pair) → Rising es → IsLast
     path_cmp last x.0 ≡ Less → Rising (es ++ x ∷ [])
 rising-more es last x h is k =
     rising-append es (x ∷ []) h (tt, tt)
-    (each-map (λ e. path_cmp e.0 x.0 ≡ Less) (λ e. After e.0 (x ∷ [])) (λ e l. (l, tt)) es
+    (each_with (λ e. path_cmp e.0 x.0 ≡ Less) (λ e. After e.0 (x ∷ [])) (λ e l. (l, tt)) es
     (subst (AllByRecursion (λ e. path_cmp e.0 x.0 ≡ Less)) (sym is.parts)
     (all_before x.0 last is.content is.front (subst Rising is.parts h) k)))
 

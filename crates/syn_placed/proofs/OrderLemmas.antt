@@ -6,12 +6,7 @@ use Rattle.std.specs.Ordering.{eq_by_cmp, ordering_then, ordering_reverse}
 use Rattle.std.specs.Cmp.{tied_itself}
 use Rattle.syn_model.specs.Path.{Name, Path, name_cmp, path_cmp, strip_prefix, is_prefix}
 use Rattle.syn_model.proofs.PathLemmas.{name_total, path_total, same_name, name_itself}
-use Rattle.syn_model.proofs.PathLemmas.{strip_prefix-append}
-
-pub less_of : (o : Ordering) → is_lt o ≡ true → o ≡ Less
-less_of Less h = refl
-less_of Equal h = absurd (true≢false (sym h))
-less_of Greater h = absurd (true≢false (sym h))
+use Rattle.syn_model.proofs.BaseLemmas.{less_of}
 
 -- a path with a prefix begins with its first name
 prefix_names : (n m : Name) (p q : Path) → is_prefix (n ∷ p) (m ∷ q) ≡ true →
@@ -92,11 +87,3 @@ under_after (n ∷ at) q (x ∷ c) low out =
       | Greater ↦ λ e l. then_less (name_cmp n x) (path_cmp (at ++ q) c)
           (name_total.antisymm n x ∙ ap ordering_reverse e)
     ] refl low
-
--- a path put before two leaves their order
-pub under_order : (at p q : Path) → path_cmp (at ++ p) (at ++ q) ≡ path_cmp p q
-under_order [] p q = refl
-under_order (n ∷ at) p q = step n (at ++ p) (at ++ q) ∙ under_order at p q
-
-pub under_prefix : (at q : Path) → is_prefix at (at ++ q) ≡ true
-under_prefix at q = ap is_some (strip_prefix-append at q)

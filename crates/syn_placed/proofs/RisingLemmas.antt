@@ -2,7 +2,7 @@
 -- after.
 use Rattle.std.proofs.Math.Seq.{take-append_seam, drop-append_seam}
 use Rattle.std.proofs.lemmas.List.Sums.{length-filter, count_by-le-length}
-use Rattle.std.proofs.Common.{◌≡◌, ◌≤◌, ◌+◌, length, length-append, take, drop, T, Bool, true}
+use Rattle.std.proofs.Common.{◌≡◌, ◌≤◌, ◌+◌, length, length-append, take, drop, Bool, true}
 use Rattle.std.proofs.Common.{false, cond, not, ◌&&◌, ◌||◌, List, [], ◌∷◌, ◌++◌, filter, refl, sym}
 use Rattle.std.proofs.Common.{ap, ap₂, ◌∙◌, subst, Less, is_lt, true≢false}
 use Rattle.std.specs.List.{AllByRecursion}
@@ -14,8 +14,10 @@ use Rattle.syn_model.specs.Tree.{Pair}
 use Rattle.syn_model.proofs.PathLemmas.{path_total}
 use Rattle.syn_placed.specs.Pairs.{Pairs, AreRising, is_before, is_within, is_beyond, before}
 use Rattle.syn_placed.specs.Pairs.{within, beyond, under}
-use Rattle.syn_placed.proofs.OrderLemmas.{less_of, not_before, before_more, between, before_under}
-use Rattle.syn_placed.proofs.OrderLemmas.{under_after, under_order}
+use Rattle.syn_placed.proofs.OrderLemmas.{not_before, before_more, between, before_under}
+use Rattle.syn_placed.proofs.OrderLemmas.{under_after}
+use Rattle.syn_model.proofs.BaseLemmas.{less_of, each_append, each_with}
+use Rattle.syn_model.proofs.SubtreeLemmas.{under_cmp}
 
 -- each of the pairs passes a test
 abbrev pub Each : {X : Type 0} → (X → Bool) → List X → Type 0
@@ -23,16 +25,6 @@ Each p xs = AllByRecursion (λ x. p x ≡ true) xs
 
 abbrev pub NoneOf : {X : Type 0} → (X → Bool) → List X → Type 0
 NoneOf p xs = AllByRecursion (λ x. p x ≡ false) xs
-
-pub each-append : {X : Type 0} (P : X → Type 0) (xs ys : List X) → AllByRecursion P xs →
-    AllByRecursion P ys → AllByRecursion P (xs ++ ys)
-each-append P [] ys h k = k
-each-append P (x ∷ xs) ys h k = (h.0, each-append P xs ys h.1 k)
-
-pub each-map : {X : Type 0} (P Q : X → Type 0) → ((x : X) → P x → Q x) → (xs : List X) →
-    AllByRecursion P xs → AllByRecursion Q xs
-each-map P Q f [] h = tt
-each-map P Q f (x ∷ xs) h = (f x h.0, each-map P Q f xs h.1)
 
 pub each-both : {X : Type 0} (P Q : X → Type 0) (xs : List X) → AllByRecursion P xs →
     AllByRecursion Q xs → AllByRecursion (λ x. P x × Q x) xs
@@ -85,13 +77,6 @@ pub are_rising : (es : Pairs) → Rising es → AreRising es
 are_rising [] h = refl
 are_rising (e ∷ es) h = ap₂ (λ a b. a && b) (below_of e.0 es h.0) (are_rising es h.1)
 
-pub sorted_of : (b : Bool) → T b → b ≡ true
-sorted_of true h = refl
-sorted_of false h = absurd h
-
-pub sorted : (b : Bool) → b ≡ true → T b
-sorted b h = subst T (sym h) tt
-
 after-filter : (path : Path) (p : Pair → Bool) (es : Pairs) → After path es →
     After path (filter p es)
 after-filter path p [] h = tt
@@ -112,13 +97,13 @@ pub rising-append : (xs ys : Pairs) → Rising xs → Rising ys →
     AllByRecursion (λ x. After x.0 ys) xs → Rising (xs ++ ys)
 rising-append [] ys h k between = k
 rising-append (x ∷ xs) ys h k between = (
-  each-append (λ e. path_cmp x.0 e.0 ≡ Less) xs ys h.0 between.0,
+  each_append (λ e. path_cmp x.0 e.0 ≡ Less) xs ys h.0 between.0,
   rising-append xs ys h.1 k between.1,
 )
 
 after-under : (at p : Path) (es : Pairs) → After p es → After (at ++ p) (under at es)
 after-under at p [] h = tt
-after-under at p (e ∷ es) h = (under_order at p e.0 ∙ h.0, after-under at p es h.1)
+after-under at p (e ∷ es) h = (under_cmp at p e.0 ∙ h.0, after-under at p es h.1)
 
 pub rising-under : (at : Path) (es : Pairs) → Rising es → Rising (under at es)
 rising-under at [] h = tt
@@ -128,17 +113,17 @@ rising-under at (e ∷ es) h = (after-under at e.0 es h.0, rising-under at es h.
 pub none_before : (at p : Path) (es : Pairs) → After p es → is_lt (path_cmp p at) ≡ false →
     NoneOf (is_before at) es
 none_before at p es h low =
-    each-map (λ e. path_cmp p e.0 ≡ Less) (λ e. is_before at e ≡ false)
+    each_with (λ e. path_cmp p e.0 ≡ Less) (λ e. is_before at e ≡ false)
     (λ e less. never e less (is_before at e) refl) es h
   where
     never : (e : Pair) → path_cmp p e.0 ≡ Less → (b : Bool) → is_before at e ≡ b → b ≡ false
     never e less true k = absurd (true≢false (sym (before_more p e.0 at less k) ∙ low))
     never e less false k = refl
 
-none_within : (at p : Path) (es : Pairs) → After p es → is_lt (path_cmp p at) ≡ false →
+pub none_within : (at p : Path) (es : Pairs) → After p es → is_lt (path_cmp p at) ≡ false →
     is_prefix at p ≡ false → NoneOf (is_within at) es
 none_within at p es h low out =
-    each-map (λ e. path_cmp p e.0 ≡ Less) (λ e. is_within at e ≡ false)
+    each_with (λ e. path_cmp p e.0 ≡ Less) (λ e. is_within at e ≡ false)
     (λ e less. never e less (is_within at e) refl) es h
   where
     never : (e : Pair) → path_cmp p e.0 ≡ Less → (b : Bool) → is_within at e ≡ b → b ≡ false
@@ -181,7 +166,7 @@ three_parts at (e ∷ es) h =
 -- what is in the parts
 pub before_out : (at : Path) (es : Pairs) → NoneOf (is_within at) (before at es)
 before_out at es =
-    each-map (λ e. is_before at e ≡ true) (λ e. is_within at e ≡ false)
+    each_with (λ e. is_before at e ≡ true) (λ e. is_within at e ≡ false)
     (λ e is. never e is (is_within at e) refl) (before at es) (each-filter (is_before at) es)
   where
     never : (e : Pair) → is_before at e ≡ true → (b : Bool) → is_within at e ≡ b → b ≡ false
@@ -196,13 +181,14 @@ neither false false h = (refl, refl)
 pub after_parts : (at : Path) (es : Pairs) →
     AllByRecursion (λ e. (is_before at e ≡ false) × (is_within at e ≡ false)) (beyond at es)
 after_parts at es =
-    each-map (λ e. is_beyond at e ≡ true) (λ e. (is_before at e ≡ false) × (is_within at e ≡ false))
+    each_with (λ e. is_beyond at e ≡ true)
+    (λ e. (is_before at e ≡ false) × (is_within at e ≡ false))
     (λ e h. neither (is_before at e) (is_within at e) h) (beyond at es)
     (each-filter (is_beyond at) es)
 
 pub after_out : (at : Path) (es : Pairs) → NoneOf (is_within at) (beyond at es)
 after_out at es =
-    each-map (λ e. (is_before at e ≡ false) × (is_within at e ≡ false))
+    each_with (λ e. (is_before at e ≡ false) × (is_within at e ≡ false))
     (λ e. is_within at e ≡ false) (λ e h. h.1) (beyond at es) (after_parts at es)
 
 -- what takes the place of the part at and below a path
@@ -211,8 +197,9 @@ replaced at es us = before at es ++ (under at us ++ beyond at es)
 
 after_all : (at q : Path) (es : Pairs) → After (at ++ q) (beyond at es)
 after_all at q es =
-    each-map (λ e. (is_before at e ≡ false) × (is_within at e ≡ false)) (λ e. path_cmp (at ++ q) e.0
-    ≡ Less) (λ e h. under_after at q e.0 h.0 h.1) (beyond at es) (after_parts at es)
+    each_with (λ e. (is_before at e ≡ false) × (is_within at e ≡ false))
+    (λ e. path_cmp (at ++ q) e.0 ≡ Less) (λ e h. under_after at q e.0 h.0 h.1) (beyond at es)
+    (after_parts at es)
 
 under_before_after : (at : Path) (us es : Pairs) →
     AllByRecursion (λ x. After x.0 (beyond at es)) (under at us)
@@ -226,7 +213,7 @@ before_all_under at a (u ∷ us) h = (before_under a at u.0 h, before_all_under 
 before_all_after : (at a : Path) (es : Pairs) → is_lt (path_cmp a at) ≡ true →
     After a (beyond at es)
 before_all_after at a es h =
-    each-map (λ e. path_cmp (at ++ []) e.0 ≡ Less) (λ e. path_cmp a e.0 ≡ Less)
+    each_with (λ e. path_cmp (at ++ []) e.0 ≡ Less) (λ e. path_cmp a e.0 ≡ Less)
     (λ e k. path_total.trans a (at ++ []) e.0 (before_under a at [] h) k) (beyond at es)
     (after_all at [] es)
 
@@ -236,17 +223,17 @@ rising-replaced at es us h k =
     rising-append (before at es) (under at us ++ beyond at es) (rising-filter (is_before at) es h)
     (rising-append (under at us) (beyond at es) (rising-under at us k)
     (rising-filter (is_beyond at) es h) (under_before_after at us es))
-    (each-map (λ e. is_before at e ≡ true) (λ e. After e.0 (under at us ++ beyond at es))
-    (λ e x. each-append (λ f. path_cmp e.0 f.0 ≡ Less) (under at us) (beyond at es)
+    (each_with (λ e. is_before at e ≡ true) (λ e. After e.0 (under at us ++ beyond at es))
+    (λ e x. each_append (λ f. path_cmp e.0 f.0 ≡ Less) (under at us) (beyond at es)
     (before_all_under at e.0 us x) (before_all_after at e.0 es x)) (before at es)
     (each-filter (is_before at) es))
 
 -- none of those in the part or after it stands before the place
 pub none_after : (at : Path) (es : Pairs) → NoneOf (is_before at) (within at es ++ beyond at es)
-none_after at es = each-append (λ e. is_before at e ≡ false) (within at es) (beyond at es)
-    (each-map (λ e. is_within at e ≡ true) (λ e. is_before at e ≡ false)
+none_after at es = each_append (λ e. is_before at e ≡ false) (within at es) (beyond at es)
+    (each_with (λ e. is_within at e ≡ true) (λ e. is_before at e ≡ false)
     (λ e h. not_before at e.0 h) (within at es) (each-filter (is_within at) es))
-    (each-map (λ e. (is_before at e ≡ false) × (is_within at e ≡ false))
+    (each_with (λ e. (is_before at e ≡ false) × (is_within at e ≡ false))
     (λ e. is_before at e ≡ false) (λ e h. h.0) (beyond at es) (after_parts at es))
 
 -- what is left after those before the place

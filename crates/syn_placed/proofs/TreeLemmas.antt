@@ -6,39 +6,39 @@ use Rattle.std.specs.Prelude.{option_map}
 use Rattle.std.specs.Option.{option_map_or, option_or}
 use Rattle.std.specs.List.{cons_option}
 use Rattle.std.specs.Ordering.{eq_by_cmp}
-use Rattle.std.specs.Cmp.{eq_by_cmp_equiv}
 use Rattle.std.specs.FinMap.{find, entries, entries_sorted, get, get-entries, from_sorted}
 use Rattle.std.specs.FinMap.{entries-from_sorted, get-from_sorted, get-from_entries, get-empty}
 use Rattle.std.specs.FinMap.{same_entries_map}
 use Rattle.std.specs.FinMap.Entries.{find-where_key}
-use Rattle.syn_model.specs.Path.{Path, path_cmp, strip_prefix, is_prefix, root}
-use Rattle.syn_model.specs.Tree.{Tree, Content, taken_off, subtree, replace, at_root, absent}
-use Rattle.syn_model.proofs.PathLemmas.{path_total, path_exact, eq-under, strip_prefix-append}
+use Rattle.syn_model.specs.Path.{Path, path_cmp, strip_prefix, is_prefix}
+use Rattle.syn_model.specs.Tree.{Tree, Content, taken_off, subtree, replace, absent}
+use Rattle.syn_model.proofs.PathLemmas.{path_total, path_exact, strip_prefix-append}
 use Rattle.syn_model.proofs.PathLemmas.{strip_prefix-is}
-use Rattle.syn_model.proofs.TreeLemmas.{same_tree, get-subtree, get-replace}
-use Rattle.syn_model.proofs.HistoryLemmas.{get-at_root}
+use Rattle.syn_model.proofs.TreeLemmas.{same_tree, get-subtree, get-replace, find-under}
 use Rattle.syn_placed.specs.Pairs.{Pairs, AreRising, rooted, tree_with, before, within, beyond}
 use Rattle.syn_placed.specs.Pairs.{under}
-use Rattle.syn_placed.proofs.OrderLemmas.{not_before, under_order}
-use Rattle.syn_placed.proofs.RisingLemmas.{Rising, After, rising_of, are_rising, sorted, sorted_of}
+use Rattle.syn_placed.proofs.OrderLemmas.{not_before}
+use Rattle.syn_placed.proofs.RisingLemmas.{Rising, After, rising_of, are_rising}
 use Rattle.syn_placed.proofs.RisingLemmas.{rising-replaced, rising-under, replaced}
+use Rattle.syn_model.proofs.BaseLemmas.{is_true, holds}
+use Rattle.syn_model.proofs.SubtreeLemmas.{under_cmp}
 
 pub entries-with : (es : Pairs) → AreRising (rooted es) → entries (tree_with es) ≡ rooted es
-entries-with es h = entries-from_sorted path_cmp (rooted es) (sorted _ h)
+entries-with es h = entries-from_sorted path_cmp (rooted es) (holds _ h)
 
 pub get-with : (es : Pairs) (q : Path) → AreRising (rooted es) →
     get (tree_with es) q ≡ find path_cmp q (rooted es)
-get-with es q h = get-from_sorted path_cmp (rooted es) q (sorted _ h)
+get-with es q h = get-from_sorted path_cmp (rooted es) q (holds _ h)
 
 pub rising-entries : (t : Tree) → Rising (entries t)
-rising-entries t = rising_of (entries t) (sorted_of _ (entries_sorted t))
+rising-entries t = rising_of (entries t) (is_true _ (entries_sorted t))
 
 pub entries-rising : (es : Pairs) → Rising es → entries (from_sorted {R = path_cmp} es) ≡ es
-entries-rising es h = entries-from_sorted path_cmp es (sorted _ (are_rising es h))
+entries-rising es h = entries-from_sorted path_cmp es (holds _ (are_rising es h))
 
 pub get-rising : (es : Pairs) (q : Path) → Rising es →
     get (from_sorted {R = path_cmp} es) q ≡ find path_cmp q es
-get-rising es q h = get-from_sorted path_cmp es q (sorted _ (are_rising es h))
+get-rising es q h = get-from_sorted path_cmp es q (holds _ (are_rising es h))
 
 find-append : (q : Path) (es fs : Pairs) →
     find path_cmp q (es ++ fs) ≡ option_or (find path_cmp q es) (find path_cmp q fs)
@@ -48,25 +48,6 @@ find-append q (e ∷ es) fs =
     elim (eq_by_cmp path_cmp q e.0) as (λ b. cond b (Some e.1) (find path_cmp q (es ++ fs))
     ≡ option_or (cond b (Some e.1) (find path_cmp q es)) (find path_cmp q fs))
     [ true ↦ refl | false ↦ rest ]
-
-find-under : (p q : Path) (es : Pairs) →
-    find path_cmp q (under p es) ≡ option_map_or (λ r. find path_cmp r es) (strip_prefix p q) None
-find-under p q [] =
-    elim (strip_prefix p q)
-    as (λ o. ◌≡◌ {A = Option Content} None (option_map_or (λ r. None) o None))
-    [ None ↦ refl | Some r ↦ refl ]
-find-under p q (e ∷ es) =
-    let alike = (eq_by_cmp_equiv path_total).symm in
-    ap (λ b. cond b (Some e.1) (find path_cmp q (under p es)))
-    (alike q (p ++ e.0) ∙ eq-under p e.0 q)
-    ∙ (ap (cond (option_map_or (λ r. eq_by_cmp path_cmp e.0 r) (strip_prefix p q) false) (Some e.1))
-    (find-under p q es)
-    ∙ elim (strip_prefix p q) as (λ o. cond (option_map_or (λ r. eq_by_cmp path_cmp e.0 r) o false)
-    (Some e.1) (option_map_or (λ r. find path_cmp r es) o None) ≡ option_map_or
-    (λ r. cond (eq_by_cmp path_cmp r e.0) (Some e.1) (find path_cmp r es)) o None) [
-      | None ↦ refl
-      | Some r ↦ ap (λ b. cond b (Some e.1) (find path_cmp r es)) (alike e.0 r)
-    ])
 
 -- what a test of paths leaves
 find-where : (p : Path → Bool) (q : Path) (es : Pairs) →
@@ -158,7 +139,7 @@ after-taken at p r (e ∷ es) is h =
     by_place rest (Some s) some =
         subst (λ o. After r (cons_option (option_map (λ rest. (rest, e.1)) o) (taken at es)))
         (sym some) (
-          sym (under_order at r s) ∙ (ap₂ path_cmp (sym (strip_prefix-is at p r is))
+          sym (under_cmp at r s) ∙ (ap₂ path_cmp (sym (strip_prefix-is at p r is))
               (sym (strip_prefix-is at e.0 s some)) ∙ h.0),
           rest,
         )
@@ -200,13 +181,6 @@ from_entries-same t = same_entries_map _ _ (entries-rising (entries t) (rising-e
 
 pub part-under : (at : Path) (u : Tree) → subtree (from_sorted (under at (entries u))) at ≡ u
 part-under at u = taken-under at (entries u) (rising-entries u) ∙ from_entries-same u
-
--- the list of one content, and of nothing
-pub entries-one : (content : Content) → entries (at_root content) ≡ (root, content) ∷ []
-entries-one content =
-    ap entries (same_tree (at_root content) (from_sorted ((root, content) ∷ []))
-    (λ q. get-at_root content q ∙ sym (get-rising ((root, content) ∷ []) q (tt, tt))))
-    ∙ entries-rising ((root, content) ∷ []) (tt, tt)
 
 pub entries-absent : entries absent ≡ []
 entries-absent =

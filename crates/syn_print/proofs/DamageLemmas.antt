@@ -27,7 +27,7 @@ use Rattle.syn_replica.specs.Readings.{IsEventOf, IsOfPayload, bytes_of_each}
 use Rattle.syn_replica.specs.declared.error.ReplicaError.{ReplicaError}
 use Rattle.syn_replica.specs.declared.error.ReplicaError.TheVariants.{Damaged, Journal, Memory}
 use Rattle.syn_replica.proofs.ReadingLemmas.{same_image}
-use Rattle.syn_replica.proofs.SoundLemmas.{before_greatest}
+use Rattle.syn_model.proofs.SoundStandings.{before_greatest}
 use Rattle.syn_wire.specs.Events.{IsSpelledEvent}
 
 -- what the journal refuses, as an opening refuses it

@@ -9,9 +9,10 @@ use Rattle.std.specs.FinMap.Entries.{by_order}
 use Rattle.std.proofs.lemmas.Bool.{or_cases, or_right}
 use Rattle.std.proofs.lemmas.Map.Keys.{sorted_head, sorted_tail}
 use Rattle.syn_model.specs.Path.{Path, path_cmp}
-use Rattle.syn_model.proofs.PathLemmas.{path_total, same_path, path_itself}
+use Rattle.syn_model.proofs.PathLemmas.{path_total, same_path, path_itself, turned}
 use Rattle.syn_dirty.specs.Paths.{is_among}
 use Rattle.syn_recon.specs.inner.Walks.{Row, Rows, on_left, on_right, on_both, among, merged}
+use Rattle.syn_model.proofs.BaseLemmas.{or_assoc}
 
 -- after a path
 abbrev pub After : Path → List Path → Type 0
@@ -35,9 +36,6 @@ RisingRows (row ∷ rows) = AfterRow row.0 rows × RisingRows rows
 after_more : (q p : Path) (es : List Path) → path_cmp q p ≡ Less → After p es → After q es
 after_more q p [] less h = tt
 after_more q p (e ∷ es) less h = (path_total.trans q p e less h.0, after_more q p es less h.1)
-
-turned : (p q : Path) → path_cmp p q ≡ Greater → path_cmp q p ≡ Less
-turned p q h = path_total.antisymm q p ∙ ap ordering_reverse h
 
 -- ---- in path order
 
@@ -107,10 +105,6 @@ or_same true true c = refl
 or_same true false c = refl
 or_same false true c = refl
 or_same false false c = refl
-
-or_assoc : (a b c : Bool) → (a || (b || c)) ≡ ((a || b) || c)
-or_assoc true b c = refl
-or_assoc false b c = refl
 
 among_both : (q l : Path) (ls : List Path) (later : List Path → Rows) → ((rs : List Path) →
     is_among (paths_in (later rs)) q ≡ (is_among ls q || is_among rs q)) → (rs : List Path) →

@@ -11,13 +11,16 @@ use Rattle.std.proofs.lemmas.Bool.{or_cases}
 use Rattle.std.proofs.lemmas.List.Elements.{filter-append}
 use Rattle.syn_model.specs.Path.{Path, Name, name_cmp, path_cmp, child, is_prefix, comparable}
 use Rattle.syn_model.specs.Tree.{Pair}
-use Rattle.syn_model.proofs.PathLemmas.{path_total, path_exact, same_name, same_path}
+use Rattle.syn_model.proofs.PathLemmas.{path_total, path_exact, same_name, same_path, prefix-append}
 use Rattle.syn_model.proofs.DirtyLemmas.{prefix_chain}
-use Rattle.syn_model.proofs.PlanOrder.{siblings, apart_below, not_longer, prefix-append}
+use Rattle.syn_model.proofs.PlanOrder.{siblings, apart_below, not_longer}
 use Rattle.syn_placed.specs.Pairs.{Pairs, is_before, is_within, before, within, beyond}
-use Rattle.syn_placed.proofs.OrderLemmas.{not_before, under_order}
-use Rattle.syn_placed.proofs.RisingLemmas.{Rising, After, Each, each-map, each-filter, filter-drops}
+use Rattle.syn_placed.proofs.OrderLemmas.{not_before}
+use Rattle.syn_placed.proofs.RisingLemmas.{Rising, After, Each, each-filter, filter-drops}
 use Rattle.syn_placed.proofs.RisingLemmas.{three_parts, rising-filter, after_parts}
+use Rattle.syn_model.proofs.BaseLemmas.{each_with, each_of_both}
+use Rattle.syn_model.proofs.PathLemmas.{prefix_itself, comparable_itself}
+use Rattle.syn_model.proofs.SubtreeLemmas.{under_cmp}
 
 -- names in byte order, each once
 abbrev pub RisingNames : List Name → Type 0
@@ -33,11 +36,6 @@ every-filter P f (x ∷ xs) h =
     let rest = every-filter P f xs h.1 in
     elim (f x) as (λ b. AllByRecursion P (cond b (x ∷ filter f xs) (filter f xs)))
     [ true ↦ (h.0, rest) | false ↦ rest ]
-
-pub both-each : {X : Type 0} (P Q R : X → Type 0) → ((x : X) → P x → Q x → R x) → (xs : List X) →
-    AllByRecursion P xs → AllByRecursion Q xs → AllByRecursion R xs
-both-each P Q R f [] h k = tt
-both-each P Q R f (x ∷ xs) h k = (f x h.0 k.0, both-each P Q R f xs h.1 k.1)
 
 pub filter_twice : {X : Type 0} (f g : X → Bool) → ((x : X) → f x ≡ true → g x ≡ true) →
     (xs : List X) → filter f (filter g xs) ≡ filter f xs
@@ -81,7 +79,7 @@ before_child : (p : Path) (m n : Name) (r : Path) → name_cmp m n ≡ Less →
     is_lt (path_cmp (p ++ n ∷ r) (child p m)) ≡ false
 before_child p m n r less =
     ap is_lt (path_total.antisymm (p ++ n ∷ r) (child p m) ∙ ap ordering_reverse
-    (under_order p (m ∷ []) (n ∷ r) ∙ ap (λ o. ordering_then o (path_cmp [] r)) less))
+    (under_cmp p (m ∷ []) (n ∷ r) ∙ ap (λ o. ordering_then o (path_cmp [] r)) less))
 
 among_later : (m n : Name) (ns : List Name) → AllByRecursion (λ x. name_cmp m x ≡ Less) ns →
     list_any (eq_by_cmp name_cmp n) ns ≡ true → name_cmp m n ≡ Less
@@ -125,10 +123,6 @@ at_later p m ms e b out = record {
       ];
 }
 
-comparable_itself : (q : Path) → comparable q q ≡ true
-comparable_itself q =
-    ap (λ b. b || is_prefix q q) (ap (is_prefix q) (sym (append-nil q)) ∙ prefix-append q [])
-
 -- nothing stands below two names
 one_name : (p : Path) (m n : Name) → name_cmp m n ≡ Less → (e : Pair) →
     is_within (child p m) e ≡ true → is_within (child p n) e ≡ false
@@ -147,18 +141,18 @@ by_names p [] [] sorted up h = refl
 by_names p [] (e ∷ es) sorted up h = absurd (true≢false (sym (h.0).among))
 by_names p (m ∷ ms) es sorted up h =
     let c = child p m in
-    let front : before c es ≡ [] = filter-drops (is_before c) es (each-map (BelowOne p (m ∷ ms))
+    let front : before c es ≡ [] = filter-drops (is_before c) es (each_with (BelowOne p (m ∷ ms))
     (λ e. is_before c e ≡ false) (none_before_first p m ms sorted.0) es h) in
     let whole : es ≡ within c es ++ beyond c es = three_parts c es up
     ∙ ap (λ xs. xs ++ (within c es ++ beyond c es)) front in
     let later : AllByRecursion (BelowOne p ms) (beyond c es) =
-    both-each (BelowOne p (m ∷ ms)) (λ e. (is_before c e ≡ false) × (is_within c e ≡ false))
+    each_of_both (BelowOne p (m ∷ ms)) (λ e. (is_before c e ≡ false) × (is_within c e ≡ false))
     (BelowOne p ms) (λ e b o. at_later p m ms e b o.1) (beyond c es)
     (every-filter (BelowOne p (m ∷ ms)) _ es h) (after_parts c es) in
     let rest = by_names p ms (beyond c es) sorted.1 (rising-filter _ es up) later in
     whole ∙ ap (λ xs. within c es ++ xs)
     (rest ∙ flat_map-same (λ n. within (child p n) (beyond c es)) (λ n. within (child p n) es) ms
-    (each-map (λ n. name_cmp m n ≡ Less) (λ n. within (child p n) (beyond c es)
+    (each_with (λ n. name_cmp m n ≡ Less) (λ n. within (child p n) (beyond c es)
     ≡ within (child p n) es) (λ n less. sym (apart n less whole)) ms sorted.0))
   where
     apart : (n : Name) → name_cmp m n ≡ Less → es ≡ within (child p m) es ++ beyond (child p m) es →
@@ -168,7 +162,7 @@ by_names p (m ∷ ms) es sorted up h =
         ∙ (filter-append (is_within (child p n)) (within (child p m) es) (beyond (child p m) es)
         ∙ ap (λ xs. xs ++ within (child p n) (beyond (child p m) es))
         (filter-drops (is_within (child p n)) (within (child p m) es)
-        (each-map (λ e. is_within (child p m) e ≡ true) (λ e. is_within (child p n) e ≡ false)
+        (each_with (λ e. is_within (child p m) e ≡ true) (λ e. is_within (child p n) e ≡ false)
         (one_name p m n less) (within (child p m) es) (each-filter (is_within (child p m)) es))))
 
 -- ---- the path itself stands first
@@ -184,13 +178,10 @@ found_later p q (x ∷ es) a e =
       | false ↦ λ _ more. rest more
     ] refl e
 
-prefix_self : (p : Path) → is_prefix p p ≡ true
-prefix_self p = ap (is_prefix p) (sym (append-nil p)) ∙ prefix-append p []
-
 find_within : (p : Path) (es : Pairs) → find path_cmp p (within p es) ≡ find path_cmp p es
 find_within p es =
     find-where_key path_cmp (is_prefix p) p (λ x e. ap (is_prefix p) (sym (path_exact p x e))) es
-    ∙ ap (λ b. cond b (find path_cmp p es) None) (prefix_self p)
+    ∙ ap (λ b. cond b (find path_cmp p es) None) (prefix_itself p)
 
 -- a list that begins with the path, and then has what stands below
 pub record Headed (p : Path) (es : Pairs) : Type 0 where

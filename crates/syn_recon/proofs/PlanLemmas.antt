@@ -24,10 +24,8 @@ use Rattle.syn_model.proofs.PathLemmas.{path_total, path_itself, same_path, is_p
 use Rattle.syn_model.proofs.TreeLemmas.{same_tree, get-subtree}
 use Rattle.syn_model.proofs.DirtyLemmas.{tree_itself, dirty-closed}
 use Rattle.syn_model.proofs.DirectoryLemmas.{absent_below, not_there}
-use Rattle.syn_model.proofs.PlanOrder.{prefix-append}
-use Rattle.syn_model.proofs.SubtreeLemmas.{parts}
 use Rattle.syn_placed.specs.Pairs.{Pairs, is_within}
-use Rattle.syn_placed.proofs.RisingLemmas.{Rising, After, each-map, filter-keeps}
+use Rattle.syn_placed.proofs.RisingLemmas.{Rising, After, filter-keeps}
 use Rattle.syn_scan.specs.Found.{Found, IsFound, scan_of}
 use Rattle.syn_dirty.specs.Paths.{AreInOrder, is_among}
 use Rattle.syn_recon.specs.inner.Walks.{Row, Rows, decided, merged}
@@ -37,6 +35,8 @@ use Rattle.syn_recon.proofs.MergeLemmas.{among_merged, Says, says_each}
 use Rattle.syn_recon.proofs.PartLemmas.{RisingNames, every_x}
 use Rattle.syn_recon.proofs.WalkLemmas.{walk_on, pairs_in, same_walk, Placed, items_walk}
 use Rattle.syn_model.specs.Which.{Which}
+use Rattle.syn_model.proofs.BaseLemmas.{both_hold, each_with}
+use Rattle.syn_model.proofs.PathLemmas.{prefix-append}
 
 -- ---- names in order
 
@@ -44,7 +44,7 @@ names_after : (n : Name) (es : List (Name × Content)) → T (below_all name_cmp
     AllByRecursion (λ m. name_cmp n m ≡ Less) (map (λ e. e.0) es)
 names_after n [] h = tt
 names_after n (e ∷ es) h =
-    let both = parts (is_lt (name_cmp n e.0)) (below_all name_cmp n es) h in
+    let both = both_hold (is_lt (name_cmp n e.0)) (below_all name_cmp n es) h in
     (less (name_cmp n e.0) both.0, names_after n es both.1)
   where
     less : (o : Ordering) → T (is_lt o) → o ≡ Less
@@ -56,7 +56,7 @@ names_rising : (es : List (Name × Content)) → T (is_sorted name_cmp es) →
     RisingNames (map (λ e. e.0) es)
 names_rising [] h = tt
 names_rising (e ∷ es) h =
-    let both = parts (below_all name_cmp e.0 es) (is_sorted name_cmp es) h in
+    let both = both_hold (below_all name_cmp e.0 es) (is_sorted name_cmp es) h in
     (names_after e.0 es both.0, names_rising es both.1)
 
 below_rising : (left right : Scan) (archive : Tree) (p : Path) →
@@ -146,7 +146,7 @@ each_among : (es : Pairs) →
 each_among [] = tt
 each_among (e ∷ es) = (
   ap (λ b. b || is_among (map (λ (x : Pair). x.0) es) e.0) (path_itself e.0),
-  each-map (λ (x : Pair). is_among (map (λ (y : Pair). y.0) es) x.0 ≡ true)
+  each_with (λ (x : Pair). is_among (map (λ (y : Pair). y.0) es) x.0 ≡ true)
       (λ (x : Pair). is_among (map (λ (y : Pair). y.0) (e ∷ es)) x.0 ≡ true)
       (λ x h. or_right (eq_by_cmp path_cmp x.0 e.0) _ h) es (each_among es),
 )
@@ -173,7 +173,7 @@ module _ (preference : Option Which) (left right : Found) (archive : Tree)
       archive row
       ≡ decision preference (scan_of left) (scan_of right) archive row.0) rows
   decided_so =
-      each-map (Says lefts rights) (λ (row : Row). decided preference (scan_of left)
+      each_with (Says lefts rights) (λ (row : Row). decided preference (scan_of left)
       (scan_of right) archive row ≡ decision preference (scan_of left) (scan_of right) archive
       row.0)
       (λ row h. ap₂ (λ a b. decided preference (scan_of left) (scan_of right) archive (row.0, a, b))
@@ -235,7 +235,7 @@ module _ (preference : Option Which) (left right : Found) (archive : Tree)
   all_placed : AllByRecursion
       (λ (e : Pair). Placed (names_below (scan_of left) (scan_of right) archive) es e.0) es
   all_placed =
-      each-map (λ (e : Pair). is_among (map (λ (x : Pair). x.0) es) e.0 ≡ true)
+      each_with (λ (e : Pair). is_among (map (λ (x : Pair). x.0) es) e.0 ≡ true)
       (λ (e : Pair). Placed (names_below (scan_of left) (scan_of right) archive) es e.0)
       (λ e h. placed_at e.0 (sym (there e.0) ∙ (is_some-find path_cmp e.0 es ∙ h))) es
       (each_among es)

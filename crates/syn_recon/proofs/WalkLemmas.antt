@@ -13,14 +13,15 @@ use Rattle.syn_model.specs.Tree.{Directory, Pair}
 use Rattle.syn_model.specs.Decision.{Item, Decision, Clean, Do, DoAndGoOn, GoOn}
 use Rattle.syn_model.specs.Plan.{items_from, with_items_below}
 use Rattle.syn_model.proofs.PathLemmas.{path_total, is_prefix-is}
-use Rattle.syn_model.proofs.PlanOrder.{siblings, apart_below, every-append}
+use Rattle.syn_model.proofs.PlanOrder.{siblings, apart_below}
 use Rattle.syn_placed.specs.Pairs.{Pairs, is_within, within}
-use Rattle.syn_placed.proofs.RisingLemmas.{Rising, After, Each, each-map, each-filter}
+use Rattle.syn_placed.proofs.RisingLemmas.{Rising, After, Each, each-filter}
 use Rattle.syn_placed.proofs.RisingLemmas.{rising-filter}
 use Rattle.syn_recon.specs.inner.Walks.{Row, Rows, is_settled, settled_by, item_in}
 use Rattle.syn_recon.specs.inner.Decided.{walk}
 use Rattle.syn_recon.proofs.PartLemmas.{RisingNames, BelowOne, Headed, head_of, rest_within}
 use Rattle.syn_recon.proofs.PartLemmas.{by_names, flat_map-same, every-filter, every_x}
+use Rattle.syn_model.proofs.BaseLemmas.{each_append, each_with}
 
 -- the walk, where the decision is by the path alone
 abbrev pub walk_on : (Path → Decision) → Pairs → Option Path → List Item
@@ -107,7 +108,7 @@ walk-append decide (x ∷ xs) ys settled h k =
 each_flat : {X : Type 0} (P : Pair → Type 0) (f : X → Pairs) (xs : List X) →
     AllByRecursion (λ x. AllByRecursion P (f x)) xs → AllByRecursion P (flat_map f xs)
 each_flat P f [] h = tt
-each_flat P f (x ∷ xs) h = every-append P (f x) (flat_map f xs) h.0 (each_flat P f xs h.1)
+each_flat P f (x ∷ xs) h = each_append P (f x) (flat_map f xs) h.0 (each_flat P f xs h.1)
 
 apart_names : (p : Path) (n m : Name) → name_cmp n m ≡ Less → (x y : Pair) →
     is_within (child p n) x ≡ true → is_within (child p m) y ≡ true → is_prefix x.0 y.0 ≡ false
@@ -120,7 +121,7 @@ names_apart : (p : Path) (n : Name) (es : Pairs) (x : Pair) → is_within (child
     (λ m. AllByRecursion (λ (y : Pair). is_prefix x.0 y.0 ≡ false) (within (child p m) es)) ms
 names_apart p n es x h [] less = tt
 names_apart p n es x h (m ∷ ms) less = (
-  each-map (λ (y : Pair). is_within (child p m) y ≡ true) (λ (y : Pair). is_prefix x.0 y.0 ≡ false)
+  each_with (λ (y : Pair). is_within (child p m) y ≡ true) (λ (y : Pair). is_prefix x.0 y.0 ≡ false)
       (λ y k. apart_names p n m less.0 x y h k) (within (child p m) es)
       (each-filter (is_within (child p m)) es),
   names_apart p n es x h ms less.1,
@@ -133,7 +134,7 @@ walk_names decide p es [] sorted = refl
 walk_names decide p es (n ∷ ns) sorted =
     let xs = within (child p n) es in
     let ys = flat_map (λ m. within (child p m) es) ns in
-    let apart = each-map (λ (x : Pair). is_within (child p n) x ≡ true)
+    let apart = each_with (λ (x : Pair). is_within (child p n) x ≡ true)
     (λ (x : Pair). AllByRecursion (λ (y : Pair). is_prefix x.0 y.0 ≡ false) ys)
     (λ x h. each_flat (λ (y : Pair). is_prefix x.0 y.0 ≡ false) (λ m. within (child p m) es) ns
     (names_apart p n es x h ns sorted.0))

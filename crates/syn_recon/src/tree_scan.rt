@@ -1,7 +1,7 @@
 //! The scan of a tree that is in memory.
 ghost use Rattle.std.specs.Prelude.{◌≡◌, IfOk};
 ghost use Rattle.syn_mark.specs.Marks.{contents_in};
-ghost use Rattle.syn_mark.specs.inner.Placings.{marks_of};
+ghost use Rattle.syn_mark.specs.Placings.{marks_of};
 ghost use Rattle.syn_model.specs.Limits.{children};
 ghost use Rattle.syn_model.specs.Mark.{mark};
 ghost use Rattle.syn_model.specs.Mark.{mark_of};

@@ -1,7 +1,6 @@
 -- What comes of an item for which the replica is not written.
 use Rattle.std.proofs.Common.{◌≡◌, ◌∙◌, ℕ, List, Option, Some, None, Result, Ok, Err, ap}
-use Rattle.std.proofs.Common.{subst}
-use Rattle.std.proofs.Common.{sym}
+use Rattle.std.proofs.Common.{refl, subst, sym}
 use Rattle.std.specs.Prelude.{IfErr, IfNone, IfOk, MatchResult}
 use Rattle.std.proofs.lemmas.Result.{IfOk-at_ok, IfOk-weaker, MatchResult-at_err}
 use Rattle.std.proofs.lemmas.Result.{MatchResult-from_both, MatchResult-weaker}
@@ -10,7 +9,7 @@ use Rattle.syn_archive.specs.declared.archive.Archive.{Archive}
 use Rattle.syn_disk.specs.declared.disk.Disk.{Ghosts}
 use Rattle.syn_model.specs.Decision.{Item}
 use Rattle.syn_model.specs.History.{History}
-use Rattle.syn_model.specs.Plan.{Trees}
+use Rattle.syn_model.specs.Plan.{Trees, after_item}
 use Rattle.syn_model.specs.Tree.{Tree}
 use Rattle.syn_refusal.specs.declared.refusal.Refusal.{Refusal}
 use Rattle.syn_replica.specs.Replica.{Stands, disk_of, pair_of, tree_shown}
@@ -53,10 +52,14 @@ module _ {R : Type 0} {on_replica : Ghosts R}
   module _ {A : Type 0} {on_archive : Ghosts A} (user : ℕ) (history : History) (stands : Stands held
       history) (item same : Item)
       (is : item ≡ same) (folder : Tree) (was now : Archive A on_archive) (left : Tree)
-      (right : (refused : Option Refusal)
-      → (after_settled (trees_of folder held was) same refused).right ≡ tree_shown held) where
+      (right : (after_item (trees_of folder held was) same).right ≡ tree_shown held) where
     abbrev pub trees : Trees
     trees = trees_of folder held was
+
+    stays_right : (refused : Option Refusal) → (after_settled trees same refused).right
+        ≡ tree_shown held
+    stays_right None = right
+    stays_right (Some why) = refl
 
     settled : (refused : Option Refusal) → IsCarried same refused trees left now
         → GoesOn user history (after_settled trees item refused) left held now
@@ -65,7 +68,7 @@ module _ {R : Type 0} {on_replica : Ghosts R}
         let are : trees_of left held now ≡ then =
         ap (λ (t : Tree). here t (tree_shown held) (marks_shown now)) fact.left
         ∙ (ap (λ (m : Tree). here then.left (tree_shown held) m) fact.marks.are
-        ∙ ap (λ (r : Tree). here then.left r then.archive) (sym (right refused))) in
+        ∙ ap (λ (r : Tree). here then.left r then.archive) (sym (stays_right refused))) in
         subst (λ (i : Item). GoesOn user history (after_settled trees i refused) left held now)
         (sym is)
         (stays user history then left held now fact.marks.kept stands fact.marks.keeps are)
@@ -89,7 +92,7 @@ module _ {R : Type 0} {on_replica : Ghosts R}
     cut disk at (settlings.IsLeft.done done_left) =
         settlings.IsCutOff.done done_left
         (λ bytes may. subst (λ (t : Tree). HasTree (pair_of held) user history t bytes)
-        (sym (right None)) (has_now held history stands user bytes
+        (sym right) (has_now held history stands user bytes
         (left_now held history stands bytes
         (subst (λ (d : R). on_replica.may_leave d bytes) at may))))
 

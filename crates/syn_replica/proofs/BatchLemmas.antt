@@ -44,6 +44,8 @@ use Rattle.syn_tree.specs.declared.edit.Edit.{Edit as Planned}
 use Rattle.syn_replica.proofs.RefusalLemmas.{first_among, inner_refusals, is_among}
 use Rattle.syn_replica.proofs.RoomLemmas.{edited_among}
 use Rattle.syn_replica.proofs.StandLemmas.{left_behind}
+use Rattle.syn_model.proofs.ImageLemmas.{allowed-append}
+use Rattle.syn_model.proofs.StandingLemmas.{standing_goes_on}
 
 -- ---- why they are refused
 
@@ -198,12 +200,6 @@ size_more (p ∷ payloads) payload =
       length-append (record_of p) (records_of payloads),
     )
 
-allowed_more : (s : Standing) (events : List Event) (event : Event) → AllAllowedAt s events →
-    IsAllowedAt (fold standing_after s events) event → AllAllowedAt s (events ++ event ∷ [])
-allowed_more s [] event all this = (this, tt)
-allowed_more s (x ∷ xs) event all this =
-    (all.0, allowed_more (standing_after s x) xs event all.1 this)
-
 fold_more : (s : Standing) (events : List Event) (event : Event) →
     fold standing_after s (events ++ event ∷ [])
     ≡ standing_after (fold standing_after s events) event
@@ -216,7 +212,7 @@ pub adds_more : (first now new : Standing) (made : List Event) (event : Event)
     AddsAll first (made ++ event ∷ []) (payloads ++ payload ∷ []) new
 adds_more first now new made event payloads payload adds allowed spelled makes = record {
   allowed =
-      allowed_more first made event adds.allowed
+      allowed-append first made event adds.allowed
       (subst (λ (s : Standing). IsAllowedAt s event) adds.gives allowed);
   spelled =
       ap₂ (λ ps p. ps ++ p ∷ []) adds.spelled spelled
@@ -224,14 +220,6 @@ adds_more first now new made event payloads payload adds allowed spelled makes =
   gives =
       makes ∙ (ap (λ s. standing_after s event) adds.gives ∙ sym (fold_more first made event));
 }
-
-standing_after_all : StandingSteps → (history : History) (events : List Event) →
-    standing_of (history ++ events) ≡ fold standing_after (standing_of history) events
-standing_after_all steps history [] = ap standing_of (append-nil history)
-standing_after_all steps history (event ∷ events) =
-    ap standing_of (sym (append_assoc history (event ∷ []) events))
-    ∙ (standing_after_all steps (history ++ event ∷ []) events
-    ∙ ap (λ s. fold standing_after s events) (steps history event))
 
 all_stand : PayloadGoesOn → (pair : ℕ) (image : Bytes) (payloads : List Bytes) (history : History)
     (events : List Event) → StandsFor pair image payloads history → AllAllowed history events →
@@ -289,16 +277,16 @@ module _ (goes_on : PayloadGoesOn) (allows : StandingAllows) {D : Type 0} {disk 
         })
 
     -- where all were appended
-    pub stands_with_all : StandingSteps → (new : Replica D disk) → pair_of new ≡ pair_of old →
+    pub stands_with_all : (new : Replica D disk) → pair_of new ≡ pair_of old →
         standing_shown new ≡ after → HasAll (journal_of old) (journal_of new) payloads →
         Stands new (history ++ events)
-    stands_with_all steps new pair standing has = record {
+    stands_with_all new pair standing has = record {
       remembers = record {
         lawful = stands_after.lawful;
         standing =
             standing ∙ (adds.gives
             ∙ (ap (λ s. fold standing_after s events) stands.remembers.standing
-            ∙ sym (standing_after_all steps history events)));
+            ∙ sym (standing_goes_on history events)));
       };
       value = with_payloads stands.value payloads;
       runs = has.acknowledged stands.value stands.runs;

@@ -26,10 +26,7 @@ use Rattle.syn_replica.specs.declared.replica.Replica.{Replica}
 use Rattle.syn_replica.proofs.RefusalLemmas.{halted_is}
 use Rattle.syn_replica.proofs.GrowthLemmas.{stands_still}
 use Rattle.syn_replica.proofs.StandLemmas.{keeps_now}
-
-none_made : (arms : Arms) → Makes 0 arms arms
-unfolding Makes
-none_made arms = refl
+use Rattle.syn_journal.proofs.Calls.{no_call}
 
 module _ {D : Type 0} {disk : Ghosts D} (replica : Replica D disk) where
   seen_now : (history : History) (event : Option Event) → Stands replica history →
@@ -80,7 +77,7 @@ module _ {D : Type 0} {disk : Ghosts D} (replica : Replica D disk) where
     untried = tt;
     readings = tt;
     unchanged = tt;
-    device = record { failures = refl; arms = none_made (disk.arms (disk_of replica)) };
+    device = record { failures = refl; arms = no_call (disk.arms (disk_of replica)) };
   }
 
   -- and so at an exit, while it runs

@@ -14,27 +14,8 @@ use Rattle.syn_model.specs.Refusal.{Refusal, Full, OldSession, Cause, first_caus
 use Rattle.syn_model.specs.Standing.{Standing, edit_causes, place_causes, full_causes}
 use Rattle.syn_model.specs.Standing.{full_position, is_old, refusal_at, IsAllowedIn}
 use Rattle.syn_model.specs.Version.{Version}
+use Rattle.syn_model.proofs.HistoryLemmas.{none-append}
 use Rattle.syn_wire.specs.Events.{IsShort, IsSpelledEventIn}
-
--- of causes in a row none holds just where none of each part does
-pub no_cause : (a b : List Cause) → first_cause (a ++ b) ≡ None →
-    (first_cause a ≡ None) × (first_cause b ≡ None)
-no_cause [] b e = (refl, e)
-no_cause ((true, why) ∷ a) b e = absurd (none-some _ (sym e))
-no_cause ((false, why) ∷ a) b e = no_cause a b e
-
--- causes that do not hold are passed over
-pub first_skips : (a b : List Cause) → first_cause a ≡ None → first_cause (a ++ b) ≡ first_cause b
-first_skips [] b e = refl
-first_skips ((true, why) ∷ a) b e = absurd (none-some _ (sym e))
-first_skips ((false, why) ∷ a) b e = first_skips a b e
-
--- and the first of some causes is the first of them before others
-pub first_stays : (a b : List Cause) (why : Refusal) → first_cause a ≡ Some why →
-    first_cause (a ++ b) ≡ Some why
-first_stays [] b why e = absurd (none-some _ e)
-first_stays ((true, other) ∷ a) b why e = e
-first_stays ((false, other) ∷ a) b why e = first_stays a b why e
 
 pub fits_where : (tree : Tree) → first_cause (full_causes tree) ≡ None → fits_replica tree ≡ true
 fits_where tree e = by_test (fits_replica tree) e
@@ -69,17 +50,18 @@ module _ (put : PutFits) (there : ReplacedIsThere) (below : SubtreeFits)
   pub short_at : (standing : Standing) (event : Event) → refusal_at standing event ≡ None →
       IsShort event
   short_at s (Edited user edit) none =
-      let full = no_cause (edit_causes s.tree edit)
+      let full = none-append (edit_causes s.tree edit)
       (full_causes (after_edit s.tree edit) ++ full_position s.position) none in
       short_edit s.tree user edit
-      (no_cause (full_causes (after_edit s.tree edit)) (full_position s.position) full.1).0
+      (none-append (full_causes (after_edit s.tree edit)) (full_position s.position) full.1).0
   short_at s (Began session) none = tt
   short_at s (Replaced token path since new) none =
       let after = replace s.tree path new in
-      let full = no_cause ((is_old s.session s.token token, OldSession) ∷ place_causes s.tree path)
+      let full = none-append ((is_old s.session s.token token, OldSession)
+      ∷ place_causes s.tree path)
       (full_causes after ++ full_position s.position) none in
       let fits = fits_where after
-      (no_cause (full_causes after) (full_position s.position) full.1).0 in
+      (none-append (full_causes after) (full_position s.position) full.1).0 in
       let limits = limits_of after fits in (
         subst (λ t. fits_part t ≡ true) (there s.tree path new) (below after path limits.0),
         subst (λ t. fits_paths t ≡ true) (there s.tree path new) (paths after path limits.1),

@@ -14,7 +14,7 @@ use Rattle.syn_model.specs.Refusal.{Refusal}
 use Rattle.syn_model.specs.Refusal as why
 use Rattle.syn_model.specs.Spelling.{event_spelling, spelling, token_spelling}
 use Rattle.syn_model.specs.Standing.{Standing, causes_at, refusal_at}
-use Rattle.syn_replica.proofs.CauseLemmas.{first_stays, first_skips}
+use Rattle.syn_model.proofs.HistoryLemmas.{first_stays, first_skips}
 use Rattle.syn_replica.specs.ErrorRefusals.{refusal_of}
 use Rattle.syn_replica.specs.declared.error.ReplicaError.{ReplicaError}
 use Rattle.syn_replica.specs.declared.error.ReplicaError.TheVariants.{Journal}

@@ -23,7 +23,7 @@ use Rattle.syn_replica.specs.Causes.{since_causes}
 use Rattle.syn_replica.specs.ErrorRefusals.{refusal_of}
 use Rattle.syn_tree.specs.Lists.{replace_refusal as tree_refusal}
 use Rattle.syn_replica.specs.declared.error.ReplicaError.{ReplicaError}
-use Rattle.syn_replica.proofs.CauseLemmas.{first_skips, first_stays}
+use Rattle.syn_model.proofs.HistoryLemmas.{first_skips, first_stays}
 use Rattle.syn_replica.proofs.SinceLemmas.{first_false}
 
 -- what a clause says of a value that is there

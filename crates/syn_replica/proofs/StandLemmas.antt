@@ -150,6 +150,16 @@ not_written only_now replica history stands P here = record {
   before = λ t c le left. inl left;
 }
 
+-- as for what keeps the history as it was, or else
+pub kept_unwritten : {D : Type 0} {disk : Ghosts D}
+    (only_now : (d : D) (c : List ℕ) → disk.left_since d (disk.moment d) c → disk.may_leave d c)
+    (replica : Replica D disk) (history : History) → Stands replica history →
+    (Q : List ℕ → Type 0) → LeavesOnly disk.moment disk.left_since (disk_of replica)
+    (disk_of replica) (λ bytes. DiskKeeps (pair_of replica) history (left_shown replica)
+    (generation_shown replica) bytes ⊎ Q bytes)
+kept_unwritten only_now replica history stands Q =
+    not_written only_now replica history stands _ (inl (keeps_now replica history stands))
+
 -- a disk that keeps a history stands for it
 pub keeps_stands : {pair : ℕ} {history : History} {left generation : ℕ} {bytes : List ℕ} →
     DiskKeeps pair history left generation bytes → DiskStands pair bytes history

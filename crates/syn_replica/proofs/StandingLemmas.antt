@@ -13,7 +13,7 @@ use Rattle.syn_tree.specs.Refusals.{refusal_of as of_tree}
 use Rattle.syn_tree.specs.declared.error.TreeError.{TreeError}
 use Rattle.syn_tree.specs.declared.error.TreeError.TheVariants as tree
 use Rattle.syn_replica.specs.Updates.{early_causes, tree_refusal}
-use Rattle.syn_replica.proofs.CauseLemmas.{no_cause, first_stays, first_skips}
+use Rattle.syn_model.proofs.HistoryLemmas.{first_skips, first_stays, none-append}
 
 -- the causes of an edit are the tree's, and then the position's
 module _ (standing : Standing) (user : ℕ) (edit : Edit) where
@@ -42,7 +42,7 @@ module _ (standing : Standing) (user : ℕ) (edit : Edit) where
       (edit_refusal standing.tree edit ≡ None)
       × (first_cause (full_position standing.position) ≡ None)
   unfolding tree_causes
-  edit_none e = no_cause tree_causes (full_position standing.position) (sym in_row ∙ e)
+  edit_none e = none-append tree_causes (full_position standing.position) (sym in_row ∙ e)
 
 -- what is seen early is the first cause
 pub early_at : (standing : Standing) (event : Event) (refusal : Refusal) →

@@ -8,7 +8,7 @@ ghost use Rattle.syn_model.specs.Tree.{is_directory};
 ghost use Rattle.syn_tree.specs.Contents.{found_content};
 ghost use Rattle.syn_tree.specs.Lists.{contents_at};
 ghost use Rattle.syn_mark.specs.Marks.{content_of, contents_in};
-ghost use Rattle.syn_mark.specs.inner.Placings.{marks_of};
+ghost use Rattle.syn_mark.specs.Placings.{marks_of};
 
 use sha2::{Digest, Sha256};
 use std::alloc::{AllocError, Global};
@@ -16,13 +16,11 @@ use std::collections::BTreeMap;
 use std::marker::Model;
 use syn_mark::Mark;
 use syn_path::{Name, Path};
-use syn_tree::{Found, Tree, TreeError};
+use syn_tree::{Found, LONGEST_SPELLING, Tree, TreeError};
 
-/// The most files of which a digest is kept: as many as a tree has nodes.
+/// The most files of which a digest is kept: as many as a tree has nodes. They have at most as many
+/// bytes in all as spell a tree.
 const MOST_FILES: usize = 1024;
-
-/// The most bytes that these files have in all: as many as spell a tree.
-const MOST_BYTES: usize = 526_336;
 
 /// SHA-256 digests, each kept with a copy of the bytes that it is of. So each is right whatever
 /// becomes of the tree, and two files with the same bytes have one.
@@ -150,7 +148,7 @@ impl Digests {
             ⊎ (digest_beside bytes.now self.new ≡ Some digest)) }
         ensures unchanged { OnErr result (self.new ≡ self.old) }
     {
-        if self.kept.len() >= MOST_FILES || bytes.len() > MOST_BYTES - self.size {
+        if self.kept.len() >= MOST_FILES || bytes.len() > LONGEST_SPELLING - self.size {
             *self = self.emptied(alloc);
             return Ok(());
         }

@@ -23,8 +23,8 @@ use Rattle.syn_mark.specs.Changes.{replace_refusal}
 use Rattle.std.proofs.lemmas.Bool.Decides.{nat_tests}
 use Rattle.syn_model.specs.Dirty.{is_unstable, IsScanBy}
 use Rattle.syn_model.proofs.PathLemmas.{first_or, same_name, name_itself, path_total, path_itself}
-use Rattle.syn_model.proofs.PathLemmas.{same_path, strip_prefix-append, strip_prefix-is}
-use Rattle.syn_model.proofs.PathLemmas.{parent-append, is_prefix-is}
+use Rattle.syn_model.proofs.PathLemmas.{same_path, strip_prefix-append, strip_prefix-is, not_root}
+use Rattle.syn_model.proofs.PathLemmas.{parent-append, is_prefix-is, prefix_itself, mutual_prefix}
 use Rattle.syn_model.proofs.TreeLemmas.{same_tree, get-replace, within, beside}
 use Rattle.syn_model.proofs.SyncLemmas.{directory_is}
 use Rattle.syn_model.proofs.HistoryLemmas.{get-at_root, get-below_root}
@@ -38,7 +38,9 @@ use Rattle.std.proofs.lemmas.Option.{same_Some}
 use Rattle.std.proofs.Common.{inl, inr}
 use Rattle.syn_scan.specs.Asked.{Asked, nothing_found, with_no_directory, is_out}
 use Rattle.syn_scan.specs.inner.Kept.{IsFlat, with_tree, AreOpen}
+use Rattle.syn_scan.specs.declared.scan.Scan.TheInside.{Inside}
 use Rattle.syn_scan.proofs.ShownLemmas.{deeper, no_children}
+use Rattle.syn_model.proofs.PathLemmas.{last_of}
 
 -- ---- keys
 
@@ -259,30 +261,6 @@ out_is_open asked p all out =
 
 -- ---- unstable paths
 
-pub split_last : (n : Name) (q : Path) → (m : Name) × (n ∷ q ≡ parent (n ∷ q) ++ m ∷ [])
-split_last n [] = (n, refl)
-split_last n (x ∷ q) = let r = split_last x q in (r.0, ap (λ w. n ∷ w) r.1)
-
--- of two paths that begin with one another each is the other
-mutual_prefix : (p q : Path) → is_prefix p q ≡ true → is_prefix q p ≡ true → p ≡ q
-mutual_prefix [] [] h k = refl
-mutual_prefix [] (m ∷ q) h k = absurd (true≢false (sym k))
-mutual_prefix (n ∷ p) [] h k = absurd (true≢false (sym h))
-mutual_prefix (n ∷ p) (m ∷ q) h k =
-    let a = is_prefix-is (n ∷ p) (m ∷ q) h in
-    let b = is_prefix-is (m ∷ q) (n ∷ p) k in
-    let same : m ≡ n = ap (λ w. first_or w m) a.1 in
-    let e : is_prefix p q ≡ true = ap (λ b. is_some (if b then strip_prefix p q else None))
-    (sym (ap (eq_by_cmp name_cmp n) same ∙ name_itself n)) ∙ h in
-    let f : is_prefix q p ≡ true = ap (λ b. is_some (if b then strip_prefix q p else None))
-    (sym (ap (λ w. eq_by_cmp name_cmp w n) same ∙ name_itself n)) ∙ k in
-    ap₂ (λ x xs. x ∷ xs) (sym same) (mutual_prefix p q e f)
-
-prefix_itself : (p : Path) → is_prefix p p ≡ true
-prefix_itself p =
-    ap (λ w. is_some (strip_prefix p w)) (sym (append-nil p))
-    ∙ ap is_some (strip_prefix-append p [])
-
 both_ways : (p q : Path) → (is_prefix p q && is_prefix q p) ≡ eq_by_cmp path_cmp p q
 both_ways p q = by_case (eq_by_cmp path_cmp p q) refl (is_prefix p q && is_prefix q p) refl
   where
@@ -368,6 +346,9 @@ scan_is found f whole = record {
 
 -- ---- what a listing leaves
 
+abbrev pub found_of : Inside → Found
+found_of scan = record { marks = scan.marks; listed = scan.listed; not_dirs = scan.not_dirs }
+
 pub taken_is : (old : Found) (p : Path) (k : ℕ) (u : Tree) (marks : Tree)
     (listed not_dirs : Positions) → marks ≡ replace old.marks p u → listed ≡ insert old.listed p k →
     not_dirs ≡ old.not_dirs → ◌≡◌ {A = Found}
@@ -382,15 +363,11 @@ empty_path (n ∷ p) h = absurd (true≢false (sym h ∙ suc_not (length p)))
     suc_not : (n : ℕ) → (suc n == 0) ≡ false
     suc_not n = grind (arith, nat_tests)
 
-pub not_root : (p : Path) → (length p == 0) ≡ false → is_root p ≡ false
-not_root [] h = absurd (true≢false h)
-not_root (n ∷ p) h = refl
-
 parent_is_directory : (t : Tree) (p : Path) → HasParents t → is_root p ≡ false →
     is_directory t p ≡ true → is_directory t (parent p) ≡ true
 parent_is_directory t [] parents r h = absurd (true≢false r)
 parent_is_directory t (n ∷ p) parents r h =
-    let s = split_last n p in
+    let s = last_of n p in
     ap is_directory_content (parents (parent (n ∷ p)) s.0
     [] (ap is_some (ap (get t) (sym s.1) ∙ directory_is (get t (n ∷ p)) h)))
 
@@ -439,12 +416,12 @@ shown_in found (n ∷ q) f d = inr (by_case (was_listed found (parent (n ∷ q))
         × (position : ℕ) × (entries : List (Name × Content)) × (n ∷ q ≡ child above name)
         × WasListedIn found above position entries × Contains entries (name, Directory)
     by_case false never =
-        let last = split_last n q in
+        let last = last_of n q in
         let nothing = f.nothing_below (parent (n ∷ q)) last.0 never in
         absurd
         (true≢false (sym d ∙ ap is_directory_content (ap (get found.marks) last.1 ∙ nothing)))
     by_case true was =
-        let last = split_last n q in
+        let last = last_of n q in
         let at = known found.listed (parent (n ∷ q)) was in
         let here : get found.marks (child (parent (n ∷ q)) last.0) ≡ Some Directory =
         ap (get found.marks) (sym last.1) ∙ directory_is (get found.marks (n ∷ q)) d in (

@@ -11,7 +11,7 @@ use Rattle.syn_model.specs.Path.{Path, Name, path_cmp, name_cmp, root}
 use Rattle.syn_model.specs.Tree.{Tree, Content, is_directory, is_directory_content}
 use Rattle.syn_placed.specs.Pairs.{Pairs}
 use Rattle.syn_mark.specs.Marks.{AreMarks, AreMarkPairs}
-use Rattle.syn_mark.specs.inner.Placings.{stands_in}
+use Rattle.syn_mark.specs.Placings.{stands_in}
 use Rattle.syn_mark.proofs.PlacingLemmas.{placed_marks}
 use Rattle.syn_scan.specs.Asked.{named, names_rise, listing_pairs}
 

@@ -12,8 +12,9 @@ use Rattle.std.specs.FinMap.Entries.{below_all, by_order}
 use Rattle.std.proofs.lemmas.Bool.{and_parts}
 use Rattle.std.proofs.Math.Seq.{take-append_seam, drop-append_seam}
 use Rattle.syn_model.specs.Path.{Path, path_cmp}
-use Rattle.syn_model.proofs.PathLemmas.{path_total, same_path, path_itself}
+use Rattle.syn_model.proofs.PathLemmas.{path_total, same_path, path_itself, not_less}
 use Rattle.syn_scan.specs.inner.Kept.{AreSorted, earlier, positions_with}
+use Rattle.syn_model.proofs.BaseLemmas.{is_true, holds, less_of}
 
 abbrev pub Answers : Type 0
 Answers = List (Path × ℕ)
@@ -32,11 +33,6 @@ abbrev pub Rising : Answers → Type 0
 Rising [] = Unit {0}
 Rising (e ∷ es) = After e.0 es × Rising es
 
-less_of : (o : Ordering) → is_lt o ≡ true → o ≡ Less
-less_of Less h = refl
-less_of Equal h = absurd (true≢false (sym h))
-less_of Greater h = absurd (true≢false (sym h))
-
 after_of : (path : Path) (es : Answers) → below_all path_cmp path es ≡ true → After path es
 after_of path [] h = tt
 after_of path (e ∷ es) h =
@@ -49,26 +45,15 @@ rising_of (e ∷ es) h =
     let both = and_parts (below_all path_cmp e.0 es) (is_sorted path_cmp es) h in
     (after_of e.0 es both.0, rising_of es both.1)
 
-pub holds : (b : Bool) → b ≡ true → T b
-holds b h = subst T (sym h) tt
-
-pub holds_of : (b : Bool) → T b → b ≡ true
-holds_of true h = refl
-holds_of false h = absurd h
-
 after_more : (q p : Path) (es : Answers) → path_cmp q p ≡ Less → After p es → After q es
 after_more q p [] less h = tt
 after_more q p (e ∷ es) less h = (path_total.trans q p e.0 less h.0, after_more q p es less h.1)
-
--- what is after a path is not before it
-late : (q p : Path) → path_cmp q p ≡ Less → is_lt (path_cmp p q) ≡ false
-late q p h = ap is_lt (path_total.antisymm p q ∙ ap ordering_reverse h)
 
 none_earlier : (q : Path) (es : Answers) → After q es → (earlier q es ≡ []) × (later q es ≡ es)
 none_earlier q [] h = (refl, refl)
 none_earlier q (e ∷ es) h =
     let rest = none_earlier q es h.1 in
-    let not_it = late q e.0 h.0 in (
+    let not_it = not_less q e.0 h.0 in (
       ap (λ b. cond b (e ∷ earlier q es) (earlier q es)) not_it ∙ rest.0,
       ap (λ b. cond (not b) (e ∷ later q es) (later q es)) not_it ∙ ap (λ xs. e ∷ xs) rest.1,
     )
@@ -243,7 +228,7 @@ put_sorted q v es new sorted is =
     let m = positions_with es in
     let listed : entries (insert m q v) ≡ new = entries-insert path_total m q v
     ∙ (ap (put path_cmp q v) (entries-from_sorted path_cmp es (holds _ sorted)) ∙ sym is) in
-    let up : AreSorted new = subst AreSorted listed (holds_of _ (entries_sorted (insert m q v))) in
+    let up : AreSorted new = subst AreSorted listed (is_true _ (entries_sorted (insert m q v))) in
     (up, same_entries_map _ _ (entries-from_sorted path_cmp new (holds _ up) ∙ sym listed))
 
 no_entries : (es : Answers) → ((q : Path) → find path_cmp q es ≡ None) → es ≡ []

@@ -22,11 +22,12 @@ use Rattle.syn_placed.specs.Pairs.{is_child, before, beyond, under}
 use Rattle.syn_placed.specs.Pairs as pairs
 use Rattle.syn_placed.proofs.RisingLemmas.{three_parts}
 use Rattle.syn_placed.proofs.TreeLemmas.{rising-entries, entries-replace, entries-subtree}
-use Rattle.syn_placed.proofs.TreeLemmas.{within-taken, entries-one, entries-rising}
+use Rattle.syn_placed.proofs.TreeLemmas.{within-taken, entries-rising}
 use Rattle.syn_placed.proofs.RisingLemmas.{rising_of}
 use Rattle.syn_placed.proofs.CountLemmas.{child_parent}
 use Rattle.syn_mark.specs.Marks.{AreMarks}
 use Rattle.syn_scan.specs.Asked.{named, listing_pairs, directory_with}
+use Rattle.syn_model.proofs.RowLemmas.{entries-at_root}
 
 -- nothing is shown below the path
 abbrev pub ShowsNothing : Tree → Path → Type 0
@@ -98,7 +99,7 @@ pub only_itself : (t : Tree) (p : Path) → HasParents t → is_directory t p �
     ShowsNothing t p → pairs.within p (entries t) ≡ (p ++ [], Directory) ∷ []
 only_itself t p parents here nothing =
     within-taken p (entries t) ∙ ap (under p) (sym (entries-subtree t p)
-    ∙ (ap entries (empty_part t p parents here nothing) ∙ entries-one Directory))
+    ∙ (ap entries (empty_part t p parents here nothing) ∙ entries-at_root Directory))
 
 no_name : (o : Option Name) → is_some o ≡ false → o ≡ None
 no_name None h = refl

@@ -19,14 +19,10 @@ use Rattle.syn_shared.specs.Reads.{EachFits}
 use Rattle.syn_tree.specs.Contents.{content_of}
 use Rattle.syn_tree.specs.declared.content.Content.{Content as Found}
 use Rattle.std.specs.FinMap.{len}
+use Rattle.syn_model.proofs.BaseLemmas.{equal_of}
 
 path_exact : IsAntisymmetric path_cmp
 path_exact = slice_cmp-IsAntisymmetric (slice_cmp-IsAntisymmetric nat_cmp-IsAntisymmetric)
-
-equal_of : (o : Ordering) → is_eq o ≡ true → o ≡ Equal
-equal_of Less e = absurd (let k : false ≡ true = e in cc)
-equal_of Equal e = refl
-equal_of Greater e = absurd (let k : false ≡ true = e in cc)
 
 -- what each pair passes passes where a content is found
 found_passes : (test : Pair → Bool) (at : Path) (content : Content) (pairs : List Pair)

@@ -32,7 +32,7 @@ use Rattle.syn_shared.proofs.CauseLemmas.{memory_last, replace_never, same_cause
 use Rattle.syn_shared.proofs.EventLemmas.{event_refused, event_written}
 use Rattle.syn_shared.specs.Machines.{EditsSide, IsMade, IsRefused, IsRefusedEarly, WritesEvent}
 use Rattle.syn_agent.proofs.CauseLemmas.{edit_never, outside as memory_or_device}
-use Rattle.syn_replica.proofs.CauseLemmas.{first_stays}
+use Rattle.syn_model.proofs.HistoryLemmas.{first_stays}
 use Rattle.syn_model.specs.Tree.{Tree as Model}
 
 -- where no history causes the answer there is no cause

@@ -11,7 +11,8 @@ use Rattle.syn_model.proofs.HistoryLemmas.{at_root-is_part, same_file}
 use Rattle.syn_tree.specs.Contents.{IsLawful}
 use Rattle.syn_placed.specs.Pairs.{Pairs, under, spelling_length, pair_spelling_length}
 use Rattle.syn_tree.specs.Change.{taken_from, ArePlaced}
-use Rattle.syn_placed.proofs.TreeLemmas.{part-under, entries-one, entries-absent}
+use Rattle.syn_placed.proofs.TreeLemmas.{part-under, entries-absent}
+use Rattle.syn_model.proofs.RowLemmas.{entries-at_root}
 
 -- the pairs of a part, each with the path before its own
 pub taken_same : (at : Path) (u : Tree) (pairs : Pairs) → pairs ≡ under at (entries u) →
@@ -32,7 +33,7 @@ pub under_one : (at : Path) (content : Content) (pairs : Pairs) → pairs ≡ (a
     pairs ≡ under at (entries (at_root content))
 under_one at content pairs e =
     e ∙ (ap (λ p. (p, content) ∷ []) (sym (append-nil at))
-    ∙ ap (under at) (sym (entries-one content)))
+    ∙ ap (under at) (sym (entries-at_root content)))
 
 pub under_none : (at : Path) (pairs : Pairs) → pairs ≡ [] → pairs ≡ under at (entries absent)
 under_none at pairs e = e ∙ ap (under at) (sym entries-absent)

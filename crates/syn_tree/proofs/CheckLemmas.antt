@@ -25,12 +25,13 @@ use Rattle.syn_placed.specs.Pairs.{under, spelling_length}
 use Rattle.syn_tree.specs.Change.{Replacement, IsPreparedFor}
 use Rattle.syn_tree.specs.Lists.{IsMeasured, replace_refusal}
 use Rattle.syn_placed.proofs.RisingLemmas.{replaced}
-use Rattle.syn_placed.proofs.TreeLemmas.{entries-one, entries-absent, rising-entries}
+use Rattle.syn_placed.proofs.TreeLemmas.{entries-absent, rising-entries}
 use Rattle.syn_placed.proofs.CountLemmas.{kids}
 use Rattle.syn_tree.proofs.FitLemmas.{part-pairs, pair_fits, all-find, fits-replaced, has_room}
 use Rattle.syn_tree.proofs.PartLemmas.{length_replaced, spelling_replaced}
 use Rattle.syn_placed.proofs.ParentLemmas.{place_free}
 use Rattle.syn_tree.proofs.ChangeLemmas.{under_one, size_one}
+use Rattle.syn_model.proofs.RowLemmas.{entries-at_root}
 
 -- only the limits are left of the causes, where the place is allowed and none comes before them
 causes : (why : Refusal) (a b c : Bool) (full : List Cause) → a ≡ false → b ≡ true → c ≡ false →
@@ -74,7 +75,7 @@ path_fits q h =
 pub one_fits_as : (content : Content) (fits : Bool) → fits_content content ≡ fits →
     fits_part (at_root content) ≡ (fits && true) && true
 one_fits_as content fits h =
-    part-pairs (at_root content) ∙ (ap (λ es. list_all (pair_fits es) es) (entries-one content)
+    part-pairs (at_root content) ∙ (ap (λ es. list_all (pair_fits es) es) (entries-at_root content)
     ∙ ap (λ b. (b && true) && true) h)
 
 pub one_fits : (content : Content) → fits_content content ≡ true →
@@ -82,7 +83,7 @@ pub one_fits : (content : Content) → fits_content content ≡ true →
 one_fits content h = one_fits_as content true h
 
 pub one_path_fits : (content : Content) → fits_paths (at_root content) ≡ true
-one_path_fits content = ap (list_all (λ pair. fits_path pair.0)) (entries-one content)
+one_path_fits content = ap (list_all (λ pair. fits_path pair.0)) (entries-at_root content)
 
 pub measured_one : (at : Path) (content : Content) (size : ℕ) → IsPath at →
     fits_content content ≡ true →
@@ -90,7 +91,7 @@ pub measured_one : (at : Path) (content : Content) (size : ℕ) → IsPath at �
     IsMeasured at (at_root content) 1 size
 measured_one at content size path fits e = record {
   parents = one_parents content;
-  count = len-entries (at_root content) ∙ ap length (entries-one content);
+  count = len-entries (at_root content) ∙ ap length (entries-at_root content);
   spelled =
       sym (ap spelling_length (under_one at content ((at, content) ∷ []) refl))
       ∙ (sym (size_one at content ((at, content) ∷ []) refl) ∙ sym e);
@@ -102,7 +103,7 @@ measured_one at content size path fits e = record {
 }
 
 -- what is put is there
-put_there : (t : Tree) (at : Path) (content : Content) →
+pub put_there : (t : Tree) (at : Path) (content : Content) →
     get (replace t at (at_root content)) at ≡ Some content
 put_there t at content =
     within t at (at_root content) at
@@ -123,10 +124,10 @@ too_long t at content h true e =
     absurd (true≢false
     (sym (and_parts (fits_content content) (nat_le (kids at (entries u)) 256) here).0 ∙ h))
 
-less_nodes : (m n : ℕ) → m ≤ n → nat_le n 1024 ≡ true → nat_le m 1024 ≡ true
+pub less_nodes : (m n : ℕ) → m ≤ n → nat_le n 1024 ≡ true → nat_le m 1024 ≡ true
 less_nodes m n h k = grind (arith, nat_tests)
 
-less_size : (m n : ℕ) → m ≤ n → nat_le n 526336 ≡ true → nat_le m 526336 ≡ true
+pub less_size : (m n : ℕ) → m ≤ n → nat_le n 526336 ≡ true → nat_le m 526336 ≡ true
 less_size m n h k = grind (arith, nat_tests)
 
 or_true : (b : Bool) → (b || true) ≡ true

@@ -1,22 +1,24 @@
 -- The empty directory.
-use Rattle.std.proofs.Common.{◌≡◌, ◌≤◌, ℕ, true, ◌&&◌, nat_le, [], length, refl, sym, ap, ap₂, ◌∙◌}
+use Rattle.std.proofs.Common.{◌≡◌, ◌≤◌, ℕ, true, [], refl, sym, ap, ◌∙◌}
 use Rattle.std.proofs.Common.{subst}
 use Rattle.std.specs.List.{list_all}
-use Rattle.std.specs.FinMap.{len-entries, from_sorted}
+use Rattle.std.specs.FinMap.{from_sorted}
 use Rattle.syn_model.specs.Path.{root}
 use Rattle.syn_model.specs.Tree.{IsTree, Directory, at_root, empty_directory}
 use Rattle.syn_model.specs.Limits.{fits_replica, fits_part, fits_paths, fits_path}
-use Rattle.syn_model.specs.Limits.{greatest_spelling}
 use Rattle.syn_model.proofs.HistoryLemmas.{get-at_root}
-use Rattle.syn_placed.specs.Pairs.{Pairs, tree_with, spelling_length}
+use Rattle.syn_placed.specs.Pairs.{Pairs, tree_with}
 use Rattle.syn_tree.specs.Entries.{AreEntries}
 use Rattle.syn_tree.specs.inner.Kept.{IsKept}
-use Rattle.syn_placed.proofs.TreeLemmas.{entries-one, from_entries-same}
+use Rattle.syn_placed.proofs.TreeLemmas.{from_entries-same}
 use Rattle.syn_tree.proofs.ChangeLemmas.{lawful_part}
 use Rattle.syn_tree.proofs.CheckLemmas.{one_fits}
+use Rattle.syn_model.proofs.RowLemmas.{entries-at_root}
+use Rattle.syn_model.proofs.ImageLemmas.{empty_fits}
 
 empty_tree : tree_with [] ≡ empty_directory
-empty_tree = ap from_sorted (sym (entries-one Directory)) ∙ from_entries-same (at_root Directory)
+empty_tree = ap from_sorted (sym (entries-at_root Directory)) ∙ from_entries-same (at_root
+    Directory)
 
 pub empty_with : (es : Pairs) → es ≡ [] → tree_with es ≡ empty_directory
 empty_with es e = ap tree_with e ∙ empty_tree
@@ -25,14 +27,7 @@ empty_is_tree : IsTree empty_directory
 empty_is_tree = record { rooted = get-at_root Directory root; part = lawful_part Directory tt }
 
 empty_paths : fits_paths empty_directory ≡ true
-empty_paths = ap (list_all (λ pair. fits_path pair.0)) (entries-one Directory)
-
-empty_fits : fits_replica empty_directory ≡ true
-empty_fits =
-    ap₂ (λ a b. a && b)
-    (ap₂ (λ a b. a && b) (ap₂ (λ m n. nat_le m 1024 && nat_le n greatest_spelling)
-    (len-entries empty_directory ∙ ap length (entries-one Directory))
-    (ap spelling_length (entries-one Directory))) (one_fits Directory refl)) empty_paths
+empty_paths = ap (list_all (λ pair. fits_path pair.0)) (entries-at_root Directory)
 
 pub empty_entries : (es : Pairs) → es ≡ [] → AreEntries es
 empty_entries es e = subst AreEntries (sym e) (record {

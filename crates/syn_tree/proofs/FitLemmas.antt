@@ -11,8 +11,8 @@ use Rattle.std.proofs.lemmas.Bool.Decides.{nat_tests}
 use Rattle.std.proofs.lemmas.List.Folds.{list_all-append}
 use Rattle.std.proofs.lemmas.Option.{same_Some}
 use Rattle.syn_model.specs.Path.{Path, path_cmp, strip_prefix, is_prefix, is_root, root, parent}
-use Rattle.syn_model.specs.Tree.{Tree, Content, Pair, Directory, File, replace, is_directory}
-use Rattle.syn_model.specs.Tree.{is_directory_content, is_present}
+use Rattle.syn_model.specs.Tree.{Tree, Content, Pair, Directory, replace, is_directory}
+use Rattle.syn_model.specs.Tree.{is_present}
 use Rattle.syn_model.specs.Limits.{children, fits_content, fits_path, fits_part, fits_paths}
 use Rattle.syn_model.specs.Limits.{fits_replica, greatest_spelling, tree_spelling_length}
 use Rattle.syn_model.proofs.PathLemmas.{same_path}
@@ -20,11 +20,13 @@ use Rattle.syn_model.proofs.TreeLemmas.{beside}
 use Rattle.syn_placed.specs.Pairs.{Pairs, is_within, before, within, beyond, under, is_child}
 use Rattle.syn_placed.specs.Pairs.{spelling_length}
 use Rattle.syn_placed.proofs.OrderLemmas.{prefix_step}
-use Rattle.syn_placed.proofs.RisingLemmas.{NoneOf, Each, each-map, replaced, three_parts}
+use Rattle.syn_placed.proofs.RisingLemmas.{NoneOf, Each, replaced, three_parts}
 use Rattle.syn_placed.proofs.RisingLemmas.{before_out, after_out, each-both}
 use Rattle.syn_placed.proofs.TreeLemmas.{rising-entries, entries-replace}
 use Rattle.syn_placed.proofs.CountLemmas.{kids, length-children, kids-beside, kids-after}
 use Rattle.syn_placed.proofs.CountLemmas.{kids-inside, top_of, child_parent, child_of_parent}
+use Rattle.syn_model.proofs.BaseLemmas.{and_true, each_with}
+use Rattle.syn_model.proofs.SyncLemmas.{directory_is}
 
 -- what a pair has to keep among the others
 abbrev pub pair_fits : Pairs → Pair → Bool
@@ -161,7 +163,7 @@ beside_fits : (t : Tree) (at : Path) (u : Tree) → has_room t at u ≡ true →
     list_all (pair_fits (replaced at (entries t) (entries u))) xs ≡ true
 beside_fits t at u room xs h out =
     all_of (pair_fits (replaced at (entries t) (entries u))) xs
-    (each-map (λ x. (pair_fits (entries t) x ≡ true) × (is_within at x ≡ false))
+    (each_with (λ x. (pair_fits (entries t) x ≡ true) × (is_within at x ≡ false))
     (λ x. pair_fits (replaced at (entries t) (entries u)) x ≡ true)
     (λ x k. let both = and_parts (fits_content x.1) (nat_le (kids x.0 (entries t)) 256) k.0 in
     ap₂ (λ a b. a && b) both.0 (kids-less t at x.0 u k.1 room both.1))
@@ -217,10 +219,6 @@ prefix_parent (n ∷ []) h = refl
 prefix_parent (n ∷ m ∷ at) h =
     prefix_step n (m ∷ at) (parent (m ∷ at)) ∙ prefix_parent (m ∷ at) refl
 
-and_true : (a : Bool) → (a && true) ≡ a
-and_true true = refl
-and_true false = refl
-
 none_of : (at p : Path) → is_prefix at p ≡ false → strip_prefix at p ≡ None
 none_of at p h = by_case (strip_prefix at p) h
   where
@@ -228,18 +226,13 @@ none_of at p h = by_case (strip_prefix at p) h
     by_case None k = refl
     by_case (Some x) k = absurd (true≢false k)
 
-pub is_dir : (o : Option Content) → is_directory_content o ≡ true → o ≡ Some Directory
-is_dir None h = absurd (true≢false (sym h))
-is_dir (Some Directory) h = refl
-is_dir (Some (File c)) h = absurd (true≢false (sym h))
-
 pub part-replaced : (t : Tree) (at : Path) (u : Tree) → fits_part t ≡ true → fits_part u ≡ true →
     is_root at ≡ false → is_directory t (parent at) ≡ true →
     fits_part (replace t at u) ≡ has_room t at u
 part-replaced t at u h k below dir =
     let out = prefix_parent at below in
     let there = beside t at u (parent at) (none_of at (parent at) out)
-    ∙ is_dir (get t (parent at)) dir in
+    ∙ directory_is (get t (parent at)) dir in
     both_ways (fits_part (replace t at u)) (has_room t at u)
     (λ e. fits_room t at u below out there (sym (part-pairs (replace t at u)) ∙ e))
     (λ room. part-pairs (replace t at u) ∙ (ap (λ xs. list_all (pair_fits xs) xs)

@@ -16,12 +16,14 @@ use Rattle.syn_model.proofs.PathLemmas.{path_total, same_path, path_itself, pare
 use Rattle.syn_tree.specs.Contents.{IsLawful}
 use Rattle.syn_placed.specs.Pairs.{Pairs, rooted, tree_with, AreRising, is_child}
 use Rattle.syn_tree.specs.Entries.{AreEntries, has_few, stands_in, IsLawfulPair, AreLawful}
-use Rattle.syn_placed.proofs.RisingLemmas.{Rising, rising_of, each-map, each-both}
+use Rattle.syn_placed.proofs.RisingLemmas.{Rising, rising_of, each-both}
 use Rattle.syn_placed.proofs.TreeLemmas.{entries-with, get-with}
 use Rattle.syn_placed.proofs.CountLemmas.{kids, kids-none, child_is, child_parent, child_of_parent}
-use Rattle.syn_tree.proofs.FitLemmas.{part-pairs, pair_fits, all_of, each_of, is_dir}
+use Rattle.syn_tree.proofs.FitLemmas.{part-pairs, pair_fits, all_of, each_of}
 use Rattle.syn_tree.proofs.PartLemmas.{kids_rooted}
 use Rattle.syn_tree.proofs.CheckLemmas.{path_fits}
+use Rattle.syn_model.proofs.BaseLemmas.{each_with}
+use Rattle.syn_model.proofs.SyncLemmas.{directory_is}
 
 -- what holds of each pair holds of what is found
 pub each-find : (P : Path → Content → Type 0) (q : Path) (c : Content) (es : Pairs) →
@@ -53,7 +55,7 @@ pub each_found : (es : Pairs) → Rising es → AllByRecursion (λ e. find path_
 each_found [] h = tt
 each_found (x ∷ es) h = (
   ap (λ b. cond b (Some x.1) (find path_cmp x.0 es)) (path_itself x.0),
-  each-map (λ e. (path_cmp x.0 e.0 ≡ Less) × (find path_cmp e.0 es ≡ Some e.1))
+  each_with (λ e. (path_cmp x.0 e.0 ≡ Less) × (find path_cmp e.0 es ≡ Some e.1))
       (λ e. find path_cmp e.0 (x ∷ es) ≡ Some e.1)
       (λ e k. ap (λ o. cond (is_eq o) (Some x.1) (find path_cmp e.0 es))
       (path_total.antisymm e.0 x.0 ∙ ap ordering_reverse k.0) ∙ k.1)
@@ -98,12 +100,12 @@ module _ (ds : Pairs) (rising : AreRising (rooted ds)) where
           λ p is. each-find (λ q c. All IsName q) p (content_or (find path_cmp p (rooted ds)))
           (rooted ds) (
             All-nil IsName,
-            each-map IsLawfulPair (λ e. All IsName e.0) (λ e k. k.0.names) ds lawful,
+            each_with IsLawfulPair (λ e. All IsName e.0) (λ e k. k.0.names) ds lawful,
           )
           (some_is (find path_cmp p (rooted ds)) (subst IsSome (get-with ds p rising) is));
       lawful =
           λ p contents is. each-find (λ q c. IsLawful c) p (File contents) (rooted ds)
-          (tt, each-map IsLawfulPair (λ e. IsLawful e.1) (λ e k. k.1) ds lawful)
+          (tt, each_with IsLawfulPair (λ e. IsLawful e.1) (λ e k. k.1) ds lawful)
           (sym (get-with ds p rising) ∙ is);
     };
   }
@@ -113,14 +115,14 @@ module _ (ds : Pairs) (rising : AreRising (rooted ds)) where
   unfolding Closed
   closed_by h = (
     refl,
-    each-map (λ e. is_directory_content (find path_cmp (parent e.0) (rooted ds)) ≡ true)
+    each_with (λ e. is_directory_content (find path_cmp (parent e.0) (rooted ds)) ≡ true)
         (λ e. find path_cmp (parent e.0) (rooted ds) ≡ Some Directory)
-        (λ e k. is_dir (find path_cmp (parent e.0) (rooted ds)) k) ds h,
+        (λ e k. directory_is (find path_cmp (parent e.0) (rooted ds)) k) ds h,
   )
 
   closed_of : list_all (stands_in ds) ds ≡ true → Closed
   closed_of h =
-      closed_by (each-map (λ e. stands_in ds e ≡ true)
+      closed_by (each_with (λ e. stands_in ds e ≡ true)
       (λ e. is_directory_content (find path_cmp (parent e.0) (rooted ds)) ≡ true)
       (λ e k. (and_parts (is_directory_content (find path_cmp (parent e.0) (rooted ds)))
       (fits_content e.1) (and_parts (is_directory_content (find path_cmp (parent e.0) (rooted ds))
@@ -132,7 +134,7 @@ module _ (ds : Pairs) (rising : AreRising (rooted ds)) where
       is_directory_content (Some e.1) ≡ false → kids e.0 ds ≡ 0
   unfolding Closed
   none_in h e there file =
-      kids-none e.0 ds (each-map (λ x. find path_cmp (parent x.0) (rooted ds) ≡ Some Directory)
+      kids-none e.0 ds (each_with (λ x. find path_cmp (parent x.0) (rooted ds) ≡ Some Directory)
       (λ x. is_child e.0 x.0 ≡ false) (λ x up. never x up (is_child e.0 x.0) refl) ds h.1)
     where
       never : (x : Pair) → find path_cmp (parent x.0) (rooted ds) ≡ Some Directory → (b : Bool) →
@@ -158,7 +160,7 @@ module _ (ds : Pairs) (rising : AreRising (rooted ds)) where
       let found = (each_found (rooted ds) (rising_of (rooted ds) rising)).1 in
       part-pairs (tree_with ds) ∙ (ap (λ es. list_all (pair_fits es) es) (entries-with ds rising)
       ∙ ap₂ (λ a b. a && b) (ap (λ n. nat_le n 256) (kids_rooted [] ds) ∙ few)
-      (all_of (pair_fits (rooted ds)) ds (each-map (λ e. (stands_in ds e ≡ true)
+      (all_of (pair_fits (rooted ds)) ds (each_with (λ e. (stands_in ds e ≡ true)
       × (find path_cmp e.0 (rooted ds) ≡ Some e.1)) (λ e. pair_fits (rooted ds) e ≡ true)
       (λ e k. let both = and_parts (is_directory_content (find path_cmp (parent e.0) (rooted ds))
       && fits_content e.1) (has_few ds e) k.0 in
@@ -177,7 +179,7 @@ module _ (ds : Pairs) (rising : AreRising (rooted ds)) where
     paths =
         ap (list_all (λ pair. fits_path pair.0)) (entries-with ds rising)
         ∙ all_of (λ pair. fits_path pair.0) ds
-        (each-map IsLawfulPair (λ e. fits_path e.0 ≡ true) (λ e k. path_fits e.0 k.0) ds lawful);
+        (each_with IsLawfulPair (λ e. fits_path e.0 ≡ true) (λ e k. path_fits e.0 k.0) ds lawful);
   }
 
 pub below_root : (q : Path) → path_cmp root q ≡ Less → is_root q ≡ false
@@ -200,7 +202,7 @@ entries_stand ds h =
     (find path_cmp e.0 (rooted ds) ≡ Some e.1) × (pair_fits (rooted ds) e ≡ true)) ds rising.0
     (each-both (λ e. find path_cmp e.0 (rooted ds) ≡ Some e.1)
     (λ e. pair_fits (rooted ds) e ≡ true) ds found fits.1) in (
-      all_of (stands_in ds) ds (each-map (λ e. (path_cmp root e.0 ≡ Less)
+      all_of (stands_in ds) ds (each_with (λ e. (path_cmp root e.0 ≡ Less)
           × ((find path_cmp e.0 (rooted ds) ≡ Some e.1) × (pair_fits (rooted ds) e ≡ true)))
           (λ e. stands_in ds e ≡ true) (λ e k. one e k.0 k.1.0 k.1.1) ds here),
       sym (ap (λ n. nat_le n 256) (kids_rooted [] ds))

@@ -14,10 +14,10 @@ use Rattle.syn_tree.specs.Change.{Replacement, taken_from, ArePlaced, IsPrepared
 use Rattle.syn_tree.specs.inner.Kept.{IsKept}
 use Rattle.syn_placed.proofs.RisingLemmas.{Rising, rising_of, are_rising, replaced, rising-replaced}
 use Rattle.syn_placed.proofs.TreeLemmas.{entries-with, entries-replace, rising-entries}
-use Rattle.syn_tree.proofs.FitLemmas.{is_dir}
 use Rattle.syn_tree.proofs.PartLemmas.{before_rooted, within_rooted, after_rooted}
 use Rattle.syn_tree.proofs.PartLemmas.{spelling_replaced}
 use Rattle.syn_tree.proofs.MeasureLemmas.{at_most_nodes, part_size}
+use Rattle.syn_model.proofs.SyncLemmas.{directory_is}
 
 module _ (ds : Pairs) (s cap : ℕ) (change : Replacement) (added : Pairs) (size : ℕ)
     (kept : IsKept ds s cap) (ready : IsPreparedFor (tree_with ds) change)
@@ -84,7 +84,7 @@ module _ (ds : Pairs) (s cap : ℕ) (change : Replacement) (added : Pairs) (size
         tree =
             subst IsTree (sym tree) (replace-is_tree (tree_with ds) change.at change.new kept.tree
             (subst IsPart new placed.part) ready.below (inr
-            (is_dir (get (tree_with ds) (parent change.at)) ready.parent)) placed.path.names);
+            (directory_is (get (tree_with ds) (parent change.at)) ready.parent)) placed.path.names);
         fits = ap fits_replica tree ∙ ready.fits;
         counted =
             omega (

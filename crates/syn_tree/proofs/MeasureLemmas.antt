@@ -60,6 +60,16 @@ part_size ds s cap at kept below =
     let same = ap spelling_length (within_rooted at ds below) in
     omega (arith, all, same, kept.counted)
 
+-- and so is the part at a path that is free
+pub part_within : (ds : Pairs) (s cap : ℕ) (at : Path) (t : Tree) (part : Pairs) →
+    IsKept ds s cap → tree_with ds ≡ t → first_cause (place_causes t at) ≡ None →
+    part ≡ within at ds → (length part ≤ length ds) × (spelling_length part ≤ s)
+part_within ds s cap at t part kept is place same =
+    let free = place_free t at place in (
+      subst (λ xs. length xs ≤ length ds) (sym same) (part_count ds s cap at kept),
+      subst (λ xs. spelling_length xs ≤ s) (sym same) (part_size ds s cap at kept free.0),
+    )
+
 pub measured : (ds : Pairs) (s cap : ℕ) (at : Path) (u : Tree) (nodes size count long : ℕ)
     (room : Bool) → IsKept ds s cap → first_cause (place_causes (tree_with ds) at) ≡ None →
     IsMeasured at u nodes size → count ≡ length ds - length (within at ds) + nodes →

@@ -6,7 +6,7 @@ use Rattle.std.proofs.Common.{Some, None, is_some, IsSome, slice_index_or, All, 
 use Rattle.std.proofs.Common.{true≢false, arith}
 use Rattle.std.specs.Prelude.{option_map, option_and_then, flat_map}
 use Rattle.std.specs.List.{cons_option, list_all}
-use Rattle.std.specs.FinMap.{entries, get, get-entries, get-empty, find}
+use Rattle.std.specs.FinMap.{entries, get, get-entries, get-empty, find, len}
 use Rattle.std.proofs.Math.Seq.{drop-append_seam}
 use Rattle.std.proofs.lemmas.Bool.{and_parts}
 use Rattle.std.proofs.lemmas.Bool.Decides.{nat_tests}
@@ -22,19 +22,22 @@ use Rattle.syn_model.specs.Tree.{absent, at_root, subtree, is_directory_content}
 use Rattle.syn_model.proofs.HistoryLemmas.{get-at_root}
 use Rattle.std.specs.Ordering.{eq_by_cmp}
 use Rattle.std.proofs.lemmas.Option.{none-some, same_Some}
-use Rattle.syn_model.specs.Limits.{fits_path, fits_content, fits_part, fits_paths}
-use Rattle.syn_model.proofs.PathLemmas.{strip_prefix-append, is_prefix-is}
+use Rattle.syn_model.specs.Limits.{fits_path, fits_content, fits_part, fits_paths, fits_replica}
+use Rattle.syn_model.specs.Limits.{greatest_spelling, tree_spelling_length}
+use Rattle.syn_model.proofs.PathLemmas.{strip_prefix-append, is_prefix-is, not_root}
 use Rattle.syn_model.proofs.TreeLemmas.{same_tree, get-subtree}
-use Rattle.syn_placed.specs.Pairs.{Pairs, rooted, before, within, beyond, under}
+use Rattle.syn_placed.specs.Pairs.{Pairs, rooted, before, within, beyond, tree_with, under}
 use Rattle.syn_tree.specs.Lists.{below_off, stripped}
 use Rattle.syn_tree.specs.Entries.{AreEntries}
+use Rattle.syn_tree.specs.inner.Kept.{IsKept}
 use Rattle.syn_placed.proofs.RisingLemmas.{Rising, After, three_parts}
 use Rattle.syn_placed.proofs.TreeLemmas.{taken, within-taken, rising-taken, rising-entries}
-use Rattle.syn_placed.proofs.TreeLemmas.{entries-subtree}
+use Rattle.syn_placed.proofs.TreeLemmas.{entries-subtree, entries-with}
 use Rattle.syn_placed.proofs.CountLemmas.{kids, kids-append, kids-under, no_root}
 use Rattle.syn_tree.proofs.FitLemmas.{part-pairs, pair_fits}
 use Rattle.syn_tree.proofs.PartLemmas.{subtree-parents}
 use Rattle.syn_tree.proofs.WholeLemmas.{whole_rising, whole_tree}
+use Rattle.syn_model.proofs.SubtreeLemmas.{fits_later, subtree-fits_paths, subtree-fits}
 
 -- a path with a prefix, and the rest
 pub prefix_rest : (at x : Path) → is_prefix at x ≡ true →
@@ -64,10 +67,6 @@ strip_itself at x h k =
     ∙ ap (λ b. cons_option (if b then None else Some (drop (length at) x.0, x.1)) [])
     (root_of (drop (length at) x.0) k)
 
-below_of : (q : Path) → (length q == 0) ≡ false → is_root q ≡ false
-below_of [] h = absurd (true≢false h)
-below_of (n ∷ q) h = refl
-
 pub strip_below : (at : Path) (x : Pair) → is_prefix at x.0 ≡ true →
     (length (drop (length at) x.0) == 0) ≡ false →
     stripped at (x ∷ []) ≡ (drop (length at) x.0, x.1) ∷ []
@@ -75,7 +74,7 @@ strip_below at x h k =
     ap (λ o. cons_option (option_and_then
     (λ rest. if is_root rest then None else Some (rest, x.1)) o) []) (prefix_rest at x.0 h)
     ∙ ap (λ b. cons_option (if b then None else Some (drop (length at) x.0, x.1)) [])
-    (below_of (drop (length at) x.0) k)
+    (not_root (drop (length at) x.0) k)
 
 pub strip_more : (at : Path) (list : Pairs) (i : ℕ) (x : Pair) → i < length list →
     x ≡ slice_index_or list i x →
@@ -112,21 +111,13 @@ smaller m n h k = grind (arith, nat_tests)
 fewer : (m n : ℕ) → m ≤ n → nat_le n 256 ≡ true → nat_le m 256 ≡ true
 fewer m n h k = grind (arith, nat_tests)
 
-rest_fits : (p q : Path) → fits_path (p ++ q) ≡ true → fits_path q ≡ true
-rest_fits p q h =
-    let both = and_parts (nat_le (length (p ++ q)) 16)
-    (nat_le (length (path_spelling (p ++ q))) 255) h in
-    ap₂ (λ a b. a && b)
-    (shorter (length q) (length (p ++ q)) (omega (arith, length-append p q)) both.0) (smaller
-    (length (path_spelling q)) (length (path_spelling (p ++ q))) (spelling_after p q) both.1)
-
 paths_under : (at : Path) (us : Pairs) → list_all (λ pair. fits_path pair.0) (under at us) ≡ true →
     list_all (λ pair. fits_path pair.0) us ≡ true
 paths_under at [] h = refl
 paths_under at (x ∷ us) h =
     let both = and_parts (fits_path (at ++ x.0))
     (list_all (λ pair. fits_path pair.0) (under at us)) h in
-    ap₂ (λ a b. a && b) (rest_fits at x.0 both.0) (paths_under at us both.1)
+    ap₂ (λ a b. a && b) (fits_later at x.0 both.0) (paths_under at us both.1)
 
 -- what passes in the whole passes in the part at a path
 part_passes : (f : Pair → Bool) (t : Tree) (at : Path) → list_all f (entries t) ≡ true →
@@ -159,17 +150,6 @@ fits_under t at (x ∷ us) h =
     let one = and_parts (fits_content x.1) (nat_le (kids (at ++ x.0) (entries t)) 256) both.0 in
     ap₂ (λ a b. a && b) (ap₂ (λ a b. a && b) one.0 (fewer (kids x.0 (taken at (entries t)))
     (kids (at ++ x.0) (entries t)) (kids_in_part t at x.0) one.1)) (fits_under t at us both.1)
-
-subtree_part : (t : Tree) (at : Path) → fits_part t ≡ true → fits_part (subtree t at) ≡ true
-subtree_part t at h =
-    part-pairs (subtree t at) ∙ (ap (λ es. list_all (pair_fits es) es) (entries-subtree t at)
-    ∙ fits_under t at (taken at (entries t))
-    (part_passes (pair_fits (entries t)) t at (sym (part-pairs t) ∙ h)))
-
-subtree_paths : (t : Tree) (at : Path) → fits_paths t ≡ true → fits_paths (subtree t at) ≡ true
-subtree_paths t at h =
-    ap (list_all (λ pair. fits_path pair.0)) (entries-subtree t at)
-    ∙ paths_under at (taken at (entries t)) (part_passes (λ pair. fits_path pair.0) t at h)
 
 subtree_tree : (t : Tree) (at : Path) → IsTree t → get t at ≡ Some Directory → IsTree (subtree t at)
 subtree_tree t at tree dir = record {
@@ -241,9 +221,28 @@ stripped_lawful t at ds copies all tree part paths dir e =
     record {
       rising = whole_rising u copies whole;
       tree = subst IsTree (sym same) (subtree_tree t at tree dir);
-      part = ap fits_part same ∙ subtree_part t at part;
-      paths = ap fits_paths same ∙ subtree_paths t at paths;
+      part = ap fits_part same ∙ subtree-fits t at part;
+      paths = ap fits_paths same ∙ subtree-fits_paths t at paths;
     }
+
+-- what is copied of a list below a directory of its tree
+module _ (ds : Pairs) (s cap : ℕ) (t : Tree) (at : Path) (copies : Pairs) (kept : IsKept ds s cap)
+    (is : tree_with ds ≡ t) (dir : get t at ≡ Some Directory) (copied : copies ≡ stripped at ds)
+  where
+    all : entries t ≡ rooted ds
+    all = ap entries (sym is) ∙ entries-with ds kept.rising
+
+    pub copies_whole : rooted copies ≡ entries (subtree t at)
+    copies_whole = stripped_entries t at ds copies all dir copied
+
+    pub copies_lawful : AreEntries copies
+    copies_lawful =
+        let fits = ap fits_replica (sym is) ∙ kept.fits in
+        let whole = and_parts (nat_le (len t) 1024 && nat_le (tree_spelling_length t)
+        greatest_spelling && fits_part t) (fits_paths t) fits in
+        let part = and_parts (nat_le (len t) 1024 && nat_le (tree_spelling_length t)
+        greatest_spelling) (fits_part t) whole.0 in
+        stripped_lawful t at ds copies all (subst IsTree is kept.tree) part.1 whole.1 dir copied
 
 none_of : (o : Option Content) → is_some o ≡ false → o ≡ None
 none_of None h = refl

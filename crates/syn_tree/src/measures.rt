@@ -106,7 +106,7 @@ pub fn measured(list: &[Entry]) -> Option<usize>
 }
 
 /// So many nodes below the root, so many bytes and so many names in each directory are allowed.
-pub fn is_within_limits(count: usize, length: usize, room: bool) -> bool
+pub(crate) fn is_within_limits(count: usize, length: usize, room: bool) -> bool
     ensures { result ≡ (nat_le count 1023 && nat_le length 526336 && room) }
 {
     count <= MOST_BELOW && length <= LONGEST_SPELLING && room

@@ -2,15 +2,16 @@ use Rattle.std.proofs.Common.{rules, ◌≡◌, ◌++◌, ◌∷◌, [], sym, ap
 use Rattle.std.specs.FinMap.{entries, get}
 use Rattle.std.proofs.lemmas.List.Sums.{fold_push}
 use Rattle.std.proofs.lemmas.Result.{err_from_is_err_and}
+use Rattle.syn_model.specs.Event.{Edit, edited_path}
 use Rattle.syn_placed.specs.Pairs.{rooted}
 use Rattle.syn_tree.specs.Refusals.{refusal_of}
 use Rattle.syn_change.specs.Changes.{IsAddition, IsNeededFor}
-use Rattle.syn_change.proofs.GoingLemmas.{goes_nowhere, goes_twice, goes_weaker, refused_later}
-use Rattle.syn_change.proofs.NeedLemmas.{IsAdditionIn, apart_from, last_among, needed_for}
-use Rattle.syn_change.proofs.NeedLemmas.{still_among}
+use Rattle.syn_change.proofs.GoingLemmas.{goes_nowhere, goes_weaker, refused_later}
+use Rattle.syn_change.proofs.NeedLemmas.{IsAdditionIn, goes_in_turn, needed_for}
 use Rattle.syn_change.proofs.OverlayLemmas.{placing, placed_more, overlaid, kept}
-use Rattle.syn_change.proofs.StandingLemmas.{none_in_front, pair_stands, rising_below}
+use Rattle.syn_change.proofs.StandingLemmas.{next_of}
 use Rattle.syn_change.proofs.additions.put_missing.Goals as goal
+use Rattle.syn_change.proofs.additions.put_missing.Goals.{After-put_pair}
 
 pub loop-pair-init : goal.loop-pair-init
 loop-pair-init c = record {
@@ -21,36 +22,38 @@ loop-pair-init c = record {
       c.args.edits.now.items;
 }
 
-pub loop-pair-preserved : goal.loop-pair-preserved
-loop-pair-preserved c =
+-- an edit that this one needs is an addition at its path
+needed : (c : After-put_pair) (e : Edit) → IsNeededFor c.loop-pair.work c.in-Some.pair e →
+    IsAddition c.args.work.now c.args.wanted.now e × (edited_path e ≡ c.in-Some.pair.0)
+needed c e =
     let front = c.loop-pair.yielded in
     let x = c.in-Some.pair in
     let old = c.args.work.now in
-    let wanted = c.args.wanted.now in
+    let next = next_of c.args.wanted.now front x c.next.new.self _ c.in-Some.ensures.steps
+    c.loop-pair.invariant.whole in
+    needed_for c.loop-pair.work old c.args.wanted.now x e
+    (c.loop-pair.invariant.placed x.0 ∙ kept x.0 (get old x.0) front next.1) next.2
+
+pub loop-pair-preserved : goal.loop-pair-preserved
+loop-pair-preserved c =
+    let needs = needed (goal.at.loop-pair-preserved c).After-put_pair in
+    let front = c.loop-pair.yielded in
+    let x = c.in-Some.pair in
+    let old = c.args.work.now in
     let work = c.loop-pair.work in
-    let all : rooted (front ++ x ∷ c.next.new.self) ≡ entries wanted =
-    ap rooted (ap (λ xs. front ++ xs) (sym c.in-Some.ensures.steps))
-    ∙ c.loop-pair.invariant.whole in
-    let none = none_in_front front x c.next.new.self (rising_below wanted _ all).1 in
-    let same : get work x.0 ≡ get old x.0 =
-    c.loop-pair.invariant.placed x.0 ∙ kept x.0 (get old x.0) front none in
-    let there = pair_stands wanted front x c.next.new.self all in
+    let next = next_of c.args.wanted.now front x c.next.new.self _ c.in-Some.ensures.steps
+    c.loop-pair.invariant.whole in
     record {
-      whole = ap rooted (append_assoc front (x ∷ []) c.next.new.self) ∙ all;
+      whole = ap rooted (append_assoc front (x ∷ []) c.next.new.self) ∙ next.0;
       placed =
           λ q. placed_more q work x c.put_pair.new.work c.in_ok-put_pair.ensures.placed
           ∙ (ap (λ o. placing q o x) (c.loop-pair.invariant.placed q)
           ∙ sym (fold_push (placing q) (get old q) front x));
       edits =
-          goes_twice (IsAdditionIn old wanted front) (IsNeededFor work x)
-          (IsAdditionIn old wanted (front ++ x ∷ [])) old work c.put_pair.new.work
-          c.args.edits.now.items c.loop-pair.edits.items c.put_pair.new.edits.items
-          (λ e is. (is.0, still_among front (x ∷ []) _ is.1))
-          (λ e is. let needed = needed_for work old wanted x e same there is in
-          (needed.0, last_among front x _ needed.1))
-          (λ a b in_front is. apart_from front x.0 a b none in_front.1
-          (needed_for work old wanted x b same there is).1)
-          c.loop-pair.invariant.edits c.in_ok-put_pair.ensures.edits;
+          goes_in_turn (IsAddition old c.args.wanted.now) (IsNeededFor work x) front x old work
+          c.put_pair.new.work c.args.edits.now.items c.loop-pair.edits.items
+          c.put_pair.new.edits.items next.1 needs c.loop-pair.invariant.edits
+          c.in_ok-put_pair.ensures.edits;
     }
 
 pub returns-clause-overlaid : goal.returns-clause-overlaid
@@ -70,22 +73,13 @@ returns-clause-edits c =
 
 pub returns-in_err-put_pair-clause-refused : goal.returns-in_err-put_pair-clause-refused
 returns-in_err-put_pair-clause-refused c =
-    let p = err_from_is_err_and c.from_residual.result
-    c.from_residual.ensures.1 in
-    let front = c.loop-pair.yielded in
-    let x = c.in-Some.pair in
+    let k = (goal.at.returns-in_err-put_pair-clause-refused c).After-put_pair in
+    let p = err_from_is_err_and c.from_residual.result c.from_residual.ensures.1 in
     let old = c.args.work.now in
     let wanted = c.args.wanted.now in
     let work = c.loop-pair.work in
-    let all : rooted (front ++ x ∷ c.next.new.self) ≡ entries wanted =
-    ap rooted (ap (λ xs. front ++ xs) (sym c.in-Some.ensures.steps))
-    ∙ c.loop-pair.invariant.whole in
-    let none = none_in_front front x c.next.new.self (rising_below wanted _ all).1 in
-    let same : get work x.0 ≡ get old x.0 =
-    c.loop-pair.invariant.placed x.0 ∙ kept x.0 (get old x.0) front none in
-    let there = pair_stands wanted front x c.next.new.self all in
-    rw (p.1, p.2) (λ other. refused_later (IsAdditionIn old wanted front) (IsNeededFor work x)
-    (IsAddition old wanted) old work c.args.edits.now.items c.loop-pair.edits.items
-    (refusal_of c.in_err-put_pair.field-0.0) (λ e is. is.0)
-    (λ e is. (needed_for work old wanted x e same there is).0)
-    c.loop-pair.invariant.edits (c.in_err-put_pair.ensures.refused other))
+    rw (p.1, p.2) (λ other. refused_later (IsAdditionIn old wanted c.loop-pair.yielded)
+    (IsNeededFor work c.in-Some.pair) (IsAddition old wanted) old work c.args.edits.now.items
+    c.loop-pair.edits.items (refusal_of c.in_err-put_pair.field-0.0) (λ e is. is.0)
+    (λ e is. (needed k e is).0) c.loop-pair.invariant.edits
+    (c.in_err-put_pair.ensures.refused other))

@@ -1,16 +1,15 @@
 use Rattle.std.proofs.Common.{rules, ◌≡◌, ◌++◌, ◌∷◌, [], sym, ap, ◌∙◌, subst, append_assoc}
 use Rattle.std.proofs.Common.{append-nil}
 use Rattle.std.specs.FinMap.{entries, get}
-use Rattle.syn_model.specs.Event.{Edit}
 use Rattle.syn_model.specs.Path.{Path, root}
 use Rattle.syn_model.specs.Tree.{Tree}
 use Rattle.syn_placed.specs.Pairs.{rooted}
 use Rattle.syn_change.specs.Changes.{GoesOn, IsRemoval, IsWithout, Removes}
-use Rattle.syn_change.proofs.GoingLemmas.{goes_nowhere, goes_twice, goes_weaker}
-use Rattle.syn_change.proofs.NeedLemmas.{apart_from, last_among, still_among}
+use Rattle.syn_change.proofs.GoingLemmas.{goes_nowhere, goes_weaker}
+use Rattle.syn_change.proofs.NeedLemmas.{goes_in_turn}
 use Rattle.syn_change.proofs.RemovalLemmas.{IsRemovalIn, none_removed, removal_needed}
 use Rattle.syn_change.proofs.RemovalLemmas.{removed_more, trimmed}
-use Rattle.syn_change.proofs.StandingLemmas.{none_in_front, rising_below}
+use Rattle.syn_change.proofs.StandingLemmas.{next_of}
 use Rattle.syn_change.proofs.removals.remove_extra.Goals as goal
 
 pub loop-pair-init : goal.loop-pair-init
@@ -31,31 +30,23 @@ loop-pair-preserved c =
     let wanted = c.args.wanted.now in
     let work = c.loop-pair.work in
     let new = c.remove_entry.new.work in
-    let all : rooted (front ++ x ∷ others) ≡ entries c.args.old.now =
-    ap rooted (ap (λ xs. front ++ xs) (sym c.in-Some.ensures.steps))
-    ∙ c.loop-pair.invariant.whole in
+    let next = next_of c.args.old.now front x others _ c.in-Some.ensures.steps
+    c.loop-pair.invariant.whole in
     let here : rooted (front ++ x ∷ others) ≡ entries old =
-    all ∙ ap (λ (t : Tree). entries t) (sym c.requires) in
-    let none = none_in_front front x others (rising_below old _ here).1 in
+    next.0 ∙ ap (λ (t : Tree). entries t) (sym c.requires) in
     let P : Path → Type 0 = λ p. IsWithout work wanted p new in
     let Q : Path → Type 0 = λ p. GoesOn (Removes work wanted p) work c.loop-pair.edits.items new
     c.remove_entry.new.edits.items in
     let step = subst P c.in_ok-path.ensures c.in_ok-remove_entry.ensures.without in
     let on = subst Q c.in_ok-path.ensures c.in_ok-remove_entry.ensures.edits in
-    let over = c.entries.ensures.tree.rooted in
-    let needed = λ (e : Edit). removal_needed old wanted work front x others e here over
-    c.loop-pair.invariant.removed in
     record {
-      whole = ap rooted (append_assoc front (x ∷ []) others) ∙ all;
+      whole = ap rooted (append_assoc front (x ∷ []) others) ∙ next.0;
       removed = removed_more old wanted front work x new c.loop-pair.invariant.removed step;
       edits =
-          goes_twice (IsRemovalIn old wanted front) (Removes work wanted x.0)
-          (IsRemovalIn old wanted (front ++ x ∷ [])) old work new c.args.edits.now.items
-          c.loop-pair.edits.items c.remove_entry.new.edits.items
-          (λ e is. (is.0, still_among front (x ∷ []) _ is.1))
-          (λ e is. let need = needed e is in (need.0, last_among front x _ need.1))
-          (λ a b in_front is. apart_from front x.0 a b none in_front.1 (needed b is).1)
-          c.loop-pair.invariant.edits on;
+          goes_in_turn (IsRemoval old wanted) (Removes work wanted x.0) front x old work new
+          c.args.edits.now.items c.loop-pair.edits.items c.remove_entry.new.edits.items next.1
+          (λ e. removal_needed old wanted work front x others e here c.entries.ensures.tree.rooted
+          c.loop-pair.invariant.removed) c.loop-pair.invariant.edits on;
     }
 
 pub returns-clause-trimmed : goal.returns-clause-trimmed

@@ -2,14 +2,16 @@ use Rattle.std.proofs.Common.{rules, ◌≡◌, ◌++◌, ◌∷◌, [], sym, ap
 use Rattle.std.proofs.Common.{refl}
 use Rattle.std.proofs.lemmas.Result.{err_from_is_err_and}
 use Rattle.std.specs.FinMap.{entries, get}
+use Rattle.syn_model.specs.Event.{Edit, edited_path}
 use Rattle.syn_placed.specs.Pairs.{rooted}
 use Rattle.syn_tree.specs.Refusals.{refusal_of}
 use Rattle.syn_change.specs.inner.Shorter.{Shortens, ShortensTo, shortened}
-use Rattle.syn_change.proofs.GoingLemmas.{goes_nowhere, goes_twice, goes_weaker, refused_later}
-use Rattle.syn_change.proofs.NeedLemmas.{apart_from, last_among, still_among}
+use Rattle.syn_change.proofs.GoingLemmas.{goes_nowhere, goes_weaker, refused_later}
+use Rattle.syn_change.proofs.NeedLemmas.{goes_in_turn}
 use Rattle.syn_change.proofs.ShorterLemmas.{ShortensIn, shortened_all, shortened_more, shortens_to}
-use Rattle.syn_change.proofs.StandingLemmas.{none_in_front, pair_stands, rising_below}
+use Rattle.syn_change.proofs.StandingLemmas.{next_of}
 use Rattle.syn_change.proofs.shorter.put_shorter.Goals as goal
+use Rattle.syn_change.proofs.shorter.put_shorter.Goals.{After-shorten}
 
 pub loop-pair-init : goal.loop-pair-init
 loop-pair-init c = record {
@@ -20,36 +22,37 @@ loop-pair-init c = record {
       c.args.edits.now.items;
 }
 
-pub loop-pair-preserved : goal.loop-pair-preserved
-loop-pair-preserved c =
+-- an edit that shortens to this one shortens at its path
+needed : (c : After-shorten) (e : Edit) → ShortensTo c.loop-pair.work c.in-Some.pair e →
+    Shortens c.args.work.now c.args.wanted.now e × (edited_path e ≡ c.in-Some.pair.0)
+needed c e =
     let front = c.loop-pair.yielded in
     let x = c.in-Some.pair in
     let old = c.args.work.now in
-    let wanted = c.args.wanted.now in
+    let next = next_of c.args.wanted.now front x c.next.new.self _ c.in-Some.ensures.steps
+    c.loop-pair.invariant.whole in
+    shortens_to c.loop-pair.work old c.args.wanted.now x e
+    (c.loop-pair.invariant.short x.0 ∙ ap (shortened (get old x.0)) next.1) next.2
+
+pub loop-pair-preserved : goal.loop-pair-preserved
+loop-pair-preserved c =
+    let needs = needed (goal.at.loop-pair-preserved c).After-shorten in
+    let front = c.loop-pair.yielded in
+    let x = c.in-Some.pair in
+    let old = c.args.work.now in
     let work = c.loop-pair.work in
-    let new = c.shorten.new.work in
-    let all : rooted (front ++ x ∷ c.next.new.self) ≡ entries wanted =
-    ap rooted (ap (λ xs. front ++ xs) (sym c.in-Some.ensures.steps))
-    ∙ c.loop-pair.invariant.whole in
-    let none = none_in_front front x c.next.new.self (rising_below wanted _ all).1 in
-    let same : get work x.0 ≡ get old x.0 =
-    c.loop-pair.invariant.short x.0 ∙ ap (shortened (get old x.0)) none in
-    let there = pair_stands wanted front x c.next.new.self all in
+    let next = next_of c.args.wanted.now front x c.next.new.self _ c.in-Some.ensures.steps
+    c.loop-pair.invariant.whole in
     record {
-      whole = ap rooted (append_assoc front (x ∷ []) c.next.new.self) ∙ all;
+      whole = ap rooted (append_assoc front (x ∷ []) c.next.new.self) ∙ next.0;
       short =
-          λ q. shortened_more q old work front x new none c.loop-pair.invariant.short
-          c.in_ok-shorten.ensures.shortened;
+          λ q. shortened_more q old work front x c.shorten.new.work next.1
+          c.loop-pair.invariant.short c.in_ok-shorten.ensures.shortened;
       edits =
-          goes_twice (ShortensIn old wanted front) (ShortensTo work x)
-          (ShortensIn old wanted (front ++ x ∷ [])) old work new c.args.edits.now.items
-          c.loop-pair.edits.items c.shorten.new.edits.items
-          (λ e is. (is.0, still_among front (x ∷ []) _ is.1))
-          (λ e is. let short = shortens_to work old wanted x e same there is in
-          (short.0, last_among front x _ short.1))
-          (λ a b in_front is. apart_from front x.0 a b none in_front.1
-          (shortens_to work old wanted x b same there is).1)
-          c.loop-pair.invariant.edits c.in_ok-shorten.ensures.edits;
+          goes_in_turn (Shortens old c.args.wanted.now) (ShortensTo work x) front x old work
+          c.shorten.new.work c.args.edits.now.items c.loop-pair.edits.items
+          c.shorten.new.edits.items next.1 needs c.loop-pair.invariant.edits
+          c.in_ok-shorten.ensures.edits;
     }
 
 pub returns-clause-shortened : goal.returns-clause-shortened
@@ -69,22 +72,13 @@ returns-clause-edits c =
 
 pub returns-in_err-shorten-clause-refused : goal.returns-in_err-shorten-clause-refused
 returns-in_err-shorten-clause-refused c =
-    let p = err_from_is_err_and c.from_residual.result
-    c.from_residual.ensures.1 in
-    let front = c.loop-pair.yielded in
-    let x = c.in-Some.pair in
+    let k = (goal.at.returns-in_err-shorten-clause-refused c).After-shorten in
+    let p = err_from_is_err_and c.from_residual.result c.from_residual.ensures.1 in
     let old = c.args.work.now in
     let wanted = c.args.wanted.now in
     let work = c.loop-pair.work in
-    let all : rooted (front ++ x ∷ c.next.new.self) ≡ entries wanted =
-    ap rooted (ap (λ xs. front ++ xs) (sym c.in-Some.ensures.steps))
-    ∙ c.loop-pair.invariant.whole in
-    let none = none_in_front front x c.next.new.self (rising_below wanted _ all).1 in
-    let same : get work x.0 ≡ get old x.0 =
-    c.loop-pair.invariant.short x.0 ∙ ap (shortened (get old x.0)) none in
-    let there = pair_stands wanted front x c.next.new.self all in
-    rw (p.1, p.2) (λ other. refused_later (ShortensIn old wanted front) (ShortensTo work x)
-    (Shortens old wanted) old work c.args.edits.now.items c.loop-pair.edits.items
-    (refusal_of c.in_err-shorten.field-0.0) (λ e is. is.0)
-    (λ e is. (shortens_to work old wanted x e same there is).0)
-    c.loop-pair.invariant.edits (c.in_err-shorten.ensures.refused other))
+    rw (p.1, p.2) (λ other. refused_later (ShortensIn old wanted c.loop-pair.yielded)
+    (ShortensTo work c.in-Some.pair) (Shortens old wanted) old work c.args.edits.now.items
+    c.loop-pair.edits.items (refusal_of c.in_err-shorten.field-0.0) (λ e is. is.0)
+    (λ e is. (needed k e is).0) c.loop-pair.invariant.edits
+    (c.in_err-shorten.ensures.refused other))

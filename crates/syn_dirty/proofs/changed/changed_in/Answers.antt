@@ -6,16 +6,13 @@ use Rattle.syn_model.specs.Path.{Path}
 use Rattle.syn_dirty.specs.Paths.{paths_at}
 use Rattle.syn_dirty.specs.inner.Rows.{changed, rows_at}
 use Rattle.syn_dirty.proofs.changed.changed_in.Goals as goal
+use Rattle.syn_model.proofs.BaseLemmas.{empty_of}
 
 paths_reversed : (ps : List (Bor Path)) → paths_at (reverse ps) ≡ reverse (paths_at ps)
 paths_reversed [] = refl
 paths_reversed (p ∷ ps) =
     ap paths_at (reverse_onto ps p []) ∙ (map-append (λ (q : Bor Path). q.now) (reverse ps) (p ∷ [])
     ∙ (ap (λ xs. xs ++ p.now ∷ []) (paths_reversed ps) ∙ sym (reverse_onto (paths_at ps) p.now [])))
-
-empty_of : {X : Type 0} (xs : List X) → length xs ≡ 0 → xs ≡ []
-empty_of [] l = refl
-empty_of (x ∷ xs) l = absurd (omega arith)
 
 pub returns-clause-ok : goal.returns-clause-ok
 returns-clause-ok c =

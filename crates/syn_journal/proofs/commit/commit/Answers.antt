@@ -1,56 +1,81 @@
-use Rattle.std.proofs.Common.{◌≡◌, ◌∙◌, ◌+◌, [], ◌∷◌, ap, sym, subst, arith}
+use Rattle.std.proofs.Common.{◌≡◌, ◌∙◌, ◌+◌, ℕ, List, [], ◌∷◌, ap, sym, subst, arith}
 use Rattle.std.specs.Prelude.{OnOk}
 use Rattle.std.proofs.lemmas.Result.{on_ok_weaker}
 use Rattle.syn_disk.specs.Disk.{Only, CountsFailure, overwritten}
+use Rattle.syn_disk.specs.Stops.{LeavesOnly}
 use Rattle.syn_journal.specs.inner.Commit.{IsStagedOrOpened}
 use Rattle.syn_journal.specs.Layout.{open_gate}
 use Rattle.syn_journal.proofs.Calls.{fewer, one_breaks, one_made, one_up_to, then_breaks, then_made}
 use Rattle.syn_journal.proofs.Calls.{then_up_to, up_to_of_exit}
 use Rattle.syn_journal.proofs.Commits.{at_first, staged, opened}
 use Rattle.syn_journal.proofs.Moments.{started, goes_on}
+use Rattle.syn_journal.proofs.commit.commit.Given.{Over}
 use Rattle.syn_journal.proofs.commit.commit.Goals as goal
+use Rattle.syn_journal.proofs.commit.commit.Goals.{After-sync, After-write, After-write-2}
 
-pub returns-in_err-write-2-clause-any_moment : goal.returns-in_err-write-2-clause-any_moment
-returns-in_err-write-2-clause-any_moment g c only =
+-- what a stop leaves after each of the first three calls
+after_write : (g : Over) (c : After-write g) →
+    Only (g.D.Disk.seen c.args.disk.now) (g.D.Disk.may_leave c.args.disk.now) →
+    LeavesOnly g.D.Disk.moment g.D.Disk.left_since c.args.disk.now c.write.new.self
+    (IsStagedOrOpened (g.D.Disk.seen c.args.disk.now) c.args.gate c.args.body.now)
+after_write g c only =
+    let disk = c.args.disk.now in
+    let start = g.D.Disk.seen disk in
+    goes_on g.D.Disk.moment g.D.Disk.left_since disk disk c.write.new.self _ _
+    (started g.D.Disk.moment g.D.Disk.left_since disk _ (λ d left. at_first start c.args.gate
+    c.args.body.now _ only d (g.met.D.Disk.only_now disk d left))) c.write.ensures.time
+    (staged start c.args.gate c.args.body.now _ _ only c.write.ensures.stop)
+
+after_sync : (g : Over) (c : After-sync g) →
+    Only (g.D.Disk.seen c.args.disk.now) (g.D.Disk.may_leave c.args.disk.now) →
+    LeavesOnly g.D.Disk.moment g.D.Disk.left_since c.args.disk.now c.sync.new.self
+    (IsStagedOrOpened (g.D.Disk.seen c.args.disk.now) c.args.gate c.args.body.now)
+after_sync g c only =
+    let disk = c.args.disk.now in
+    goes_on g.D.Disk.moment g.D.Disk.left_since disk c.write.new.self c.sync.new.self _ _
+    (after_write g (goal.at.After-sync g c).After-write only) c.sync.ensures.time
+    (λ d now. staged (g.D.Disk.seen disk) c.args.gate c.args.body.now _ _ only
+    c.write.ensures.stop d (c.sync.ensures.stop d now))
+
+opens : (g : Over) (c : After-write-2 g) (bytes : List ℕ) →
+    g.D.Disk.may_leave c.write-2.new.self bytes →
+    IsStagedOrOpened (g.D.Disk.seen c.args.disk.now) c.args.gate c.args.body.now bytes
+opens g c =
     let start = g.D.Disk.seen c.args.disk.now in
-    let gate = c.args.gate in
-    let body = c.args.body.now in
-    let P = IsStagedOrOpened start gate body in
-    let first = staged start gate body _ _ only c.write.ensures.stop in
-    let written : g.D.Disk.seen c.sync.new.self ≡ overwritten start (gate + 1) body =
+    let written : g.D.Disk.seen c.sync.new.self
+    ≡ overwritten start (c.args.gate + 1) c.args.body.now =
     cc (c.sync.ensures.seen, c.in_ok-write.ensures.written) in
     let durable : Only (g.D.Disk.seen c.sync.new.self) (g.D.Disk.may_leave c.sync.new.self) =
     rw c.sync.ensures.seen c.in_ok-sync.ensures.durable in
-    let second = opened start gate body _ _ _ written durable c.write-2.ensures.stop in
-    let run = goes_on g.D.Disk.moment g.D.Disk.left_since c.args.disk.now in
-    let at_start = started g.D.Disk.moment g.D.Disk.left_since c.args.disk.now P (λ d left.
-    at_first start gate body _ only d (g.met.D.Disk.only_now c.args.disk.now d left)) in
-    let after = run c.args.disk.now c.write.new.self P _ at_start c.write.ensures.time first in
-    let kept = run c.write.new.self c.sync.new.self P _ after c.sync.ensures.time
-    (λ d now. first d (c.sync.ensures.stop d now)) in
-    run c.sync.new.self c.write-2.new.self P _ kept c.write-2.ensures.time second
+    opened start c.args.gate c.args.body.now _ _ _ written durable c.write-2.ensures.stop
+
+after_gate : (g : Over) (c : After-write-2 g) →
+    Only (g.D.Disk.seen c.args.disk.now) (g.D.Disk.may_leave c.args.disk.now) →
+    LeavesOnly g.D.Disk.moment g.D.Disk.left_since c.args.disk.now c.write-2.new.self
+    (IsStagedOrOpened (g.D.Disk.seen c.args.disk.now) c.args.gate c.args.body.now)
+after_gate g c only =
+    goes_on g.D.Disk.moment g.D.Disk.left_since c.args.disk.now c.sync.new.self
+    c.write-2.new.self _ _ (after_sync g (goal.at.After-write-2 g c).After-sync only)
+    c.write-2.ensures.time (opens g c)
+
+pub returns-in_err-write-clause-any_moment : goal.returns-in_err-write-clause-any_moment
+returns-in_err-write-clause-any_moment g c =
+    after_write g (goal.at.returns-in_err-write-clause-any_moment g c).After-write
+
+pub returns-in_err-sync-clause-any_moment : goal.returns-in_err-sync-clause-any_moment
+returns-in_err-sync-clause-any_moment g c =
+    after_sync g (goal.at.returns-in_err-sync-clause-any_moment g c).After-sync
+
+pub returns-in_err-write-2-clause-any_moment : goal.returns-in_err-write-2-clause-any_moment
+returns-in_err-write-2-clause-any_moment g c =
+    after_gate g (goal.at.returns-in_err-write-2-clause-any_moment g c).After-write-2
 
 pub returns-clause-any_moment : goal.returns-clause-any_moment
 returns-clause-any_moment g c only =
-    let start = g.D.Disk.seen c.args.disk.now in
-    let gate = c.args.gate in
-    let body = c.args.body.now in
-    let P = IsStagedOrOpened start gate body in
-    let first = staged start gate body _ _ only c.write.ensures.stop in
-    let written : g.D.Disk.seen c.sync.new.self ≡ overwritten start (gate + 1) body =
-    cc (c.sync.ensures.seen, c.in_ok-write.ensures.written) in
-    let durable : Only (g.D.Disk.seen c.sync.new.self) (g.D.Disk.may_leave c.sync.new.self) =
-    rw c.sync.ensures.seen c.in_ok-sync.ensures.durable in
-    let second = opened start gate body _ _ _ written durable c.write-2.ensures.stop in
-    let run = goes_on g.D.Disk.moment g.D.Disk.left_since c.args.disk.now in
-    let at_start = started g.D.Disk.moment g.D.Disk.left_since c.args.disk.now P (λ d left.
-    at_first start gate body _ only d (g.met.D.Disk.only_now c.args.disk.now d left)) in
-    let after = run c.args.disk.now c.write.new.self P _ at_start c.write.ensures.time first in
-    let kept = run c.write.new.self c.sync.new.self P _ after c.sync.ensures.time
-    (λ d now. first d (c.sync.ensures.stop d now)) in
-    let gated = run c.sync.new.self c.write-2.new.self P _ kept c.write-2.ensures.time second in
-    run c.write-2.new.self c.sync-2.new.self P _ gated c.sync-2.ensures.time
-    (λ d now. second d (c.sync-2.ensures.stop d now))
+    let k = (goal.at.returns-clause-any_moment g c).After-write-2 in
+    goes_on g.D.Disk.moment g.D.Disk.left_since c.args.disk.now c.write-2.new.self
+    c.sync-2.new.self _ _ (after_gate g k only) c.sync-2.ensures.time
+    (λ d now. opens g k d (c.sync-2.ensures.stop d now))
 
 pub returns-in_err-write-clause-calls : goal.returns-in_err-write-clause-calls
 returns-in_err-write-clause-calls g c =
@@ -96,32 +121,6 @@ returns-clause-calls g c =
     (one_made d e c.in_ok-write-2.ensures.allowed c.write-2.ensures.arms) in
     then_up_to 3 1 c.sync-2.result a e f opened
     (one_up_to c.sync-2.result e f c.sync-2.ensures.allowed c.sync-2.ensures.arms)
-
-pub returns-in_err-write-clause-any_moment : goal.returns-in_err-write-clause-any_moment
-returns-in_err-write-clause-any_moment g c only =
-    let start = g.D.Disk.seen c.args.disk.now in
-    let gate = c.args.gate in
-    let body = c.args.body.now in
-    let P = IsStagedOrOpened start gate body in
-    let first = staged start gate body _ _ only c.write.ensures.stop in
-    let run = goes_on g.D.Disk.moment g.D.Disk.left_since c.args.disk.now in
-    let at_start = started g.D.Disk.moment g.D.Disk.left_since c.args.disk.now P (λ d left.
-    at_first start gate body _ only d (g.met.D.Disk.only_now c.args.disk.now d left)) in
-    run c.args.disk.now c.write.new.self P _ at_start c.write.ensures.time first
-
-pub returns-in_err-sync-clause-any_moment : goal.returns-in_err-sync-clause-any_moment
-returns-in_err-sync-clause-any_moment g c only =
-    let start = g.D.Disk.seen c.args.disk.now in
-    let gate = c.args.gate in
-    let body = c.args.body.now in
-    let P = IsStagedOrOpened start gate body in
-    let first = staged start gate body _ _ only c.write.ensures.stop in
-    let run = goes_on g.D.Disk.moment g.D.Disk.left_since c.args.disk.now in
-    let at_start = started g.D.Disk.moment g.D.Disk.left_since c.args.disk.now P (λ d left.
-    at_first start gate body _ only d (g.met.D.Disk.only_now c.args.disk.now d left)) in
-    let after = run c.args.disk.now c.write.new.self P _ at_start c.write.ensures.time first in
-    run c.write.new.self c.sync.new.self P _ after c.sync.ensures.time
-    (λ d now. first d (c.sync.ensures.stop d now))
 
 pub returns-clause-written : goal.returns-clause-written
 returns-clause-written g c =

@@ -13,7 +13,9 @@ use Rattle.syn_model.proofs.ExitLemmas.{match_of_exit}
 use Rattle.syn_journal.proofs.Calls.{one_broke, one_read, reads_of_exit, then_after, then_some}
 use Rattle.syn_journal.proofs.Calls.{counts_of_exit}
 use Rattle.syn_journal.proofs.Moments.{one_call, and_then}
+use Rattle.syn_journal.proofs.contents.read_contents.Given.{Over}
 use Rattle.syn_journal.proofs.contents.read_contents.Goals as goal
+use Rattle.syn_journal.proofs.contents.read_contents.Goals.{In_ok-half, In_ok-image}
 
 pub returns-in_err-half-clause-refusals : goal.returns-in_err-half-clause-refusals
 returns-in_err-half-clause-refusals g c =
@@ -25,21 +27,41 @@ returns-in_err-half-clause-refusals g c =
     (λ e' gives. subst (λ refusal. IsOpenRefusal refusal (meaning seen)) (sym gives)
     (refused_by_halves seen e cause))
 
+-- the half that was chosen is the current one, and the disk is as it was
+chosen : (g : Over) (c : In_ok-half g) →
+    (current (g.D.Disk.seen c.args.disk.now) ≡ Ok c.in_ok-half.half)
+    × (g.D.Disk.seen c.read_current.new.disk ≡ g.D.Disk.seen c.args.disk.now)
+chosen g c = (
+  ap current (sym c.in_ok-sync.ensures.seen) ∙ c.in_ok-half.ensures.half,
+  c.in_ok-half.ensures.untouched.same ∙ c.in_ok-sync.ensures.seen,
+)
+
 pub returns-in_err-image-clause-refusals : goal.returns-in_err-image-clause-refusals
 returns-in_err-image-clause-refusals g c =
     let seen = g.D.Disk.seen c.args.disk.now in
     let half = c.in_ok-half.half in
     let e = c.in_err-image.field-0.0 in
-    let is : current seen ≡ Ok half = ap current (sym c.in_ok-sync.ensures.seen)
-    ∙ c.in_ok-half.ensures.half in
-    let same : g.D.Disk.seen c.read_current.new.disk ≡ seen = c.in_ok-half.ensures.untouched.same
-    ∙ c.in_ok-sync.ensures.seen in
+    let found = chosen g (goal.at.returns-in_err-image-clause-refusals g c).In_ok-half in
     let cause : IsReadRefusal e (value_at seen half ≡ Err damaged) =
-    subst (λ bytes. IsReadRefusal e (value_at bytes half ≡ Err damaged)) same
+    subst (λ bytes. IsReadRefusal e (value_at bytes half ≡ Err damaged)) found.1
     c.in_err-image.ensures.refusals in
     if_err_by c.from_residual-in_err-image.result _ _ c.from_residual-in_err-image.ensures.1
     (λ e' gives. subst (λ refusal. IsOpenRefusal refusal (meaning seen)) (sym gives)
-    (refused_by_value seen half e is cause))
+    (refused_by_value seen half e found.0 cause))
+
+-- so it is when the image was read, which stands behind its length
+imaged : (g : Over) (c : In_ok-image g) →
+    (g.D.Disk.seen c.read_image.new.disk ≡ g.D.Disk.seen c.args.disk.now)
+    × (take (4 + length c.in_ok-image.image.items)
+    (drop (start_of c.in_ok-half.half + 9) (g.D.Disk.seen c.args.disk.now))
+    ≡ to_be_bytes w32 (length c.in_ok-image.image.items) ++ c.in_ok-image.image.items)
+imaged g c =
+    let found = chosen g (goal.at.In_ok-image g c).In_ok-half in (
+      c.in_ok-image.ensures.untouched.same ∙ found.1,
+      ap (λ bytes. take (4 + length c.in_ok-image.image.items)
+          (drop (start_of c.in_ok-half.half + 9) bytes)) (sym found.1)
+          ∙ c.in_ok-image.ensures.image,
+    )
 
 pub returns-in_err-records-clause-refusals : goal.returns-in_err-records-clause-refusals
 returns-in_err-records-clause-refusals g c =
@@ -47,24 +69,17 @@ returns-in_err-records-clause-refusals g c =
     let half = c.in_ok-half.half in
     let image = c.in_ok-image.image.items in
     let e = c.in_err-records.field-0.0 in
-    let is : current seen ≡ Ok half = ap current (sym c.in_ok-sync.ensures.seen)
-    ∙ c.in_ok-half.ensures.half in
-    let same : g.D.Disk.seen c.read_current.new.disk ≡ seen = c.in_ok-half.ensures.untouched.same
-    ∙ c.in_ok-sync.ensures.seen in
-    let same' : g.D.Disk.seen c.read_image.new.disk ≡ seen = c.in_ok-image.ensures.untouched.same
-    ∙ same in
-    let there : take (4 + length image) (drop (start_of half + 9) seen)
-    ≡ to_be_bytes w32 (length image) ++ image =
-    ap (λ bytes. take (4 + length image) (drop (start_of half + 9) bytes)) (sym same)
-    ∙ c.in_ok-image.ensures.image in
+    let k = goal.at.returns-in_err-records-clause-refusals g c in
+    let read = imaged g k.In_ok-image in
     let long : c.len.result ≡ length image = omega (arith, c.len.ensures, c.in_ok-image.image.ok) in
     let P : List ℕ → ℕ → Type 0 = λ bytes n. IsReadRefusal e
     (let after = bytes_from bytes half (13 + n) in records (length after) after ≡ None) in
     let cause : P seen (length image) = subst (λ n. P seen n) long
-    (subst (λ bytes. P bytes c.len.result) same' c.in_err-records.ensures.refusals) in
+    (subst (λ bytes. P bytes c.len.result) read.0 c.in_err-records.ensures.refusals) in
     if_err_by c.from_residual-in_err-records.result _ _ c.from_residual-in_err-records.ensures.1
     (λ e' gives. subst (λ refusal. IsOpenRefusal refusal (meaning seen)) (sym gives)
-    (refused_by_records seen half image c.in_ok-image.ensures.fits there e is cause))
+    (refused_by_records seen half image c.in_ok-image.ensures.fits read.1 e
+    (chosen g k.In_ok-half).0 cause))
 
 pub returns-clause-whole : goal.returns-clause-whole
 returns-clause-whole g c =
@@ -74,34 +89,28 @@ returns-clause-whole g c =
     let image = c.in_ok-image.image.items in
     let gate = c.in_ok-records.gate in
     let payloads = payloads_of c.in_ok-records.records in
-    let same : g.D.Disk.seen c.read_current.new.disk ≡ seen = c.in_ok-half.ensures.untouched.same
-    ∙ c.in_ok-sync.ensures.seen in
-    let same' : g.D.Disk.seen c.read_image.new.disk ≡ seen = c.in_ok-image.ensures.untouched.same
-    ∙ same in
-    let there : take (4 + length image) (drop (start_of half + 9) seen)
-    ≡ to_be_bytes w32 (length image) ++ image =
-    ap (λ bytes. take (4 + length image) (drop (start_of half + 9) bytes)) (sym same)
-    ∙ c.in_ok-image.ensures.image in
+    let k = goal.at.returns-clause-whole g c in
+    let read = imaged g k.In_ok-image in
     let long : c.len.result ≡ length image = omega (arith, c.len.ensures, c.in_ok-image.image.ok) in
     let next : take (gate - (13 + length image)) (drop (start_of half + (13 + length image)) seen)
     ≡ records_of payloads =
     subst (λ n. take (gate - (13 + n)) (drop (start_of half + (13 + n)) seen) ≡ records_of payloads)
     long
     (ap (λ bytes. take (gate - (13 + c.len.result)) (drop (start_of half + (13 + c.len.result))
-    bytes)) (sym same') ∙ c.in_ok-records.ensures.payloads) in
+    bytes)) (sym read.0) ∙ c.in_ok-records.ensures.payloads) in
     record {
       size =
           g.met.D.Disk.whole disk _ _ (g.met.D.Disk.counts_now disk (g.D.Disk.moment disk) _
           (omega arith) (g.met.D.Disk.seen_may_stay disk));
-      is_current = ap current (sym c.in_ok-sync.ensures.seen) ∙ c.in_ok-half.ensures.half;
+      is_current = (chosen g k.In_ok-half).0;
       numbered =
           ap (λ bytes. generation_at bytes half) (sym c.in_ok-sync.ensures.seen)
           ∙ sym c.in_ok-half.ensures.generation;
       front =
-          front_read seen half image c.in_ok-image.ensures.fits there payloads gate
+          front_read seen half image c.in_ok-image.ensures.fits read.1 payloads gate
           (omega (arith, long, c.in_ok-records.ensures.ordered)) next;
       closed =
-          subst (λ bytes. get_or bytes (start_of half + gate) 0 ≢ open_gate) same'
+          subst (λ bytes. get_or bytes (start_of half + gate) 0 ≢ open_gate) read.0
           c.in_ok-records.ensures.closed;
       within = c.in_ok-records.ensures.within;
     }

@@ -1,4 +1,4 @@
-use Rattle.std.proofs.Common.{◌≡◌, ◌≢◌, ◌++◌, ◌∷◌, [], List, length, refl, sym, ap, ap₂, ◌∙◌, subst}
+use Rattle.std.proofs.Common.{◌≡◌, ◌≢◌, ◌++◌, ◌∷◌, [], refl, sym, ap, ap₂, ◌∙◌, subst}
 use Rattle.std.proofs.Common.{append-nil, append_assoc, arith}
 use Rattle.std.proofs.lemmas.Result.{err_from_is_err_and}
 use Rattle.syn_model.specs.Path.{Path, IsPath}
@@ -14,10 +14,7 @@ use Rattle.syn_tree.specs.declared.error.TreeError.TheVariants.{Full, Memory}
 use Rattle.syn_tree.specs.Refusals.{of_path}
 use Rattle.syn_tree.proofs.CheckLemmas.{path_fits}
 use Rattle.syn_mark.proofs.copies.push_under.Goals as goal
-
-empty_of : {X : Type 0} (xs : List X) → length xs ≡ 0 → xs ≡ []
-empty_of [] l = refl
-empty_of (x ∷ xs) l = absurd (omega arith)
+use Rattle.syn_model.proofs.BaseLemmas.{empty_of}
 
 pub loop-entry-init : goal.loop-entry-init
 loop-entry-init g c = record {

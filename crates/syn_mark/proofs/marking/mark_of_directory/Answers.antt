@@ -4,7 +4,7 @@ use Rattle.std.specs.FinMap.{entries, len, len-entries}
 use Rattle.syn_model.specs.Mark.{mark}
 use Rattle.syn_model.specs.Path.{Path}
 use Rattle.syn_model.specs.Tree.{Directory}
-use Rattle.syn_mark.specs.inner.Placings.{marked}
+use Rattle.syn_mark.specs.Placings.{marked}
 use Rattle.syn_mark.proofs.MarkLemmas.{are_marks, marks_same, entries-mark, mark_is_marks}
 use Rattle.syn_mark.proofs.MarkLemmas.{mark_present, mark_fits}
 use Rattle.syn_mark.proofs.marking.mark_of_directory.Goals as goal

@@ -1,5 +1,5 @@
 use Rattle.std.proofs.Common.{◌≡◌, ◌++◌}
-use Rattle.syn_mark.specs.inner.Placings.{marked}
+use Rattle.syn_mark.specs.Placings.{marked}
 use Rattle.syn_mark.proofs.marking.push_marks.Given as goal
 
 abbrev pub invariant-loop-pair : goal.invariant-loop-pair

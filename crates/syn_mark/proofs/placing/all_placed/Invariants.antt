@@ -1,7 +1,7 @@
 use Rattle.std.proofs.Common.{◌≡◌, true, take}
 use Rattle.std.specs.List.{list_all}
 use Rattle.syn_mark.specs.Marks.{AreMarkPairs}
-use Rattle.syn_mark.specs.inner.Placings.{stands_in}
+use Rattle.syn_mark.specs.Placings.{stands_in}
 use Rattle.syn_mark.proofs.placing.all_placed.Given as goal
 
 abbrev pub invariant-loop-entry : goal.invariant-loop-entry

@@ -5,10 +5,10 @@ use Rattle.std.proofs.lemmas.List.{take_more}
 use Rattle.syn_model.specs.Path.{path_cmp}
 use Rattle.syn_model.specs.Tree.{Directory}
 use Rattle.syn_placed.specs.Pairs.{rooted}
-use Rattle.syn_placed.proofs.OrderLemmas.{less_of}
 use Rattle.syn_placed.proofs.RisingLemmas.{Rising, are_rising}
 use Rattle.syn_placed.proofs.LastLemmas.{rising-more, rising-next}
 use Rattle.syn_placed.proofs.list.are_rising.Goals as goal
+use Rattle.syn_model.proofs.BaseLemmas.{less_of}
 
 pub loop-entry-init : goal.loop-entry-init
 loop-entry-init g c = (record { front = []; content = Directory; parts = refl }, (tt, tt))

@@ -4,7 +4,7 @@ use Rattle.syn_model.specs.Path.{Name}
 use Rattle.syn_tree.specs.declared.content.Found.{Found}
 use Rattle.syn_tree.specs.Lists.{contents_at}
 use Rattle.syn_mark.specs.Marks.{contents_in}
-use Rattle.syn_mark.specs.inner.Placings.{marks_of}
+use Rattle.syn_mark.specs.Placings.{marks_of}
 use Rattle.syn_mark.proofs.MarkLemmas.{marks-more}
 use Rattle.syn_recon.proofs.tree_scan.marks_at.Goals as goal
 

@@ -1,7 +1,7 @@
 use Rattle.std.proofs.Common.{◌≡◌, ◌++◌}
 use Rattle.syn_tree.specs.Lists.{contents_at}
 use Rattle.syn_mark.specs.Marks.{contents_in}
-use Rattle.syn_mark.specs.inner.Placings.{marks_of}
+use Rattle.syn_mark.specs.Placings.{marks_of}
 use Rattle.syn_recon.proofs.tree_scan.marks_at.Given as goal
 
 abbrev pub invariant-loop-name : goal.invariant-loop-name

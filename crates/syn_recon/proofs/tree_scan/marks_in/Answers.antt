@@ -1,6 +1,6 @@
 use Rattle.std.proofs.Common.{ap, ◌∙◌}
 use Rattle.std.proofs.lemmas.Result.{IfOk-weaker}
-use Rattle.syn_mark.specs.inner.Placings.{marks_of}
+use Rattle.syn_mark.specs.Placings.{marks_of}
 use Rattle.syn_mark.proofs.MarkLemmas.{children-mark}
 use Rattle.syn_recon.proofs.tree_scan.marks_in.Goals as goal
 

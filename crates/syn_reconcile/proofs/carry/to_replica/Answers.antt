@@ -14,7 +14,9 @@ use Rattle.syn_reconcile.proofs.SettleLemmas.{edited, has_then, leaves_either, l
 use Rattle.syn_reconcile.proofs.SettleLemmas.{left_now, stays}
 use Rattle.syn_reconcile.specs.Settlings.{done, trees_of}
 use Rattle.syn_reconcile.specs.Stops.{HasEitherTree}
+use Rattle.syn_reconcile.proofs.carry.to_replica.Given.{Over}
 use Rattle.syn_reconcile.proofs.carry.to_replica.Goals as goal
+use Rattle.syn_reconcile.proofs.carry.to_replica.Goals.{After-edit_all_with_room}
 
 pub returns-in-Err-clause-carried : goal.returns-in-Err-clause-carried
 returns-in-Err-clause-carried g c history kept stands keeps =
@@ -33,6 +35,15 @@ returns-in-Err-clause-any_mark g c kept keeps =
     still g.met.A.Disk.only_now old kept (replace (marks_shown old) c.args.path.now
     (mark (subtree c.args.folder.now c.args.path.now))) keeps
 
+-- the edits are those that change the replica's tree as the item says
+changes : (g : Over) (c : After-edit_all_with_room g) → AreChanges (tree_shown c.args.replica)
+    (replace (tree_shown c.args.replica) c.args.path.now
+    (subtree c.args.folder.now c.args.path.now)) (map edit_of c.in-Ok.planned.edits.items)
+changes g c =
+    subst (λ (t : Tree). AreChanges t (replace t c.args.path.now
+    (subtree c.args.folder.now c.args.path.now)) (map edit_of c.in-Ok.planned.edits.items))
+    c.tree.ensures c.in-Ok.ensures.changes
+
 pub returns-in-Err-edit_all_with_room-clause-any_moment :
     goal.returns-in-Err-edit_all_with_room-clause-any_moment
 returns-in-Err-edit_all_with_room-clause-any_moment g c history stands =
@@ -40,9 +51,9 @@ returns-in-Err-edit_all_with_room-clause-any_moment g c history stands =
     let path = c.args.path.now in
     let part = subtree c.args.folder.now path in
     let edits = c.in-Ok.planned.edits.items in
-    let changes = subst (λ (t : Tree). AreChanges t (replace t path part) (map edit_of edits))
-    c.tree.ensures c.in-Ok.ensures.changes in
-    leaves_either old history stands c.args.user (replace (tree_shown old) path part) edits changes
+    let k = goal.at.returns-in-Err-edit_all_with_room-clause-any_moment g c in
+    let made = changes g k.After-edit_all_with_room in
+    leaves_either old history stands c.args.user (replace (tree_shown old) path part) edits made
     c.in-Err-edit_all_with_room.disk (c.in-Err-edit_all_with_room.ensures.any_moment history stands)
 
 pub returns-in-Err-edit_all_with_room-clause-any_mark :
@@ -58,11 +69,11 @@ returns-in-Ok-record-clause-carried g c history kept stands keeps =
     let path = c.args.path.now in
     let part = subtree c.args.folder.now path in
     let edits = c.in-Ok.planned.edits.items in
-    let changes = subst (λ (t : Tree). AreChanges t (replace t path part) (map edit_of edits))
-    c.tree.ensures c.in-Ok.ensures.changes in
+    let k = goal.at.returns-in-Ok-record-clause-carried g c in
+    let made = changes g k.After-edit_all_with_room in
     edited c.args.user history c.args.folder.now old c.in-Ok-edit_all_with_room.replica
     c.record.new.archive (replace (tree_shown old) path part)
-    (replace (marks_shown c.args.archive.now) path (mark part)) edits stands changes
+    (replace (marks_shown c.args.archive.now) path (mark part)) edits stands made
     (c.in-Ok-edit_all_with_room.ensures.acknowledged history stands)
     (keeps_with c.args.archive.now c.record.new.archive path (or_absent c.in-Ok.planned.marks)
     (mark part) c.in-Ok.ensures.marks (c.in-Ok-record.ensures.recorded kept keeps))
@@ -73,9 +84,9 @@ returns-in-Ok-record-clause-any_moment g c history stands =
     let path = c.args.path.now in
     let part = subtree c.args.folder.now path in
     let edits = c.in-Ok.planned.edits.items in
-    let changes = subst (λ (t : Tree). AreChanges t (replace t path part) (map edit_of edits))
-    c.tree.ensures c.in-Ok.ensures.changes in
-    leaves_either old history stands c.args.user (replace (tree_shown old) path part) edits changes
+    let k = goal.at.returns-in-Ok-record-clause-any_moment g c in
+    let made = changes g k.After-edit_all_with_room in
+    leaves_either old history stands c.args.user (replace (tree_shown old) path part) edits made
     (disk_of c.in-Ok-edit_all_with_room.replica)
     (c.in-Ok-edit_all_with_room.ensures.any_moment history stands)
 
@@ -92,10 +103,10 @@ returns-in-Err-record-clause-stopped g c history kept stands keeps =
     let path = c.args.path.now in
     let part = subtree c.args.folder.now path in
     let edits = c.in-Ok.planned.edits.items in
-    let changes = subst (λ (t : Tree). AreChanges t (replace t path part) (map edit_of edits))
-    c.tree.ensures c.in-Ok.ensures.changes in
+    let k = goal.at.returns-in-Err-record-clause-stopped g c in
+    let made = changes g k.After-edit_all_with_room in
     let wanted = replace (tree_shown old) path part in
-    done refl (λ bytes left. has_then old history stands c.args.user wanted edits changes
+    done refl (λ bytes left. has_then old history stands c.args.user wanted edits made
     (pair_of old) bytes (subst (λ n. DiskStands n bytes
     (history ++ map (event_by c.args.user) edits)) c.in-Ok-edit_all_with_room.ensures.pair
     (left_now new (history ++ map (event_by c.args.user) edits)
@@ -108,13 +119,13 @@ returns-in-Err-record-clause-any_moment g c history stands =
     let path = c.args.path.now in
     let part = subtree c.args.folder.now path in
     let edits = c.in-Ok.planned.edits.items in
-    let changes = subst (λ (t : Tree). AreChanges t (replace t path part) (map edit_of edits))
-    c.tree.ensures c.in-Ok.ensures.changes in
+    let k = goal.at.returns-in-Err-record-clause-any_moment g c in
+    let made = changes g k.After-edit_all_with_room in
     let wanted = replace (tree_shown old) path part in
     subst (λ d. LeavesOnly g.R.Disk.moment g.R.Disk.left_since (disk_of old) d
     (HasEitherTree (pair_of old) c.args.user history (tree_shown old) wanted))
     (sym c.into_disk.ensures)
-    (leaves_either old history stands c.args.user wanted edits changes
+    (leaves_either old history stands c.args.user wanted edits made
     (disk_of c.in-Ok-edit_all_with_room.replica)
     (c.in-Ok-edit_all_with_room.ensures.any_moment history stands))
 

@@ -1,14 +1,17 @@
 use Rattle.std.proofs.Common.{◌∙◌, [], List, None, refl, subst, sym}
-use Rattle.syn_archive.specs.Archive.{disk_of, marks_shown, pair_of}
+use Rattle.syn_archive.specs.Archive.{Stands as Keeps, disk_of, marks_shown, pair_of}
 use Rattle.syn_disk.proofs.LeftLemmas.{leaves_weaker}
+use Rattle.syn_model.specs.Archive.{Archive as Kept}
 use Rattle.syn_model.specs.Decision.{Item}
 use Rattle.syn_model.specs.Plan.{IsReconciled, IsSynchronized}
 use Rattle.syn_reconcile.proofs.AloneLemmas.{alone, sides_same}
-use Rattle.syn_reconcile.proofs.SharedLemmas.{if_err_any, unwritten}
+use Rattle.syn_reconcile.proofs.SharedLemmas.{Leaves, if_err_any, unwritten}
 use Rattle.syn_reconcile.specs.Settlings.{here, planned}
 use Rattle.syn_reconcile.specs.Shared.{HasSeenMarks, HasSharedMarks, IsCutShort}
 use Rattle.syn_reconcile.specs.Shared as shared
+use Rattle.syn_reconcile.proofs.shared.reconcile_shared.Given.{Over}
 use Rattle.syn_reconcile.proofs.shared.reconcile_shared.Goals as goal
+use Rattle.syn_reconcile.proofs.shared.reconcile_shared.Goals.{After-carry_each}
 
 pub returns-in_err-seen-clause-stopped : goal.returns-in_err-seen-clause-stopped
 returns-in_err-seen-clause-stopped g c kept keeps =
@@ -47,12 +50,13 @@ returns-in_err-settled-clause-stopped g c kept keeps =
     (g.F.EditedFolder.tree c.carry_each.new.folder) c.carry_each.new.archive)
     c.in_ok-compared.ensures.plan (c.in_err-settled.ensures.stopped kept keeps)))
 
-pub returns-in_err-settled-clause-any_mark : goal.returns-in_err-settled-clause-any_mark
-returns-in_err-settled-clause-any_mark g c kept keeps =
-    let folder = g.F.EditedFolder.tree c.args.folder.now in
+any_mark : (g : Over) (c : After-carry_each g) (kept : Kept) → Keeps c.args.archive.now kept →
+    Leaves c.args.archive.now c.carry_each.new.archive (HasSharedMarks c.args.shared.now
+    c.args.user (g.F.EditedFolder.tree c.args.folder.now) c.args.archive.now c.args.pass.now)
+any_mark g c kept keeps =
     let seen = c.in_ok-seen.seen in
-    let found = here folder seen.tree (marks_shown c.args.archive.now) in
     let old = c.args.archive.now in
+    let found = here (g.F.EditedFolder.tree c.args.folder.now) seen.tree (marks_shown old) in
     leaves_weaker g.A.Disk.moment g.A.Disk.left_since (disk_of old)
     (disk_of c.carry_each.new.archive) _ _
     (λ bytes has. shared.HasSharedMarks.during seen c.snapshot.new.pass c.in_ok-seen.ensures.held
@@ -60,18 +64,12 @@ returns-in_err-settled-clause-any_mark g c kept keeps =
     (pair_of old) xs found c.snapshot.new.pass bytes) c.in_ok-compared.ensures.plan has))
     (c.carry_each.ensures.any_mark kept keeps)
 
+pub returns-in_err-settled-clause-any_mark : goal.returns-in_err-settled-clause-any_mark
+returns-in_err-settled-clause-any_mark g c =
+    any_mark g (goal.at.returns-in_err-settled-clause-any_mark g c).After-carry_each
+
 pub returns-clause-any_mark : goal.returns-clause-any_mark
-returns-clause-any_mark g c kept keeps =
-    let folder = g.F.EditedFolder.tree c.args.folder.now in
-    let seen = c.in_ok-seen.seen in
-    let found = here folder seen.tree (marks_shown c.args.archive.now) in
-    let old = c.args.archive.now in
-    leaves_weaker g.A.Disk.moment g.A.Disk.left_since (disk_of old)
-    (disk_of c.carry_each.new.archive) _ _
-    (λ bytes has. shared.HasSharedMarks.during seen c.snapshot.new.pass c.in_ok-seen.ensures.held
-    (subst (λ (xs : List Item). HasSeenMarks c.args.shared.now c.args.user seen.position
-    (pair_of old) xs found c.snapshot.new.pass bytes) c.in_ok-compared.ensures.plan has))
-    (c.carry_each.ensures.any_mark kept keeps)
+returns-clause-any_mark g c = any_mark g (goal.at.returns-clause-any_mark g c).After-carry_each
 
 pub returns-clause-carried : goal.returns-clause-carried
 returns-clause-carried g c kept keeps =

@@ -4,7 +4,7 @@ use Rattle.syn_model.specs.Standing.{AllAllowedIn}
 use Rattle.syn_wire.specs.Versions.{version_of}
 use Rattle.syn_replica.specs.Readings.{IsImageOf, bytes_of_each}
 use Rattle.syn_replica.proofs.ReadingLemmas.{gives_of, same_image, memory_else}
-use Rattle.syn_replica.proofs.SoundLemmas.{stays_sound}
+use Rattle.syn_model.proofs.SoundStandings.{stays_sound}
 use Rattle.syn_replica.proofs.reading.read_replica.Goals as goal
 
 pub returns-then-is_other_pair-clause-other : goal.returns-then-is_other_pair-clause-other

@@ -5,8 +5,8 @@ use Rattle.std.proofs.Math.Seq.{take-length}
 use Rattle.std.proofs.lemmas.List.{take_more}
 use Rattle.std.proofs.lemmas.List.Folds.{list_all_more, list_all_at}
 use Rattle.syn_tree.specs.Entries.{stands_in, AreLawful, IsLawfulPair}
-use Rattle.syn_placed.proofs.RisingLemmas.{each-append}
 use Rattle.syn_tree.proofs.entries.all_stand.Goals as goal
+use Rattle.syn_model.proofs.BaseLemmas.{each_append}
 
 pub loop-entry-init : goal.loop-entry-init
 loop-entry-init c = (refl, tt)
@@ -30,7 +30,7 @@ loop-entry-preserved c =
     ∙ ap (λ y. take i list ++ y ∷ []) (sym c.entry-item.is) in (
       list_all_more (stands_in list) list i x c.loop-entry-test.true
           ∙ ap₂ (λ a b. a && b) c.loop-entry.invariant.0 stands,
-      subst AreLawful (sym more) (each-append IsLawfulPair (take i list)
+      subst AreLawful (sym more) (each_append IsLawfulPair (take i list)
           (x ∷ []) c.loop-entry.invariant.1 (c.stands_among.ensures.lawful, tt)),
     )
 

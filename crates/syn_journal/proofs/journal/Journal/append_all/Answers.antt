@@ -1,18 +1,16 @@
-use Rattle.std.proofs.Common.{◌≡◌, ◌∙◌, ◌+◌, ◌<◌, [], ◌∷◌, length, refl, subst, ap, arith}
+use Rattle.std.proofs.Common.{◌≡◌, ◌∙◌, ◌+◌, ◌-◌, ◌<◌, length, take, drop, refl, arith}
 use Rattle.std.proofs.lemmas.Bool.Decides.{nat_tests}
-use Rattle.syn_disk.specs.Disk.{overwritten}
+use Rattle.syn_disk.specs.Stops.{LeavesOnly}
 use Rattle.syn_journal.specs.Batches.{bytes_of_each, with_payloads}
-use Rattle.syn_journal.specs.inner.Commit.{IsStagedOrOpened}
-use Rattle.syn_journal.specs.Layout.{half_size, open_gate, start_of, other_half, is_open}
-use Rattle.syn_journal.specs.Layout.{IsBeforeOrAfter, meaning}
-use Rattle.syn_journal.specs.inner.Whole.{IsWhole}
-use Rattle.syn_journal.specs.Layout.{value_or_empty}
-use Rattle.syn_journal.proofs.Moments.{weakened}
-use Rattle.syn_journal.proofs.Appends.{before_or_after, many_body}
+use Rattle.syn_journal.specs.Journal.{Stands}
+use Rattle.syn_journal.specs.Layout.{IsBeforeOrAfter, Value}
+use Rattle.syn_journal.specs.inner.Commit.{IsBodyOf}
+use Rattle.syn_journal.proofs.Appends.{append_in_step, append_moments, append_whole, many_body}
 use Rattle.syn_journal.proofs.Batches.{no_calls}
-use Rattle.syn_journal.proofs.Whole.{appended, other_kept}
-use Rattle.syn_journal.proofs.Meanings.{in_step, has, sizes}
+use Rattle.syn_journal.proofs.Meanings.{has, sizes}
+use Rattle.syn_journal.proofs.journal.Journal.append_all.Given.{Over}
 use Rattle.syn_journal.proofs.journal.Journal.append_all.Goals as goal
+use Rattle.syn_journal.proofs.journal.Journal.append_all.Goals.{After-commit}
 
 pub returns-then-is_empty-clause-calls : goal.returns-then-is_empty-clause-calls
 returns-then-is_empty-clause-calls g c =
@@ -20,111 +18,55 @@ returns-then-is_empty-clause-calls g c =
     grind (arith, nat_tests, c.is_empty.ensures, c.if-is_empty.true) in
     no_calls c.args.payloads.now (g.D.Disk.arms c.args.self.now.disk) none
 
-pub returns-in_err-commit-clause-any_moment : goal.returns-in_err-commit-clause-any_moment
-returns-in_err-commit-clause-any_moment g c value stands =
-    let journal = c.args.self.now in
-    let seen = g.D.Disk.seen journal.disk in
-    let step = journal.in_step stands.running in
-    let whole : IsWhole seen journal.half journal.generation journal.gate value =
-    subst (λ v. IsWhole seen journal.half journal.generation journal.gate v)
-    (ap value_or_empty stands.holds.means) step.whole in
-    let more = bytes_of_each c.args.payloads.now in
-    let size = c.in-Some.size in
+-- what is written behind the gate
+all_records : (g : Over) (c : After-commit g) →
+    IsBodyOf (bytes_of_each c.args.payloads.now) c.in-Some.size
+    (take (length c.deref.result.now - 1) (drop 1 c.deref.result.now))
+all_records g c =
     let some : 0 < length c.args.payloads.now =
     grind (arith, nat_tests, c.is_empty.ensures, c.if-is_empty.false) in
-    let is = many_body c.args.payloads.now size c.deref.result.now
-    (c.deref.ensures.value ∙ c.in_ok-records.ensures) c.in-Some.ensures.size some in
-    let fits : journal.gate + size < half_size =
-    omega (arith, c.in-Some.ensures.fits, journal.within) in
-    let run = rw c.start.ensures at (c.commit.ensures.any_moment stands.durable) in
-    weakened g.D.Disk.moment g.D.Disk.left_since _ _
-    (IsStagedOrOpened seen (start_of journal.half + journal.gate) _)
-    (IsBeforeOrAfter value journal.generation (with_payloads value more) journal.generation)
-    (before_or_after seen journal.half journal.generation journal.gate value whole more size _ is
-    fits) run
+    many_body c.args.payloads.now c.in-Some.size c.deref.result.now
+    (c.deref.ensures.value ∙ c.in_ok-records.ensures) c.in-Some.ensures.size some
+
+any_moment : (g : Over) (c : After-commit g) (value : Value) → Stands c.args.self.now value →
+    LeavesOnly g.D.Disk.moment g.D.Disk.left_since c.args.self.now.disk c.commit.new.disk
+    (IsBeforeOrAfter value c.args.self.now.generation
+    (with_payloads value (bytes_of_each c.args.payloads.now)) c.args.self.now.generation)
+any_moment g c value stands =
+    append_moments c.args.self.now (bytes_of_each c.args.payloads.now) c.in-Some.size _
+    (all_records g c) (omega (arith, c.in-Some.ensures.fits)) value stands c.commit.new.disk
+    (rw c.start.ensures at (c.commit.ensures.any_moment stands.durable))
+
+pub returns-in_err-commit-clause-any_moment : goal.returns-in_err-commit-clause-any_moment
+returns-in_err-commit-clause-any_moment g c =
+    any_moment g (goal.at.returns-in_err-commit-clause-any_moment g c).After-commit
 
 pub returns-clause-any_moment : goal.returns-clause-any_moment
-returns-clause-any_moment g c value stands =
-    let journal = c.args.self.now in
-    let seen = g.D.Disk.seen journal.disk in
-    let step = journal.in_step stands.running in
-    let whole : IsWhole seen journal.half journal.generation journal.gate value =
-    subst (λ v. IsWhole seen journal.half journal.generation journal.gate v)
-    (ap value_or_empty stands.holds.means) step.whole in
-    let more = bytes_of_each c.args.payloads.now in
-    let size = c.in-Some.size in
-    let some : 0 < length c.args.payloads.now =
-    grind (arith, nat_tests, c.is_empty.ensures, c.if-is_empty.false) in
-    let is = many_body c.args.payloads.now size c.deref.result.now
-    (c.deref.ensures.value ∙ c.in_ok-records.ensures) c.in-Some.ensures.size some in
-    let fits : journal.gate + size < half_size =
-    omega (arith, c.in-Some.ensures.fits, journal.within) in
-    let run = rw c.start.ensures at (c.commit.ensures.any_moment stands.durable) in
-    weakened g.D.Disk.moment g.D.Disk.left_since _ _
-    (IsStagedOrOpened seen (start_of journal.half + journal.gate) _)
-    (IsBeforeOrAfter value journal.generation (with_payloads value more) journal.generation)
-    (before_or_after seen journal.half journal.generation journal.gate value whole more size _ is
-    fits) run
+returns-clause-any_moment g c = any_moment g (goal.at.returns-clause-any_moment g c).After-commit
 
 -- and then the payloads are on the disk
 pub returns-clause-acknowledged : goal.returns-clause-acknowledged
 returns-clause-acknowledged g c value stands =
     let journal = c.args.self.now in
-    let seen = g.D.Disk.seen journal.disk in
-    let step = journal.in_step stands.running in
-    let whole : IsWhole seen journal.half journal.generation journal.gate value =
-    subst (λ v. IsWhole seen journal.half journal.generation journal.gate v)
-    (ap value_or_empty stands.holds.means) step.whole in
-    let more = bytes_of_each c.args.payloads.now in
-    let size = c.in-Some.size in
-    let gate = start_of journal.half + journal.gate in
-    let some : 0 < length c.args.payloads.now =
-    grind (arith, nat_tests, c.is_empty.ensures, c.if-is_empty.false) in
-    let is = many_body c.args.payloads.now size c.deref.result.now
-    (c.deref.ensures.value ∙ c.in_ok-records.ensures) c.in-Some.ensures.size some in
-    let fits : journal.gate + size < half_size =
-    omega (arith, c.in-Some.ensures.fits, journal.within) in
     let after = g.D.Disk.seen c.commit.new.disk in
-    let written : after ≡ overwritten (overwritten seen (gate + 1) _) gate (open_gate ∷ []) =
-    rw c.start.ensures at c.in_ok-commit.ensures.written in
-    let next = journal.gate + size in
-    let whole' : IsWhole after journal.half journal.generation next (with_payloads value more) =
-    rw written (appended seen journal.half journal.generation journal.gate value whole more size _
-    is fits) in
+    let next = journal.gate + c.in-Some.size in
+    let whole = append_whole journal (bytes_of_each c.args.payloads.now) c.in-Some.size _
+    (all_records g (goal.at.returns-clause-acknowledged g c).After-commit)
+    (omega (arith, c.in-Some.ensures.fits)) value stands after
+    (rw c.start.ensures at c.in_ok-commit.ensures.written) in
     record {
       running = refl;
-      holds = has after journal.half journal.generation next _ whole';
+      holds = has after journal.half journal.generation next _ whole;
       durable = c.in_ok-commit.ensures.durable;
-      gate = sizes after journal.half journal.generation next _ whole';
+      gate = sizes after journal.half journal.generation next _ whole;
     }
 
 pub invariant_of-self-2 : goal.invariant_of-self-2
-invariant_of-self-2 g c =
-    let journal = c.args.self.now in
-    let seen = g.D.Disk.seen journal.disk in
-    let step = journal.in_step c.if-self.false in
-    let more = bytes_of_each c.args.payloads.now in
-    let size = c.in-Some.size in
-    let gate = start_of journal.half + journal.gate in
-    let some : 0 < length c.args.payloads.now =
-    grind (arith, nat_tests, c.is_empty.ensures, c.if-is_empty.false) in
-    let is = many_body c.args.payloads.now size c.deref.result.now
-    (c.deref.ensures.value ∙ c.in_ok-records.ensures) c.in-Some.ensures.size some in
-    let fits : journal.gate + size < half_size =
-    omega (arith, c.in-Some.ensures.fits, journal.within) in
-    let after = g.D.Disk.seen c.commit.new.disk in
-    let written : after ≡ overwritten (overwritten seen (gate + 1) _) gate (open_gate ∷ []) =
-    rw c.start.ensures at c.in_ok-commit.ensures.written in
-    let next = journal.gate + size in
-    let whole : IsWhole after journal.half journal.generation next
-    (with_payloads (value_or_empty (meaning seen)) more) =
-    rw written (appended seen journal.half journal.generation journal.gate _ step.whole more size _
-    is fits) in
-    let other : is_open after (other_half journal.half) ≡ journal.other_is_open =
-    ap (λ bytes. is_open bytes (other_half journal.half)) written ∙ other_kept seen journal.half
-    journal.generation journal.gate _ step.whole more size _ is fits ∙ step.other in
-    record {
-      within = omega (arith, fits);
-      in_step = λ _. in_step after journal.half journal.generation next
-          _ whole _ journal.other_is_open other c.in_ok-commit.ensures.durable;
-    }
+invariant_of-self-2 g c = record {
+  within = omega (arith, c.in-Some.ensures.fits);
+  in_step =
+      λ _. append_in_step c.args.self.now (bytes_of_each c.args.payloads.now) c.in-Some.size _
+      (all_records g (goal.at.invariant_of-self-2 g c).After-commit)
+      (omega (arith, c.in-Some.ensures.fits)) c.if-self.false c.commit.new.disk
+      (rw c.start.ensures at c.in_ok-commit.ensures.written) c.in_ok-commit.ensures.durable;
+}

@@ -1,9 +1,8 @@
-use Rattle.std.proofs.Common.{sym, ap, ◌∙◌}
-use Rattle.std.specs.FinMap.{entries}
-use Rattle.syn_mark.proofs.MarkLemmas.{entries_of}
+use Rattle.std.proofs.Common.{◌∙◌}
+use Rattle.syn_mark.proofs.MarkLemmas.{entries_are}
 use Rattle.syn_mark.proofs.tree.MarkTree.as_slice.Goals as goal
 
 pub returns-clause-all : goal.returns-clause-all
 returns-clause-all c =
     c.as_slice.ensures.value
-    ∙ (sym (entries_of c.self.inside.list.items c.self.invariant) ∙ ap entries c.self.view_is)
+    ∙ entries_are c.self.inside.list.items c.args.self.now c.self.invariant c.self.view_is

@@ -10,7 +10,7 @@ use Rattle.syn_tree.specs.Lists.{stripped}
 use Rattle.syn_tree.proofs.WithinLemmas.{stripped-within}
 use Rattle.syn_tree.proofs.StripLemmas.{stripped_part, subtree_none}
 use Rattle.syn_mark.specs.Marks.{content_of}
-use Rattle.syn_mark.proofs.MarkLemmas.{entries_of, are_marks, marks_same, part_marks, part_fits}
+use Rattle.syn_mark.proofs.MarkLemmas.{entries_are, are_marks, marks_same, part_marks, part_fits}
 use Rattle.syn_mark.proofs.MarkLemmas.{part_present}
 use Rattle.syn_mark.proofs.tree.MarkTree.copy_at.Goals as goal
 
@@ -31,7 +31,7 @@ copied c =
     let mark = content_of c.in-Some.mark in
     let here : get t at ≡ Some mark = sym c.get.ensures
     ∙ ap (option_map (λ m. content_of m)) c.in-Some.is in
-    let all : ds ≡ entries t = sym (entries_of ds c.self.invariant) ∙ ap entries c.self.view_is in
+    let all = entries_are ds t c.self.invariant c.self.view_is in
     let part = c.part_at-part.ensures ∙ ap₂ within c.names.ensures.names c.deref.ensures.value in
     c.in_ok-list.ensures ∙ (ap (λ es. (root, mark) ∷ es) (ap (stripped at) part
     ∙ (stripped-within at ds ∙ ap (stripped at) all)) ∙ stripped_part t at mark here)

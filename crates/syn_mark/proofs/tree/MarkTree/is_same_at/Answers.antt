@@ -1,7 +1,6 @@
-use Rattle.std.proofs.Common.{sym, ap, ap₂, ◌∙◌}
-use Rattle.std.specs.FinMap.{entries}
+use Rattle.std.proofs.Common.{sym, ap₂, ◌∙◌}
 use Rattle.syn_placed.specs.Pairs.{within}
-use Rattle.syn_mark.proofs.MarkLemmas.{entries_of}
+use Rattle.syn_mark.proofs.MarkLemmas.{entries_are}
 use Rattle.syn_mark.proofs.SameLemmas.{same_part, same_within}
 use Rattle.syn_mark.proofs.tree.MarkTree.is_same_at.Goals as goal
 
@@ -11,10 +10,10 @@ returns c =
     let u = c.args.other.now in
     let at = c.args.path.now in
     let left = c.part_at-left.ensures ∙ ap₂ within c.names.ensures.names (c.deref.ensures.value
-    ∙ (sym (entries_of c.self.inside.list.items c.self.invariant) ∙ ap entries c.self.view_is)) in
+    ∙ entries_are c.self.inside.list.items t c.self.invariant c.self.view_is) in
     let right = c.part_at-right.ensures ∙ ap₂ within c.names-2.ensures.names
-    (c.deref-2.ensures.value ∙ (sym (entries_of c.other.inside.list.items c.other.invariant)
-    ∙ ap entries c.other.view_is)) in (
+    (c.deref-2.ensures.value
+    ∙ entries_are c.other.inside.list.items u c.other.invariant c.other.view_is) in (
       (λ is. same_part t u at (sym left ∙ (c.same_entries.ensures.0 is ∙ right))),
       (λ e. c.same_entries.ensures.1 (left ∙ (same_within t u at e ∙ sym right))),
     )

@@ -6,9 +6,10 @@ use Rattle.syn_model.specs.Tree.{replace, is_directory}
 use Rattle.syn_tree.specs.Change.{taken_from}
 use Rattle.syn_tree.proofs.PartLemmas.{length_under}
 use Rattle.syn_mark.specs.Marks.{or_absent}
-use Rattle.syn_mark.proofs.MarkLemmas.{entries_of}
-use Rattle.syn_mark.proofs.ChangeLemmas.{allowed_parts, allowed_paths, taken_is, spaced_of}
+use Rattle.syn_mark.proofs.MarkLemmas.{entries_are}
+use Rattle.syn_mark.proofs.ChangeLemmas.{allowed_parts, allowed_paths, spaced_of}
 use Rattle.syn_mark.proofs.tree.MarkTree.prepare_allowed.Goals as goal
+use Rattle.syn_tree.proofs.ChangeLemmas.{taken_same}
 
 pub placed-requires : goal.placed-requires
 placed-requires c =
@@ -26,7 +27,7 @@ placed-requires-2 c =
 pub returns-clause-new : goal.returns-clause-new
 returns-clause-new c =
     c.placed-2.ensures.new
-    ∙ (ap (λ p. taken_from p c.in_ok-added.added.items) c.in_ok-at.ensures ∙ taken_is
+    ∙ (ap (λ p. taken_from p c.in_ok-added.added.items) c.in_ok-at.ensures ∙ taken_same
     c.args.path.now (or_absent c.args.new) c.in_ok-added.added.items c.in_ok-added.ensures.ok)
 
 pub returns-clause-ready : goal.returns-clause-ready
@@ -38,7 +39,7 @@ returns-clause-ready c =
     let place = c.placed-2.ensures.at ∙ c.in_ok-at.ensures in
     let parts = allowed_parts t at u c.requires in
     let ds = c.self.inside.list.items in
-    let all = sym (entries_of ds c.self.invariant) ∙ ap entries c.self.view_is in
+    let all = entries_are ds t c.self.invariant c.self.view_is in
     record {
       below = ap is_root place ∙ parts.0;
       parent = ap (λ p. is_directory t (parent p)) place ∙ parts.1.0;

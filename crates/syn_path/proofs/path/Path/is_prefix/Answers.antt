@@ -1,7 +1,8 @@
 use Rattle.std.proofs.Common.{◌≡◌, ◌∙◌, ap, ap₂, sym}
 use Rattle.syn_model.specs.Path.{is_prefix}
-use Rattle.syn_path.proofs.PathLemmas.{is_prefix-starts_with, prefix_from_test, test_from_append}
+use Rattle.syn_path.proofs.PathLemmas.{is_prefix-starts_with, prefix_from_test}
 use Rattle.syn_path.proofs.path.Path.is_prefix.Goals as goal
+use Rattle.syn_model.proofs.PathLemmas.{prefix-append}
 
 pub returns-clause-value : goal.returns-clause-value
 returns-clause-value c =
@@ -15,5 +16,5 @@ returns-clause-means c =
     returns-clause-value c in (
       (λ h. prefix_from_test c.args.self.now c.args.other.now (sym value ∙ h)),
       (λ h. value
-          ∙ ap (is_prefix c.args.self.now) (sym h.1) ∙ test_from_append c.args.self.now h.0),
+          ∙ ap (is_prefix c.args.self.now) (sym h.1) ∙ prefix-append c.args.self.now h.0),
     )

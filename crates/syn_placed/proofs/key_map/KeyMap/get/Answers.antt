@@ -2,9 +2,9 @@ use Rattle.std.proofs.Common.{ap, ◌∙◌, sym, subst, Some}
 use Rattle.std.specs.FinMap as map
 use Rattle.syn_model.specs.Path.{path_cmp}
 use Rattle.syn_placed.specs.Keyed.{StandsAt, WouldStandAt}
-use Rattle.syn_placed.proofs.RisingLemmas.{sorted}
 use Rattle.syn_placed.proofs.KeyedLemmas.{found_at}
 use Rattle.syn_placed.proofs.key_map.KeyMap.get.Goals as goal
+use Rattle.syn_model.proofs.BaseLemmas.{holds}
 
 pub returns-in-Ok : goal.returns-in-Ok
 returns-in-Ok g c =
@@ -16,7 +16,7 @@ returns-in-Ok g c =
     ap Some c.value.ensures
     ∙ (ap (λ (x : _ × _). Some x.1) c.index.ensures
     ∙ sym (ap (λ m. map.get m at) (sym c.self.view_is)
-    ∙ (map.get-from_sorted path_cmp es at (sorted _ rising)
+    ∙ (map.get-from_sorted path_cmp es at (holds _ rising)
     ∙ found_at at n es c.index.result.now rising stands)))
 
 pub returns-in-Err : goal.returns-in-Err
@@ -26,4 +26,4 @@ returns-in-Err g c =
     let stands = subst (WouldStandAt at c.in-Err.field-0) c.deref.ensures.value
     c.in-Err.ensures.absent in
     sym (ap (λ m. map.get m at) (sym c.self.view_is)
-    ∙ (map.get-from_sorted path_cmp es at (sorted _ c.self.invariant.rising) ∙ stands.absent))
+    ∙ (map.get-from_sorted path_cmp es at (holds _ c.self.invariant.rising) ∙ stands.absent))

@@ -2,9 +2,9 @@ use Rattle.std.proofs.Common.{length, sym, ap, ◌∙◌, subst, arith, slice_se
 use Rattle.std.specs.FinMap as map
 use Rattle.syn_model.specs.Path.{path_cmp}
 use Rattle.syn_placed.specs.Keyed.{StandsAt, WouldStandAt}
-use Rattle.syn_placed.proofs.RisingLemmas.{sorted}
 use Rattle.syn_placed.proofs.KeyedLemmas.{place_within, set_value, put_in_at, put_map, rising_put}
 use Rattle.syn_placed.proofs.key_map.KeyMap.insert.Goals as goal
+use Rattle.syn_model.proofs.BaseLemmas.{holds}
 
 pub invariant_of-self : goal.invariant_of-self
 invariant_of-self g c =
@@ -50,7 +50,7 @@ pub put_in-requires-clause-room : goal.put_in-requires-clause-room
 put_in-requires-clause-room g c =
     let es = c.self.inside.slots.items in
     let count = ap map.len (sym c.self.view_is) ∙ (map.len-entries (map.from_sorted es)
-    ∙ ap length (map.entries-from_sorted path_cmp es (sorted _ c.self.invariant.rising))) in
+    ∙ ap length (map.entries-from_sorted path_cmp es (holds _ c.self.invariant.rising))) in
     omega (arith, count, c.requires, c.self.inside.slots.ok, c.self.invariant.room_there)
 
 pub invariant_of-self-in-Err : goal.invariant_of-self-in-Err

@@ -2,9 +2,9 @@ use Rattle.std.proofs.Common.{sym, ap, ◌∙◌, subst, arith}
 use Rattle.std.specs.FinMap as map
 use Rattle.syn_model.specs.Path.{path_cmp}
 use Rattle.syn_placed.specs.Keyed.{IsRising, StandsAt, WouldStandAt}
-use Rattle.syn_placed.proofs.RisingLemmas.{sorted}
 use Rattle.syn_placed.proofs.KeyedLemmas.{removed_at, rising_removed, absent_removed}
 use Rattle.syn_placed.proofs.key_map.KeyMap.remove.Goals as goal
+use Rattle.syn_model.proofs.BaseLemmas.{holds}
 
 pub invariant_of-self : goal.invariant_of-self
 invariant_of-self g c =
@@ -35,5 +35,5 @@ returns-in_default g c =
     let stands = subst (WouldStandAt at c.in_default.field-0) c.deref.ensures.value
     c.in_default.ensures.absent in
     let none = ap (λ m. map.get m at) (sym c.self.view_is)
-    ∙ (map.get-from_sorted path_cmp es at (sorted _ c.self.invariant.rising) ∙ stands.absent) in
+    ∙ (map.get-from_sorted path_cmp es at (holds _ c.self.invariant.rising) ∙ stands.absent) in
     sym (absent_removed c.args.self.now at none)

@@ -3,10 +3,11 @@ use Rattle.std.specs.FinMap as map
 use Rattle.std.proofs.lemmas.List.Sorted.{IsPartitionPoint-from_clause}
 use Rattle.syn_model.specs.Path.{path_cmp}
 use Rattle.syn_placed.specs.Keyed.{comes_before, stands_within}
-use Rattle.syn_placed.proofs.RisingLemmas.{NoneOf, sorted}
+use Rattle.syn_placed.proofs.RisingLemmas.{NoneOf}
 use Rattle.syn_placed.proofs.KeyedLemmas.{IsPlace, Rising, place_within, back_rises, back_after}
 use Rattle.syn_placed.proofs.KeyedParts.{within_parted, within_placed, within_rest}
 use Rattle.syn_placed.proofs.key_map.KeyMap.within.Goals as goal
+use Rattle.syn_model.proofs.BaseLemmas.{holds}
 
 pub split_at-requires : goal.split_at-requires
 split_at-requires g c =
@@ -35,5 +36,5 @@ returns g c =
     found
     ∙ (ap (filter (stands_within at)) rest
     ∙ (within_rest at n es rising place
-    ∙ ap (filter (stands_within at)) (sym (map.entries-from_sorted path_cmp es (sorted _ rising))
+    ∙ ap (filter (stands_within at)) (sym (map.entries-from_sorted path_cmp es (holds _ rising))
     ∙ ap map.entries c.self.view_is))))

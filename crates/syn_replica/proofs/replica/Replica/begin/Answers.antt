@@ -1,4 +1,4 @@
-use Rattle.std.proofs.Common.{◌≡◌, ◌≢◌, ◌<◌, ◌≤◌, Some, length, sym, ap, ◌∙◌, refl, subst, inl}
+use Rattle.std.proofs.Common.{◌≡◌, ◌≢◌, ◌<◌, ◌≤◌, Some, length, sym, ap, ◌∙◌, refl, subst}
 use Rattle.std.proofs.Common.{None, true≢false}
 use Rattle.std.proofs.lemmas.Bool.{eq-eqb, ne_eqb}
 use Rattle.std.specs.Prelude.{IfOk}
@@ -12,7 +12,7 @@ use Rattle.syn_replica.proofs.RoomLemmas.{room_passed}
 use Rattle.syn_replica.proofs.SessionLemmas.{begin_cause, begin_refused, begin_allowed, begun_size}
 use Rattle.syn_replica.proofs.SessionLemmas.{not_begun, one_longer}
 use Rattle.syn_replica.proofs.StandingLemmas.{early_at}
-use Rattle.syn_replica.proofs.StandLemmas.{keeps_now, not_written}
+use Rattle.syn_replica.proofs.StandLemmas.{kept_unwritten}
 use Rattle.syn_model.specs.Refusal as why
 use Rattle.syn_replica.proofs.RefusalLemmas.{inner_refusals, never, early_among, inner_among}
 use Rattle.syn_replica.proofs.RefusalLemmas.{or_outside, not_full_device, not_full_halted}
@@ -41,23 +41,19 @@ returns-clause-any_moment g c history stands =
 
 pub returns-then-is_halted-clause-any_moment : goal.returns-then-is_halted-clause-any_moment
 returns-then-is_halted-clause-any_moment g c history stands =
-    not_written g.met.D.Disk.only_now c.args.self.now history stands _
-    (inl (keeps_now c.args.self.now history stands))
+    kept_unwritten g.met.D.Disk.only_now c.args.self.now history stands _
 
 pub returns-then-pair-clause-any_moment : goal.returns-then-pair-clause-any_moment
 returns-then-pair-clause-any_moment g c history stands =
-    not_written g.met.D.Disk.only_now c.args.self.now history stands _
-    (inl (keeps_now c.args.self.now history stands))
+    kept_unwritten g.met.D.Disk.only_now c.args.self.now history stands _
 
 pub returns-in_err-check-clause-any_moment : goal.returns-in_err-check-clause-any_moment
 returns-in_err-check-clause-any_moment g c history stands =
-    not_written g.met.D.Disk.only_now c.args.self.now history stands _
-    (inl (keeps_now c.args.self.now history stands))
+    kept_unwritten g.met.D.Disk.only_now c.args.self.now history stands _
 
 pub returns-in_err-check_room-clause-any_moment : goal.returns-in_err-check_room-clause-any_moment
 returns-in_err-check_room-clause-any_moment g c history stands =
-    not_written g.met.D.Disk.only_now c.args.self.now history stands _
-    (inl (keeps_now c.args.self.now history stands))
+    kept_unwritten g.met.D.Disk.only_now c.args.self.now history stands _
 
 pub returns-in_err-check-clause-cause : goal.returns-in_err-check-clause-cause
 returns-in_err-check-clause-cause g c history stands =

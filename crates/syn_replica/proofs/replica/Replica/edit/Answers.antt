@@ -1,4 +1,4 @@
-use Rattle.std.proofs.Common.{◌≡◌, ◌⊎◌, ◌<◌, ◌≤◌, Some, sym, ap, ◌∙◌, refl, subst, inl, inr}
+use Rattle.std.proofs.Common.{◌≡◌, ◌⊎◌, ◌<◌, ◌≤◌, Some, sym, ap, ◌∙◌, refl, subst, inr}
 use Rattle.std.proofs.Common.{true≢false}
 use Rattle.std.proofs.lemmas.Result.{err_from_is_err_and}
 use Rattle.syn_tree.specs.Edits.{edit_of}
@@ -19,7 +19,7 @@ use Rattle.syn_replica.proofs.RoomLemmas.{room_refused, room_passed}
 use Rattle.syn_replica.specs.Refusals.{IsOneOf, outside_refusals, edit_refusals}
 use Rattle.std.specs.Prelude.{IfErr}
 use Rattle.std.proofs.lemmas.Option.{none-some}
-use Rattle.syn_replica.proofs.StandLemmas.{keeps_now, not_written}
+use Rattle.syn_replica.proofs.StandLemmas.{kept_unwritten}
 use Rattle.syn_replica.proofs.replica.Replica.edit.Goals as goal
 
 pub returns-in_err-check-clause-cause : goal.returns-in_err-check-clause-cause
@@ -72,18 +72,15 @@ prepare-requires-clause-brief g c =
 
 pub returns-then-is_halted-clause-any_moment : goal.returns-then-is_halted-clause-any_moment
 returns-then-is_halted-clause-any_moment g c history stands =
-    not_written g.met.D.Disk.only_now c.args.self.now history stands _
-    (inl (keeps_now c.args.self.now history stands))
+    kept_unwritten g.met.D.Disk.only_now c.args.self.now history stands _
 
 pub returns-in_err-check-clause-any_moment : goal.returns-in_err-check-clause-any_moment
 returns-in_err-check-clause-any_moment g c history stands =
-    not_written g.met.D.Disk.only_now c.args.self.now history stands _
-    (inl (keeps_now c.args.self.now history stands))
+    kept_unwritten g.met.D.Disk.only_now c.args.self.now history stands _
 
 pub returns-in_err-check_room-clause-any_moment : goal.returns-in_err-check_room-clause-any_moment
 returns-in_err-check_room-clause-any_moment g c history stands =
-    not_written g.met.D.Disk.only_now c.args.self.now history stands _
-    (inl (keeps_now c.args.self.now history stands))
+    kept_unwritten g.met.D.Disk.only_now c.args.self.now history stands _
 
 pub returns-in_err-check_room-clause-cause : goal.returns-in_err-check_room-clause-cause
 returns-in_err-check_room-clause-cause g c history stands =

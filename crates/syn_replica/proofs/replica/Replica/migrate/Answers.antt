@@ -1,6 +1,7 @@
 use Rattle.std.proofs.Common.{None, Some, inl, inr, sym, subst, arith}
 use Rattle.syn_journal.proofs.Migrations.{more_made, only_read}
-use Rattle.syn_journal.specs.Migrations.{Migrated, NotMigrated}
+use Rattle.syn_journal.specs.Journaled.{disk_of}
+use Rattle.syn_journal.specs.Migrations.{Migrated, Migrates, NotMigrated}
 use Rattle.syn_model.specs.Version.{One, Two}
 use Rattle.syn_replica.specs.ErrorRefusals.{refusal_of}
 use Rattle.syn_replica.specs.declared.error.ReplicaError.TheVariants.{Journal}
@@ -12,7 +13,9 @@ use Rattle.syn_replica.proofs.MigrateCauses.{migrates_greatest, migrates_lawful}
 use Rattle.syn_replica.proofs.MigrateLemmas.{any_moment, migrate_refusal, migrated_each}
 use Rattle.syn_replica.proofs.MigrateLemmas.{migrated_gives, not_both, old_disk, seen_after}
 use Rattle.syn_replica.proofs.MigrateLemmas.{was_old, whole, young_refusal}
+use Rattle.syn_replica.proofs.replica.Replica.migrate.Given.{Over}
 use Rattle.syn_replica.proofs.replica.Replica.migrate.Goals as goal
+use Rattle.syn_replica.proofs.replica.Replica.migrate.Goals.{In-Err-migrate, In-Ok-migrate}
 
 -- ---- it was opened
 
@@ -41,21 +44,23 @@ returns-in-Ok-migrate-clause-migrated g c =
     (subst (λ bytes. Migrated (λ m. m.pair) GivesOld image_of bytes c.in-Ok-migrate.machine)
     c.in-Err.ensures.device.untouched.same c.in-Ok-migrate.ensures.migrated)
 
+made : (g : Over) (c : In-Ok-migrate g) → Migrates g.D.Disk (λ m. m.pair) GivesOld image_of None
+    c.args.disk (disk_of c.in-Ok-migrate.machine)
+made g c =
+    whole c.args.disk c.in-Err.refused.1 _ c.in-Err.refused.0 None c.in-OldVersion.is
+    c.in-Err.ensures.device c.in-Ok-migrate.ensures.device
+
 pub returns-in-Ok-migrate-clause-any_moment : goal.returns-in-Ok-migrate-clause-any_moment
 returns-in-Ok-migrate-clause-any_moment g c =
     let laws = c.history_laws.ensures in
-    let found = c.in-Err.ensures in
     any_moment laws.image laws.standing_fits None c.args.disk _
-    (whole c.args.disk c.in-Err.refused.1 _ c.in-Err.refused.0 None c.in-OldVersion.is
-    found.device c.in-Ok-migrate.ensures.device)
+    (made g (goal.at.returns-in-Ok-migrate-clause-any_moment g c).In-Ok-migrate)
 
 pub returns-in-Ok-migrate-clause-seen : goal.returns-in-Ok-migrate-clause-seen
 returns-in-Ok-migrate-clause-seen g c =
     let laws = c.history_laws.ensures in
-    let found = c.in-Err.ensures in
     seen_after laws.image laws.standing_fits None c.args.disk _
-    (whole c.args.disk c.in-Err.refused.1 _ c.in-Err.refused.0 None c.in-OldVersion.is
-    found.device c.in-Ok-migrate.ensures.device)
+    (made g (goal.at.returns-in-Ok-migrate-clause-seen g c).In-Ok-migrate)
 
 pub returns-in-Ok-migrate-clause-writes : goal.returns-in-Ok-migrate-clause-writes
 returns-in-Ok-migrate-clause-writes g c old =
@@ -72,25 +77,24 @@ returns-in-Ok-migrate-clause-calls g c =
 
 -- ---- the migration was refused
 
+refused : (g : Over) (c : In-Err-migrate g) → Migrates g.D.Disk (λ m. m.pair) GivesOld image_of
+    (Some (refusal_of c.in-Err-migrate.refused.0)) c.args.disk c.in-Err-migrate.refused.1
+refused g c =
+    whole c.args.disk c.in-Err.refused.1 c.in-Err-migrate.refused.1 c.in-Err.refused.0
+    (Some (refusal_of c.in-Err-migrate.refused.0)) c.in-OldVersion.is c.in-Err.ensures.device
+    c.in-Err-migrate.ensures.device
+
 pub returns-in-Err-migrate-clause-any_moment : goal.returns-in-Err-migrate-clause-any_moment
 returns-in-Err-migrate-clause-any_moment g c =
     let laws = c.history_laws.ensures in
-    let found = c.in-Err.ensures in
     any_moment laws.image laws.standing_fits (Some (refusal_of c.in-Err-migrate.refused.0))
-    c.args.disk _
-    (whole c.args.disk c.in-Err.refused.1 c.in-Err-migrate.refused.1 c.in-Err.refused.0
-    (Some (refusal_of c.in-Err-migrate.refused.0)) c.in-OldVersion.is found.device
-    c.in-Err-migrate.ensures.device)
+    c.args.disk _ (refused g (goal.at.returns-in-Err-migrate-clause-any_moment g c).In-Err-migrate)
 
 pub returns-in-Err-migrate-clause-seen : goal.returns-in-Err-migrate-clause-seen
 returns-in-Err-migrate-clause-seen g c =
     let laws = c.history_laws.ensures in
-    let found = c.in-Err.ensures in
     seen_after laws.image laws.standing_fits (Some (refusal_of c.in-Err-migrate.refused.0))
-    c.args.disk _
-    (whole c.args.disk c.in-Err.refused.1 c.in-Err-migrate.refused.1 c.in-Err.refused.0
-    (Some (refusal_of c.in-Err-migrate.refused.0)) c.in-OldVersion.is found.device
-    c.in-Err-migrate.ensures.device)
+    c.args.disk _ (refused g (goal.at.returns-in-Err-migrate-clause-seen g c).In-Err-migrate)
 
 pub returns-in-Err-migrate-clause-refusals : goal.returns-in-Err-migrate-clause-refusals
 returns-in-Err-migrate-clause-refusals g c =
@@ -109,10 +113,7 @@ returns-in-Err-migrate-clause-lawful g c version number history small there =
 
 pub returns-in-Err-migrate-clause-calls : goal.returns-in-Err-migrate-clause-calls
 returns-in-Err-migrate-clause-calls g c =
-    let found = c.in-Err.ensures in
-    (whole c.args.disk c.in-Err.refused.1 c.in-Err-migrate.refused.1 c.in-Err.refused.0
-    (Some (refusal_of c.in-Err-migrate.refused.0)) c.in-OldVersion.is found.device
-    c.in-Err-migrate.ensures.device).arms
+    (refused g (goal.at.returns-in-Err-migrate-clause-calls g c).In-Err-migrate).arms
 
 -- ---- it was not opened, for another cause than its version
 

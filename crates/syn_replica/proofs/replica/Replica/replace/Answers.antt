@@ -13,7 +13,7 @@ use Rattle.syn_replica.specs.ErrorRefusals.{refusal_of}
 use Rattle.syn_replica.specs.Replica.{Stands, KeepsBeforeOrAfter, room_shown}
 use Rattle.syn_replica.specs.Replica.{standing_shown, disk_of}
 use Rattle.syn_replica.specs.Steps.{is_done_at, replace_refusal}
-use Rattle.syn_replica.specs.inner.Additions.{checking_refusals}
+use Rattle.syn_replica.specs.inner.Additions.{add_refusal_at, checking_refusals}
 use Rattle.syn_replica.proofs.RoomLemmas.{added_refusals, refused_at, replaced_among, room_at}
 use Rattle.syn_replica.proofs.RoomLemmas.{update_refused}
 use Rattle.syn_replica.proofs.RefusalLemmas.{inner_among, inner_refusals, never, not_full_device}
@@ -25,8 +25,10 @@ use Rattle.syn_replica.specs.Machines.{WritesRecord, WritesUnlessDone}
 use Rattle.syn_replica.specs.Calls.{Writes, unless}
 use Rattle.syn_journal.specs.Endings.{ended}
 use Rattle.syn_replica.proofs.SessionLemmas.{found_as, in_some, not_done, one_longer}
-use Rattle.syn_replica.proofs.StandLemmas.{keeps_now, not_written}
+use Rattle.syn_replica.proofs.StandLemmas.{kept_unwritten}
+use Rattle.syn_replica.proofs.replica.Replica.replace.Given.{Over}
 use Rattle.syn_replica.proofs.replica.Replica.replace.Goals as goal
+use Rattle.syn_replica.proofs.replica.Replica.replace.Goals.{In-Some, In_err-check_room}
 
 pub returns-clause-acknowledged : goal.returns-clause-acknowledged
 returns-clause-acknowledged g c history stands =
@@ -58,40 +60,41 @@ returns-clause-any_moment g c history stands =
 
 -- ---- it was not made ready
 
+-- once the place is checked, the cause is the one by the room and the standing
+rest : (g : Over) (c : In-Some g) (history : History) → Stands c.args.self.now history →
+    add_refusal_at (room_shown c.args.self.now) (standing_shown c.args.self.now)
+    (Replaced (token_of c.args.token) c.in-Some.path c.args.since (part_of c.args.new))
+    ≡ replace_refusal (room_shown c.args.self.now) history (token_of c.args.token) c.args.path.now
+    c.args.since (part_of c.args.new)
+rest g c history stands =
+    let same = stands.remembers.standing in
+    found_as (room_shown c.args.self.now) history (token_of c.args.token) c.args.path.now
+    c.args.since (part_of c.args.new) _ (standing_shown c.args.self.now) c.in_ok-path.field-0
+    c.in-Some.path same c.in_ok-path.ensures.found (c.in_ok-path.ensures.untouched history same)
+    c.in-Some.is
+
 pub returns-in_err-payload-clause-cause : goal.returns-in_err-payload-clause-cause
 returns-in_err-payload-clause-cause g c history stands =
-    let room = room_shown c.args.self.now in
-    let token = token_of c.args.token in
-    let new = part_of c.args.new in
-    let same = stands.remembers.standing in
-    let rest = found_as room history token c.args.path.now c.args.since new _
-    (standing_shown c.args.self.now) c.in_ok-path.field-0 c.in-Some.path same
-    c.in_ok-path.ensures.found (c.in_ok-path.ensures.untouched history same) c.in-Some.is in
-    let event = Replaced token c.in-Some.path c.args.since new in
+    let event = Replaced (token_of c.args.token) c.in-Some.path c.args.since (part_of c.args.new) in
     subst (λ r. IfErr c.from_residual-in_err-payload.result
-    (λ e. IsOneOf outside_refusals e ⊎ (r ≡ Some (refusal_of e)))) rest
-    (update_refused room (standing_shown c.args.self.now) event
+    (λ e. IsOneOf outside_refusals e ⊎ (r ≡ Some (refusal_of e))))
+    (rest g (goal.at.returns-in_err-payload-clause-cause g c).In-Some history stands)
+    (update_refused (room_shown c.args.self.now) (standing_shown c.args.self.now) event
     c.from_residual-in_err-payload.result _ c.from_residual-in_err-payload.ensures.1
     c.in_err-payload.ensures.refused)
 
 pub returns-in_err-payload-clause-refused : goal.returns-in_err-payload-clause-refused
 returns-in_err-payload-clause-refused g c history why stands done e =
-    let room = room_shown c.args.self.now in
-    let token = token_of c.args.token in
-    let new = part_of c.args.new in
-    let same = stands.remembers.standing in
-    let rest = found_as room history token c.args.path.now c.args.since new _
-    (standing_shown c.args.self.now) c.in_ok-path.field-0 c.in-Some.path same
-    c.in_ok-path.ensures.found (c.in_ok-path.ensures.untouched history same) c.in-Some.is in
-    let event = Replaced token c.in-Some.path c.args.since new in
+    let k = (goal.at.returns-in_err-payload-clause-refused g c).In-Some in
+    let event = Replaced (token_of c.args.token) c.in-Some.path c.args.since (part_of c.args.new) in
     let error = c.in_err-payload.field-0.0 in
     is_err_of_exit c.from_residual-in_err-payload.result error
     (λ x. (refusal_of x ≡ why) ⊎ (refusal_of x ≡ refusal.Memory))
     c.from_residual-in_err-payload.ensures.1 (elim c.in_err-payload.ensures.refused
     as (λ _. (refusal_of error ≡ why) ⊎ (refusal_of error ≡ refusal.Memory)) [
       | inl memory ↦ inr memory
-      | inr cause ↦ inl (same_refusal error why _ (sym rest
-          ∙ refused_at room (standing_shown c.args.self.now) event _ cause) e)
+      | inr cause ↦ inl (same_refusal error why _ (sym (rest g k history stands) ∙ refused_at
+          (room_shown c.args.self.now) (standing_shown c.args.self.now) event _ cause) e)
     ])
 
 pub returns-in_err-payload-clause-refusals : goal.returns-in_err-payload-clause-refusals
@@ -122,51 +125,36 @@ returns-in_err-payload-clause-machine g c =
 
 pub returns-in_err-check_room-clause-any_moment : goal.returns-in_err-check_room-clause-any_moment
 returns-in_err-check_room-clause-any_moment g c history stands =
-    not_written g.met.D.Disk.only_now c.args.self.now history stands _
-    (inl (keeps_now c.args.self.now history stands))
+    kept_unwritten g.met.D.Disk.only_now c.args.self.now history stands _
+
+full : (g : Over) (c : In_err-check_room g) (history : History) → Stands c.args.self.now history →
+    replace_refusal (room_shown c.args.self.now) history (token_of c.args.token) c.args.path.now
+    c.args.since (part_of c.args.new) ≡ Some (refusal_of c.in_err-check_room.field-0.0)
+full g c history stands =
+    let room = room_shown c.args.self.now in
+    let event = Replaced (token_of c.args.token) c.in-Some.path c.args.since (part_of c.args.new) in
+    let adds = c.in_ok-payload.ensures.adds in
+    let told = c.in_err-check_room.ensures.refused in
+    let long = subst (λ n. room < n) (c.len.ensures ∙ (c.in_ok-payload.payload.ok.0
+    ∙ ap length adds.spelled)) told.1 in
+    sym (rest g (goal.at.In_err-check_room g c).In-Some history stands)
+    ∙ (room_at room (standing_shown c.args.self.now) event adds.allowed.not_refused long
+    ∙ sym (ap (λ x. Some (refusal_of x)) told.0))
 
 pub returns-in_err-check_room-clause-cause : goal.returns-in_err-check_room-clause-cause
 returns-in_err-check_room-clause-cause g c history stands =
-    let room = room_shown c.args.self.now in
-    let token = token_of c.args.token in
-    let new = part_of c.args.new in
-    let same = stands.remembers.standing in
-    let rest = found_as room history token c.args.path.now c.args.since new _
-    (standing_shown c.args.self.now) c.in_ok-path.field-0 c.in-Some.path same
-    c.in_ok-path.ensures.found (c.in_ok-path.ensures.untouched history same) c.in-Some.is in
-    let event = Replaced token c.in-Some.path c.args.since new in
-    let adds = c.in_ok-payload.ensures.adds in
-    let told = c.in_err-check_room.ensures.refused in
-    let long = subst (λ n. room < n) (c.len.ensures ∙ (c.in_ok-payload.payload.ok.0
-    ∙ ap length adds.spelled)) told.1 in
-    let full = room_at room (standing_shown c.args.self.now) event adds.allowed.not_refused long in
-    if_err_of_exit c.from_residual-in_err-check_room.result c.in_err-check_room.field-0.0
-    (λ e. IsOneOf outside_refusals e
-    ⊎ (replace_refusal room history token c.args.path.now c.args.since new ≡ Some (refusal_of e)))
-    c.from_residual-in_err-check_room.ensures.1
-    (inr (sym rest ∙ (full ∙ sym (ap (λ x. Some (refusal_of x)) told.0))))
+    let k = (goal.at.returns-in_err-check_room-clause-cause g c).In_err-check_room in
+    if_err_of_exit c.from_residual-in_err-check_room.result c.in_err-check_room.field-0.0 _
+    c.from_residual-in_err-check_room.ensures.1 (inr (full g k history stands))
 
 pub returns-in_err-check_room-clause-refused : goal.returns-in_err-check_room-clause-refused
 returns-in_err-check_room-clause-refused g c history why stands done e =
-    let room = room_shown c.args.self.now in
-    let token = token_of c.args.token in
-    let new = part_of c.args.new in
-    let same = stands.remembers.standing in
-    let rest = found_as room history token c.args.path.now c.args.since new _
-    (standing_shown c.args.self.now) c.in_ok-path.field-0 c.in-Some.path same
-    c.in_ok-path.ensures.found (c.in_ok-path.ensures.untouched history same) c.in-Some.is in
-    let event = Replaced token c.in-Some.path c.args.since new in
-    let adds = c.in_ok-payload.ensures.adds in
-    let told = c.in_err-check_room.ensures.refused in
-    let long = subst (λ n. room < n) (c.len.ensures ∙ (c.in_ok-payload.payload.ok.0
-    ∙ ap length adds.spelled)) told.1 in
-    let full = room_at room (standing_shown c.args.self.now) event adds.allowed.not_refused long in
+    let k = (goal.at.returns-in_err-check_room-clause-refused g c).In_err-check_room in
     let error = c.in_err-check_room.field-0.0 in
     is_err_of_exit c.from_residual-in_err-check_room.result error
     (λ x. (refusal_of x ≡ why) ⊎ (refusal_of x ≡ refusal.Memory))
     c.from_residual-in_err-check_room.ensures.1
-    (inl (same_refusal error why _ (sym rest ∙ (full ∙ sym (ap (λ x. Some (refusal_of x)) told.0)))
-    e))
+    (inl (same_refusal error why _ (full g k history stands) e))
 
 pub returns-in_err-check_room-clause-machine : goal.returns-in_err-check_room-clause-machine
 returns-in_err-check_room-clause-machine g c =
@@ -184,13 +172,11 @@ returns-clause-cause g c history stands =
 
 pub returns-in_default-clause-any_moment : goal.returns-in_default-clause-any_moment
 returns-in_default-clause-any_moment g c history stands =
-    not_written g.met.D.Disk.only_now c.args.self.now history stands _
-    (inl (keeps_now c.args.self.now history stands))
+    kept_unwritten g.met.D.Disk.only_now c.args.self.now history stands _
 
 pub returns-in_err-path-clause-any_moment : goal.returns-in_err-path-clause-any_moment
 returns-in_err-path-clause-any_moment g c history stands =
-    not_written g.met.D.Disk.only_now c.args.self.now history stands _
-    (inl (keeps_now c.args.self.now history stands))
+    kept_unwritten g.met.D.Disk.only_now c.args.self.now history stands _
 
 pub returns-clause-again : goal.returns-clause-again
 returns-clause-again g c history stands again =

@@ -1,5 +1,5 @@
 use Rattle.syn_history.specs.Events.{event_of}
-use Rattle.syn_replica.proofs.SoundLemmas.{before_greatest}
+use Rattle.syn_model.proofs.SoundStandings.{before_greatest}
 use Rattle.syn_replica.proofs.standing.Standing.prepare.Goals as goal
 
 pub returns-clause-ready : goal.returns-clause-ready

@@ -1,11 +1,11 @@
 use Rattle.std.proofs.Common.{◌≡◌, ◌+◌, ◌-◌, refl, sym, ap, ap₂, ◌∙◌, subst, arith, vec_capacity}
 use Rattle.syn_model.specs.Path.{Path}
-use Rattle.syn_model.specs.Tree.{Tree}
 use Rattle.syn_placed.specs.Pairs.{Pairs, tree_with, within, spelling_length}
 use Rattle.syn_tree.specs.Change.{Replacement, taken_from, IsPreparedFor, after_change}
 use Rattle.syn_tree.proofs.MeasureLemmas.{kept_size, part_size}
 use Rattle.syn_tree.proofs.MakeLemmas.{made_kept, made_tree, made_room}
 use Rattle.syn_tree.proofs.tree.Tree.make.Goals as goal
+use Rattle.syn_tree.proofs.tree.Tree.make.Goals.{After-part_at}
 
 -- the change with its parts
 same_change : (at : Path) (added : Pairs) (change : Replacement) → at ≡ change.at →
@@ -13,20 +13,23 @@ same_change : (at : Path) (added : Pairs) (change : Replacement) → at ≡ chan
     ◌≡◌ {A = Replacement} (record { at = at; new = taken_from at added }) change
 same_change at added change e k = λ i. record { at = e i; new = k i }
 
-ready : (at : Path) (added : Pairs) (change : Replacement) (t u : Tree) → at ≡ change.at →
-    taken_from at added ≡ change.new → t ≡ u → IsPreparedFor u change →
-    IsPreparedFor t (record { at = at; new = taken_from at added })
-ready at added change t u e k is h =
-    subst (λ w. IsPreparedFor w (record { at = at; new = taken_from at added })) (sym is)
-    (subst (IsPreparedFor u) (sym (same_change at added change e k)) h)
+ready : (c : After-part_at) → IsPreparedFor (tree_with c.self.inside.list.items) (record {
+  at = c.into_parts-at.result.0;
+  new = taken_from c.into_parts-at.result.0 c.into_parts-at.result.1.items;
+})
+ready c =
+    let at = c.into_parts-at.result.0 in
+    let added = c.into_parts-at.result.1.items in
+    subst (λ t. IsPreparedFor t (record { at = at; new = taken_from at added }))
+    (sym c.self.view_is) (subst (IsPreparedFor c.args.self.now)
+    (sym (same_change at added c.args.change c.into_parts-at.ensures.at
+    c.into_parts-at.ensures.new)) c.requires)
 
 pub spelled-removed-requires : goal.spelled-removed-requires
 spelled-removed-requires c =
     let ds = c.self.inside.list.items in
     let at = c.into_parts-at.result.0 in
-    let prepared = ready at c.into_parts-at.result.1.items c.args.change
-    (tree_with ds) c.args.self.now c.into_parts-at.ensures.at c.into_parts-at.ensures.new
-    c.self.view_is c.requires in
+    let prepared = ready (goal.at.spelled-removed-requires c).After-part_at in
     omega (
       arith,
       ap spelling_length (c.part_at.ensures ∙ ap (within at) c.deref.ensures.value),
@@ -40,8 +43,7 @@ replace_part-requires-clause-room c =
     let at = c.into_parts-at.result.0 in
     let added = c.into_parts-at.result.1.items in
     let change : Replacement = record { at = at; new = taken_from at added } in
-    let prepared = ready at added c.args.change (tree_with ds) c.args.self.now
-    c.into_parts-at.ensures.at c.into_parts-at.ensures.new c.self.view_is c.requires in
+    let prepared = ready (goal.at.replace_part-requires-clause-room c).After-part_at in
     let room = made_room ds c.self.inside.spelled (vec_capacity c.self.inside.list) change added
     c.into_parts-at.result.2 c.self.invariant prepared c.into_parts-at.ensures.placed refl in
     omega (arith, room, c.into_parts-at.result.1.ok)
@@ -50,9 +52,7 @@ pub overflow_sub-self : goal.overflow_sub-self
 overflow_sub-self c =
     let ds = c.self.inside.list.items in
     let at = c.into_parts-at.result.0 in
-    let prepared = ready at c.into_parts-at.result.1.items c.args.change
-    (tree_with ds) c.args.self.now c.into_parts-at.ensures.at c.into_parts-at.ensures.new
-    c.self.view_is c.requires in
+    let prepared = ready (goal.at.overflow_sub-self c).After-part_at in
     omega (
       arith,
       part_size ds c.self.inside.spelled _ at c.self.invariant prepared.below,
@@ -66,8 +66,7 @@ overflow_add-self c =
     let at = c.into_parts-at.result.0 in
     let added = c.into_parts-at.result.1.items in
     let change : Replacement = record { at = at; new = taken_from at added } in
-    let prepared = ready at added c.args.change (tree_with ds) c.args.self.now
-    c.into_parts-at.ensures.at c.into_parts-at.ensures.new c.self.view_is c.requires in
+    let prepared = ready (goal.at.overflow_add-self c).After-part_at in
     let kept = made_kept ds c.self.inside.spelled (vec_capacity c.self.inside.list) change added
     c.into_parts-at.result.2 c.self.invariant prepared c.into_parts-at.ensures.placed refl _ _
     (vec_capacity c.self.inside.list) refl refl (omega arith) in
@@ -84,8 +83,7 @@ returns c =
     let at = c.into_parts-at.result.0 in
     let added = c.into_parts-at.result.1.items in
     let change : Replacement = record { at = at; new = taken_from at added } in
-    let prepared = ready at added c.args.change (tree_with ds) c.args.self.now
-    c.into_parts-at.ensures.at c.into_parts-at.ensures.new c.self.view_is c.requires in
+    let prepared = ready (goal.at.returns c).After-part_at in
     made_tree ds c.self.inside.spelled (vec_capacity c.self.inside.list) change added
     c.into_parts-at.result.2 c.self.invariant prepared c.into_parts-at.ensures.placed
     refl c.replace_part.new.list.items c.replace_part.ensures.items
@@ -98,8 +96,7 @@ invariant_of-self c =
     let at = c.into_parts-at.result.0 in
     let added = c.into_parts-at.result.1.items in
     let change : Replacement = record { at = at; new = taken_from at added } in
-    let prepared = ready at added c.args.change (tree_with ds) c.args.self.now
-    c.into_parts-at.ensures.at c.into_parts-at.ensures.new c.self.view_is c.requires in
+    let prepared = ready (goal.at.invariant_of-self c).After-part_at in
     made_kept ds c.self.inside.spelled
     (vec_capacity c.self.inside.list) change added c.into_parts-at.result.2 c.self.invariant
     prepared c.into_parts-at.ensures.placed refl c.replace_part.new.list.items _ _

@@ -1,4 +1,5 @@
-use Rattle.std.proofs.Common.{◌≡◌, ◌+◌, ◌-◌, not, ◌==◌, ◌||◌, nat_lt, length, None, sym, ap, ap₂}
+use Rattle.std.proofs.Common.{◌≡◌, ◌≤◌, ◌+◌, ◌-◌, not, ◌==◌, ◌||◌, nat_lt, length, None, sym, ap}
+use Rattle.std.proofs.Common.{ap₂}
 use Rattle.std.proofs.Common.{◌∙◌, subst, arith}
 use Rattle.syn_model.specs.Path.{parent}
 use Rattle.syn_model.specs.Tree.{replace}
@@ -6,51 +7,44 @@ use Rattle.syn_model.specs.Limits.{fits_replica}
 use Rattle.syn_model.specs.Refusal.{first_cause}
 use Rattle.syn_model.specs.Standing.{place_causes}
 use Rattle.syn_placed.specs.Pairs.{within, spelling_length}
-use Rattle.syn_placed.proofs.ParentLemmas.{place_free}
 use Rattle.syn_placed.proofs.CountLemmas.{kids}
-use Rattle.syn_tree.proofs.MeasureLemmas.{kept_size, part_count, part_size, measured}
+use Rattle.syn_tree.proofs.MeasureLemmas.{kept_size, measured, part_within}
 use Rattle.syn_tree.proofs.tree.TreeLimited.fits.Goals as goal
+use Rattle.syn_tree.proofs.tree.TreeLimited.fits.Goals.{After-part_at-part}
+
+part_is : (c : After-part_at-part) →
+    c.part_at-part.result.now ≡ within c.args.path.now c.self.inside.list.items
+part_is c = c.part_at-part.ensures ∙ ap₂ within c.key.ensures c.deref.ensures.value
+
+small : (c : After-part_at-part) →
+    (length c.part_at-part.result.now ≤ length c.self.inside.list.items)
+    × (spelling_length c.part_at-part.result.now ≤ c.self.inside.spelled)
+small c =
+    part_within c.self.inside.list.items c.self.inside.spelled _ c.args.path.now c.args.self.now
+    c.part_at-part.result.now c.self.invariant c.self.view_is c.requires.place (part_is c)
 
 pub overflow_sub-count : goal.overflow_sub-count
 overflow_sub-count c =
-    let ds = c.self.inside.list.items in
-    let part = c.part_at-part.ensures ∙ ap₂ within c.key.ensures c.deref.ensures.value in
     omega (
       arith,
-      ap length part,
-      part_count ds c.self.inside.spelled _ c.args.path.now
-          c.self.invariant,
+      (small (goal.at.overflow_sub-count c).After-part_at-part).0,
       c.len.ensures,
       c.self.inside.list.ok,
     )
 
 pub spelled-requires : goal.spelled-requires
 spelled-requires c =
-    let ds = c.self.inside.list.items in
-    let part = c.part_at-part.ensures ∙ ap₂ within c.key.ensures c.deref.ensures.value in
-    let free = place_free _ c.args.path.now
-    (subst (λ t. first_cause (place_causes t c.args.path.now) ≡ None)
-    (sym c.self.view_is) c.requires.place) in
     omega (
       arith,
-      ap spelling_length part,
-      part_size ds c.self.inside.spelled _ c.args.path.now
-          c.self.invariant free.0,
-      kept_size ds c.self.inside.spelled _ c.self.invariant,
+      (small (goal.at.spelled-requires c).After-part_at-part).1,
+      kept_size c.self.inside.list.items c.self.inside.spelled _ c.self.invariant,
     )
 
 pub overflow_sub-length : goal.overflow_sub-length
 overflow_sub-length c =
-    let ds = c.self.inside.list.items in
-    let part = c.part_at-part.ensures ∙ ap₂ within c.key.ensures c.deref.ensures.value in
-    let free = place_free _ c.args.path.now
-    (subst (λ t. first_cause (place_causes t c.args.path.now) ≡ None)
-    (sym c.self.view_is) c.requires.place) in
     omega (
       arith,
-      ap spelling_length part,
-      part_size ds c.self.inside.spelled _ c.args.path.now
-          c.self.invariant free.0,
+      (small (goal.at.overflow_sub-length c).After-part_at-part).1,
       c.spelled.ensures,
     )
 
@@ -66,7 +60,7 @@ pub returns : goal.returns
 returns c new of =
     let ds = c.self.inside.list.items in
     let at = c.args.path.now in
-    let part = c.part_at-part.ensures ∙ ap₂ within c.key.ensures c.deref.ensures.value in
+    let part = part_is (goal.at.returns c).After-part_at-part in
     let place = subst (λ t. first_cause (place_causes t at) ≡ None)
     (sym c.self.view_is) c.requires.place in
     let count = c.len.result - length c.part_at-part.result.now + c.args.nodes in
