@@ -31,8 +31,9 @@ use Rattle.syn_image.specs.Images.{IsImage, spelled_image, NoImageBeginsAnother,
 use Rattle.syn_image.specs.Images.{IsTouch, AreTouches, touches_spelling}
 use Rattle.syn_image.specs.inner.Pasts.{Two, AreTwo, two_spelling, AreFour, four_spelling}
 use Rattle.syn_image.specs.inner.Pasts.{AreFences, fences_spelling, IsPast, past_spelling}
-use Rattle.syn_image.specs.inner.Pasts.{AreSoMany, each_spelling}
+use Rattle.syn_image.specs.inner.Pasts.{HasTouches, each_spelling}
 use Rattle.syn_image.specs.inner.Trees.{IsImageTree}
+use Rattle.syn_wire.proofs.ManyLemmas.{same_many}
 
 -- ---- the numbers and the last token
 
@@ -70,30 +71,11 @@ fences_tell =
 
 -- ---- the touches
 
-touch_tells : NoneBeginsAnother IsTouch touch_spelling
+pub touch_tells : NoneBeginsAnother IsTouch touch_spelling
 touch_tells v w r s hv hw e =
     let both = both_tell IsNumber64 IsPath number64_spelling path_spelling u64_tells paths_tell
     (v.position, v.path) (w.position, w.path) r s hv hw e in
     (ap (λ p. record { position = p.0; path = p.1 }) both.0, both.1)
-
-each_of : (touches : List Touch) (r : Bytes) (t : Touch) →
-    each_spelling (t ∷ touches) ++ r ≡ touch_spelling t ++ (each_spelling touches ++ r)
-each_of touches r t = append_assoc (touch_spelling t) (each_spelling touches) r
-
--- touches that go on to one list of bytes begin alike
-fronts : (p q more : List Touch) (r s : Bytes) → All IsTouch p → All IsTouch (q ++ more) →
-    length p ≡ length q → each_spelling p ++ r ≡ each_spelling (q ++ more) ++ s →
-    (p ≡ q) × (r ≡ each_spelling more ++ s)
-fronts [] [] more r s hp hq l e = (refl, e)
-fronts [] (m ∷ q) more r s hp hq l e = absurd (omega arith)
-fronts (n ∷ p) [] more r s hp hq l e = absurd (omega arith)
-fronts (n ∷ p) (m ∷ q) more r s hp hq l e =
-    let both = touch_tells n m (each_spelling p ++ r) (each_spelling (q ++ more) ++ s)
-    (All-head IsTouch n p hp) (All-head IsTouch m (q ++ more) hq)
-    (sym (each_of p r n) ∙ (e ∙ each_of (q ++ more) s m)) in
-    let rest = fronts p q more r s (All-tail IsTouch n p hp) (All-tail IsTouch m (q ++ more) hq)
-    (omega arith) both.1 in
-    (ap₂ (λ x xs. x ∷ xs) both.0 rest.0, rest.1)
 
 pub touches_tell : NoneBeginsAnother AreTouches touches_spelling
 touches_tell v w r s hv hw e =
@@ -101,59 +83,7 @@ touches_tell v w r s hv hw e =
     (each_spelling w ++ s) hv.count hw.count
     (sym (append_assoc (to_be_bytes w16 (length v)) (each_spelling v) r)
     ∙ (e ∙ append_assoc (to_be_bytes w16 (length w)) (each_spelling w) s)) in
-    fronts v w [] r s hv.each (subst (All IsTouch) (sym (append-nil w)) hw.each) count.0
-    (count.1 ∙ ap (λ xs. each_spelling xs ++ s) (sym (append-nil w)))
-
--- so many touches that begin the bytes go on with one more
-pub next_touch : (i count : ℕ) (touches : List Touch) (rest bytes : Bytes) (all : List Touch)
-    (more : Bytes) → AreSoMany i touches → bytes ≡ each_spelling touches ++ rest → i < count →
-    BeginsWith (AreSoMany count) each_spelling bytes all more →
-    (t : Touch) × (after : Bytes) × BeginsWith IsTouch touch_spelling rest t after
-next_touch i count touches rest bytes all more h e l begins =
-    let long : i < length all = omega (arith, begins.lawful.counted) in
-    let parts = part all i long in
-    let f = fronts touches parts.0 (parts.1 ∷ parts.2) rest more h.each
-    (subst (All IsTouch) parts.3 begins.lawful.each) (h.counted ∙ sym parts.4)
-    (sym e ∙ (begins.spelled ∙ ap (λ p. each_spelling p ++ more) parts.3)) in (
-      parts.1,
-      each_spelling parts.2 ++ more,
-      record {
-        lawful =
-            All-head IsTouch parts.1 parts.2 (after_front parts.0 (parts.1 ∷ parts.2)
-            (subst (All IsTouch) parts.3 begins.lawful.each));
-        spelled = f.1 ∙ each_of parts.2 more parts.1;
-      },
-    )
-  where
-    part : (p : List Touch) (i : ℕ) → i < length p →
-        (a : List Touch) × (n : Touch) × (b : List Touch) × (p ≡ a ++ n ∷ b) × (length a ≡ i)
-    part [] i l = absurd (omega arith)
-    part (n ∷ p) zero l = ([], n, p, refl, refl)
-    part (n ∷ p) (suc i) l =
-        let rest = part p i (omega arith) in
-        (n ∷ rest.0, rest.1, rest.2, ap (λ xs. n ∷ xs) rest.3, ap suc rest.4)
-
-    after_front : (a b : List Touch) → All IsTouch (a ++ b) → All IsTouch b
-    after_front [] b h = h
-    after_front (n ∷ a) b h = after_front a b (All-tail IsTouch n (a ++ b) h)
-
--- one more touch was read
-pub one_touch_more : (i : ℕ) (touches : List Touch) (t : Touch) (bytes rest after : Bytes) →
-    AreSoMany i touches → bytes ≡ each_spelling touches ++ rest →
-    BeginsWith IsTouch touch_spelling rest t after →
-    AreSoMany (i + 1) (touches ++ t ∷ []) × (bytes ≡ each_spelling (touches ++ t ∷ []) ++ after)
-one_touch_more i touches t bytes rest after h e found = (
-  record {
-    counted = length-append touches (t ∷ []) ∙ ap (λ k. k + 1) h.counted;
-    each =
-        All-append IsTouch touches (t ∷ []) h.each
-        (All-cons IsTouch t [] found.lawful (All-nil IsTouch));
-  },
-  e ∙ (ap (λ xs. each_spelling touches ++ xs)
-      (found.spelled ∙ ap (λ xs. xs ++ after) (sym (append-nil (touch_spelling t))))
-      ∙ (sym (append_assoc (each_spelling touches) (each_spelling (t ∷ [])) after)
-      ∙ ap (λ xs. xs ++ after) (sym (flat_map-append touch_spelling touches (t ∷ []))))),
-)
+    same_many IsTouch touch_spelling touch_tells v w r s hv.each hw.each count.0 count.1
 
 -- a number with so many touches after it
 pub no_count : (bytes : Bytes) → NothingStands (λ n. n < 2 ^ 16) (to_be_bytes w16) bytes →
@@ -166,7 +96,7 @@ no_count bytes none v rest begins =
 
 pub no_touches : (bytes after : Bytes) (count : ℕ) →
     BeginsWith (λ n. n < 2 ^ 16) (to_be_bytes w16) bytes count after →
-    NothingStands (AreSoMany count) each_spelling after →
+    NothingStands (HasTouches count) each_spelling after →
     NothingStands AreTouches touches_spelling bytes
 no_touches bytes after count found none v rest begins =
     let same = u16_tells count (length v) after

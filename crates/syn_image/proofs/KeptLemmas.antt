@@ -11,7 +11,6 @@ use Rattle.syn_model.specs.Version.{Version}
 use Rattle.syn_wire.specs.Events.{Both, both_spelling, number64_spelling}
 use Rattle.syn_wire.specs.Marks.{IsMarkTreeIn, IsOptionalMarkTreeIn, NoMarksBeginOthers}
 use Rattle.syn_wire.specs.Reads.{BeginsWith, NothingStands}
-use Rattle.syn_wire.proofs.EventLemmas.{other_kind}
 use Rattle.syn_wire.proofs.NameLemmas.{rest_of, paths_tell}
 use Rattle.syn_wire.proofs.NumberLemmas.{u64_tells}
 use Rattle.syn_wire.proofs.Sequences.{both_tell}
@@ -19,6 +18,7 @@ use Rattle.syn_image.specs.Archives.{IsSpelledArchive, IsSpelledKept, spelled_ar
 use Rattle.syn_image.specs.Archives.{NoKeptBeginsAnother, NoArchiveBeginsAnother}
 use Rattle.syn_image.specs.inner.Pasts.{Two, AreTwo, two_spelling}
 use Rattle.syn_image.proofs.ImageLemmas.{two_tell}
+use Rattle.syn_model.proofs.SpellingLemmas.{heads_differ}
 
 -- ---- what is kept
 
@@ -33,22 +33,22 @@ kept_tells marks version (Session v) (Session w) r s hv hw e =
     let same = u64_tells v w r s hv hw (ap rest_of e) in
     (ap (λ x. Session x) same.0, same.1)
 kept_tells marks version (Session v) (Recorded q u) r s hv hw e =
-    other_kind 1 2 _ _ (λ same. omega (arith, same)) e
+    heads_differ 1 2 _ _ (λ same. omega (arith, same)) e
 kept_tells marks version (Session v) (RecordedDir q) r s hv hw e =
-    other_kind 1 3 _ _ (λ same. omega (arith, same)) e
+    heads_differ 1 3 _ _ (λ same. omega (arith, same)) e
 kept_tells marks version (Recorded p t) (Session w) r s hv hw e =
-    other_kind 2 1 _ _ (λ same. omega (arith, same)) e
+    heads_differ 2 1 _ _ (λ same. omega (arith, same)) e
 kept_tells marks version (Recorded p t) (Recorded q u) r s hv hw e =
     let same = both_tell IsPath (IsOptionalMarkTreeIn version) path_spelling
     (mark_spelling_in version)
     paths_tell (marks version) (p, t) (q, u) r s hv hw (ap rest_of e) in
     (ap (λ x. Recorded x.0 x.1) same.0, same.1)
 kept_tells marks version (Recorded p t) (RecordedDir q) r s hv hw e =
-    other_kind 2 3 _ _ (λ same. omega (arith, same)) e
+    heads_differ 2 3 _ _ (λ same. omega (arith, same)) e
 kept_tells marks version (RecordedDir p) (Session w) r s hv hw e =
-    other_kind 3 1 _ _ (λ same. omega (arith, same)) e
+    heads_differ 3 1 _ _ (λ same. omega (arith, same)) e
 kept_tells marks version (RecordedDir p) (Recorded q u) r s hv hw e =
-    other_kind 3 2 _ _ (λ same. omega (arith, same)) e
+    heads_differ 3 2 _ _ (λ same. omega (arith, same)) e
 kept_tells marks version (RecordedDir p) (RecordedDir q) r s hv hw e =
     let same = paths_tell p q r s hv hw (ap rest_of e) in
     (ap (λ x. RecordedDir x) same.0, same.1)
@@ -58,11 +58,11 @@ pub no_record : (version : Version) (fields : Bytes) →
     NothingStands (IsRecorded version) (recorded_spelling version) fields →
     NothingStands (IsSpelledKept version) (kept_spelling_in version) (2 ∷ fields)
 no_record version fields none (Session v) rest begins =
-    other_kind 2 1 _ _ (λ same. omega (arith, same)) begins.spelled
+    heads_differ 2 1 _ _ (λ same. omega (arith, same)) begins.spelled
 no_record version fields none (Recorded p t) rest begins =
     none (p, t) rest (record { lawful = begins.lawful; spelled = ap rest_of begins.spelled })
 no_record version fields none (RecordedDir p) rest begins =
-    other_kind 2 3 _ _ (λ same. omega (arith, same)) begins.spelled
+    heads_differ 2 3 _ _ (λ same. omega (arith, same)) begins.spelled
 
 -- ---- the image of an archive
 

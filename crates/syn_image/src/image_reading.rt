@@ -12,7 +12,7 @@ ghost use Rattle.syn_image.specs.Images.{IsImage, spelled_image, image_of, IsLas
 ghost use Rattle.syn_image.specs.Images.{AreTouches, touches_spelling};
 ghost use Rattle.syn_image.specs.inner.Pasts.{AreTwo, two_spelling, AreFour, four_spelling};
 ghost use Rattle.syn_image.specs.inner.Pasts.{AreFences, fences_spelling, IsPast, past_spelling};
-ghost use Rattle.syn_image.specs.inner.Pasts.{AreSoMany, each_spelling, past_read};
+ghost use Rattle.syn_image.specs.inner.Pasts.{HasTouches, each_spelling, past_read};
 ghost use Rattle.syn_image.specs.inner.Trees.{IsImageTree};
 ghost use Rattle.syn_model.specs.Spelling.{spelling_in};
 
@@ -154,7 +154,7 @@ fn read_touches(reader: &mut Reader<'_>, alloc: Global) -> Result<Vec<Touch>, Re
 
 /// So many touches. Memory is taken as they are seen, and never by their number alone.
 fn read_each(reader: &mut Reader<'_>, alloc: Global, count: u16) -> Result<Vec<Touch>, ReadError>
-    ensures { Reads (AreSoMany count) each_spelling (λ touches. touches.items) reader.old
+    ensures { Reads (HasTouches count) each_spelling (λ touches. touches.items) reader.old
         reader.new result }
 {
     let mut touches = Vec::new(alloc);

@@ -15,6 +15,9 @@ use syn_wire::{
     write_path, write_u64,
 };
 
+/// How many bytes spell the number of a session that begins, with its kind.
+pub const SESSION_LENGTH: usize = 9;
+
 pub(crate) const SESSION: u8 = 1;
 
 pub(crate) const RECORD: u8 = 2;
@@ -109,7 +112,7 @@ pub fn encode_kept(alloc: Global, kept: &Kept) -> Result<Vec<u8>, WireError>
 pub fn encode_session(alloc: Global, session: u64) -> Result<Vec<u8>, WireError>
     ensures { IfOk result (λ bytes. bytes.items ≡ kept_spelling (Session session)) }
 {
-    let mut out = Vec::with_capacity(alloc, 9)?;
+    let mut out = Vec::with_capacity(alloc, SESSION_LENGTH)?;
     out.push(SESSION)?;
     write_u64(&mut out, session)?;
     Ok(out)

@@ -32,8 +32,8 @@ mod pair;
 pub use image::{Image, encode_image, is_old_image};
 pub use image_reading::decode_image;
 pub use kept::{
-    ArchiveImage, ItemRecord, Kept, copied_marks, dir_length, encode_archive, encode_dir,
-    encode_kept, encode_record, encode_session, is_old_archive, record_length,
+    ArchiveImage, ItemRecord, Kept, SESSION_LENGTH, copied_marks, dir_length, encode_archive,
+    encode_dir, encode_kept, encode_record, encode_session, is_old_archive, record_length,
 };
 pub use kept_reading::{decode_archive, decode_kept};
 pub use pair::is_other_pair;

@@ -7,6 +7,7 @@ use Rattle.syn_message.specs.Bodies.{ReadsWhole, SpellsNone}
 use Rattle.syn_wire.specs.Reads.{BeginsWith, NoneBeginsAnother, NothingStands, Reads}
 use Rattle.syn_wire.specs.declared.error.ReadError.{ReadError}
 use Rattle.syn_wire.specs.declared.error.ReadError.TheVariants.{Malformed}
+use Rattle.syn_wire.proofs.Sequences.{failed}
 
 -- the first byte of a body, and what stands after it
 abbrev pub first_of : Bytes → ℕ
@@ -16,13 +17,6 @@ first_of (x ∷ xs) = x
 abbrev pub rest_of : Bytes → Bytes
 rest_of [] = []
 rest_of (x ∷ xs) = xs
-
--- an error that a `?` hands on
-pub failed : {V X : Type 0} (P : V → Type 0) (f : V → List ℕ) (view : X → V) (old new : List ℕ)
-    (r : Result X ReadError) (Q : ReadError → Type 0) → IsErrAnd r Q →
-    ((e : ReadError) → Q e → e ≡ Malformed → NothingStands P f old) → Reads P f view old new r
-failed P f view old new (Err e) Q is none = none e is
-failed P f view old new (Ok x) Q is none = absurd is
 
 pub failed_whole : {V X : Type 0} (P : V → Type 0) (f : V → List ℕ) (view : X → V) (body : List ℕ)
     (r : Result X ReadError) (Q : ReadError → Type 0) → IsErrAnd r Q →

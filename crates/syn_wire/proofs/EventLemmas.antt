@@ -1,6 +1,6 @@
 -- The spelling of an event tells it.
 use Rattle.std.proofs.Common.{◌≡◌, ◌≢◌, ℕ, ◌∷◌, ◌++◌, length, sym, ap, ◌∙◌, None, append_assoc}
-use Rattle.std.proofs.Common.{arith}
+use Rattle.std.proofs.Common.{arith, refl}
 use Rattle.std.specs.Int.{to_be_bytes, w32}
 use Rattle.syn_model.specs.Path.{Bytes, Path, IsPath, path_spelling}
 use Rattle.syn_model.specs.Version.{Version}
@@ -16,9 +16,10 @@ use Rattle.syn_wire.specs.Events.{IsSpelledEventIn, both_spelling, file_spelling
 use Rattle.syn_wire.specs.Events.{number_spelling, number64_spelling}
 use Rattle.syn_wire.specs.Trees.{IsOptionalTreeIn}
 use Rattle.syn_wire.specs.Laws.{NoEventBeginsAnother}
-use Rattle.syn_wire.proofs.NameLemmas.{split, paths_tell, first_or, rest_of}
+use Rattle.syn_wire.proofs.NameLemmas.{paths_tell, first_or, rest_of}
 use Rattle.syn_wire.proofs.NumberLemmas.{u16_tells, u32_tells, u64_tells}
 use Rattle.syn_wire.proofs.Sequences.{both_tell}
+use Rattle.syn_model.proofs.SpellingLemmas.{split, heads_differ}
 
 -- ---- parts
 
@@ -110,9 +111,6 @@ replacement_parts version token path since new rest =
 
 -- ---- kinds
 
-pub other_kind : {X : Type 0} (a b : ℕ) (x y : Bytes) → a ≢ b → a ∷ x ≡ b ∷ y → X
-other_kind a b x y differ e = absurd (differ (ap (λ z. first_or z 0) e))
-
 -- the parts of a put in a row
 pub put_parts : (version : Version) (user : ℕ) (path : Path) (bytes rest : Bytes) →
     event_spelling_in version (Edited user (Put path bytes)) ++ rest
@@ -129,6 +127,29 @@ chmod_parts version user path mode rest =
     ap (λ xs. 6 ∷ (xs ++ rest))
     (sym (append_assoc (number_spelling user) (path_spelling path) (mode_spelling mode)))
 
+abbrev kind_of : Event → ℕ
+kind_of (Edited user (Put path bytes)) = 1
+kind_of (Edited user (MakeDir path)) = 2
+kind_of (Edited user (Remove path)) = 3
+kind_of (Began session) = 4
+kind_of (Replaced token path since new) = 5
+kind_of (Edited user (Chmod path mode)) = 6
+
+-- an event is spelled behind its kind
+begins_kind : (version : Version) (event : Event) (rest : Bytes) →
+    first_or (event_spelling_in version event ++ rest) 0 ≡ kind_of event
+begins_kind version (Edited user (Put path bytes)) rest = refl
+begins_kind version (Edited user (MakeDir path)) rest = refl
+begins_kind version (Edited user (Remove path)) rest = refl
+begins_kind version (Began session) rest = refl
+begins_kind version (Replaced token path since new) rest = refl
+begins_kind version (Edited user (Chmod path mode)) rest = refl
+
+kind_tells : (version : Version) (v w : Event) (r s : Bytes) →
+    event_spelling_in version v ++ r ≡ event_spelling_in version w ++ s → kind_of v ≡ kind_of w
+kind_tells version v w r s e =
+    sym (begins_kind version v r) ∙ (ap (λ xs. first_or xs 0) e ∙ begins_kind version w s)
+
 pub event_tells : NoSpellingBeginsAnother → NoEventBeginsAnother
 event_tells trees version (Edited u (Put p b)) (Edited v (Put q c)) r s hv hw e =
     let same = put_tells ((u, p), b) ((v, q), c) r s
@@ -136,63 +157,15 @@ event_tells trees version (Edited u (Put p b)) (Edited v (Put q c)) r s hv hw e 
     ((hw.0.0, hw.0.1.0), record { bytes = hw.0.1.1; brief = hw.1 })
     (ap rest_of (sym (put_parts version u p b r) ∙ (e ∙ put_parts version v q c s))) in
     (ap (λ x. Edited x.0.0 (Put x.0.1 x.1)) same.0, same.1)
-event_tells trees version (Edited a (Put b c)) (Edited w (MakeDir x)) r s hv hw e =
-    other_kind 1 2 _ _ (λ same. omega (arith, same)) e
-event_tells trees version (Edited a (Put b c)) (Edited w (Remove x)) r s hv hw e =
-    other_kind 1 3 _ _ (λ same. omega (arith, same)) e
-event_tells trees version (Edited a (Put b c)) (Began w) r s hv hw e =
-    other_kind 1 4 _ _ (λ same. omega (arith, same)) e
-event_tells trees version (Edited a (Put b c)) (Replaced w x y z) r s hv hw e =
-    other_kind 1 5 _ _ (λ same. omega (arith, same)) e
-event_tells trees version (Edited a (Put b c)) (Edited w (Chmod x y)) r s hv hw e =
-    other_kind 1 6 _ _ (λ same. omega (arith, same)) e
-event_tells trees version (Edited a (MakeDir b)) (Edited w (Put x y)) r s hv hw e =
-    other_kind 2 1 _ _ (λ same. omega (arith, same)) e
 event_tells trees version (Edited u (MakeDir p)) (Edited v (MakeDir q)) r s hv hw e =
     let same = place_tells (u, p) (v, q) r s hv.0 hw.0 (ap rest_of e) in
     (ap (λ x. Edited x.0 (MakeDir x.1)) same.0, same.1)
-event_tells trees version (Edited a (MakeDir b)) (Edited w (Remove x)) r s hv hw e =
-    other_kind 2 3 _ _ (λ same. omega (arith, same)) e
-event_tells trees version (Edited a (MakeDir b)) (Began w) r s hv hw e =
-    other_kind 2 4 _ _ (λ same. omega (arith, same)) e
-event_tells trees version (Edited a (MakeDir b)) (Replaced w x y z) r s hv hw e =
-    other_kind 2 5 _ _ (λ same. omega (arith, same)) e
-event_tells trees version (Edited a (MakeDir b)) (Edited w (Chmod x y)) r s hv hw e =
-    other_kind 2 6 _ _ (λ same. omega (arith, same)) e
-event_tells trees version (Edited a (Remove b)) (Edited w (Put x y)) r s hv hw e =
-    other_kind 3 1 _ _ (λ same. omega (arith, same)) e
-event_tells trees version (Edited a (Remove b)) (Edited w (MakeDir x)) r s hv hw e =
-    other_kind 3 2 _ _ (λ same. omega (arith, same)) e
 event_tells trees version (Edited u (Remove p)) (Edited v (Remove q)) r s hv hw e =
     let same = place_tells (u, p) (v, q) r s hv.0 hw.0 (ap rest_of e) in
     (ap (λ x. Edited x.0 (Remove x.1)) same.0, same.1)
-event_tells trees version (Edited a (Remove b)) (Began w) r s hv hw e =
-    other_kind 3 4 _ _ (λ same. omega (arith, same)) e
-event_tells trees version (Edited a (Remove b)) (Replaced w x y z) r s hv hw e =
-    other_kind 3 5 _ _ (λ same. omega (arith, same)) e
-event_tells trees version (Edited a (Remove b)) (Edited w (Chmod x y)) r s hv hw e =
-    other_kind 3 6 _ _ (λ same. omega (arith, same)) e
-event_tells trees version (Began a) (Edited w (Put x y)) r s hv hw e =
-    other_kind 4 1 _ _ (λ same. omega (arith, same)) e
-event_tells trees version (Began a) (Edited w (MakeDir x)) r s hv hw e =
-    other_kind 4 2 _ _ (λ same. omega (arith, same)) e
-event_tells trees version (Began a) (Edited w (Remove x)) r s hv hw e =
-    other_kind 4 3 _ _ (λ same. omega (arith, same)) e
 event_tells trees version (Began m) (Began n) r s hv hw e =
     let same = u64_tells m n r s hv.0 hw.0 (ap rest_of e) in
     (ap (λ x. Began x) same.0, same.1)
-event_tells trees version (Began a) (Replaced w x y z) r s hv hw e =
-    other_kind 4 5 _ _ (λ same. omega (arith, same)) e
-event_tells trees version (Began a) (Edited w (Chmod x y)) r s hv hw e =
-    other_kind 4 6 _ _ (λ same. omega (arith, same)) e
-event_tells trees version (Replaced a b c d) (Edited w (Put x y)) r s hv hw e =
-    other_kind 5 1 _ _ (λ same. omega (arith, same)) e
-event_tells trees version (Replaced a b c d) (Edited w (MakeDir x)) r s hv hw e =
-    other_kind 5 2 _ _ (λ same. omega (arith, same)) e
-event_tells trees version (Replaced a b c d) (Edited w (Remove x)) r s hv hw e =
-    other_kind 5 3 _ _ (λ same. omega (arith, same)) e
-event_tells trees version (Replaced a b c d) (Began w) r s hv hw e =
-    other_kind 5 4 _ _ (λ same. omega (arith, same)) e
 event_tells trees version (Replaced t p k new) (Replaced u q l old) r s hv hw e =
     let same = replacement_tells trees version (((t, p), k), new) (((u, q), l), old) r s
     (((hv.0.0, hv.0.1), hv.0.2), record { part = hv.0.3; fits = hv.1.0; paths = hv.1.1 })
@@ -200,25 +173,24 @@ event_tells trees version (Replaced t p k new) (Replaced u q l old) r s hv hw e 
     (ap rest_of (sym (replacement_parts version t p k new r)
     ∙ (e ∙ replacement_parts version u q l old s))) in
     (ap (λ x. Replaced x.0.0.0 x.0.0.1 x.0.1 x.1) same.0, same.1)
-event_tells trees version (Replaced a b c d) (Edited w (Chmod x y)) r s hv hw e =
-    other_kind 5 6 _ _ (λ same. omega (arith, same)) e
-event_tells trees version (Edited a (Chmod b c)) (Edited w (Put x y)) r s hv hw e =
-    other_kind 6 1 _ _ (λ same. omega (arith, same)) e
-event_tells trees version (Edited a (Chmod b c)) (Edited w (MakeDir x)) r s hv hw e =
-    other_kind 6 2 _ _ (λ same. omega (arith, same)) e
-event_tells trees version (Edited a (Chmod b c)) (Edited w (Remove x)) r s hv hw e =
-    other_kind 6 3 _ _ (λ same. omega (arith, same)) e
-event_tells trees version (Edited a (Chmod b c)) (Began w) r s hv hw e =
-    other_kind 6 4 _ _ (λ same. omega (arith, same)) e
-event_tells trees version (Edited a (Chmod b c)) (Replaced w x y z) r s hv hw e =
-    other_kind 6 5 _ _ (λ same. omega (arith, same)) e
 event_tells trees version (Edited u (Chmod p m)) (Edited v (Chmod q n)) r s hv hw e =
     let same = chmod_tells ((u, p), m) ((v, q), n) r s
     ((hv.0.0, hv.0.1.0), hv.0.1.1) ((hw.0.0, hw.0.1.0), hw.0.1.1)
     (ap rest_of (sym (chmod_parts version u p m r) ∙ (e ∙ chmod_parts version v q n s))) in
     (ap (λ x. Edited x.0.0 (Chmod x.0.1 x.1)) same.0, same.1)
+event_tells trees version (Began m) (Edited v (Put q c)) r s hv hw e =
+    absurd (omega (arith, kind_tells version (Began m) (Edited v (Put q c)) r s e))
+event_tells trees version (Replaced t p k new) (Edited v (Put q c)) r s hv hw e =
+    absurd (omega (arith, kind_tells version (Replaced t p k new) (Edited v (Put q c)) r s e))
+event_tells trees version v w r s hv hw e =
+    absurd (omega (arith, kind_tells version v w r s e))
 
 -- ---- what is read after a kind
+
+is_kind : (version : Version) (kind : ℕ) (fields : Bytes) (event : Event) (rest : Bytes) →
+    kind ∷ fields ≡ event_spelling_in version event ++ rest → kind ≡ kind_of event
+is_kind version kind fields event rest e =
+    ap (λ xs. first_or xs 0) e ∙ begins_kind version event rest
 
 pub put_none : (version : Version) (fields : Bytes) → IsReading IsPutOf put_spelling fields None →
     IsReading (IsSpelledEventIn version) (event_spelling_in version) (1 ∷ fields) None
@@ -230,48 +202,24 @@ put_none version fields none (Edited user (Put path bytes)) rest begins =
       );
       spelled = ap rest_of (begins.spelled ∙ put_parts version user path bytes rest);
     })
-put_none version fields none (Edited w (MakeDir x)) rest begins =
-    other_kind 1 2 _ _ (λ same. omega (arith, same)) begins.spelled
-put_none version fields none (Edited w (Remove x)) rest begins =
-    other_kind 1 3 _ _ (λ same. omega (arith, same)) begins.spelled
-put_none version fields none (Began w) rest begins =
-    other_kind 1 4 _ _ (λ same. omega (arith, same)) begins.spelled
-put_none version fields none (Replaced t p k new) rest begins =
-    other_kind 1 5 _ _ (λ same. omega (arith, same)) begins.spelled
-put_none version fields none (Edited w (Chmod x y)) rest begins =
-    other_kind 1 6 _ _ (λ same. omega (arith, same)) begins.spelled
+put_none version fields none event rest begins =
+    absurd (omega (arith, is_kind version 1 fields event rest begins.spelled))
 
 pub make_dir_none : (version : Version) (fields : Bytes) → IsReading IsPlace place_spelling fields
     None → IsReading (IsSpelledEventIn version) (event_spelling_in version) (2 ∷ fields) None
 make_dir_none version fields none (Edited user (MakeDir path)) rest begins =
     none (user, path) rest
     (record { lawful = begins.lawful.0; spelled = ap rest_of begins.spelled })
-make_dir_none version fields none (Edited w (Put x y)) rest begins =
-    other_kind 2 1 _ _ (λ same. omega (arith, same)) begins.spelled
-make_dir_none version fields none (Edited w (Remove x)) rest begins =
-    other_kind 2 3 _ _ (λ same. omega (arith, same)) begins.spelled
-make_dir_none version fields none (Began w) rest begins =
-    other_kind 2 4 _ _ (λ same. omega (arith, same)) begins.spelled
-make_dir_none version fields none (Replaced t p k new) rest begins =
-    other_kind 2 5 _ _ (λ same. omega (arith, same)) begins.spelled
-make_dir_none version fields none (Edited w (Chmod x y)) rest begins =
-    other_kind 2 6 _ _ (λ same. omega (arith, same)) begins.spelled
+make_dir_none version fields none event rest begins =
+    absurd (omega (arith, is_kind version 2 fields event rest begins.spelled))
 
 pub remove_none : (version : Version) (fields : Bytes) → IsReading IsPlace place_spelling fields
     None → IsReading (IsSpelledEventIn version) (event_spelling_in version) (3 ∷ fields) None
 remove_none version fields none (Edited user (Remove path)) rest begins =
     none (user, path) rest
     (record { lawful = begins.lawful.0; spelled = ap rest_of begins.spelled })
-remove_none version fields none (Edited w (Put x y)) rest begins =
-    other_kind 3 1 _ _ (λ same. omega (arith, same)) begins.spelled
-remove_none version fields none (Edited w (MakeDir x)) rest begins =
-    other_kind 3 2 _ _ (λ same. omega (arith, same)) begins.spelled
-remove_none version fields none (Began w) rest begins =
-    other_kind 3 4 _ _ (λ same. omega (arith, same)) begins.spelled
-remove_none version fields none (Replaced t p k new) rest begins =
-    other_kind 3 5 _ _ (λ same. omega (arith, same)) begins.spelled
-remove_none version fields none (Edited w (Chmod x y)) rest begins =
-    other_kind 3 6 _ _ (λ same. omega (arith, same)) begins.spelled
+remove_none version fields none event rest begins =
+    absurd (omega (arith, is_kind version 3 fields event rest begins.spelled))
 
 pub replaced_none : (version : Version) (fields : Bytes) →
     IsReading (IsReplacement version) (replacement_spelling version) fields None →
@@ -289,16 +237,14 @@ replaced_none version fields none (Replaced token path since new) rest begins =
       );
       spelled = ap rest_of (begins.spelled ∙ replacement_parts version token path since new rest);
     })
-replaced_none version fields none (Edited w (Put x y)) rest begins =
-    other_kind 5 1 _ _ (λ same. omega (arith, same)) begins.spelled
-replaced_none version fields none (Edited w (MakeDir x)) rest begins =
-    other_kind 5 2 _ _ (λ same. omega (arith, same)) begins.spelled
-replaced_none version fields none (Edited w (Remove x)) rest begins =
-    other_kind 5 3 _ _ (λ same. omega (arith, same)) begins.spelled
-replaced_none version fields none (Began w) rest begins =
-    other_kind 5 4 _ _ (λ same. omega (arith, same)) begins.spelled
-replaced_none version fields none (Edited w (Chmod x y)) rest begins =
-    other_kind 5 6 _ _ (λ same. omega (arith, same)) begins.spelled
+replaced_none version fields none (Edited user (Put path bytes)) rest begins =
+    absurd (omega (
+      arith,
+      is_kind version 5 fields (Edited user (Put path bytes)) rest
+          begins.spelled,
+    ))
+replaced_none version fields none event rest begins =
+    absurd (omega (arith, is_kind version 5 fields event rest begins.spelled))
 
 pub chmod_none : (version : Version) (fields : Bytes) → IsReading IsChmodOf chmod_spelling fields
     None → IsReading (IsSpelledEventIn version) (event_spelling_in version) (6 ∷ fields) None
@@ -307,13 +253,5 @@ chmod_none version fields none (Edited user (Chmod path mode)) rest begins =
       lawful = ((begins.lawful.0.0, begins.lawful.0.1.0), begins.lawful.0.1.1);
       spelled = ap rest_of (begins.spelled ∙ chmod_parts version user path mode rest);
     })
-chmod_none version fields none (Edited w (Put x y)) rest begins =
-    other_kind 6 1 _ _ (λ same. omega (arith, same)) begins.spelled
-chmod_none version fields none (Edited w (MakeDir x)) rest begins =
-    other_kind 6 2 _ _ (λ same. omega (arith, same)) begins.spelled
-chmod_none version fields none (Edited w (Remove x)) rest begins =
-    other_kind 6 3 _ _ (λ same. omega (arith, same)) begins.spelled
-chmod_none version fields none (Began w) rest begins =
-    other_kind 6 4 _ _ (λ same. omega (arith, same)) begins.spelled
-chmod_none version fields none (Replaced t p k new) rest begins =
-    other_kind 6 5 _ _ (λ same. omega (arith, same)) begins.spelled
+chmod_none version fields none event rest begins =
+    absurd (omega (arith, is_kind version 6 fields event rest begins.spelled))

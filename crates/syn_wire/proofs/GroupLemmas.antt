@@ -13,11 +13,13 @@ use Rattle.syn_model.specs.Limits.{only_name, children}
 use Rattle.syn_model.proofs.PathLemmas.{path_total, same_name, same_path, name_itself, path_itself}
 use Rattle.syn_placed.specs.Pairs.{Pairs, is_within, within, under}
 use Rattle.syn_placed.proofs.OrderLemmas.{not_before, between}
-use Rattle.syn_placed.proofs.RisingLemmas.{Rising, After, NoneOf, each-map, filter-drops}
+use Rattle.syn_placed.proofs.RisingLemmas.{Rising, After, NoneOf, filter-drops, none_within}
 use Rattle.syn_placed.proofs.FindLemmas.{find_after}
 use Rattle.syn_placed.proofs.TreeLemmas.{rising-entries, within-taken, entries-subtree, taken}
 use Rattle.syn_placed.proofs.FindLemmas.{after_more}
 use Rattle.syn_tree.proofs.RootedLemmas.{is_rooted}
+use Rattle.syn_model.proofs.BaseLemmas.{each_with}
+use Rattle.syn_model.proofs.PathLemmas.{not_less}
 
 -- the names in a directory, of the pairs below it
 abbrev pub tops : Pairs → List (Name × Content)
@@ -39,9 +41,6 @@ no_prefix at p less = elim (is_prefix at p) as (λ b. is_prefix at p ≡ b → b
   | true ↦ λ is. absurd (true≢false (sym (ap is_lt less) ∙ not_before at p is))
   | false ↦ λ _. refl
 ] refl
-
-later_low : (p q : Path) → path_cmp p q ≡ Less → is_lt (path_cmp q p) ≡ false
-later_low p q less = ap is_lt (path_total.antisymm q p ∙ ap ordering_reverse less)
 
 -- what is one name is no longer path
 not_longer : (m n k : Name) (q : Path) → eq_by_cmp path_cmp (m ∷ []) (n ∷ k ∷ q) ≡ false
@@ -72,17 +71,6 @@ below_less n m q h = by_name (name_cmp n m) refl h
     by_name Less e k = ap (λ o. ordering_then o (path_cmp q [])) e
     by_name Equal e k = absurd (true≢false (sym (ap is_lt k)))
     by_name Greater e k = absurd (true≢false (sym (ap is_lt k)))
-
--- nothing is below a place that an earlier pair is after
-none_within : (at p : Path) (es : Pairs) → After p es → is_lt (path_cmp p at) ≡ false →
-    is_prefix at p ≡ false → NoneOf (is_within at) es
-none_within at p es h low out =
-    each-map (λ e. path_cmp p e.0 ≡ Less) (λ e. is_within at e ≡ false)
-    (λ e less. never e less (is_within at e) refl) es h
-  where
-    never : (e : Pair) → path_cmp p e.0 ≡ Less → (b : Bool) → is_within at e ≡ b → b ≡ false
-    never e less true k = absurd (true≢false (sym (between at p e.0 low less k) ∙ out))
-    never e less false k = refl
 
 -- ---- groups
 
@@ -178,7 +166,7 @@ grouped n (([], c) ∷ es) a r h = absurd (true≢false (sym (ap is_lt a.0)))
 grouped n ((m ∷ [], c) ∷ es) a r h =
     let e : Pair = (m ∷ [], c) in
     let rest = grouped m es r.0 r.1 (led_top n m c es a.0 r.0 h) in
-    let low = later_low (n ∷ []) (m ∷ []) a.0 in
+    let low = not_less (n ∷ []) (m ∷ []) a.0 in
     let out = apart n m a.0 in
     let none = filter-drops (is_within (n ∷ [])) es
     (none_within (n ∷ []) (m ∷ []) es r.0 low out) in

@@ -1,3 +1,4 @@
+pub mod ManyLemmas
 pub mod NameLemmas
 pub mod NumberLemmas
 pub mod Sequences

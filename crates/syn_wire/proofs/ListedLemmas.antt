@@ -19,8 +19,7 @@ use Rattle.syn_model.specs.Tree.{Tree, Content, Pair, Directory, File, subtree, 
 use Rattle.syn_model.specs.Limits.{children, only_name}
 use Rattle.syn_model.proofs.PathLemmas.{name_total, path_itself, same_name, strip_prefix-append}
 use Rattle.syn_placed.specs.Pairs.{Pairs, rooted, under}
-use Rattle.syn_placed.proofs.OrderLemmas.{under_order}
-use Rattle.syn_placed.proofs.RisingLemmas.{Rising, After, each-append, each-map, are_rising}
+use Rattle.syn_placed.proofs.RisingLemmas.{Rising, After, are_rising}
 use Rattle.syn_placed.proofs.RisingLemmas.{rising_of, each-both}
 use Rattle.syn_placed.proofs.TreeLemmas.{entries-rising, entries-subtree, get-rising, taken}
 use Rattle.syn_wire.specs.inner.Kinds.{Kind, IsContentOf, IsFileOf, file_spelling_of, spelling_of}
@@ -31,6 +30,8 @@ use Rattle.syn_wire.proofs.GroupLemmas.{tops}
 use Rattle.syn_wire.proofs.KindLemmas.{unfolds}
 use Rattle.syn_wire.proofs.PartsLemmas.{child_name, own_pair}
 use Rattle.syn_model.specs.Spelling.{content_spelling}
+use Rattle.syn_model.proofs.BaseLemmas.{each_append, each_with}
+use Rattle.syn_model.proofs.SubtreeLemmas.{under_cmp}
 
 abbrev pub Listed : Type 0
 Listed = List (Name × Pairs)
@@ -61,7 +62,7 @@ rising_parts (x ∷ xs) ys h =
 
 after_off : (at p : Path) (es : Pairs) → After (at ++ p) (under at es) → After p es
 after_off at p [] h = tt
-after_off at p (e ∷ es) h = (sym (under_order at p e.0) ∙ h.0, after_off at p es h.1)
+after_off at p (e ∷ es) h = (sym (under_cmp at p e.0) ∙ h.0, after_off at p es h.1)
 
 rising_off : (at : Path) (es : Pairs) → Rising (under at es) → Rising es
 rising_off at [] h = tt
@@ -135,7 +136,7 @@ all_taken (l ∷ listed) b h =
       filter_map-append (taken_off (l.0 ∷ [])) (under (l.0 ∷ []) l.1) (listed_pairs listed)
           ∙ (ap₂ (λ xs ys. xs ++ ys) (own_taken (l.0 ∷ []) l.1) (none_taken l.0 listed others)
           ∙ append-nil l.1),
-      each-map (λ k. Differ l.0 k.0 × (taken (k.0 ∷ []) (listed_pairs listed) ≡ k.1))
+      each_with (λ k. Differ l.0 k.0 × (taken (k.0 ∷ []) (listed_pairs listed) ≡ k.1))
           (λ k. taken (k.0 ∷ []) (listed_pairs (l ∷ listed)) ≡ k.1)
           (λ k two. filter_map-append (taken_off (k.0 ∷ [])) (under (l.0 ∷ []) l.1)
           (listed_pairs listed)
@@ -216,7 +217,7 @@ module _ (kind : Kind) where
       let t : Tree = from_sorted (rooted (listed_pairs listed)) in
       let all = entries-rising (rooted (listed_pairs listed)) h in
       let parts = parts_rise listed h.1 in
-      let below = each-map (λ l. Rising l.1 × (taken (l.0 ∷ []) (listed_pairs listed) ≡ l.1))
+      let below = each_with (λ l. Rising l.1 × (taken (l.0 ∷ []) (listed_pairs listed) ≡ l.1))
       (λ l. subtree t (l.0 ∷ []) ≡ from_sorted l.1)
       (λ l two. same_entries_map (subtree t (l.0 ∷ [])) (from_sorted l.1) (entries-subtree t
       (l.0 ∷ []) ∙ (ap (taken (l.0 ∷ [])) all ∙ (two.1 ∙ sym (entries-rising l.1 two.0)))))
@@ -305,7 +306,7 @@ module _ (kind : Kind) where
         listed = listed ++ one ∷ [];
         counted = length-append listed (one ∷ []) ∙ ap (λ k. k + 1) h.counted;
         begin =
-            each-append (λ l. BeginAtRoot l.1) listed (one ∷ []) h.begin
+            each_append (λ l. BeginAtRoot l.1) listed (one ∷ []) h.begin
             (record { content = part.2.content; below = part.2.below; whole = part.2.whole }, tt);
         added =
             part.1 ∙ (ap₂ (λ es p. es ++ under p part.0) h.added child.lawful.below
@@ -331,7 +332,7 @@ module _ (kind : Kind) where
             ++ spelling_of kind (from_sorted l.1)) listed (one ∷ [])))));
         files = subst (AreContentsOf kind)
             (sym (flat_map-append (λ (l : Name × Pairs). under (l.0 ∷ []) l.1) listed (one ∷ [])))
-            (each-append (λ e. IsContentOf kind e.1) (listed_pairs listed)
+            (each_append (λ e. IsContentOf kind e.1) (listed_pairs listed)
             (under (name ∷ []) part.0 ++ []) h.files
             (subst (AreContentsOf kind) (sym (append-nil (under (name ∷ []) part.0)))
             (files_under (name ∷ []) part.0 part.2.files)));

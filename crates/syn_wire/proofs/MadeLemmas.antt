@@ -25,8 +25,7 @@ use Rattle.syn_model.proofs.VersionLemmas.{tree_now}
 use Rattle.syn_tree.proofs.LawfulLemmas.{each-find}
 use Rattle.syn_tree.proofs.CheckLemmas.{one_fits}
 use Rattle.syn_tree.proofs.PlaceableLemmas.{fits-path}
-use Rattle.syn_placed.proofs.RisingLemmas.{sorted_of}
-use Rattle.syn_placed.proofs.TreeLemmas.{entries-absent, entries-one, from_entries-same}
+use Rattle.syn_placed.proofs.TreeLemmas.{entries-absent, from_entries-same}
 use Rattle.syn_wire.specs.Contents.{IsBriefFileIn}
 use Rattle.syn_wire.specs.Reads.{BeginsWith, IsReading, NothingStands}
 use Rattle.syn_wire.specs.Trees.{NoTreeBeginsAnother, IsDirectoryTree, IsDirectoryTreeIn}
@@ -39,6 +38,8 @@ use Rattle.syn_wire.proofs.NameLemmas.{first_or}
 use Rattle.syn_wire.proofs.NodeLemmas.{file_spelled}
 use Rattle.syn_wire.proofs.NumberLemmas.{u16_tells}
 use Rattle.syn_wire.proofs.PartsLemmas.{file_at, directory_at, parts_in, parts_stand}
+use Rattle.syn_model.proofs.BaseLemmas.{is_true}
+use Rattle.syn_model.proofs.RowLemmas.{entries-at_root}
 
 -- ---- limits
 
@@ -140,7 +141,7 @@ are_entries version t list h all =
     let same : t ≡ tree_with list =
     sym (ap (λ es. from_sorted {R = path_cmp} es) all ∙ from_entries-same t) in
     record {
-      rising = subst AreRising (sym all) (sorted_of _ (entries_sorted t));
+      rising = subst AreRising (sym all) (is_true _ (entries_sorted t));
       tree = subst IsTree same (tree_now version t h.tree);
       part = ap fits_part (sym same) ∙ h.fits;
       paths = ap fits_paths (sym same) ∙ h.paths;
@@ -179,7 +180,7 @@ directory_made version fields below above count old list left u found is_root em
     ∙ under_root read.0 in
     let whole : rooted read.0 ≡ entries u = ap rooted (sym pairs) ∙ all in
     let rising : AreRising (rooted read.0) =
-    subst AreRising (sym whole) (sorted_of _ (entries_sorted u)) in
+    subst AreRising (sym whole) (is_true _ (entries_sorted u)) in
     let same : from_sorted (rooted read.0) ≡ u = ap (λ es. from_sorted {R = path_cmp} es) whole
     ∙ from_entries-same u in
     record {
@@ -238,7 +239,7 @@ file_read version fields file after found short = record {
     part = at_root-is_part (File file) (λ c same. subst (AreLawfulContentsIn version)
         (same_file file c same) found.lawful.0);
     fits = one_fits (File file) (le-leb (length file.bytes) 16384 short);
-    paths = ap (list_all (λ pair. fits_path pair.0)) (entries-one (File file));
+    paths = ap (list_all (λ pair. fits_path pair.0)) (entries-at_root (File file));
   };
   spelled = ap (λ b. 1 ∷ b) found.spelled ∙ ap (λ b. b ++ after) (sym (file_spelled version file));
 }

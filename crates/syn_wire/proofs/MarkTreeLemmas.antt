@@ -11,7 +11,6 @@ use Rattle.syn_model.specs.Mark.{IsMarks, IsMarksIn}
 use Rattle.syn_model.specs.MarkSpelling.{NoMarkSpellingBeginsAnother, mark_spelling_in}
 use Rattle.syn_mark.specs.Marks.{AreMarks, marks_with}
 use Rattle.syn_placed.specs.Pairs.{Pairs, AreRising, under}
-use Rattle.syn_placed.proofs.RisingLemmas.{sorted_of}
 use Rattle.syn_placed.proofs.TreeLemmas.{entries-absent, from_entries-same}
 use Rattle.syn_model.proofs.VersionLemmas.{marks_now}
 use Rattle.syn_model.specs.Version.{Version}
@@ -25,6 +24,7 @@ use Rattle.syn_wire.proofs.MadeLemmas.{absent_lawful, paths_stand, under_root}
 use Rattle.syn_wire.proofs.MarkLemmas.{few_nodes, few_paths, mark_unfolds}
 use Rattle.syn_wire.proofs.NameLemmas.{first_or}
 use Rattle.syn_model.specs.Spelling.{content_spelling}
+use Rattle.syn_model.proofs.BaseLemmas.{is_true}
 
 marks_at_root : (version : Version) (t : Tree) → IsMarkTreeIn version t → StandsAt (OfMarks version)
     root t
@@ -70,7 +70,7 @@ module _ (version : Version) (bytes : Bytes) (at : Path) (old list : Pairs) (is_
   not_marks left read none t rest begins =
       let same : t ≡ marks_with (entries t) = sym (from_entries-same t) in
       none (subst AreMarks (sym (the_marks (Some left) read t rest begins).1) (record {
-        rising = sorted_of _ (entries_sorted t);
+        rising = is_true _ (entries_sorted t);
         present = subst (λ u. is_present u root ≡ true) same begins.lawful.present;
         marks = subst IsMarks same (marks_now version t begins.lawful.optional.marks);
         fits = subst (λ u. fits_archive u ≡ true) same begins.lawful.optional.fits;
@@ -85,7 +85,7 @@ module _ (version : Version) (bytes : Bytes) (at : Path) (old list : Pairs) (is_
       ∙ (ap₂ (λ es p. es ++ under p read.0) empty is_root ∙ under_root read.0) in
       let whole : read.0 ≡ entries t = sym pairs ∙ all in
       let rising : AreRising read.0 =
-      subst AreRising (sym whole) (sorted_of _ (entries_sorted t)) in
+      subst AreRising (sym whole) (is_true _ (entries_sorted t)) in
       let same : from_sorted read.0 ≡ t = ap (λ es. from_sorted {R = path_cmp} es) whole
       ∙ from_entries-same t in
       record {

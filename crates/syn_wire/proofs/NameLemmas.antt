@@ -9,14 +9,9 @@ use Rattle.std.proofs.lemmas.List.{length-append, take_more}
 use Rattle.std.proofs.lemmas.Grind.{flat_map-append}
 use Rattle.syn_model.specs.Path.{Bytes, Name, Path, IsName, IsPath, path_spelling}
 use Rattle.syn_wire.specs.Reads.{BeginsWith, NoneBeginsAnother}
-use Rattle.syn_wire.specs.inner.Names.{AreNames, name_spelling, names_spelling}
-
--- lists of one length that go on to one list are one, and so is what follows
-pub split : (a b r s : Bytes) → length a ≡ length b → a ++ r ≡ b ++ s → (a ≡ b) × (r ≡ s)
-split a b r s l e = (
-  sym (take-append_seam a r) ∙ (ap₂ take l e ∙ take-append_seam b s),
-  sym (drop-append_seam a r) ∙ (ap₂ drop l e ∙ drop-append_seam b s),
-)
+use Rattle.syn_wire.specs.Names.{AreNames, name_spelling, names_spelling}
+use Rattle.syn_model.proofs.SpellingLemmas.{split}
+use Rattle.syn_wire.proofs.ManyLemmas.{same_many}
 
 abbrev pub first_or : Bytes → ℕ → ℕ
 first_or [] d = d
@@ -43,81 +38,10 @@ front_lawful first bytes after front back parts all counted value rest begins =
     (sym all ∙ ap rest_of whole) in
     subst IsName (sym same.0) begins.lawful
 
-names_of : (names : Path) (r : Bytes) (n : Name) →
-    names_spelling (n ∷ names) ++ r ≡ name_spelling n ++ (names_spelling names ++ r)
-names_of names r n = append_assoc (name_spelling n) (names_spelling names) r
-
--- names that go on to one list of bytes begin alike
-pub fronts : (p q : Path) (more : Path) (r s : Bytes) → All IsName p → All IsName (q ++ more) →
-    length p ≡ length q → names_spelling p ++ r ≡ names_spelling (q ++ more) ++ s →
-    (p ≡ q) × (r ≡ names_spelling more ++ s)
-fronts [] [] more r s hp hq l e = (refl, e)
-fronts [] (m ∷ q) more r s hp hq l e = absurd (omega arith)
-fronts (n ∷ p) [] more r s hp hq l e = absurd (omega arith)
-fronts (n ∷ p) (m ∷ q) more r s hp hq l e =
-    let both = names_tell n m (names_spelling p ++ r) (names_spelling (q ++ more) ++ s)
-    (All-head IsName n p hp) (All-head IsName m (q ++ more) hq)
-    (sym (names_of p r n) ∙ (e ∙ names_of (q ++ more) s m)) in
-    let rest = fronts p q more r s (All-tail IsName n p hp) (All-tail IsName m (q ++ more) hq)
-    (omega arith) both.1 in
-    (ap₂ (λ x xs. x ∷ xs) both.0 rest.0, rest.1)
-
 pub paths_tell : NoneBeginsAnother IsPath path_spelling
 paths_tell p q r s hp hq e =
-    let count : length p ≡ length q = ap (λ xs. first_or xs 0) e in
-    let both = fronts p q [] r s hp.names (subst (All IsName) (sym (append-nil q)) hq.names) count
-    (ap rest_of e ∙ ap (λ xs. names_spelling xs ++ s) (sym (append-nil q))) in
-    both
-
--- so many names that begin the bytes go on with one more
-pub next_name : (i count : ℕ) (names : Path) (rest : Bytes) (bytes : Bytes) (all : Path)
-    (more : Bytes) → AreNames i names → bytes ≡ names_spelling names ++ rest → i < count →
-    BeginsWith (AreNames count) names_spelling bytes all more →
-    (n : Name) × (after : Bytes) × BeginsWith IsName name_spelling rest n after
-next_name i count names rest bytes all more h e l begins =
-    let long : i < length all = omega (arith, begins.lawful.counted) in
-    let parts = part all i long in
-    let f = fronts names parts.0 (parts.1 ∷ parts.2) rest more h.lawful
-    (subst (All IsName) parts.3 begins.lawful.lawful) (h.counted ∙ sym parts.4)
-    (sym e ∙ (begins.spelled ∙ ap (λ p. names_spelling p ++ more) parts.3)) in (
-      parts.1,
-      names_spelling parts.2 ++ more,
-      record {
-        lawful =
-            All-head IsName parts.1 parts.2 (after_front parts.0 (parts.1 ∷ parts.2)
-            (subst (All IsName) parts.3 begins.lawful.lawful));
-        spelled = f.1 ∙ names_of parts.2 more parts.1;
-      },
-    )
-  where
-    part : (p : Path) (i : ℕ) →
-        i < length p → (a : Path) × (n : Name) × (b : Path) × (p ≡ a ++ n ∷ b) × (length a ≡ i)
-    part [] i l = absurd (omega arith)
-    part (n ∷ p) zero l = ([], n, p, refl, refl)
-    part (n ∷ p) (suc i) l =
-        let rest = part p i (omega arith) in
-        (n ∷ rest.0, rest.1, rest.2, ap (λ xs. n ∷ xs) rest.3, ap suc rest.4)
-
-    after_front : (a b : Path) → All IsName (a ++ b) → All IsName b
-    after_front [] b h = h
-    after_front (n ∷ a) b h = after_front a b (All-tail IsName n (a ++ b) h)
-
--- one more name was read
-pub one_more : (i : ℕ) (names : Path) (n : Name) (bytes rest after : Bytes) → AreNames i names →
-    bytes ≡ names_spelling names ++ rest → BeginsWith IsName name_spelling rest n after →
-    AreNames (i + 1) (names ++ n ∷ []) × (bytes ≡ names_spelling (names ++ n ∷ []) ++ after)
-one_more i names n bytes rest after h e found = (
-  record {
-    counted = length-append names (n ∷ []) ∙ ap (λ k. k + 1) h.counted;
-    lawful =
-        All-append IsName names (n ∷ []) h.lawful
-        (All-cons IsName n [] found.lawful (All-nil IsName));
-  },
-  e ∙ (ap (λ xs. names_spelling names ++ xs)
-      (found.spelled ∙ ap (λ xs. xs ++ after) (sym (append-nil (name_spelling n))))
-      ∙ (sym (append_assoc (names_spelling names) (names_spelling (n ∷ [])) after) ∙ ap
-      (λ xs. xs ++ after) (sym (flat_map-append (λ name. length name ∷ name) names (n ∷ []))))),
-)
+    same_many IsName name_spelling names_tell p q r s hp.names hq.names
+    (ap (λ xs. first_or xs 0) e) (ap rest_of e)
 
 -- the names that were read are those of the path that the bytes begin with
 pub path_of_names : (count : ℕ) (names : Path) (bytes rest : Bytes) (path : Path) (more : Bytes) →
@@ -125,11 +49,9 @@ pub path_of_names : (count : ℕ) (names : Path) (bytes rest : Bytes) (path : Pa
     BeginsWith IsPath path_spelling (count ∷ bytes) path more → IsPath names
 path_of_names count names bytes rest path more read begins =
     let counts : count ≡ length path = ap (λ xs. first_or xs 0) begins.spelled in
-    let same = fronts names path [] rest more read.lawful.lawful
-    (subst (All IsName) (sym (append-nil path)) begins.lawful.names)
-    (read.lawful.counted ∙ counts)
-    (sym read.spelled ∙ (ap rest_of begins.spelled
-    ∙ ap (λ xs. names_spelling xs ++ more) (sym (append-nil path)))) in
+    let same = same_many IsName name_spelling names_tell names path rest more read.lawful.each
+    begins.lawful.names (read.lawful.counted ∙ counts)
+    (sym read.spelled ∙ ap rest_of begins.spelled) in
     subst IsPath (sym same.0) begins.lawful
 
 -- what a pattern of a first byte and the others takes apart

@@ -11,7 +11,7 @@ use Rattle.syn_model.specs.Limits.{children, fits_content, fits_part}
 use Rattle.syn_model.specs.Spelling.{spelling_in, content_spelling}
 use Rattle.syn_model.proofs.HistoryLemmas.{get-at_root}
 use Rattle.syn_model.proofs.SpellingLemmas.{spelling_unfolds}
-use Rattle.syn_placed.proofs.TreeLemmas.{entries-one}
+use Rattle.syn_model.proofs.RowLemmas.{entries-at_root}
 
 pub absent_spelled : (version : Version) → spelling_in version absent ≡ 0 ∷ []
 absent_spelled version =
@@ -32,7 +32,7 @@ file_brief contents h =
     let bytes = contents.bytes in
     let t = at_root (File contents) in
     let one = ap (list_all (λ pair. fits_content pair.1 && nat_le (length (children t pair.0)) 256))
-    (sym (entries-one (File contents))) ∙ h in
+    (sym (entries-at_root (File contents))) ∙ h in
     leb-true (length bytes) 16384
     (and_parts (nat_le (length bytes) 16384) (nat_le (length (children t root)) 256) (and_parts
     (nat_le (length bytes) 16384 && nat_le (length (children t root)) 256) true one).0).0

@@ -4,7 +4,7 @@ use Rattle.std.specs.Int.{from_be_bytes, to_be_bytes, w16, w32, w64}
 use Rattle.std.proofs.lemmas.Nat.{from_be_bytes-to_be_bytes_2, from_be_bytes-to_be_bytes_4}
 use Rattle.std.proofs.lemmas.Nat.{from_be_bytes-to_be_bytes_8}
 use Rattle.syn_wire.specs.Laws.{NoU16BeginsAnother, NoU32BeginsAnother, NoU64BeginsAnother}
-use Rattle.syn_wire.proofs.NameLemmas.{split}
+use Rattle.syn_model.proofs.SpellingLemmas.{split}
 
 pub u16_tells : NoU16BeginsAnother
 u16_tells v w r s hv hw e =

@@ -19,9 +19,8 @@ use Rattle.syn_model.specs.Limits.{children}
 use Rattle.syn_model.proofs.TreeLemmas.{get-subtree}
 use Rattle.syn_model.proofs.HistoryLemmas.{no_file}
 use Rattle.syn_placed.specs.Pairs.{Pairs, under}
-use Rattle.syn_placed.proofs.RisingLemmas.{each-map}
 use Rattle.syn_wire.specs.inner.Kinds.{Kind, IsFileOf, IsPartOf, file_spelling_of, spelling_of}
-use Rattle.syn_wire.specs.inner.Names.{name_spelling}
+use Rattle.syn_wire.specs.Names.{name_spelling}
 use Rattle.syn_wire.specs.Reads.{BeginsWith, IsReading, NoneBeginsAnother}
 use Rattle.syn_wire.specs.Trees.{last_name_spelling}
 use Rattle.syn_wire.specs.inner.Parts.{IsChildOf, Parts, ReadsPart, ReadsParts, StandIn, StandsAt}
@@ -31,6 +30,8 @@ use Rattle.syn_wire.proofs.KindLemmas.{unfolds, is_part, is_file, has_few, is_pa
 use Rattle.syn_wire.proofs.NameLemmas.{first_or, rest_of, names_tell}
 use Rattle.syn_wire.proofs.WalkLemmas.{children_present}
 use Rattle.syn_model.specs.Spelling.{content_spelling}
+use Rattle.syn_model.proofs.BaseLemmas.{each_with}
+use Rattle.syn_model.proofs.SpellingLemmas.{heads_differ}
 
 -- the pair of the path itself
 pub own_pair : (at : Path) (c : Content) → ◌≡◌ {A = Pair} (at ++ root, c) (at, c)
@@ -97,9 +98,6 @@ children_tell above p q r s hp hq e =
     (hp.below ∙ (ap (λ n. above ++ n ∷ []) same.0 ∙ sym hq.below), same.1)
 
 -- ---- what a kind says
-
-kinds_differ : {X : Type 0} (a b : ℕ) (x y : Bytes) → a ≢ b → a ∷ x ≡ b ∷ y → X
-kinds_differ a b x y differ e = absurd (differ (ap (λ z. first_or z 0) e))
 
 -- spelled as a file
 pub record IsFileAt (kind : Kind) (t : Tree) (fields rest : Bytes) : Type 0 where
@@ -182,10 +180,10 @@ module _ (kind : Kind) where
       by_content : (o : Option Content) → get t root ≡ o →
           1 ∷ fields ≡ content_begins t (get t root) ++ rest → IsFileAt kind t fields rest
       by_content None is k =
-          kinds_differ 1 0 _ _ (λ same. omega (arith, same))
+          heads_differ 1 0 _ _ (λ same. omega (arith, same))
           (k ∙ ap (λ o. content_begins t o ++ rest) is)
       by_content (Some Directory) is k =
-          kinds_differ 1 2 _ _ (λ same. omega (arith, same))
+          heads_differ 1 2 _ _ (λ same. omega (arith, same))
           (k ∙ ap (λ o. content_begins t o ++ rest) is)
       by_content (Some (File c)) is k = record {
         contents = c;
@@ -205,10 +203,10 @@ module _ (kind : Kind) where
       by_content : (o : Option Content) → get t root ≡ o →
           2 ∷ fields ≡ content_begins t (get t root) ++ rest → IsDirectoryAt kind t fields rest
       by_content None is k =
-          kinds_differ 2 0 _ _ (λ same. omega (arith, same))
+          heads_differ 2 0 _ _ (λ same. omega (arith, same))
           (k ∙ ap (λ o. content_begins t o ++ rest) is)
       by_content (Some (File c)) is k =
-          kinds_differ 2 1 _ _ (λ same. omega (arith, same))
+          heads_differ 2 1 _ _ (λ same. omega (arith, same))
           (k ∙ ap (λ o. content_begins t o ++ rest) is)
       by_content (Some Directory) is k =
           let named = λ (x : Name × Content). length x.0 ∷ x.0
@@ -253,7 +251,7 @@ module _ (kind : Kind) where
   parts_stand at t h =
       each_of_map (λ part. StandsAt kind (at ++ part.0 ∷ []) part.1)
       (λ x. (x.0, subtree t (x.0 ∷ []))) (children t root)
-      (each-map (λ x. is_present (subtree t (x.0 ∷ [])) root ≡ true)
+      (each_with (λ x. is_present (subtree t (x.0 ∷ [])) root ≡ true)
       (λ x. StandsAt kind (at ++ x.0 ∷ []) (subtree t (x.0 ∷ []))) (λ x there. one x.0 there)
       (children t root) (children_present t))
     where

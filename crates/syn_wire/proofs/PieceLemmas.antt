@@ -23,6 +23,7 @@ use Rattle.syn_tree.proofs.PartLemmas.{subtree-parents}
 use Rattle.syn_tree.proofs.RootedLemmas.{is_rooted, below_part}
 use Rattle.syn_wire.specs.Trees.{last_name_spelling, standing_spelling, pair_spelling}
 use Rattle.syn_wire.proofs.WalkLemmas.{spelling_walks}
+use Rattle.syn_tree.proofs.FitLemmas.{all-find}
 
 -- a longer path has the same last name
 later_name : (at : Path) (n : Name) (p : Path) →
@@ -71,18 +72,6 @@ all_filter p q (e ∷ es) h =
     elim (q e) as (λ b. list_all p (cond b (e ∷ filter q es) (filter q es)) ≡ true)
     [ true ↦ and_from (p e) (list_all p (filter q es)) both.0 rest | false ↦ rest ]
 
-found_passes : (p : Pair → Bool) (at : Path) (c : Content) (es : Pairs) →
-    list_all p es ≡ true → find path_cmp at es ≡ Some c → p (at, c) ≡ true
-found_passes p at c [] h is = absurd (none-some c is)
-found_passes p at c (e ∷ es) h is =
-    let both = and_parts (p e) (list_all p es) h in
-    elim (eq_by_cmp path_cmp at e.0) as (λ b. eq_by_cmp path_cmp at e.0 ≡ b →
-    cond b (Some e.1) (find path_cmp at es) ≡ Some c → p (at, c) ≡ true) [
-      | true ↦ λ tie same. ap₂ (λ (q : Path) (d : Content). p (q, d)) (same_path at e.0 tie)
-          (sym (same_Some _ _ same)) ∙ both.0
-      | false ↦ λ _ later. found_passes p at c es both.1 later
-    ] refl is
-
 few : (n : ℕ) → nat_le n 256 ≡ true → n < 2 ^ 16
 few n h = let small = leb-true n 256 h in omega (arith, small)
 
@@ -99,7 +88,7 @@ pub found_fits : (t : Tree) (at : Path) (c : Content) → fits_part t ≡ true �
 unfolding fit
 found_fits t at c fits is =
     both_limits t (at, c)
-    (found_passes (fit t) at c (entries t) fits (sym (get-entries t at) ∙ is))
+    (all-find (fit t) at c (entries t) fits (sym (get-entries t at) ∙ is))
 
 -- and so does each of the pairs below a place
 pub below_fits : (t : Tree) (at : Path) (read : Pairs) (x : Pair) (left : Pairs) →

@@ -26,12 +26,14 @@ use Rattle.syn_model.proofs.SubtreeLemmas.{subtree_children, subtree_smaller}
 use Rattle.syn_model.proofs.SpellingLemmas.{spelling_unfolds}
 use Rattle.syn_placed.specs.Pairs.{Pairs, under}
 use Rattle.syn_tree.proofs.PartLemmas.{subtree-parents}
-use Rattle.syn_placed.proofs.RisingLemmas.{Rising, After, each-map}
+use Rattle.syn_placed.proofs.RisingLemmas.{Rising, After}
 use Rattle.syn_placed.proofs.TreeLemmas.{rising-entries}
 use Rattle.syn_wire.specs.Trees.{last_name_spelling, standing_by, standing_spelling, pair_by}
 use Rattle.syn_wire.specs.Trees.{pair_spelling, SpellingIsWalk, SpellingIsMeasured}
 use Rattle.syn_tree.proofs.RootedLemmas.{IsRooted, is_rooted}
 use Rattle.syn_wire.proofs.GroupLemmas.{file_alone, directory_grouped}
+use Rattle.syn_model.proofs.BaseLemmas.{each_with}
+use Rattle.syn_model.proofs.LengthLemmas.{found_each}
 
 -- ---- the names in a directory
 
@@ -41,21 +43,11 @@ still_some n x xs h =
     elim (eq_by_cmp name_cmp n x.0)
     as (λ b. is_some (cond b (Some x.1) (find name_cmp n xs)) ≡ true) [ true ↦ refl | false ↦ h ]
 
-found_each : (xs : List (Name × Content)) →
-    AllByRecursion (λ x. is_some (find name_cmp x.0 xs) ≡ true) xs
-found_each [] = tt
-found_each (x ∷ xs) = (
-  ap (λ b. is_some (cond b (Some x.1) (find name_cmp x.0 xs))) (name_itself x.0),
-  each-map (λ y. is_some (find name_cmp y.0 xs) ≡ true)
-      (λ y. is_some (find name_cmp y.0 (x ∷ xs)) ≡ true)
-      (λ y h. still_some y.0 x xs h) xs (found_each xs),
-)
-
 -- something stands at each name in a directory
 pub children_present : (t : Tree) →
     AllByRecursion (λ x. is_present (subtree t (x.0 ∷ [])) root ≡ true) (children t root)
 children_present t =
-    each-map (λ x. is_some (find name_cmp x.0 (children t root)) ≡ true)
+    each_with (λ x. is_some (find name_cmp x.0 (children t root)) ≡ true)
     (λ x. is_present (subtree t (x.0 ∷ [])) root ≡ true)
     (λ x h. ap is_some (get-subtree t (x.0 ∷ []) root ∙ get-children t root x.0) ∙ h)
     (children t root) (found_each (children t root))
@@ -131,7 +123,7 @@ module _ (file : Contents → Bytes) (spell : Tree → Bytes)
           unfolds t ∙ (ap (content_spelling file spell t) e
           ∙ (ap (λ b. 2 ∷ to_be_bytes w16 (length (children t root)) ++ b)
           (walked_names t (children t root)
-          (each-map (λ x. is_present (subtree t (x.0 ∷ [])) root ≡ true)
+          (each_with (λ x. is_present (subtree t (x.0 ∷ [])) root ≡ true)
           (λ x. length x.0 ∷ x.0 ++ spell (subtree t (x.0 ∷ []))
           ≡ flat_map (pair_by file t) (under (x.0 ∷ []) (entries (subtree t (x.0 ∷ [])))))
           (λ x there. named_part t x.0 there (below x.0 there)) (children t root)

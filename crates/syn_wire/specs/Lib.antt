@@ -1,5 +1,6 @@
 pub mod Refusals
 pub mod Reads
+pub mod Names
 pub mod Versions
 pub mod Contents
 pub mod Laws

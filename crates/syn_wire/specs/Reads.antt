@@ -1,5 +1,5 @@
 -- What it is to read a value from the front of bytes.
-use Rattle.std.specs.Prelude.{◌≡◌, ℕ, List, ◌++◌, Option, Some, None, Result, Ok, Err}
+use Rattle.std.specs.Prelude.{◌≡◌, ℕ, List, ◌++◌, length, All, Option, Some, None, Result, Ok, Err}
 use Rattle.syn_wire.specs.declared.error.ReadError.{ReadError}
 use Rattle.syn_wire.specs.declared.error.ReadError.TheVariants.{Malformed}
 
@@ -37,3 +37,9 @@ NoneBeginsAnother {V} IsLawful spelling = (v w : V) (r s : List ℕ) → IsLawfu
 -- changed
 abbrev pub IsBeginning : List ℕ → List ℕ → Type 0
 IsBeginning old new = (added : List ℕ) × (new ≡ old ++ added)
+
+-- so many lawful values
+pub record AreSoMany {V : Type 0} (IsLawful : V → Type 0) (count : ℕ) (values : List V)
+    : Type 0 where
+  pub counted : length values ≡ count
+  pub each : All IsLawful values

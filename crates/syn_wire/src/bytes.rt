@@ -1,8 +1,9 @@
 //! Bytes with their length.
-ghost use Rattle.std.specs.Prelude.{◌≡◌, ◌<◌, ◌^◌, ◌++◌, length, OnOk};
+ghost use Rattle.std.specs.Prelude.{◌≡◌, ◌<◌, ◌^◌, ◌++◌, length, IfErr, OnOk};
 ghost use Rattle.syn_model.specs.Event.{AreBytes};
 ghost use Rattle.syn_wire.specs.Events.{IsFile, file_spelling};
 ghost use Rattle.syn_wire.specs.Reads.{IsBeginning, Reads};
+ghost use Rattle.syn_wire.specs.declared.error.ReadError.TheVariants.{Malformed};
 
 use crate::error::{ReadError, WireError};
 use crate::number::write_u32;
@@ -15,7 +16,8 @@ impl<'a> Reader<'a> {
     /// Bytes after their length of four bytes. No memory is taken, so a length is believed only
     /// once its bytes are seen.
     pub fn file(&mut self) -> Result<&'a [u8], ReadError>
-        ensures { Reads IsFile file_spelling (λ file. file.now) self.old self.new result }
+        ensures read { Reads IsFile file_spelling (λ file. file.now) self.old self.new result }
+        ensures why { IfErr result (λ e. e ≡ Malformed) }
     {
         let length = self.u32()?;
         let file = self.bytes(length as usize)?;

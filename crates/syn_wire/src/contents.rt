@@ -1,5 +1,5 @@
 //! What a file and a mark hold.
-ghost use Rattle.std.specs.Prelude.{◌≡◌, ◌++◌, ◌<◌, ◌^◌, length, OnOk};
+ghost use Rattle.std.specs.Prelude.{◌≡◌, ◌++◌, ◌<◌, ◌^◌, length, IfErr, OnOk};
 ghost use Rattle.std.specs.Int.{to_be_bytes, w16};
 ghost use Rattle.syn_model.specs.Contents.{AreLawfulContents, IsDigestIn, IsMode, IsModeIn};
 ghost use Rattle.syn_model.specs.Contents.{contents_front, contents_spelling, contents_spelling_in};
@@ -9,6 +9,7 @@ ghost use Rattle.syn_tree.specs.Modes.{mode_of};
 ghost use Rattle.syn_wire.specs.Contents.{IsBriefFileIn};
 ghost use Rattle.syn_wire.specs.Reads.{IsBeginning, Reads};
 ghost use Rattle.syn_wire.specs.Versions.{version_of};
+ghost use Rattle.syn_wire.specs.declared.error.ReadError.TheVariants.{Malformed};
 
 use crate::error::{ReadError, WireError};
 use crate::number::{write_u16, write_u32};
@@ -22,9 +23,10 @@ const DIGEST_LENGTH: usize = 32;
 impl<'a> Reader<'a> {
     /// The mode and the bytes of a file.
     pub fn contents(&mut self, version: Version) -> Result<(Mode, &'a [u8]), ReadError>
-        ensures { Reads (IsBriefFileIn (version_of version))
+        ensures read { Reads (IsBriefFileIn (version_of version))
             (contents_spelling_in (version_of version))
             (λ found. contents_with (mode_of found.0) found.1.now) self.old self.new result }
+        ensures why { IfErr result (λ e. e ≡ Malformed) }
     {
         let mode = self.mode_in(version)?;
         let file = self.file()?;
@@ -33,8 +35,10 @@ impl<'a> Reader<'a> {
 
     /// The mode and the digest of a mark.
     pub fn digest(&mut self, version: Version) -> Result<(Mode, [u8; DIGEST_LENGTH]), ReadError>
-        ensures { Reads (IsDigestIn (version_of version)) (digest_spelling_in (version_of version))
+        ensures read { Reads (IsDigestIn (version_of version))
+            (digest_spelling_in (version_of version))
             (λ found. contents_with (mode_of found.0) found.1) self.old self.new result }
+        ensures why { IfErr result (λ e. e ≡ Malformed) }
     {
         let mode = self.mode_in(version)?;
         let digest = self.array()?;
@@ -43,8 +47,9 @@ impl<'a> Reader<'a> {
 
     // A mode; the first version spells none.
     fn mode_in(&mut self, version: Version) -> Result<Mode, ReadError>
-        ensures { Reads (IsModeIn (version_of version)) (mode_spelling_in (version_of version))
+        ensures read { Reads (IsModeIn (version_of version)) (mode_spelling_in (version_of version))
             (λ mode. mode_of mode) self.old self.new result }
+        ensures why { IfErr result (λ e. e ≡ Malformed) }
     {
         match version {
             Version::One => Ok(Mode::NEW_FILE),
@@ -54,7 +59,9 @@ impl<'a> Reader<'a> {
 
     // A mode by its bits.
     pub(crate) fn mode(&mut self) -> Result<Mode, ReadError>
-        ensures { Reads IsMode (to_be_bytes w16) (λ mode. mode_of mode) self.old self.new result }
+        ensures read { Reads IsMode (to_be_bytes w16) (λ mode. mode_of mode) self.old self.new
+            result }
+        ensures why { IfErr result (λ e. e ≡ Malformed) }
     {
         let bits = self.u16()?;
         Mode::new(bits).ok_or(ReadError::Malformed)

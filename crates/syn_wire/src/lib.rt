@@ -14,7 +14,8 @@
 //!   `u64`, `name`, `path`, `token`, `file`, `contents`, `digest`, `tree`, `node`, `marks`,
 //!   `mark_tree` and `event`. What a method gives is a lawful value whose spelling stood there, and
 //!   what follows it is left. A method is `Malformed` exactly where no front of the bytes is such a
-//!   spelling (`Reads`). `ReadError::Memory` is refused memory.
+//!   spelling (`Reads`). `ReadError::Memory` is refused memory, and a method that takes no
+//!   allocator never answers it (`why`).
 //! - `decode_tree`, `decode_node` and `decode_event` read one value from the front of bytes, and
 //!   answer none where a `Reader` is `Malformed` (`IsReading`). What is written is the spelling. Of
 //!   the part that a replacement puts, the limits of each file and directory and of its paths are

@@ -2,7 +2,7 @@
 ghost use Rattle.std.specs.Prelude.{◌≡◌, ◌≤◌, ◌++◌, length, IfOk, OnOk};
 ghost use Rattle.syn_model.specs.Path.{IsName, IsPath, path_spelling};
 ghost use Rattle.syn_wire.specs.Reads.{IsBeginning, Reads};
-ghost use Rattle.syn_wire.specs.inner.Names.{AreNames, name_spelling, names_spelling};
+ghost use Rattle.syn_wire.specs.Names.{AreNames, name_spelling, names_spelling};
 
 use crate::error::{ReadError, WireError};
 use crate::reader::Reader;

@@ -46,6 +46,7 @@ impl<'a> Reader<'a> {
     pub fn end(&self) -> Result<(), ReadError>
         ensures ended { OnOk result (self.now ≡ []) }
         ensures more { IfErr result (λ _. self.now ≢ []) }
+        ensures why { IfErr result (λ e. e ≡ Malformed) }
     {
         if self.rest.is_empty() {
             Ok(())
@@ -58,6 +59,7 @@ impl<'a> Reader<'a> {
     pub fn byte(&mut self) -> Result<u8, ReadError>
         ensures read { IfOk result (λ byte. self.old ≡ byte ∷ self.new) }
         ensures end { IfErr result (λ _. self.old ≡ []) }
+        ensures why { IfErr result (λ e. e ≡ Malformed) }
     {
         let [first, rest @ ..] = self.rest else {
             return Err(ReadError::Malformed);
@@ -85,6 +87,7 @@ impl<'a> Reader<'a> {
     pub fn expect(&mut self, front: &[u8]) -> Result<(), ReadError>
         ensures passed { OnOk result (self.old ≡ front.now ++ self.new) }
         ensures other { IfErr result (λ _. (rest : _) → self.old ≢ front.now ++ rest) }
+        ensures why { IfErr result (λ e. e ≡ Malformed) }
     {
         let next = self.bytes(front.len())?;
         if next != front {
@@ -99,6 +102,7 @@ impl<'a> Reader<'a> {
         ensures length { IfOk result (λ front. length front.now ≡ count) }
         ensures bytes { IfOk result (λ front. AreBytes front.now) }
         ensures short { IfErr result (λ _. length self.old < count) }
+        ensures why { IfErr result (λ e. e ≡ Malformed) }
     {
         let Some((front, rest)) = split(self.rest, count) else {
             return Err(ReadError::Malformed);
@@ -111,6 +115,7 @@ impl<'a> Reader<'a> {
     pub fn array<const N: usize>(&mut self) -> Result<[u8; N], ReadError>
         ensures read { IfOk result (λ front. self.old ≡ front ++ self.new) }
         ensures short { IfErr result (λ _. length self.old < N) }
+        ensures why { IfErr result (λ e. e ≡ Malformed) }
     {
         let (front, rest) = self
             .rest
@@ -122,21 +127,24 @@ impl<'a> Reader<'a> {
 
     /// A number of two bytes.
     pub fn u16(&mut self) -> Result<u16, ReadError>
-        ensures { Reads (λ n. n < 2 ^ 16) (to_be_bytes w16) (λ n. n) self.old self.new result }
+        ensures read { Reads (λ n. n < 2 ^ 16) (to_be_bytes w16) (λ n. n) self.old self.new result }
+        ensures why { IfErr result (λ e. e ≡ Malformed) }
     {
         Ok(u16::from_be_bytes(self.array()?))
     }
 
     /// A number of four bytes.
     pub fn u32(&mut self) -> Result<u32, ReadError>
-        ensures { Reads (λ n. n < 2 ^ 32) (to_be_bytes w32) (λ n. n) self.old self.new result }
+        ensures read { Reads (λ n. n < 2 ^ 32) (to_be_bytes w32) (λ n. n) self.old self.new result }
+        ensures why { IfErr result (λ e. e ≡ Malformed) }
     {
         Ok(u32::from_be_bytes(self.array()?))
     }
 
     /// A number of eight bytes.
     pub fn u64(&mut self) -> Result<u64, ReadError>
-        ensures { Reads (λ n. n < 2 ^ 64) (to_be_bytes w64) (λ n. n) self.old self.new result }
+        ensures read { Reads (λ n. n < 2 ^ 64) (to_be_bytes w64) (λ n. n) self.old self.new result }
+        ensures why { IfErr result (λ e. e ≡ Malformed) }
     {
         let bytes = self.array()?;
         Ok(u64::from_be_bytes(bytes))

@@ -1,5 +1,5 @@
 -- What stands in an image before the tree: four numbers, the last token, and the touches.
-use Rattle.std.specs.Prelude.{◌≡◌, ℕ, List, length, flat_map, All, Option}
+use Rattle.std.specs.Prelude.{ℕ, List, flat_map, Option}
 use Rattle.syn_model.specs.Path.{Bytes}
 use Rattle.syn_model.specs.Event.{Token}
 use Rattle.syn_model.specs.Standing.{Touch}
@@ -8,6 +8,7 @@ use Rattle.std.specs.Option.{option_map}
 use Rattle.syn_history.specs.Events.{token_of}
 use Rattle.syn_history.specs.declared.trail.Parts.{Parts}
 use Rattle.syn_wire.specs.Events.{Both, both_spelling, IsNumber64, number64_spelling}
+use Rattle.syn_wire.specs.Reads.{AreSoMany}
 use Rattle.syn_image.specs.Images.{IsLastToken, IsTouch, AreTouches, touches_spelling}
 
 abbrev pub Two : Type 0
@@ -47,10 +48,9 @@ past_read found = (
   found.1.touches.items,
 )
 
--- so many touches
-pub record AreSoMany (count : ℕ) (touches : List Touch) : Type 0 where
-  pub counted : length touches ≡ count
-  pub each : All IsTouch touches
+-- so many lawful touches
+abbrev pub HasTouches : ℕ → List Touch → Type 0
+HasTouches = AreSoMany IsTouch
 
 abbrev pub each_spelling : List Touch → Bytes
 each_spelling touches = flat_map touch_spelling touches

@@ -1,7 +1,7 @@
 use Rattle.std.proofs.Common.{◌<◌, ◌^◌, arith}
 use Rattle.syn_message.proofs.HeadLemmas.{no_number}
-use Rattle.syn_message.proofs.WholeLemmas.{failed}
 use Rattle.syn_message.proofs.head.read_user_head.Goals as goal
+use Rattle.syn_wire.proofs.Sequences.{failed}
 
 pub returns-in_err-number : goal.returns-in_err-number
 returns-in_err-number c =
@@ -9,5 +9,5 @@ returns-in_err-number c =
     (λ e same malformed head rest begins.
     let small : head.0 < 2 ^ 64 = omega (arith, begins.lawful.none) in
     no_number c.spelling_laws.ensures.u64 c.args.reader.now c.u64.new.self c.in_ok-session.session
-    c.in_ok-session.ensures (c.in_err-number.ensures (rw (← same) malformed)) head rest
+    c.in_ok-session.ensures.read (c.in_err-number.ensures.read (rw (← same) malformed)) head rest
     small begins.lawful.number begins.spelled)

@@ -11,14 +11,14 @@ returns-in_err-entries c =
     c.from_residual-in_err-entries.ensures.1 (λ e same malformed entries lawful is.
     c.in_err-entries.ensures (rw (← same) malformed) entries []
     (counted c.spelling_laws.ensures.u16 c.args.reader.now c.u16.new.self c.in_ok-count.count
-    c.in_ok-count.ensures entries lawful is))
+    c.in_ok-count.ensures.read entries lawful is))
 
 pub returns-in_err-end : goal.returns-in_err-end
 returns-in_err-end c =
     failed_whole _ _ _ _ c.from_residual-in_err-end.result _
     c.from_residual-in_err-end.ensures.1 (λ e same malformed entries lawful is.
     let whole = counted c.spelling_laws.ensures.u16 c.args.reader.now c.u16.new.self
-    c.in_ok-count.count c.in_ok-count.ensures entries lawful is in
+    c.in_ok-count.count c.in_ok-count.ensures.read entries lawful is in
     c.in_err-end.ensures.more (one_reading c.in_ok-count.count c.u16.new.self
     c.read_each.new.reader [] (entries_of c.in_ok-entries.entries.items) entries
     c.in_ok-entries.ensures whole).1)
@@ -27,7 +27,7 @@ pub returns-then-not-are_rising : goal.returns-then-not-are_rising
 returns-then-not-are_rising c =
     λ malformed entries lawful is.
     let whole = counted c.spelling_laws.ensures.u16 c.args.reader.now c.u16.new.self
-    c.in_ok-count.count c.in_ok-count.ensures entries lawful is in
+    c.in_ok-count.count c.in_ok-count.ensures.read entries lawful is in
     let same = (one_reading c.in_ok-count.count c.u16.new.self c.read_each.new.reader []
     (entries_of c.in_ok-entries.entries.items) entries c.in_ok-entries.ensures whole).0 in
     let rising = subst AreRising (sym same) lawful.rising in

@@ -1,6 +1,6 @@
 use Rattle.syn_message.proofs.ListingLemmas.{no_mark}
-use Rattle.syn_message.proofs.WholeLemmas.{failed}
 use Rattle.syn_message.proofs.listing.read_entry.Goals as goal
+use Rattle.syn_wire.proofs.Sequences.{failed}
 
 pub returns-in_err-mark : goal.returns-in_err-mark
 returns-in_err-mark c =

@@ -8,5 +8,5 @@ pub returns-in_err-piece : goal.returns-in_err-piece
 returns-in_err-piece c =
     failed_whole IsPieceBytes _ _ _ c.from_residual.result _ c.from_residual.ensures.1
     (λ e same malformed piece is. no_value IsFile file_spelling c.args.reader.now
-    (c.in_err-piece.ensures (rw (← same) malformed)) piece
+    (c.in_err-piece.ensures.read (rw (← same) malformed)) piece
     (record { bytes = is.2; brief = omega (arith, is.1) }))

@@ -12,7 +12,7 @@ pub returns-in_err-item : goal.returns-in_err-item
 returns-in_err-item c =
     failed_whole _ _ _ _ c.from_residual.result _ c.from_residual.ensures.1
     (λ e same malformed. replace_none c.args.reader.now
-    (λ item path last small lawful short is. c.in_err-item.ensures (rw (← same) malformed) item
+    (λ item path last small lawful short is. c.in_err-item.ensures.read (rw (← same) malformed) item
     (path_spelling path ++ head_spelling last) (record { lawful = small; spelled = is })))
 
 pub returns-in_err-since : goal.returns-in_err-since
@@ -27,7 +27,7 @@ returns-in_err-since c =
     (λ item path last small lawful short is.
     no_rest IsNumber32 (Both IsPath IsLast) (to_be_bytes w32)
     (both_spelling path_spelling head_spelling) c.spelling_laws.ensures.u32 c.args.reader.now
-    c.u32.new.self c.in_ok-item.item c.in_ok-item.ensures
+    c.u32.new.self c.in_ok-item.item c.in_ok-item.ensures.read
     (λ pair both. no_path (rw (← same) malformed) pair.0 pair.1 both.0 both.1) item (path, last)
     small
     (lawful, short) is))

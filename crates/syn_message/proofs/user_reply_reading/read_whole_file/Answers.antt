@@ -11,4 +11,4 @@ returns-in_err-mode c =
     failed_whole IsWithinFile _ _ _ c.from_residual.result _ c.from_residual.ensures.1
     (λ e same malformed file is. let brief = is.0 in
     no_value (IsBriefFileIn Two) contents_spelling c.args.reader.now
-    (c.in_err-mode.ensures (rw (← same) malformed)) file (is.1, omega (arith, brief)))
+    (c.in_err-mode.ensures.read (rw (← same) malformed)) file (is.1, omega (arith, brief)))

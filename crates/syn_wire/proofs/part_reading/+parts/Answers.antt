@@ -16,7 +16,7 @@ read_directory_at-returns-in_err-count-clause-reads g t c =
     failed_part _ _ c.from_residual.result _ c.from_residual.ensures.1 (λ e same malformed.
     no_count_there (g.C.Readable.kind (version_of c.args.version)) c.args.path c.args.reader.now
     c.args.list.now.items
-    c.args.list.now.items (c.in_err-count.ensures (rw (← same) malformed)))
+    c.args.list.now.items (c.in_err-count.ensures.read (rw (← same) malformed)))
 
 pub read_directory_at-returns-clause-reads : goal.read_directory_at-returns-clause-reads
 read_directory_at-returns-clause-reads g t c =
@@ -24,7 +24,7 @@ read_directory_at-returns-clause-reads g t c =
     directory_there (g.C.Readable.kind (version_of c.args.version)) c.args.path c.in_ok-above.above
     c.args.reader.now c.u16.new.self
     c.in_ok-count.count left c.args.list.now.items c.push.new.self.items
-    c.read_parts.new.list.items c.new.result c.in_ok-count.ensures c.in_ok-above.ensures
+    c.read_parts.new.list.items c.new.result c.in_ok-count.ensures.read c.in_ok-above.ensures
     (c.new.ensures ∙ ap (λ x. (c.args.path, x)) c.directory.ensures) c.in_ok-push.ensures.items
     read) c.read_parts.ensures.reads
 
@@ -34,7 +34,7 @@ read_directory_at-returns-clause-spelled g t c =
     directory_spelled (g.C.Readable.kind (version_of c.args.version)) c.args.path
     c.in_ok-above.above c.args.reader.now c.u16.new.self
     c.in_ok-count.count c.read_parts.new.reader c.args.list.now.items c.push.new.self.items
-    c.read_parts.new.list.items c.new.result c.in_ok-count.ensures c.in_ok-above.ensures
+    c.read_parts.new.list.items c.new.result c.in_ok-count.ensures.read c.in_ok-above.ensures
     (c.new.ensures ∙ ap (λ x. (c.args.path, x)) c.directory.ensures) c.in_ok-push.ensures.items
     read) c.read_parts.ensures.spelled
 

@@ -1,5 +1,5 @@
 use Rattle.std.proofs.Common.{◌≡◌, ◌∷◌, [], ◌∙◌, length, take, sym, append-nil, arith}
-use Rattle.syn_wire.specs.inner.Names.{names_spelling}
+use Rattle.syn_wire.specs.Names.{names_spelling}
 use Rattle.syn_model.proofs.ExitLemmas.{on_ok_of_exit}
 use Rattle.syn_wire.proofs.ByteLemmas.{begins_alike, begins_more}
 use Rattle.syn_wire.proofs.NameLemmas.{name_added, path_added}

@@ -1,5 +1,5 @@
 use Rattle.std.proofs.Common.{◌≡◌, ◌++◌, take}
-use Rattle.syn_wire.specs.inner.Names.{names_spelling}
+use Rattle.syn_wire.specs.Names.{names_spelling}
 use Rattle.syn_wire.proofs.path.write_path.Given as goal
 
 abbrev pub invariant-loop-name : goal.invariant-loop-name

@@ -13,14 +13,14 @@ returns-in_err-count c =
     failed _ _ _ _ _ c.from_residual.result _ c.from_residual.ensures.1
     (λ e same malformed t rest begins.
     no_directory_read (version_of c.args.version) c.args.self.now
-    (c.in_err-count.ensures (rw (← same) malformed)) t rest begins.lawful begins.spelled)
+    (c.in_err-count.ensures.read (rw (← same) malformed)) t rest begins.lawful begins.spelled)
 
 pub returns-in_err-read_parts : goal.returns-in_err-read_parts
 returns-in_err-read_parts c =
     failed _ _ _ _ _ c.from_residual-in_err-read_parts.result _
     c.from_residual-in_err-read_parts.ensures.1 (λ e same malformed t rest begins.
     no_parts_read (version_of c.args.version) c.args.self.now c.u16.new.self c.root.result
-    c.in_ok-count.count c.in_ok-count.ensures c.root.ensures c.new-list.result.items
+    c.in_ok-count.count c.in_ok-count.ensures.read c.root.ensures c.new-list.result.items
     c.read_parts-2.new.list.items (c.in_err-read_parts.ensures.reads (rw (← same) malformed)) t rest
     begins.lawful begins.spelled)
 
@@ -30,7 +30,7 @@ returns-in_default c =
     let version = version_of c.args.version in
     let list = c.read_parts-2.new.list.items in
     let all = all_entries version c.args.self.now c.u16.new.self c.root.result c.in_ok-count.count
-    c.in_ok-count.ensures c.root.ensures c.new-list.result.items list c.read_parts-2.new.reader
+    c.in_ok-count.ensures.read c.root.ensures c.new-list.result.items list c.read_parts-2.new.reader
     c.new-list.ensures.items c.in_ok-read_parts.ensures.reads t rest begins.lawful begins.spelled in
     not_made version t list begins.lawful all
     (subst (λ es. ¬ AreEntries es) c.in_ok-keyed.ensures c.in_default.ensures.none)
@@ -40,7 +40,7 @@ returns c =
     let kept = c.iter.ensures in
     directory_made (version_of c.args.version) c.args.self.now c.u16.new.self c.root.result
     c.in_ok-count.count c.new-list.result.items c.read_parts-2.new.list.items
-    c.read_parts-2.new.reader c.in-Some.entries c.in_ok-count.ensures c.root.ensures
+    c.read_parts-2.new.reader c.in-Some.entries c.in_ok-count.ensures.read c.root.ensures
     c.new-list.ensures.items c.in_ok-read_parts.ensures.spelled
     (subst (λ es. rooted es ≡ entries c.in-Some.entries) c.in_ok-keyed.ensures
     c.in-Some.ensures.some)

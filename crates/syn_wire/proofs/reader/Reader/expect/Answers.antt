@@ -1,7 +1,7 @@
 use Rattle.std.proofs.Common.{ap, not, sym, true≢false, ◌∙◌}
 use Rattle.std.proofs.lemmas.Slice.Eq.{bytes_eq-Decides}
-use Rattle.syn_wire.proofs.NameLemmas.{split}
 use Rattle.syn_wire.proofs.reader.Reader.expect.Goals as goal
+use Rattle.syn_model.proofs.SpellingLemmas.{split}
 
 pub returns-then-ne-clause-other : goal.returns-then-ne-clause-other
 returns-then-ne-clause-other c rest is =

@@ -1,5 +1,5 @@
 use Rattle.std.proofs.Common.{◌≡◌, ◌++◌}
-use Rattle.syn_wire.specs.inner.Names.{AreNames, names_spelling}
+use Rattle.syn_wire.specs.Names.{AreNames, names_spelling}
 use Rattle.syn_wire.proofs.reader.Reader.names.Given as goal
 
 abbrev pub invariant-loop-read : goal.invariant-loop-read

@@ -17,4 +17,4 @@ returns-in_err-bytes c version =
     put_none version c.args.self.now (second_none IsPlace IsFile place_spelling file_spelling
     place_tells c.args.self.now
     c.place.new.self (c.in_ok-user.user, c.in_ok-user.path) c.in_ok-user.ensures
-    (c.in_err-bytes.ensures (rw (← same) malformed))))
+    (c.in_err-bytes.ensures.read (rw (← same) malformed))))

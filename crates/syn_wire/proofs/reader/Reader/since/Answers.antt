@@ -16,4 +16,4 @@ returns-in_err-since c =
     e same malformed.
     (second_none IsItem IsNumber64 item_spelling number64_spelling item_tells c.args.self.now
     c.item.new.self (token_of c.in_ok-token.token, c.in_ok-token.path) c.in_ok-token.ensures
-    (c.in_err-since.ensures (rw (← same) malformed))))
+    (c.in_err-since.ensures.read (rw (← same) malformed))))
