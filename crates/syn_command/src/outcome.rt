@@ -9,7 +9,8 @@ use syn_session::{End, Report};
 pub enum Outcome {
     /// It did what it was to do. Where it ran a session, that is complete, with no conflict.
     Done,
-    /// Its session is incomplete: it ended early, or an item was refused.
+    /// Its session is incomplete: it ended early, an item was refused, or a path changed its kind
+    /// while it was scanned.
     Incomplete,
     /// Its session is complete, and has conflicts, or one that is planned would have some.
     Conflicts,

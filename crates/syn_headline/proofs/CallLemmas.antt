@@ -6,7 +6,8 @@ use Rattle.std.proofs.Common.{arith}
 use Rattle.std.specs.Prelude.{Contains, All, IfSome, IsSome}
 use Rattle.std.proofs.lemmas.List.Elements.{All-nil, All-contains_itself, Contains-append_left}
 use Rattle.std.proofs.lemmas.List.Elements.{All-append, All-weaker, All-contains}
-use Rattle.std.proofs.lemmas.List.Elements.{Contains-append_right, Contains-push}
+use Rattle.std.proofs.lemmas.List.Elements.{Contains-append_cases, Contains-append_right}
+use Rattle.std.proofs.lemmas.List.Elements.{Contains-push}
 use Rattle.std.proofs.Math.Seq.{take-length}
 use Rattle.std.proofs.lemmas.Option.{none-some}
 use Rattle.syn_model.specs.Path.{Path}
@@ -25,8 +26,8 @@ use Rattle.syn_headline.specs.Acknowledged.{Kept_by, kept_in_session}
 use Rattle.syn_headline.specs.Planning.{Planned, Log}
 use Rattle.syn_headline.specs.Report.{Report, is_kept, conflict_at, is_carrying, is_marking}
 use Rattle.syn_headline.specs.Coordinator.{Exchange, Running, Walk, MayAsk, asked_of, numbered}
-use Rattle.syn_headline.specs.Coordinator.{messages_to, report_of, CoordinatorMachine, Call}
-use Rattle.syn_headline.specs.Coordinator.{IsShown, AsksNext, IsExpected, asked_count}
+use Rattle.syn_headline.specs.Coordinator.{Outstanding, messages_to, report_of, CoordinatorMachine}
+use Rattle.syn_headline.specs.Coordinator.{Call, IsShown, AsksNext, IsExpected, asked_count}
 use Rattle.syn_headline.specs.Coordinator.{hearing, advanced, asking, sent_now, EndsFor}
 use Rattle.syn_headline.specs.Coordinator as fine
 use Rattle.syn_headline.specs.Picture.{IsSettled, HasPlan, Follows, RunsOver, GoesOnAs}
@@ -37,9 +38,10 @@ use Rattle.syn_headline.proofs.Walks.{IsItems, IsSettledBy, IsLeft, AllSettled, 
 use Rattle.syn_headline.proofs.Walks.{advances_status, advances_settled, advances_due, last_stays}
 use Rattle.syn_headline.proofs.Walks.{take_whole}
 use Rattle.syn_headline.proofs.Remembers.{Remembers, hearing_remembers, advanced_remembers}
-use Rattle.syn_headline.proofs.Remembers.{asking_remembers, asking_tells, asking_once}
+use Rattle.syn_headline.proofs.Remembers.{asking_remembers, asking_tells, asking_once, waited}
 use Rattle.syn_headline.proofs.InOrder.{ListsInOrder, hearing_in_order, advanced_in_order}
-use Rattle.syn_headline.proofs.InOrder.{asking_in_order, for_side}
+use Rattle.syn_headline.proofs.InOrder.{asking_in_order, for_side, numbered_request}
+use Rattle.syn_headline.proofs.UnstableLemmas.{ListsNothing}
 use Rattle.std.specs.List.{count_by}
 use Rattle.syn_headline.specs.Machine.{Up}
 use Rattle.syn_headline.proofs.WorldLemmas.{archive-append}
@@ -276,7 +278,9 @@ module _ (plans : Plans) (old : fine_world.World) (k : IsKept plans (picture_of 
         if_some plan
         (StandsOn (old.log ++ logged) old.coordinator.journal.value (hearing r exchange))
         (StandsOn (old.log ++ logged) walk.journal.value later)
-        (stands_before old r h exchange over.0 plan logged has) (λ one at had. record {
+        (stands_before old r h exchange plans (histories_of (picture_of old)) k.sound remembers_then
+        in_order_then asked (waited old.sent r k.sound.numbers h.remembers from number request reply
+        asked heard) over.0 plan logged has) (λ one at had. record {
           is = record {
             made = had.is.made;
             logged = had.is.logged;
@@ -291,6 +295,7 @@ module _ (plans : Plans) (old : fine_world.World) (k : IsKept plans (picture_of 
           };
           stands = left.value ∙ (ap (λ a. archive_of a kept) had.stands
               ∙ sym (archive-append (archive_found had.is.made) r.kept kept));
+          listed = had.listed;
         })
 
     -- without a plan it did nothing
@@ -540,6 +545,32 @@ module _ (plans : Plans) (old : fine_world.World) (k : IsKept plans (picture_of 
       shown_on Right path c =
           (All-contains (MayAsk walk.journal.value later Right) asks_right _ asks.may_right c).2
 
+      -- beside a plan it asks for no listing, so none waits then
+      nothing_more : (waiting : List Outstanding) (number : ℕ) (requests : List Request) →
+          ListsNothing waiting → ((path : Path) → Contains requests (ListAt path) → ⊥) →
+          ListsNothing (waiting ++ numbered number requests)
+      nothing_more waiting number requests none no_more one path c is =
+          elim (Contains-append_cases waiting (numbered number requests) one c) as (λ _. ⊥) [
+            | inl was ↦ none one path was is
+            | inr now ↦ no_more path
+                (subst (Contains requests) is (numbered_request number requests one now))
+          ]
+
+      nothing_listed_on : (one : List Planned) → plan ≡ Some one →
+          ListsNothing later.left × ListsNothing later.right →
+          ListsNothing on.left × ListsNothing on.right
+      nothing_listed_on one is none = (
+        nothing_more later.left (asked_count later Left) asks_left none.0 (λ path c.
+            unplanned (All-contains (MayAsk walk.journal.value later Left) asks_left _ asks.may_left
+            c).0),
+        nothing_more later.right (asked_count later Right) asks_right none.1 (λ path c.
+            unplanned (All-contains (MayAsk walk.journal.value later Right) asks_right _
+            asks.may_right c).0),
+      )
+        where
+          unplanned : plan ≡ None → ⊥
+          unplanned none = none-some _ (sym none ∙ is)
+
       heard_on : IsHeard new_world on
       heard_on = record {
         remembers = remembers_on;
@@ -552,8 +583,8 @@ module _ (plans : Plans) (old : fine_world.World) (k : IsKept plans (picture_of 
         planned = logged_then old r h exchange plan logged has;
         logged = if_some plan (StandsOn (old.log ++ logged) walk.journal.value later)
             (StandsOn (old.log ++ logged) walk.journal.value on) stands_then
-            (λ one _ had. waits_on (old.log ++ logged) walk.journal.value later on.left on.right
-            one had);
+            (λ one is had. waits_on (old.log ++ logged) walk.journal.value later on.left on.right
+            one (nothing_listed_on one is had.listed) had);
         kept = kept_then;
         settled = settled_then;
       }

@@ -23,12 +23,12 @@ use Rattle.syn_model.proofs.HistoryLemmas.{get-at_root}
 use Rattle.syn_model.proofs.PlanSteps.{item_finds_archive}
 use Rattle.syn_model.proofs.DirectoryLemmas.{moved-directory}
 use Rattle.syn_headline.specs.Network.{Which, Left, Right, other}
-use Rattle.syn_headline.proofs.SoundLemmas.{only_one}
 use Rattle.syn_headline.proofs.AnyOrder.{StandAlone, plan_stands_alone, one_above, put, put_within}
 use Rattle.syn_headline.proofs.AnyOrder.{IsDone, done_stays, IsCovered, put_covers, IsCoveredToo}
 use Rattle.syn_headline.proofs.AnyOrder.{put_covers_too, covered_same, covered_same_too}
 use Rattle.syn_headline.proofs.AnyOrder.{directory_stays, HasMore, more_covers, more_stays}
 use Rattle.syn_headline.proofs.AnyOrder.{more_directory_stays}
+use Rattle.syn_model.proofs.BaseLemmas.{contains_one}
 
 -- the item replaces on the side
 abbrev pub is_to : Which → Item → Bool
@@ -160,7 +160,7 @@ module _ (found : Which → Tree) (o : Tree) (items : List Item) (alone : StandA
             | inr is ↦ subst (λ t. IsDoneOn side t y) (sym is.1) (h.done side y earlier on)
           ]
           | inr last ↦
-              let same = sym (only_one x y last) in
+              let same = sym (contains_one x y last) in
               elim (c.sides side) as (λ _. IsDoneOn side (tree_on new side) y) [
                 | inl is ↦ subst (λ z. IsDoneOn side (tree_on new side) z) (sym same)
                     (subst (λ t. IsDoneOn side t x) (sym is.1)
@@ -201,7 +201,7 @@ module _ (found : Which → Tree) (o : Tree) (items : List Item) (alone : StandA
     recorded_then y at on =
         elim (Contains-append_cases first (x ∷ []) y at) as (λ _. IsDoneIn new.archive y) [
           | inl earlier ↦ recorded_before y earlier on
-          | inr last ↦ let same = sym (only_one x y last) in
+          | inr last ↦ let same = sym (contains_one x y last) in
               subst (IsDoneIn new.archive) (sym same)
               (recorded_now (ap is_recorded (sym same) ∙ on))
         ]
@@ -229,7 +229,7 @@ module _ (found : Which → Tree) (o : Tree) (items : List Item) (alone : StandA
         elim (Contains-append_cases first (x ∷ []) (MarkDir p) at)
         as (λ _. get new.archive p ≡ Some Directory) [
           | inl earlier ↦ directory_before p earlier
-          | inr last ↦ directory_now p (sym (only_one x (MarkDir p) last))
+          | inr last ↦ directory_now p (sym (contains_one x (MarkDir p) last))
         ]
 
     pub carries_one : HasCarriedOut (first ++ x ∷ []) new

@@ -41,6 +41,7 @@ use Rattle.syn_headline.proofs.Heard.{TakenWas}
 use Rattle.syn_headline.proofs.Remembers.{Remembers}
 use Rattle.syn_headline.proofs.InOrder.{ListsInOrder, plan_in_order}
 use Rattle.syn_headline.proofs.ReportLemmas.{conflicts_to, filter_map-map}
+use Rattle.syn_headline.proofs.WorldLemmas.{kept_kept}
 
 -- What was taken was answered
 
@@ -239,16 +240,12 @@ since_more plan taken had (what ∷ kept) all =
     one : (what : Kept) → IsItems plan taken what → since_start had what ≡ had ++ what ∷ []
     one what (of_item item planned at due) = by item planned what due
 
-kept_only : (kept : List Kept) → filter_map kept_in (map (λ k. Kept_by k) kept) ≡ kept
-kept_only [] = refl
-kept_only (what ∷ kept) = ap (λ ks. what ∷ ks) (kept_only kept)
-
 pub session_keeps : (acks : List Ack) (had : List Kept) (plan : List Planned) (taken : Exchange)
     (kept : List Kept) → kept_in_session acks ≡ had → All (IsItems plan taken) kept →
     kept_in_session (acks ++ map Kept_by kept) ≡ had ++ kept
 session_keeps acks had plan taken kept is due =
     ap (fold since_start []) (filter_map-append kept_in acks (map Kept_by kept)
-    ∙ ap (λ ks. filter_map kept_in acks ++ ks) (kept_only kept))
+    ∙ ap (λ ks. filter_map kept_in acks ++ ks) (kept_kept kept))
     ∙ (fold-append since_start [] (filter_map kept_in acks) kept
     ∙ (ap (λ had. fold since_start had kept) is ∙ since_more plan taken had kept due))
 

@@ -9,7 +9,7 @@ use Rattle.std.proofs.lemmas.Option.{none-some, same_Some}
 use Rattle.std.proofs.lemmas.Bool.Decides.{nat_tests}
 use Rattle.std.specs.FinMap.{get, find}
 use Rattle.syn_model.specs.Path.{Path, Name, name_cmp, root, child, parent}
-use Rattle.syn_model.specs.Tree.{Content, is_directory, is_directory_content}
+use Rattle.syn_model.specs.Tree.{Content, Directory, is_directory, is_directory_content}
 use Rattle.syn_model.specs.Limits.{children}
 use Rattle.syn_model.specs.Dirty.{Scan, is_unstable, IsListedInOrder}
 use Rattle.syn_model.specs.Archive.{Archive, Kept}
@@ -33,15 +33,15 @@ position_of (Listed position entries) = Some position
 position_of (NotDir position) = Some position
 position_of _ = None
 
--- the path is the root, or a listing that was taken shows it, which is no later than these
--- positions
+-- the path is the root, or a listing that was taken shows a directory there, which is no later than
+-- these positions
 abbrev pub IsAfter : List Exchange → Which → Path → (ℕ → Type 0) → Type 0
 IsAfter taken side path May =
     (path ≡ root)
     ⊎ ((above : Path) × (name : Name) × (position : ℕ) × (entries : List (Name × Content))
     × (path ≡ child above name)
     × WasTaken taken side (ListAt above) (Listed position entries)
-    × ((later : ℕ) → May later → position ≤ later))
+    × Contains entries (name, Directory) × ((later : ℕ) → May later → position ≤ later))
 
 -- the side answered the request of that number so
 abbrev pub IsSaid : Sent → Which → ℕ → ℕ → ℕ → Type 0
@@ -65,7 +65,7 @@ after_more : (taken more : List Exchange) (side : Which) (path : Path) (May May'
     IsAfter (taken ++ more) side path May'
 after_more taken more side path May May' less (inl is) = inl is
 after_more taken more side path May May' less
-    (inr (above, name, position, entries, is, was, later)) =
+    (inr (above, name, position, entries, is, was, there, later)) =
     inr (
       above,
       name,
@@ -73,14 +73,16 @@ after_more taken more side path May May' less
       entries,
       is,
       (was.0, Contains-append_left taken more _ was.1),
+      there,
       λ n may. later n (less n may),
     )
 
 pub after_less : (taken : List Exchange) (side : Which) (path : Path) (May May' : ℕ → Type 0) →
     ((n : ℕ) → May' n → May n) → IsAfter taken side path May → IsAfter taken side path May'
 after_less taken side path May May' less (inl is) = inl is
-after_less taken side path May May' less (inr (above, name, position, entries, is, was, later)) =
-    inr (above, name, position, entries, is, was, λ n may. later n (less n may))
+after_less taken side path May May' less
+    (inr (above, name, position, entries, is, was, there, later)) =
+    inr (above, name, position, entries, is, was, there, λ n may. later n (less n may))
 
 -- The rest of a session is no matter of it
 pub advanced_in_order : (sent : Sent) (r : Running) (plan : Option (List Planned)) (walk : Walk)
@@ -218,7 +220,7 @@ module _ (sent : Sent) (r : Running) (m : ListsInOrder sent r) (tell : NumbersTe
 
 -- More is asked for
 
-numbered_request : (from : ℕ) (requests : List Request) (one : Outstanding) →
+pub numbered_request : (from : ℕ) (requests : List Request) (one : Outstanding) →
     Contains (numbered from requests) one → Contains requests one.request
 numbered_request from [] one c = absurd (omega (arith, c.1))
 numbered_request from (request ∷ more) one (zero, h, e) = (0, omega arith, ap (λ o. o.request) e)
@@ -321,6 +323,7 @@ module _ (sent : Sent) (r : Running) (m : ListsInOrder sent r) (remembers : Reme
             entries,
             at,
             was,
+            there,
             λ n h. absurd (unsaid side one n now (said_before side one.number n h)),
           )
 
@@ -378,13 +381,14 @@ beside_in_order sent more r remembers says m =
         IsAfter r.taken side path (IsSaid sent side r.session one.number) →
         IsAfter r.taken side path (IsSaid (sent ++ more) side r.session one.number)
     by side one path c is (inl at_root) = inl at_root
-    by side one path c is (inr (above, name, position, entries, at, was, later)) = inr (
+    by side one path c is (inr (above, name, position, entries, at, was, there, later)) = inr (
       above,
       name,
       position,
       entries,
       at,
       was,
+      there,
       λ n h. elim (Contains-append_cases sent more (Answers side r.session one.number h.0) h.1)
           as (λ _. position ≤ n) [
             | inl before ↦ later n (h.0, before, h.2)
@@ -431,7 +435,7 @@ module _ (sent : Sent) (r : Running) (m : ListsInOrder sent r) (remembers : Reme
       ] refl
 
   -- the directory was answered at its position
-  answered : (path : Path) → is_directory scan.marks path ≡ true → (reply : Reply)
+  pub answered : (path : Path) → is_directory scan.marks path ≡ true → (reply : Reply)
       × WasTaken r.taken side (ListAt path) reply × (position_of reply ≡ Some (since path))
   answered path there =
       elim (is_unstable scan path) as (λ b. is_unstable scan path ≡ b → (reply : Reply)
@@ -449,23 +453,24 @@ module _ (sent : Sent) (r : Running) (m : ListsInOrder sent r) (remembers : Reme
       ] refl
 
   -- and once alone
+  pub same_reply : (path : Path) (one other : Reply) → WasTaken r.taken side (ListAt path) one →
+      WasTaken r.taken side (ListAt path) other → one ≡ other
+  same_reply path one other was too =
+      let a = remembers.taken (record
+      { side = side; number = was.0; request = ListAt path; reply = one }) was.1 in
+      let b = remembers.taken (record
+      { side = side; number = too.0; request = ListAt path; reply = other }) too.1 in
+      let same : was.0 ≡ too.0 =
+      repeats side r.session was.0 too.0 (ListAt path) (ListAt path) a.0 b.0 refl in
+      ap (λ e. e.reply) (m.once _ _ was.1 too.1 refl same)
+
   same_listing : (path : Path) (position : ℕ) (entries : List (Name × Content)) →
       WasTaken r.taken side (ListAt path) (Listed position entries) →
       is_directory scan.marks path ≡ true → position ≡ since path
   same_listing path position entries was there =
       let other = answered path there in
-      let a = remembers.taken (record {
-        side = side;
-        number = was.0;
-        request = ListAt path;
-        reply = Listed position entries;
-      }) was.1 in
-      let b = remembers.taken (record
-      { side = side; number = other.1.0; request = ListAt path; reply = other.0 }) other.1.1 in
-      let same : was.0 ≡ other.1.0 =
-      repeats side r.session was.0 other.1.0 (ListAt path) (ListAt path) a.0 b.0 refl in
-      let one = m.once _ _ was.1 other.1.1 refl same in
-      same_Some _ _ (ap (λ e. position_of e.reply) one ∙ other.2)
+      same_Some _ _
+      (ap position_of (same_reply path (Listed position entries) other.0 was other.1) ∙ other.2)
 
   pub plan_in_order : IsListedInOrder scan since
   plan_in_order path name there =
@@ -488,7 +493,7 @@ module _ (sent : Sent) (r : Running) (m : ListsInOrder sent r) (remembers : Reme
           not_root : (path : Path) → child path name ≡ root → ⊥
           not_root [] e = none-some _ (sym (ap (λ xs. slice_get xs 0) e))
           not_root (first ∷ path) e = none-some _ (sym (ap (λ xs. slice_get xs 0) e))
-      by (inr (above, n, position, entries, at, was, later)) =
+      by (inr (above, n, position, entries, at, was, shown, later)) =
           let is : above ≡ path = sym (parent-child above n)
           ∙ (ap parent (sym at) ∙ parent-child path name) in
           let there' =

@@ -1,6 +1,6 @@
 pub mod PictureRuns
 pub mod Invariant
-mod LogLemmas
+pub mod LogLemmas
 pub mod WorldLemmas
 pub mod SideLemmas
 pub mod FormattedLemmas
@@ -45,7 +45,9 @@ pub mod Heard
 pub mod Rising
 pub mod WaitingLemmas
 pub mod Remembers
+mod ChildrenLemmas
 pub mod InOrder
+mod UnstableLemmas
 pub mod Sessions
 pub mod SettledLemmas
 pub mod AskedLemmas

@@ -41,10 +41,11 @@ use Rattle.syn_headline.proofs.SpellingLemmas.{spellings_tell}
 use Rattle.syn_model.specs.Refusal.{Refusal, OldSession}
 use Rattle.syn_headline.specs.Acknowledged.{Stores, history_of, WasListed, IsLegal, MayOverwrite}
 use Rattle.syn_headline.proofs.LogLemmas.{entry_of, scans_of, plan_from}
-use Rattle.syn_headline.proofs.StagedLemmas.{same_token, path_meets_itself, touched_now, put_there}
+use Rattle.syn_headline.proofs.StagedLemmas.{same_token, touched_now, put_there}
 use Rattle.syn_headline.proofs.StagedLemmas.{other_twice, first_piece, next_piece, tree_at_is_tree}
 use Rattle.syn_headline.proofs.StagedLemmas.{tree_at_fits}
 use Rattle.std.proofs.lemmas.List.Elements.{All-contains}
+use Rattle.syn_model.proofs.PathLemmas.{comparable_itself}
 
 -- A request
 
@@ -238,7 +239,7 @@ module _ (plans : Plans) (archive : Archive) (sent : Sent) (histories : Historie
               (Replaced (token_of session item) path since new ∷ []),
         ),
         touched_now side.history (Replaced
-            (token_of session item) path since new) since path within (path_meets_itself path),
+            (token_of session item) path since new) since path within (comparable_itself path),
       )
 
   -- and so is what it says of its item

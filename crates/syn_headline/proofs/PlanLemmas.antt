@@ -1,18 +1,17 @@
 -- What the items of a plan tell of the scans that it was made of, and of the histories.
-use Rattle.std.proofs.Common.{option_map, map, ◌≡◌, ◌≤◌, ℕ, suc, Bool, is_some, None, arith, true}
+use Rattle.std.proofs.Common.{option_map, map, ◌≡◌, ◌≤◌, ℕ, suc, Bool, None, arith, true}
 use Rattle.std.proofs.Common.{false, not, ◌&&◌, ◌||◌, List, [], ◌∷◌, ◌++◌, length, refl, sym, ap}
 use Rattle.std.proofs.Common.{ap₂, ◌∙◌, subst, Some, true≢false, append-nil, inl, inr, ◌⊎◌, Option}
 use Rattle.std.proofs.Common.{if◌then◌else◌, slice_get}
 use Rattle.std.specs.Prelude.{Contains}
 use Rattle.std.specs.List.{list_any}
-use Rattle.std.specs.Ordering.{eq_by_cmp}
 use Rattle.std.proofs.lemmas.List.Elements.{Contains-append_left, All-get_or, All-contains}
 use Rattle.std.proofs.lemmas.List.Elements.{Contains-get_or}
 use Rattle.std.proofs.lemmas.Option.{slice_get_within, get_or_from_slice_get, slice_get-map}
 use Rattle.std.proofs.lemmas.Bool.{and_parts, not-true, not-false, or_parts}
 use Rattle.syn_model.specs.Plan.{plan as items_of, IsDecided as IsDecidedAt, IsContested}
-use Rattle.syn_model.proofs.PlanOrder.{plan_is_decided}
-use Rattle.syn_model.specs.Path.{Name, Path, name_cmp, is_prefix, strip_prefix, parent, child}
+use Rattle.syn_model.proofs.PlanOrder.{plan_is_decided, contested_by}
+use Rattle.syn_model.specs.Path.{Name, Path, is_prefix, parent, child}
 use Rattle.syn_model.specs.Tree.{Tree, IsTree, subtree, is_directory, is_directory_content}
 use Rattle.syn_model.specs.Limits.{children}
 use Rattle.syn_model.specs.Dirty.{Scan, dirty, is_same_tree, is_unstable, IsListedInOrder}
@@ -31,7 +30,7 @@ use Rattle.syn_headline.specs.Planning.{IsPlanOf, WritesTo}
 use Rattle.syn_headline.specs.Picture.{IsOfPlan, IsWanted}
 use Rattle.syn_headline.proofs.Invariant.{Plans, Scans, IsPlanFrom, Histories, IsSound}
 use Rattle.syn_headline.proofs.Invariant.{IsTrueListing, IsTrueNotDir}
-use Rattle.syn_model.proofs.PathLemmas.{parent-append, same_name, name_itself}
+use Rattle.syn_model.proofs.PathLemmas.{parent-append, mutual_prefix}
 use Rattle.syn_model.proofs.HistoryLemmas.{history-is_tree}
 use Rattle.syn_model.proofs.DirtyLemmas.{dirty-safe}
 use Rattle.syn_model.proofs.QuietLemmas.{ScansHistory, scan_is}
@@ -231,12 +230,6 @@ writes_path (MarkSame at) side path w = absurd w
 writes_path (MarkDir at) side path w = absurd w
 writes_path (Conflict at) side path w = absurd w
 
-contested_in : (l r : Scan) (o : Tree) (p : Path) → dirty l o p ≡ true → dirty r o p ≡ true →
-    (is_unstable l p || is_unstable r p) ≡ false → IsContested l r o p
-contested_in l r o p x y e =
-    let stable = or_parts (is_unstable l p) (is_unstable r p) e in
-    record { left_dirty = x; right_dirty = y; left_stable = stable.0; right_stable = stable.1 }
-
 -- a side may be written at a path: it is clean, or the other is preferred, and both changed and are
 -- stable
 abbrev pub IsFreeAt : Option Which → (Which → Scan) → Tree → Which → Path → Type 0
@@ -260,7 +253,7 @@ writes_freely r scan o p (ToLeft at) Left path w d =
       both.0,
       elim both.1 as (λ _. IsFreeAt r scan o Left p) [
         | inl clean ↦ inl (not-true _ clean)
-        | inr h ↦ inr (h.0, contested_in l s o p (not-false _ h.1) (not-false _ h.2) h.3)
+        | inr h ↦ inr (h.0, contested_by l s o p (not-false _ h.1) (not-false _ h.2) h.3)
       ],
     )
 writes_freely r scan o p (ToRight at) Right path w d =
@@ -274,7 +267,7 @@ writes_freely r scan o p (ToRight at) Right path w d =
       both.0,
       elim both.1 as (λ _. IsFreeAt r scan o Right p) [
         | inl clean ↦ inl (not-true _ clean)
-        | inr h ↦ inr (h.0, contested_in l s o p (not-false _ h.2) (not-false _ h.1) h.3)
+        | inr h ↦ inr (h.0, contested_by l s o p (not-false _ h.2) (not-false _ h.1) h.3)
       ],
     )
 writes_freely r scan o p (ToLeft at) Right path w d = absurd w
@@ -343,23 +336,6 @@ writes_at preference scan since found planned side (n ∷ p) trees from w e =
       free = subst (IsFreeAt preference scan found side) e free.1;
     }
 
--- prefixes both ways are one path
-both_ways : (p q : Path) → is_prefix p q ≡ true → is_prefix q p ≡ true → p ≡ q
-both_ways [] [] h k = refl
-both_ways [] (m ∷ q) h k = absurd (true≢false (sym k))
-both_ways (n ∷ p) [] h k = absurd (true≢false (sym h))
-both_ways (n ∷ p) (m ∷ q) h k =
-    elim (eq_by_cmp name_cmp n m) as (λ b. eq_by_cmp name_cmp n m ≡ b →
-    is_some (if b then strip_prefix p q else None) ≡ true → n ∷ p ≡ m ∷ q) [
-      | false ↦ λ _ x. absurd (true≢false (sym x))
-      | true ↦ λ y x.
-          let heads = same_name n m y in
-          let back : is_prefix (n ∷ q) (n ∷ p) ≡ true = ap (λ w. is_prefix (w ∷ q) (n ∷ p)) heads
-          ∙ k in
-          ap₂ (λ w ws. w ∷ ws) heads (both_ways p q x
-          (sym (ap (λ b. is_some (if b then strip_prefix q p else None)) (name_itself n)) ∙ back))
-    ] refl h
-
 -- an unstable path is one that was answered so
 pub found_unstable : (p : Path) (us : List Path) →
     list_any (λ other. is_prefix p other && is_prefix other p) us ≡ true → Contains us p
@@ -369,7 +345,7 @@ found_unstable p (u ∷ us) e =
     (b || list_any (λ other. is_prefix p other && is_prefix other p) us) ≡ true →
     Contains (u ∷ us) p) [
       | true ↦ λ y _. let both = and_parts (is_prefix p u) (is_prefix u p) y in
-          (0, omega arith, sym (both_ways p u both.0 both.1))
+          (0, omega arith, sym (mutual_prefix p u both.0 both.1))
       | false ↦ λ _ rest. let c = found_unstable p us rest in (suc c.0, omega (arith, c.1), c.2)
     ] refl e
 

@@ -17,7 +17,7 @@ use Rattle.syn_headline.specs.Network.{Which, other}
 use Rattle.syn_headline.proofs.CountLemmas.{IsRecordOf}
 use Rattle.syn_headline.specs.Picture.{AllCanKeep}
 use Rattle.syn_model.proofs.QuietLemmas.{none_touches, nothing_below}
-use Rattle.syn_headline.proofs.SoundLemmas.{only_one, kept_is_tree}
+use Rattle.syn_headline.proofs.SoundLemmas.{kept_is_tree}
 use Rattle.syn_headline.proofs.HarmlessLemmas.{Meets, meets, one, above, below}
 use Rattle.syn_headline.proofs.AnyOrder.{StandAlone, put, put_within, done_stays, put_covers}
 use Rattle.syn_headline.proofs.AnyOrder.{put_covers_too, directory_stays, HasMore, more_covers}
@@ -25,6 +25,7 @@ use Rattle.syn_headline.proofs.AnyOrder.{more_stays, more_directory_stays}
 use Rattle.syn_headline.proofs.CarriedOut.{is_to, is_recorded, recorded_of, to_file, recorded_file}
 use Rattle.syn_headline.proofs.CarriedOut.{directory_more, CoversSide, CoversArchive, IsDoneOn}
 use Rattle.syn_headline.proofs.CarriedOut.{IsDoneIn}
+use Rattle.syn_model.proofs.BaseLemmas.{contains_one}
 
 -- The replacements of a side
 
@@ -199,8 +200,8 @@ module _ (found : Which → Tree) (o : Tree) (items : List Item) (alone : StandA
         elim (Contains-append_cases (kept ∷ []) records made c)
         as (λ _. P (archive_of (after_kept a kept) records).marks) [
           | inl here ↦ records_keep records (after_kept a kept) next can.1 rest
-              (subst (λ k. P (after_kept a k).marks) (sym (only_one kept made here))
-              (makes a tree (subst IsRecord (only_one kept made here) first)))
+              (subst (λ k. P (after_kept a k).marks) (sym (contains_one kept made here))
+              (makes a tree (subst IsRecord (contains_one kept made here) first)))
           | inr later ↦ records_make made makes records (after_kept a kept) next can.1 rest later
         ]
 

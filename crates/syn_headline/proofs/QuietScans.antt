@@ -36,6 +36,7 @@ use Rattle.syn_headline.proofs.PlanLemmas.{scans, listing_reached, not_dir_reach
 use Rattle.syn_headline.proofs.GrownLemmas.{began_above, session_grows, fold_one}
 use Rattle.syn_headline.proofs.StagedLemmas.{all_front, tree_at_is_tree}
 use Rattle.syn_headline.proofs.TokenLemmas.{after_front}
+use Rattle.syn_model.proofs.BaseLemmas.{nothing_in}
 
 -- a replacement by an item of the plan, with what the item's source had
 pub record IsPlannedReplacement (plan : List Planned) (histories : Histories) (side : Which)
@@ -121,10 +122,6 @@ directory_above : (t : Tree) (p rest : Path) → HasParents t → is_directory t
 directory_above t p [] parents d = ap (is_directory t) (sym (append-nil p)) ∙ d
 directory_above t p (n ∷ r) parents d =
     ap is_directory_content (parents p n r (ap is_some (directory_is (get t (p ++ n ∷ r)) d)))
-
-nothing_listed : {X : Type 0} (xs : List X) → ((x : X) → Contains xs x → ⊥) → xs ≡ []
-nothing_listed [] none = refl
-nothing_listed (x ∷ xs) none = absurd (none x (0, omega arith, refl))
 
 module _ (plans : Plans) (histories : Histories) (archive : Archive) (sent : Sent)
     (sound : IsSound plans histories archive sent) (side : Which) (session : ℕ) (scan : Scan)
@@ -242,7 +239,7 @@ module _ (plans : Plans) (histories : Histories) (archive : Archive) (sent : Sen
   scan_found : scan ≡ scan_of (tree_of before)
   scan_found =
       ap₂ (λ m u. record { marks = m; unstable = u }) marks_are
-      (nothing_listed scan.unstable none_unstable)
+      (nothing_in scan.unstable none_unstable)
 
 -- what the scans of a plan show as it is made
 pub plan_shows : (plans : Plans) (histories : Histories) (archive : Archive) (sent : Sent) →

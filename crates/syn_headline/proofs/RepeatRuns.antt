@@ -1,8 +1,7 @@
 -- What a run says to a replacement that is asked for again.
-use Rattle.std.proofs.Common.{◌≡◌, ℕ, Bool, true, false, List, [], ◌∷◌, ◌++◌, length, refl}
-use Rattle.std.proofs.Common.{sym, ap, ◌∙◌, subst, Option, Some, None, slice_get, arith, inl, inr}
+use Rattle.std.proofs.Common.{◌≡◌, ℕ, Bool, true, false, List, [], ◌∷◌, ◌++◌, refl}
+use Rattle.std.proofs.Common.{sym, ap, ◌∙◌, subst, Option, Some, None, slice_get, inl, inr}
 use Rattle.std.proofs.Common.{append-nil, ap₂}
-use Rattle.std.proofs.lemmas.List.{length-append}
 use Rattle.syn_model.specs.Path.{Path}
 use Rattle.syn_model.specs.Tree.{Tree}
 use Rattle.syn_model.specs.Event.{Event, Replaced}
@@ -21,6 +20,7 @@ use Rattle.syn_headline.proofs.FineRuns.{follows, start_view}
 use Rattle.syn_headline.proofs.Invariant.{IsKept, Plans, histories_of}
 use Rattle.syn_headline.proofs.RepeatLemmas.{last_is_done, replaced_is_old}
 use Rattle.syn_headline.proofs.WholeRuns.{no_plans, start_kept, run_kept}
+use Rattle.syn_headline.proofs.View.{longer}
 
 nothing_changes : (world : World) (to : Which) → world ≡ side_goes world to (side_of world to) [] []
 nothing_changes world Left =
@@ -29,10 +29,6 @@ nothing_changes world Left =
 nothing_changes world Right =
     ap₂ (λ sent acknowledged. record world { sent = sent; acknowledged = acknowledged })
     (sym (append-nil world.sent)) (sym (append-nil world.acknowledged))
-
-no_more : (history : History) (event : Event) → history ≡ history ++ event ∷ [] → ⊥
-no_more history event is =
-    omega (arith, ap length is, length-append history (event ∷ []))
 
 module _ (pair : ℕ) (machine : SideMachine) (session item : ℕ) (path : Path) (since size : ℕ)
     (earlier later : History) (at : Path) (from : ℕ) (part : Tree)
@@ -84,7 +80,7 @@ module _ (pair : ℕ) (machine : SideMachine) (session item : ℕ) (path : Path)
           refl,
         )
     takes_so _ _ _ (adds served event journal events is_up serves more writes) =
-        absurd (no_more machine.journal.value event
+        absurd (longer machine.journal.value event
         (sym (ap (λ s. s.side.history) (up served serves).1) ∙ more))
 
 pub answer_repeats : RepeatsAreAnswered

@@ -35,14 +35,7 @@ use Rattle.syn_headline.proofs.CompleteLemmas.{items, items_are, complete_carrie
 use Rattle.syn_headline.proofs.QuietScans.{ShowsTree}
 use Rattle.syn_headline.proofs.UnderwayLemmas.{IsQuietPlan, IsUnderway}
 use Rattle.syn_headline.proofs.KeptLemmas.{can-parts, all_kept_tree, all_kept_depth}
-
-from_map : {X Y : Type 0} (f : X → Y) (xs : List X) (y : Y) →
-    Contains (map f xs) y → (x : X) × Contains xs x × (f x ≡ y)
-from_map f [] y c = absurd (omega (arith, c.1))
-from_map f (x ∷ xs) y (zero, h, e) = (x, (0, omega arith, refl), e)
-from_map f (x ∷ xs) y (suc k, h, e) =
-    let rest = from_map f xs y (k, omega (arith, h), e) in
-    (rest.0, (suc rest.1.0, omega (arith, rest.1.1), rest.1.2), rest.2)
+use Rattle.syn_model.proofs.BaseLemmas.{from_map}
 
 -- the conflicts of a plan's items
 conflict_is : (item : Item) (path : Path) → conflict_at item ≡ Some path → item ≡ Conflict path

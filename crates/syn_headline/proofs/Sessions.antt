@@ -15,18 +15,22 @@ use Rattle.syn_headline.specs.Reported.{IsPlanned, archive_found}
 use Rattle.syn_model.specs.Archive.{Archive, archive_of}
 use Rattle.syn_headline.proofs.Remembers.{Remembers}
 use Rattle.syn_headline.proofs.InOrder.{ListsInOrder, SaysAfter, beside_in_order}
+use Rattle.syn_headline.proofs.UnstableLemmas.{ListsNothing}
 
--- the plan was logged, and the archive is what it was then, with what was recorded since
+-- the plan was logged, the archive is what it was then with what was recorded since, and no listing
+-- waits any more
 pub record StandsOn (log : Log) (archive : Archive) (running : Running) (plan : List Planned)
     : Type 0 where
   pub is : IsPlanned log running plan
   pub stands : archive ≡ archive_of (archive_found is.made) running.kept
+  pub listed : ListsNothing running.left × ListsNothing running.right
 
--- whatever waits then
+-- whatever else waits then
 pub waits_on : (log : Log) (archive : Archive) (running : Running) (left right : List Outstanding)
-    (plan : List Planned) → StandsOn log archive running plan →
+    (plan : List Planned) → ListsNothing left × ListsNothing right →
+    StandsOn log archive running plan →
     StandsOn log archive (record running { left = left; right = right }) plan
-waits_on log archive running left right plan had = record {
+waits_on log archive running left right plan listed had = record {
   is = record {
     made = had.is.made;
     logged = had.is.logged;
@@ -36,6 +40,7 @@ waits_on log archive running left right plan had = record {
     refused = had.is.refused;
   };
   stands = had.stands;
+  listed = listed;
 }
 
 pub record IsHeard (world : World) (running : Running) : Type 0 where

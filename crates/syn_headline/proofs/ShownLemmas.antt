@@ -1,6 +1,6 @@
 -- A scan whose listings are all of one tree is that of the tree.
 use Rattle.std.proofs.Common.{◌≡◌, ◌++◌, ◌∷◌, [], ℕ, List, true, false}
-use Rattle.std.proofs.Common.{None, option_map, refl, sym, ap, ap₂, ◌∙◌, subst, arith}
+use Rattle.std.proofs.Common.{None, option_map, refl, sym, ap, ap₂, ◌∙◌, subst}
 use Rattle.std.proofs.Common.{append_assoc, append-nil, true≢false}
 use Rattle.std.specs.FinMap.{get}
 use Rattle.std.specs.Prelude.{Contains}
@@ -14,10 +14,7 @@ use Rattle.syn_model.specs.Tree.{Content, IsTree, Tree, is_directory, is_directo
 use Rattle.syn_model.proofs.MarkLemmas.{get-mark}
 use Rattle.syn_model.proofs.QuietLemmas.{directory_of_mark, nothing_below, same_child}
 use Rattle.syn_model.proofs.TreeLemmas.{same_tree}
-
-nothing_in : {X : Type 0} (xs : List X) → ((x : X) → Contains xs x → ⊥) → xs ≡ []
-nothing_in [] none = refl
-nothing_in (x ∷ xs) none = absurd (none x (0, omega arith, refl))
+use Rattle.syn_model.proofs.BaseLemmas.{nothing_in}
 
 -- A scan whose listings are all of one tree is that of the tree
 module _ (WasListed : Path → ℕ → List (Name × Content) → Type 0)

@@ -26,6 +26,7 @@ use Rattle.syn_headline.proofs.MoveLemmas.{refused_borne, outcome_moves, outcome
 use Rattle.syn_headline.proofs.MoveLemmas.{outcome_borne, outcome_staging, legal, refused_true}
 use Rattle.syn_headline.proofs.SideSteps.{if_some, Says, nothing, reply, SideStep, step_moves}
 use Rattle.syn_headline.proofs.SideSteps.{side_keeps}
+use Rattle.syn_headline.proofs.View.{longer}
 
 -- each acknowledged replacement of a step is the first of its events, and legal
 abbrev pub IsLegalStep : Picture → List Ack → Type 0
@@ -298,11 +299,6 @@ opens_advances plans old k which _ _ new (recovered event w a) e =
     (histories_of old) old.coordinator.archive which event)) w (k.sides which).writing in
     side_advances plans old k which _
     [] (event ∷ []) new (one_event event a s.1 refl) (k.sides which).staged tt nothing e
-
-longer : (h : History) (event : Event) → h ≡ h ++ event ∷ [] → ⊥
-longer h event e =
-    let x : [] ≡ event ∷ [] = append_cancel_left h [] (event ∷ []) (append-nil h ∙ e) in
-    cc
 
 module _ (plans : Plans) (old : Picture) (k : IsKept plans old) (which : Which) (session number : ℕ)
     (request : Request) (asked : Contains old.sent (Asks which session number request)) where

@@ -1,7 +1,7 @@
 -- The invariant is kept as messages are sent, a plan is made, and the archive keeps its items.
 use Rattle.std.proofs.Common.{◌≡◌, ◌≤◌, ℕ, true, false, nat_le, List, ◌∷◌, ◌++◌, refl, sym, ap, ◌∙◌}
-use Rattle.std.proofs.Common.{subst, Some, append-nil, arith, inl, inr, slice_get, ◌≢◌, ◌+◌, zero}
-use Rattle.std.proofs.Common.{suc, not, ◌==◌, None, ◌⊎◌, if◌then◌else◌, [], true≢false}
+use Rattle.std.proofs.Common.{subst, Some, append-nil, arith, inl, inr, slice_get, ◌≢◌, ◌+◌}
+use Rattle.std.proofs.Common.{not, ◌==◌, None, ◌⊎◌, if◌then◌else◌, [], true≢false}
 use Rattle.std.specs.FinMap.{get}
 use Rattle.std.proofs.lemmas.List.Elements.{All-weaker, All-push, All-get_or, Contains-append_left}
 use Rattle.std.proofs.lemmas.List.Elements.{Contains-append_cases, All-contains}
@@ -35,12 +35,9 @@ use Rattle.syn_model.proofs.PathLemmas.{strip_prefix-is}
 use Rattle.syn_model.proofs.TreeLemmas.{get-replace}
 use Rattle.syn_headline.proofs.GrownLemmas.{some_in_nothing}
 use Rattle.syn_headline.specs.Acknowledged.{IsPreferred}
+use Rattle.syn_model.proofs.BaseLemmas.{contains_one}
 
 -- Messages
-
-pub only_one : {X : Type 0} (x y : X) → Contains (x ∷ []) y → x ≡ y
-only_one x y (zero, h, e) = e
-only_one x y (suc k, h, e) = absurd (omega (arith, h))
 
 pub sound-more : (plans : Plans) (histories : Histories) (archive : Archive) (sent more : Sent) →
     IsSound plans histories archive sent → NumbersTell (sent ++ more) →
@@ -135,7 +132,8 @@ ask_before sent from session number reply to n m request c =
     elim (Contains-append_cases sent (Answers from session number reply ∷ [])
     (Asks to n m request) c) as (λ _. Contains sent (Asks to n m request)) [
       | inl old ↦ old
-      | inr new ↦ let e = only_one (Answers from session number reply) (Asks to n m request) new in
+      | inr new ↦ let e = contains_one (Answers from session number reply) (Asks to n m request) new
+          in
           cc
     ]
 
@@ -152,9 +150,9 @@ sound-answer plans histories archive sent sound from session number request repl
     n m a c) (ask_before sent from session number reply side n m b d))
     (λ side n l m a b c d. sound.repeats side n l m a b (ask_before sent from session number reply
     side n l a c) (ask_before sent from session number reply side n m b d))
-    (λ to n m r c. let e = only_one (Answers from session number reply) (Asks to n m r) c in cc)
+    (λ to n m r c. let e = contains_one (Answers from session number reply) (Asks to n m r) c in cc)
     (λ side n m r c.
-    let e = only_one (Answers from session number reply) (Answers side n m r) c in
+    let e = contains_one (Answers from session number reply) (Answers side n m r) c in
     let e0 : from ≡ side = cc in
     let e1 : session ≡ n = cc in
     let e2 : number ≡ m = cc in
@@ -239,7 +237,7 @@ preferred_now plans entry new n at side path p made c of =
     elim (Contains-append_cases plans (entry ∷ []) made c) as (λ _. IsPreferred made side path) [
       | inl earlier ↦ absurd (All-contains (λ e. e.session ≢ entry.session) plans made new earlier
           (of ∙ at))
-      | inr here ↦ subst (λ m. IsPreferred m side path) (only_one entry made here) p
+      | inr here ↦ subst (λ m. IsPreferred m side path) (contains_one entry made here) p
     ]
 
 -- and the plans before it do so still
@@ -250,7 +248,7 @@ preferred_before plans entry n differ side path p made c of =
     elim (Contains-append_cases plans (entry ∷ []) made c) as (λ _. IsPreferred made side path) [
       | inl earlier ↦ p made earlier of
       | inr here ↦
-          let is : entry.session ≡ n = ap (λ e. e.session) (only_one entry made here) ∙ of in
+          let is : entry.session ≡ n = ap (λ e. e.session) (contains_one entry made here) ∙ of in
           absurd (true≢false (grind (arith, nat_tests)))
     ]
 

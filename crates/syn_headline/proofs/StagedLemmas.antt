@@ -1,13 +1,13 @@
 -- A side's history goes on by what a plan asks for, and what is staged stays sound as it does.
-use Rattle.std.proofs.Common.{◌≡◌, ◌≤◌, ◌+◌, ℕ, true, false, not, ◌||◌, ◌==◌, ◌∷◌, ◌++◌, length}
+use Rattle.std.proofs.Common.{◌≡◌, ◌≤◌, ◌+◌, ℕ, true, false, not, ◌==◌, ◌∷◌, ◌++◌, length}
 use Rattle.std.proofs.Common.{take, drop, refl, sym, ap, ap₂, ◌∙◌, subst, Option, Some, None}
-use Rattle.std.proofs.Common.{is_some, true≢false, append_assoc, append-nil, arith, inl, inr, ◌⊎◌}
+use Rattle.std.proofs.Common.{true≢false, append_assoc, arith, inl, inr, ◌⊎◌}
 use Rattle.std.proofs.Common.{slice_get, fold, []}
 use Rattle.std.proofs.lemmas.List.{length-append, take-append-drop}
 use Rattle.std.proofs.Math.Seq.{take-append_seam, take-length}
 use Rattle.std.proofs.lemmas.Option.{same_Some}
 use Rattle.std.proofs.lemmas.Bool.{and_parts, eqb-true}
-use Rattle.syn_model.specs.Path.{Bytes, Path, comparable, is_prefix}
+use Rattle.syn_model.specs.Path.{Bytes, Path, comparable}
 use Rattle.syn_model.specs.Tree.{Tree, IsTree, subtree}
 use Rattle.syn_model.specs.Limits.{fits_replica}
 use Rattle.syn_model.specs.Mark.{mark}
@@ -24,7 +24,7 @@ use Rattle.syn_model.specs.Decision.{path_of}
 use Rattle.syn_headline.specs.Planning.{Planned, seen_on, WritesTo}
 use Rattle.syn_headline.proofs.Invariant.{Plans, plan_in, Histories, IsSound, IsSpent}
 use Rattle.syn_headline.proofs.Invariant.{IsSoundStaging, IsSoundReplacement, IsSoundEvent}
-use Rattle.syn_model.proofs.PathLemmas.{strip_prefix-append}
+use Rattle.syn_model.proofs.PathLemmas.{comparable_itself}
 use Rattle.syn_model.proofs.FitsLemmas.{history_fits}
 use Rattle.syn_model.proofs.HistoryLemmas.{history-is_tree, tree_of-append}
 use Rattle.syn_model.proofs.QuietLemmas.{quiet_before}
@@ -53,11 +53,6 @@ pub token_one : (last : Option Token) (history : History) (event : Event) → fo
     (history ++ event ∷ []) ≡ token_after (fold token_after last history) event
 token_one last [] event = refl
 token_one last (e ∷ history) event = token_one (token_after last e) history event
-
-pub path_meets_itself : (p : Path) → comparable p p ≡ true
-path_meets_itself p =
-    ap (λ b. b || is_prefix p p)
-    (ap (λ w. is_prefix p w) (sym (append-nil p)) ∙ ap is_some (strip_prefix-append p []))
 
 -- a path that is touched now is not quiet
 pub touched_now : (history : History) (event : Event) (since : ℕ) (p : Path) →
@@ -163,7 +158,7 @@ module _ (plans : Plans) (archive : Archive) (sent : Sent) (old new : Histories)
         touched =
             touched_now (old side) (Replaced token' path' since u) (seen_on planned side).since path
             (subst (λ k. k ≤ length (old side)) since_is s.within)
-            (ap (λ q. comparable q path) path_is ∙ path_meets_itself path);
+            (ap (λ q. comparable q path) path_is ∙ comparable_itself path);
         put = record {
           position = length (old side) + 1;
           reached = omega (arith, length-append (old side) (Replaced token' path' since u ∷ []));

@@ -27,6 +27,7 @@ use Rattle.syn_headline.specs.Picture as picture
 use Rattle.syn_headline.proofs.Invariant.{Plans, histories_of, IsHarmless, IsKept, plan_in, IsFresh}
 use Rattle.syn_headline.specs.Runs.{picture_of, session_picture, coordinator_picture}
 use Rattle.syn_headline.proofs.InOrder.{IsSaid, no_answer, after_less}
+use Rattle.syn_headline.proofs.UnstableLemmas.{ListsNothing}
 use Rattle.syn_headline.proofs.Sessions.{IsHeard, StandsOn, still_logged, waits_on}
 use Rattle.syn_headline.proofs.SideSteps.{if_some}
 use Rattle.syn_headline.specs.Reported.{EndsSo, unanswered, out_of_memory}
@@ -205,6 +206,11 @@ module _ (plans : Plans) (old : fine_world.World) (k : IsKept plans (picture_of 
       coordinator_goes old (record old.coordinator { running = Some again })
       (record fine.no_call { messages = more })
 
+  listed_again : (waiting : List Outstanding) → ListsNothing waiting →
+      ListsNothing (once_more waiting)
+  listed_again waiting none one path c is =
+      let was = more_was waiting one c in none was.0 path was.1 (was.3 ∙ is)
+
   heard_again : IsHeard after again
   heard_again = record {
     remembers = record {
@@ -259,7 +265,8 @@ module _ (plans : Plans) (old : fine_world.World) (k : IsKept plans (picture_of 
         (still_logged old.log (old.log ++ []) old.coordinator.journal.value
         old.coordinator.journal.value r r.plan (append-nil old.log) refl h.logged)
         (λ plan _ had. waits_on (old.log ++ []) old.coordinator.journal.value r
-        (once_more r.left) (once_more r.right) plan had);
+        (once_more r.left) (once_more r.right) plan
+        (listed_again r.left had.listed.0, listed_again r.right had.listed.1) had);
     kept = ap kept_in_session (append-nil old.acknowledged) ∙ h.kept;
     settled = h.settled;
   }

@@ -33,8 +33,8 @@ use Rattle.syn_headline.proofs.UnderwayLemmas.{IsQuietPlan, IsUnderway, underway
 use Rattle.syn_headline.proofs.KeptLemmas.{IsNoSession, since_last}
 use Rattle.syn_headline.proofs.ReportLemmas.{synchronized, reconciled, conflicts_reported}
 use Rattle.syn_headline.proofs.ReportLemmas.{counts_reported, alike_marked, alike_stays}
-use Rattle.syn_headline.proofs.SoundLemmas.{only_one}
 use Rattle.syn_headline.proofs.WatchLemmas.{all_kept, RunsWell, plan_then, due_then, goes_kept}
+use Rattle.syn_model.proofs.BaseLemmas.{contains_one}
 
 -- what the report of a session is worth that kept this before it began
 abbrev pub IsWorth : Option Which → Stores → List Ack → Report → List Kept → Type 0
@@ -349,7 +349,7 @@ module _ (before : Stores) (whole : IsTree before.archive.marks)
       × IsTold before new.log (take acks new.acknowledged) report) [
         | inl earlier ↦ told_before report acks earlier complete
         | inr here ↦
-            let one = only_one {X = Report × ℕ} (last, length new.acknowledged)
+            let one = contains_one {X = Report × ℕ} (last, length new.acknowledged)
             (report, acks) here in
             let report_is : last ≡ report = ap (λ p. p.0) one in
             let acks_is : length new.acknowledged ≡ acks = ap (λ p. p.1) one in (

@@ -245,7 +245,7 @@ compacts_follow old side _ up (not_compacted status arms failed down meets) =
 
 -- A side takes a request
 
-longer : (h : History) (event : Event) → h ≡ h ++ event ∷ [] → ⊥
+pub longer : (h : History) (event : Event) → h ≡ h ++ event ∷ [] → ⊥
 longer h event e =
     let x : [] ≡ event ∷ [] = append_cancel_left h [] (event ∷ []) (append-nil h ∙ e) in
     cc

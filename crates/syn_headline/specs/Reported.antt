@@ -1,7 +1,7 @@
 -- What each report of a run says: which session it is of, why that ended, and why its items were
 -- refused.
-use Rattle.std.specs.Prelude.{ℕ, ◌≡◌, ◌≢◌, ◌++◌, true, List, [], ◌∷◌, take, slice_get, Option, Some}
-use Rattle.std.specs.Prelude.{None, IsSome, IfSome, All, Contains}
+use Rattle.std.specs.Prelude.{ℕ, ◌≡◌, ◌≢◌, ◌↔◌, ◌++◌, true, List, [], ◌∷◌, take, slice_get, Option}
+use Rattle.std.specs.Prelude.{Some, None, IsSome, IfSome, All, Contains}
 use Rattle.syn_model.specs.Path.{Path}
 use Rattle.syn_model.specs.Refusal.{Refusal, Memory, Full, NoAnswer, Device, Halted, JournalFull}
 use Rattle.syn_model.specs.Refusal.{BadMessage}
@@ -47,15 +47,18 @@ pub data IsRefusedFor (made : SessionPlan) (taken : List Exchange) (kept : List 
       IsDue item planned exchange what →
       IsRefusedFor made taken kept (Full, path_of planned.item)
 
--- The plan was logged for the session. Where its scans show an unstable path, the session took the
--- answer that said so; and each item that was refused has its cause
+-- a path of its scans was answered as no directory
+abbrev pub HasUnstable : SessionPlan → Type 0
+HasUnstable made = (side : Which) × (path : Path) × Contains (made.scan side).unstable path
+
+-- The plan was logged for the session. Its scans have an unstable path exactly where the session
+-- took an answer that a path is no directory; and each item that was refused has its cause
 pub record IsPlanned (log : Log) (running : Running) (plan : List Planned) : Type 0 where
   pub made : SessionPlan
   pub logged : Contains log made
   pub of_session : made.session ≡ running.session
   pub plan_is : made.plan ≡ plan
-  pub unstable : (side : Which) (path : Path) → Contains (made.scan side).unstable path →
-      is_unstable running ≡ true
+  pub unstable : (is_unstable running ≡ true) ↔ HasUnstable made
   pub refused : All (IsRefusedFor made running.taken running.kept) running.refused
 
 -- the session asked a side for this, and took that answer

@@ -54,6 +54,7 @@ use Rattle.syn_headline.proofs.Simulation.{step_follows}
 use Rattle.syn_headline.proofs.AdvanceLemmas.{step_advances}
 use Rattle.syn_headline.proofs.WholeRuns.{no_plans, start_kept}
 use Rattle.syn_headline.proofs.FineRuns.{start_view}
+use Rattle.syn_model.proofs.BaseLemmas.{contains_none, contains_one}
 
 -- What was recorded and refused
 
@@ -85,13 +86,6 @@ same_at : (one : Kept) (path at : Path) → IsAt path one → IsAt at one → pa
 same_at (Recorded there marks) path at is also = sym is ∙ also
 same_at (RecordedDir there) path at is also = sym is ∙ also
 same_at (Session session) path at is also = absurd is
-
-only : {X : Type 0} (x y : X) → Contains (x ∷ []) y → x ≡ y
-only x y (zero, within, e) = e
-only x y (suc i, within, e) = absurd (omega (arith, within))
-
-nothing_in : {X : Type 0} (x : X) → Contains [] x → ⊥
-nothing_in x (i, within, e) = omega (arith, within)
 
 pub writes_at : (item : Item) (side : Which) (path : Path) → WritesTo item side path →
     path ≡ path_of item
@@ -213,7 +207,7 @@ module _ (pair : ℕ) (plan : List Planned) (taken : Exchange) (distinct : AreDi
         by was one also (inr now) = distinct walk.cursor item planned other
             (omega (arith, beyond)) at there (same_at what (path_of planned.item)
             (path_of other.item) is
-            (subst (IsAt (path_of other.item)) (sym (only what one now)) also))
+            (subst (IsAt (path_of other.item)) (sym (contains_one what one now)) also))
 
     refuse_apart : (why : Refusal) → AreApart had (refusing walk why planned).refused
     refuse_apart why path one other kept is refused =
@@ -224,7 +218,7 @@ module _ (pair : ℕ) (plan : List Planned) (taken : Exchange) (distinct : AreDi
             ⊎ Contains {X = Refusal × Path} ((why, path_of planned.item) ∷ []) (other, path) → ⊥
         by (inl before) = apart path one other kept is before
         by (inr now) = here.0 one kept (subst (λ p. IsAt p one)
-            (sym (ap (λ (refusal : Refusal × Path). refusal.1) (only _ _ now))) is)
+            (sym (ap (λ (refusal : Refusal × Path). refusal.1) (contains_one _ _ now))) is)
 
     refuse_ahead : (why : Refusal) →
         AreAhead plan (suc walk.cursor) had (refusing walk why planned).refused
@@ -243,7 +237,7 @@ module _ (pair : ℕ) (plan : List Planned) (taken : Exchange) (distinct : AreDi
         by was because (inl before) = was because before
         by was because (inr now) = distinct walk.cursor item planned other
             (omega (arith, beyond)) at there
-            (ap (λ (refusal : Refusal × Path). refusal.1) (only _ _ now))
+            (ap (λ (refusal : Refusal × Path). refusal.1) (contains_one _ _ now))
 
   -- what a call leaves, and what the session goes on from where its machine still is as it was
   abbrev LeavesApart : Walk → Walk → List Kept → Type 0
@@ -337,8 +331,8 @@ module _ (archive : Archive) (running : Running) (taken : Exchange) (is : IsApar
       AreAhead (list_of plan) running.cursor running.kept running.refused
   plan_ahead _ _ session.stays = is.ahead
   plan_ahead _ _ (makes made none so) = λ item planned beyond at. (
-    λ one kept at. nothing_in one (subst (λ k. Contains k one) (unplanned none).0 kept),
-    λ why refused. nothing_in _ (subst (λ r. Contains r (why, path_of planned.item))
+    λ one kept at. contains_none one (subst (λ k. Contains k one) (unplanned none).0 kept),
+    λ why refused. contains_none _ (subst (λ r. Contains r (why, path_of planned.item))
         (unplanned none).1 refused),
   )
 
@@ -440,7 +434,8 @@ module _ (old : World) (h : IfSome old.coordinator.running IsApart)
   starts_so : (preference : Option Which) (next : CoordinatorMachine) (call : Call) →
       CoordinatorStarts old.pair preference old.coordinator next call → Leaves next call
   starts_so preference next call (starts number journal is lawful so up) =
-      silent next call refl (no_item _ refl (λ path one why kept at refused. nothing_in one kept))
+      silent next call refl (no_item _ refl (λ path one why kept at refused.
+      contains_none one kept))
   starts_so preference next call (start_breaks number journal kept is so down) =
       silent next call refl tt
 

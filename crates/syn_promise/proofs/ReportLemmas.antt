@@ -5,7 +5,7 @@ use Rattle.std.proofs.Common.{[], ◌∷◌, Option, Some, None, refl, sym}
 use Rattle.std.proofs.Common.{ap, subst, arith, true≢false, inl, inr, take, filter_map}
 use Rattle.std.specs.List.{count_by}
 use Rattle.std.proofs.lemmas.Bool.Decides.{nat_tests}
-use Rattle.std.specs.Prelude.{All, Contains, IfSome, IsSome, if◌then◌else◌}
+use Rattle.std.specs.Prelude.{◌↔◌, All, Contains, IfSome, IsSome, if◌then◌else◌}
 use Rattle.std.specs.Option.{option_map_or}
 use Rattle.std.proofs.lemmas.List.Elements.{All-nil, All-cons, All-weaker}
 use Rattle.std.proofs.lemmas.List.Elements.{Contains-append_right}
@@ -19,14 +19,14 @@ use Rattle.syn_headline.proofs.Invariant.{plan_in}
 use Rattle.syn_model.specs.Refusal.{Refusal}
 use Rattle.syn_model.specs.Path.{Path}
 use Rattle.syn_model.specs.Archive.{Kept}
-use Rattle.syn_headline.specs.Network.{Which, Sent}
+use Rattle.syn_headline.specs.Network.{Sent}
 use Rattle.syn_headline.specs.Planning.{Planned, Log, SessionPlan}
 use Rattle.syn_headline.specs.Report.{Report, Complete, Incomplete, is_kept, is_carrying}
 use Rattle.syn_headline.specs.Report.{is_marking, conflict_at}
 use Rattle.syn_headline.specs.Coordinator.{Running, report_of, plan_of, is_whole, is_unstable}
 use Rattle.syn_headline.specs.Reported.{IsReportOf, IsPlanned, EndsSo, IsSettledBy, through}
 use Rattle.syn_headline.specs.Reported.{with_answer, at_record, unanswered, out_of_memory}
-use Rattle.syn_headline.specs.Reported.{IsRefusedFor}
+use Rattle.syn_headline.specs.Reported.{HasUnstable, IsRefusedFor}
 use Rattle.syn_headline.proofs.HeardLemmas.{whole_parts}
 use Rattle.syn_promise.specs.Sessions.{Tells, TellsOf, IsRefusable, IsStable, with_plan}
 use Rattle.syn_promise.specs.Sessions.{without_plan}
@@ -197,16 +197,30 @@ module _ (sent : Sent) (log : Log) (kept : List Kept) (running : Running)
   incomplete None some running = absurd (some refl)
   incomplete (Some why) some running = refl
 
-  stable : (made : SessionPlan) → ((side : Which) (path : Path) →
-      Contains (made.scan side).unstable path → is_unstable running ≡ true) →
-      report.end ≡ Complete → (report.ended ≡ None) × (report.refused ≡ []) × IsStable made
-  stable made unstable complete =
-      let all = whole complete in (
-        all.0,
-        all.1,
-        λ side. no_path (made.scan side).unstable
-            (λ path at. all.2 (unstable side path at)),
-      )
+  complete_where : (made : SessionPlan) → (is_unstable running ≡ true) ↔ HasUnstable made →
+      (report.end ≡ Complete) ↔ ((report.ended ≡ None) × (report.refused ≡ []) × IsStable made)
+  complete_where made unstable = (
+    λ complete. let all = whole complete in (
+      all.0,
+      all.1,
+      λ side. no_path (made.scan side).unstable
+          (λ path at. all.2 (unstable.1 (side, path, at))),
+    ),
+    λ all. by all.0 all.1 all.2 (is_unstable running) refl,
+  )
+    where
+      by : ended ≡ None → running.refused ≡ [] → IsStable made → (b : Bool) →
+          is_unstable running ≡ b → report.end ≡ Complete
+      by none nothing stable false is =
+          ap (λ end. (report_of running end).end) none
+          ∙ (ap (λ refused. (report_of (record running { refused = refused }) None).end) nothing
+          ∙ ap (λ b. if not b then Complete else Incomplete) is)
+      by none nothing stable true is =
+          let has = unstable.0 is in
+          absurd (in_none (subst (λ paths. Contains paths has.1) (stable has.0) has.2))
+        where
+          in_none : {path : Path} → Contains [] path → ⊥
+          in_none c = omega (arith, c.1)
 
   by_plan : (plan : Option (List Planned)) → running.plan ≡ plan →
       IfSome plan (IsPlanned log running) → Tells log kept report
@@ -216,7 +230,7 @@ module _ (sent : Sent) (log : Log) (kept : List Kept) (running : Running)
       with_plan planned.made planned.logged planned.of_session
       (subst (λ p. TellsOf p kept report) same (tells (entry_plan log once running.session
       planned.made planned.logged planned.of_session ∙ sym same)))
-      (stable planned.made planned.unstable)
+      (complete_where planned.made planned.unstable)
   by_plan None at planned = by (find_entry log running.session)
     where
       never : Complete ≢ Incomplete
@@ -245,7 +259,10 @@ module _ (sent : Sent) (log : Log) (kept : List Kept) (running : Running)
             (λ planned. is_carrying planned.item && is_kept kept planned.item) plan) plan;
         marked = counted.marked ∙ ap (λ plan. count_by
             (λ planned. is_marking planned.item && is_kept kept planned.item) plan) plan;
-      }) (λ complete. absurd (never (sym complete ∙ incomplete ended (early at) running)))
+      }) (
+        λ complete. absurd (never (sym complete ∙ incomplete ended (early at) running)),
+        λ all. absurd (early at all.0),
+      )
       by (inr others) =
           without_plan others (subst (λ p. TellsOf p kept report) none_of
           (subst (λ k. TellsOf (plan_of running) k report) (sym is.kept_is)

@@ -5,7 +5,7 @@ use Rattle.std.proofs.Common.{inr, arith, append-nil, true, false, if◌then◌e
 use Rattle.std.specs.Prelude.{All, AllPairs, IfSome, slice_index_or}
 use Rattle.std.proofs.lemmas.Bool.Decides.{nat_tests}
 use Rattle.std.proofs.lemmas.List.{length-append, take-append-le}
-use Rattle.std.proofs.lemmas.List.Elements.{All-head, All-tail, All-nil, All-push}
+use Rattle.std.proofs.lemmas.List.Elements.{All-head, All-nil, All-push}
 use Rattle.std.proofs.lemmas.List.Elements.{filter_map-append}
 use Rattle.std.proofs.lemmas.Option.{none-some, same_Some}
 use Rattle.std.specs.Prelude.{◌<◌}
@@ -35,34 +35,8 @@ use Rattle.syn_headline.specs.Headline.{IsStart, StandsFor}
 use Rattle.syn_headline.proofs.CourseLemmas.{Course, beside, starts, ticks, takes}
 use Rattle.syn_headline.proofs.Invariant.{Plans, IsKept, plan_in}
 use Rattle.syn_headline.proofs.KeptLemmas.{sessions_grow}
+use Rattle.syn_headline.proofs.LogLemmas.{plan_in-push}
 use Rattle.syn_headline.proofs.SideSteps.{if_some}
-
--- an entry that is added is that of its session, and of no other
-plan_in-push : (log : Log) (made : SessionPlan) →
-    All (λ earlier. earlier.session ≢ made.session) log → (session : ℕ) →
-    plan_in (log ++ made ∷ []) session
-    ≡ (if session == made.session then made.plan else plan_in log session)
-plan_in-push [] made once session =
-    ap (λ b. if b then made.plan else []) (same_test made.session session)
-  where
-    same_test : (m n : ℕ) → (m == n) ≡ (n == m)
-    same_test m n = grind (arith, nat_tests)
-plan_in-push (first ∷ log) made once session =
-    elim (first.session == session) as (λ b. (first.session == session) ≡ b →
-    (if b then first.plan else plan_in (log ++ made ∷ []) session) ≡ (if session == made.session
-    then made.plan else (if b then first.plan else plan_in log session))) [
-      | true ↦ λ same.
-          let other : first.session ≢ made.session =
-          All-head (λ earlier. earlier.session ≢ made.session) first log once in
-          elim (session == made.session)
-          as (λ c. (session == made.session) ≡ c →
-          first.plan ≡ (if c then made.plan else first.plan)) [
-            | true ↦ λ here. absurd (other (grind (arith, nat_tests)))
-            | false ↦ λ _. refl
-          ] refl
-      | false ↦ λ _. plan_in-push log made
-          (All-tail (λ earlier. earlier.session ≢ made.session) first log once) session
-    ] refl
 
 abbrev pub Told : Type 0
 Told = Report × ℕ

@@ -157,11 +157,11 @@ pub record TellsOf (plan : List Planned) (kept : List Kept) (report : Report) : 
       ≡ count_by (λ planned. is_marking planned.item && is_kept kept planned.item) plan
 
 -- A report is of the plan that its session made; or of no item, where it made none. It is complete
--- only where nothing ended it, no item was refused and no path was unstable
+-- exactly where nothing ended it, no item was refused and no path was unstable
 pub data Tells (sessions : Log) (kept : List Kept) (report : Report) : Type 0 where
   with_plan : (made : SessionPlan) → Contains sessions made → made.session ≡ report.session →
       TellsOf made.plan kept report →
-      (report.end ≡ Complete → (report.ended ≡ None) × (report.refused ≡ []) × IsStable made) →
+      ((report.end ≡ Complete) ↔ (report.ended ≡ None) × (report.refused ≡ []) × IsStable made) →
       Tells sessions kept report
   without_plan : All (λ made. made.session ≢ report.session) sessions → TellsOf [] kept report →
       report.ended ≢ None → report.end ≡ Incomplete → Tells sessions kept report
