@@ -23,10 +23,11 @@ use Rattle.syn_session.specs.declared.session.Session.{Session}
 use Rattle.syn_session.specs.Answering.{IsAskedOn, IsHeard, asks_of, messages_asked}
 use Rattle.syn_session.specs.Hearing.{IsFresh}
 use Rattle.syn_session.specs.Sessions.{IsPeer}
-use Rattle.syn_session.specs.Stages.{peer_of, waiting_of}
+use Rattle.syn_session.specs.Stages.{AreOfSession, peer_of, waiting_of}
 use Rattle.syn_session.proofs.WaitingLemmas.{below_more}
 use Rattle.syn_path.specs.Sides.{which_of}
 use Rattle.syn_path.specs.declared.side.Side.{Side}
+use Rattle.syn_model.proofs.BaseLemmas.{contains_none}
 
 -- two that ask for the same thing do so in either order
 pub repeat_back : (a b : Request) → IsRepeat a b → IsRepeat b a
@@ -56,9 +57,6 @@ repeat_back (Replace i p k z) (Fetch q l n) is = absurd is
 repeat_back (Replace i p k z) (Stage j n e) is = absurd is
 repeat_back (Replace i p k z) (Replace j q l y) is = sym is
 
-none_in : {T : Type 0} (x : T) → Contains [] x → ⊥
-none_in x has = omega (arith, has.1)
-
 length-numbered : (requests : List Request) (n : ℕ) → length (numbered n requests) ≡ length requests
 length-numbered [] n = refl
 length-numbered (request ∷ more) n = ap suc (length-numbered more (suc n))
@@ -67,7 +65,7 @@ length-numbered (request ∷ more) n = ap suc (length-numbered more (suc n))
 numbered_at : (count : ℕ) (requests : List Request) (one : Outstanding) →
     Contains (numbered count requests) one → (i : ℕ) × (i < length requests)
     × (one.number ≡ count + i) × ((d : Request) → get_or requests i d ≡ one.request)
-numbered_at count [] one has = absurd (none_in one has)
+numbered_at count [] one has = absurd (contains_none one has)
 numbered_at count (request ∷ more) one (zero, h, e) = (
   0,
   omega arith,
@@ -83,7 +81,8 @@ numbered_at count (request ∷ more) one (suc k, h, e) =
     )
 
 module _ (heard : Running) (old new : Session) (asks : Asks) (is : IsHeard old heard)
-    (asked : (side : Which) → IsAskedOn (peer_of old side) (peer_of new side) (asks_of asks side))
+    (asked : (side : Which) → IsAskedOn old.number (peer_of old side) (peer_of new side)
+    (asks_of asks side))
     (number : new.number ≡ old.number) (preferred : new.preference ≡ old.preference)
     (may_wait : (side : Which) → MayWait (waiting_of (peer_of old side)
     ++ numbered (peer_of old side).asked (asks_of asks side)))
@@ -138,6 +137,9 @@ module _ (heard : Running) (old new : Session) (asks : Asks) (is : IsHeard old h
         waits = outstanding_on side ∙ waits_on side;
         count = count_on side;
         few = few_on side;
+        of_session =
+            subst (λ n. AreOfSession n (peer_of new side)) (sym is.number) ((asked side).of_session
+            (subst (λ n. AreOfSession n (peer_of old side)) is.number was.of_session));
         rising =
             subst AreRising (sym (asked side).waits)
             (numbered-rising (waiting_of (peer_of old side)) (peer_of old side).asked

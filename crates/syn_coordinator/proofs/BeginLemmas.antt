@@ -44,11 +44,13 @@ use Rattle.syn_coordinator.specs.inner.Walking.{ComesToAsk, Ends, IsAtItem}
 use Rattle.syn_session.specs.Passing.{first_reached}
 use Rattle.syn_session.proofs.AnswerLemmas.{heard_so, unstable_then}
 use Rattle.syn_coordinator.proofs.CarryLemmas.{asks_course, ends_course}
-use Rattle.syn_session.proofs.TellingLemmas.{by_sides, or_false, scans_further, tells_heard}
+use Rattle.syn_session.proofs.TellingLemmas.{scans_further, tells_heard}
 use Rattle.syn_coordinator.proofs.MakingLemmas.{made_of, makes_plan}
-use Rattle.syn_session.proofs.WaitingLemmas.{alone_is, asked_has, only_in}
+use Rattle.syn_session.proofs.WaitingLemmas.{alone_is, asked_has}
 use Rattle.syn_coordinator.proofs.TakeLemmas.{hears_end}
 use Rattle.syn_coordinator.proofs.TriedLemmas.{tries_none}
+use Rattle.syn_model.proofs.BaseLemmas.{or_false, contains_one, contains_none}
+use Rattle.syn_headline.proofs.StagedLemmas.{on_both}
 
 -- ---- whatever its plan, a session is heard alike
 
@@ -205,9 +207,6 @@ none_waits : (waiting : List Outstanding) →
 none_waits [] e = refl
 none_waits (one ∷ more) e = let long = ap length e in absurd (omega (arith, long))
 
-no_such : {T : Type 0} (x : T) → Contains [] x → ⊥
-no_such x has = omega (arith, has.1)
-
 module _ (pair : ℕ) (journal : Journal) (before session : Session) (running : Running)
     (side : Which) (number : ℕ) (request : Request) (reply : said.Reply)
     (is : IsSession journal.value before running)
@@ -230,11 +229,11 @@ module _ (pair : ℕ) (journal : Journal) (before session : Session) (running : 
     where
       by : (on : Which) → Contains (requests_on (peer_of before on)) request → Left ≡ on
       by Left asks = refl
-      by Right asks = absurd (no_such request (subst (λ l. Contains l request) none asks))
+      by Right asks = absurd (contains_none request (subst (λ l. Contains l request) none asks))
   own_side Right none = by side asked_now
     where
       by : (on : Which) → Contains (requests_on (peer_of before on)) request → Right ≡ on
-      by Left asks = absurd (no_such request (subst (λ l. Contains l request) none asks))
+      by Left asks = absurd (contains_none request (subst (λ l. Contains l request) none asks))
       by Right asks = refl
 
   asked_side : carrying_then.to ≡ side
@@ -247,16 +246,17 @@ module _ (pair : ℕ) (journal : Journal) (before session : Session) (running : 
 
   asked_it : carrying_then.request ≡ request
   asked_it =
-      only_in carrying_then.request request (subst (λ l. Contains l request) waits_now asked_now)
+      contains_one carrying_then.request request (subst (λ l. Contains l request) waits_now
+      asked_now)
 
   same_scan : (on : Which) → (peer_of session on).scan ≡ (peer_of before on).scan
   same_scan =
-      by_sides (λ on. (peer_of session on).scan ≡ (peer_of before on).scan) side answers.scan
+      on_both (λ on. (peer_of session on).scan ≡ (peer_of before on).scan) side answers.scan
       (ap (λ (l : PeerState). l.scan) answers.across)
 
   pub silent_now : (on : Which) → waiting_of (peer_of session on) ≡ []
-  silent_now = by_sides (λ on. waiting_of (peer_of session on) ≡ []) side
-      (answers.waits (is.peer side).rising
+  silent_now = on_both (λ on. waiting_of (peer_of session on) ≡ []) side
+      (answers.taken.waits (is.peer side).rising
       ∙ alone_is (waiting_of (peer_of before side)) number request few answers.asked)
       (ap waiting_of answers.across ∙ none_waits (waiting_of (peer_of before (other side)))
       (subst (λ w. requests_on (peer_of before (other w)) ≡ []) asked_side carrying_then.alone))

@@ -17,7 +17,6 @@ use Rattle.syn_headline.specs.Side.{Begin, Fetch, IsLawfulBody, ListAt, Piece, R
 use Rattle.syn_headline.specs.Side.{Stage, Staged}
 use Rattle.syn_message.specs.Requests.{request_of}
 use Rattle.syn_path.specs.Sides.{which_of}
-use Rattle.syn_message.specs.declared.request.Request.{Request as Asked}
 use Rattle.syn_path.specs.declared.side.Side.{Side}
 use Rattle.syn_path.specs.declared.side.Side.TheVariants as side_is
 use Rattle.syn_model.specs.Archive as model
@@ -27,6 +26,7 @@ use Rattle.syn_propagate.specs.Carrying.{source_of, target_of}
 use Rattle.syn_propagate.specs.Carrying as carrying
 use Rattle.syn_propagate.specs.Transfers.{Asks as TransferAsks, WaitsFor as TransferWaitsFor}
 use Rattle.syn_propagate.specs.Transfers.{spec_of}
+use Rattle.syn_propagate.specs.declared.next.SideRequest.{SideRequest}
 use Rattle.syn_propagate.specs.declared.transfer_spec.TransferSpec.{TransferSpec}
 use Rattle.syn_coordinator.specs.Machines.{Journal}
 use Rattle.syn_session.specs.Scanning.{found_of}
@@ -34,7 +34,7 @@ use Rattle.syn_session.specs.declared.plan_progress.PlanProgress.{PlanProgress}
 use Rattle.syn_coordinator.specs.declared.ended.Ended.{Ended}
 use Rattle.syn_session.specs.declared.session.Session.{Session}
 use Rattle.syn_coordinator.specs.declared.tried.Unconfirmed.{Unconfirmed}
-use Rattle.syn_session.specs.Answering.{IsHeard, asks_of}
+use Rattle.syn_session.specs.Answering.{IsHeard, asks_alone, asks_of}
 use Rattle.syn_coordinator.specs.inner.Taking.{TakesEnd, TakesOn, Walks, reaching}
 use Rattle.syn_session.specs.declared.session.Asks.{Asks}
 use Rattle.syn_session.specs.declared.session.Asks.TheVariants.{Listings, One}
@@ -49,9 +49,7 @@ use Rattle.syn_coordinator.specs.inner.Walking.{walk_at}
 use Rattle.syn_session.proofs.WaitingLemmas.{numbered_requests}
 use Rattle.syn_headline.proofs.Heard.{numbered-length}
 use Rattle.syn_session.proofs.CarryingLemmas.{source_other, marks_of}
-
-no_such : {T : Type 0} (x : T) → Contains [] x → ⊥
-no_such x has = omega (arith, has.1)
+use Rattle.syn_model.proofs.BaseLemmas.{contains_none}
 
 -- ---- what a transfer asks, a session may ask
 
@@ -156,6 +154,7 @@ heard_reaching session running taken after h =
           waits = (h.peer Left).waits;
           count = (h.peer Left).count;
           few = (h.peer Left).few;
+          of_session = (h.peer Left).of_session;
           rising = (h.peer Left).rising;
           below = (h.peer Left).below;
           may = (h.peer Left).may;
@@ -165,6 +164,7 @@ heard_reaching session running taken after h =
           waits = (h.peer Right).waits;
           count = (h.peer Right).count;
           few = (h.peer Right).few;
+          of_session = (h.peer Right).of_session;
           rising = (h.peer Right).rising;
           below = (h.peer Right).below;
           may = (h.peer Right).may;
@@ -228,9 +228,12 @@ module _ {D : Type 0} {disk : Ghosts D} (new : Archive D disk) (pair : ℕ) (jou
       (record { plan = refl; kept_is = refl }) goes) stopped down leaves tries
 
   -- it asks a side for what comes next
-  module _ (kept : List Kept) (asker : Side) (wants : Asked)
+  module _ (kept : List Kept) (wants : SideRequest)
       (comes : ComesToAsk new pair taken journal before kept progress (found_on session Left)
-      (found_on session Right) (running.taken ++ taken ∷ []) (One asker wants)) where
+      (found_on session Right) (running.taken ++ taken ∷ []) (One wants)) where
+    abbrev wanted : Request
+    wanted = request_of wants.request
+
     abbrev now_at : Running
     now_at = reaching running taken comes.after
 
@@ -238,93 +241,93 @@ module _ {D : Type 0} {disk : Ghosts D} (new : Archive D disk) (pair : ℕ) (jou
     c = spec_of comes.carries.carried.transfer
 
     asked : TransferAsks comes.carries.carried.transfer (running.taken ++ taken ∷ [])
-        (which_of asker) (request_of wants)
+        (which_of wants.to) wanted
     asked = comes.carries.is
 
     -- only that is asked
     only_that : (side : Which) (request : Request) →
-        Contains (asks_of (One asker wants) side) request →
-        (side ≡ which_of asker) × (request ≡ request_of wants)
-    only_that side request contains = by asker side contains
+        Contains (asks_of (One wants) side) request →
+        (side ≡ which_of wants.to) × (request ≡ wanted)
+    only_that side request contains = by wants.to side contains
       where
-        one : Contains (request_of wants ∷ []) request → request ≡ request_of wants
+        one : Contains (wanted ∷ []) request → request ≡ wanted
         one contains_it =
-            elim (Contains-push_cases [] _ _ contains_it) as (λ _. request ≡ request_of wants)
-            [ inl never ↦ absurd (no_such _ never) | inr same ↦ sym same ]
+            elim (Contains-push_cases [] _ _ contains_it) as (λ _. request ≡ wanted)
+            [ inl never ↦ absurd (contains_none _ never) | inr same ↦ sym same ]
 
-        by : (to : Side) (on : Which) → Contains (asks_of (One to wants) on) request →
-            (on ≡ which_of to) × (request ≡ request_of wants)
+        by : (to : Side) (on : Which) → Contains (asks_alone to on wanted) request →
+            (on ≡ which_of to) × (request ≡ wanted)
         by side_is.Left Left contains_it = (refl, one contains_it)
-        by side_is.Left Right contains_it = absurd (no_such _ contains_it)
-        by side_is.Right Left contains_it = absurd (no_such _ contains_it)
+        by side_is.Left Right contains_it = absurd (contains_none _ contains_it)
+        by side_is.Right Left contains_it = absurd (contains_none _ contains_it)
         by side_is.Right Right contains_it = (refl, one contains_it)
 
-    fresh_so : (side : Which) → IsFresh now_at side (request_of wants)
+    fresh_so : (side : Which) → IsFresh now_at side wanted
     fresh_so side n was (inl (reply, contains_it)) repeat = asked.new _ contains_it repeat
     fresh_so Left n was (inr (k, contains_it)) repeat =
-        no_such _
+        contains_none _
         (subst (λ l. let waits : Outstanding = record { number = n; request = was; resent = k } in
         Contains l waits) ((heard.peer Left).waits ∙ silent Left) contains_it)
     fresh_so Right n was (inr (k, contains_it)) repeat =
-        no_such _
+        contains_none _
         (subst (λ l. let waits : Outstanding = record { number = n; request = was; resent = k } in
         Contains l waits) ((heard.peer Right).waits ∙ silent Right) contains_it)
 
-    asks_own : (to : Side) → asks_of (One to wants) (which_of to) ≡ request_of wants ∷ []
+    asks_own : (to : Side) → asks_alone to (which_of to) wanted ≡ wanted ∷ []
     asks_own side_is.Left = refl
     asks_own side_is.Right = refl
 
-    asks_across : (to : Side) → asks_of (One to wants) (other (which_of to)) ≡ []
+    asks_across : (to : Side) → asks_alone to (other (which_of to)) wanted ≡ []
     asks_across side_is.Left = refl
     asks_across side_is.Right = refl
 
-    now_asks : (side : Which) (later : Session) → IsAsking session later (One asker wants) →
-        requests_on (peer_of later side) ≡ asks_of (One asker wants) side
+    now_asks : (side : Which) (later : Session) → IsAsking session later (One wants) →
+        requests_on (peer_of later side) ≡ asks_of (One wants) side
     now_asks side later asking =
         ap (map (λ (one : Outstanding). one.request)) ((asking.peer side).waits
         ∙ ap (λ w. w ++ numbered (peer_of session side).asked
-        (asks_of (One asker wants) side)) (silent side))
-        ∙ numbered_requests (peer_of session side).asked (asks_of (One asker wants) side)
+        (asks_of (One wants) side)) (silent side))
+        ∙ numbered_requests (peer_of session side).asked (asks_of (One wants) side)
 
-    few_asked : (to : Side) (on : Which) → length (asks_of (One to wants) on) ≤ 1
+    few_asked : (to : Side) (on : Which) → length (asks_alone to on wanted) ≤ 1
     few_asked side_is.Left Left = omega arith
     few_asked side_is.Left Right = omega arith
     few_asked side_is.Right Left = omega arith
     few_asked side_is.Right Right = omega arith
 
     may_wait_so : (side : Which) → MayWait (waiting_of (peer_of session side)
-        ++ numbered (peer_of session side).asked (asks_of (One asker wants) side))
+        ++ numbered (peer_of session side).asked (asks_of (One wants) side))
     may_wait_so side =
-        let few = few_asked asker side in
+        let few = few_asked wants.to side in
         let none = ap length (silent side) in
         let long = length-append (waiting_of (peer_of session side))
-        (numbered (peer_of session side).asked (asks_of (One asker wants) side)) in
+        (numbered (peer_of session side).asked (asks_of (One wants) side)) in
         let same = numbered-length (peer_of session side).asked
-        (asks_of (One asker wants) side) in
+        (asks_of (One wants) side) in
         inl (omega (arith, few, none, long, same))
 
     apart_so : (side : Which) →
-        AllPairs (λ one another. ¬ IsRepeat one another) (asks_of (One asker wants) side)
+        AllPairs (λ one another. ¬ IsRepeat one another) (asks_of (One wants) side)
     apart_so side i j d before less =
-        let few = few_asked asker side in
+        let few = few_asked wants.to side in
         absurd (omega (arith, before, less, few))
 
     some_so : (side : Which) × (1 ≤ length (waiting_of (peer_of session side))
-        + length (asks_of (One asker wants) side))
-    some_so = (which_of asker, let one = ap length (asks_own asker) in omega (arith, one))
+        + length (asks_of (One wants) side))
+    some_so = (which_of wants.to, let one = ap length (asks_own wants.to) in omega (arith, one))
 
-    carries_later : (later : Session) → IsAsking session later (One asker wants) →
+    carries_later : (later : Session) → IsAsking session later (One wants) →
         Carries comes.journal.value progress (found_on later Left) (found_on later Right)
         (running.taken ++ taken ∷ []) comes.after (λ transfer. TransferWaitsFor transfer
-        (running.taken ++ taken ∷ []) (which_of asker) (request_of wants))
+        (running.taken ++ taken ∷ []) (which_of wants.to) wanted)
     carries_later later asking =
         subst (λ r. Carries comes.journal.value progress (found_on later Left) (found_of r)
         (running.taken ++ taken ∷ []) comes.after (λ transfer. TransferWaitsFor transfer
-        (running.taken ++ taken ∷ []) (which_of asker) (request_of wants)))
+        (running.taken ++ taken ∷ []) (which_of wants.to) wanted))
         (sym (asking.peer Right).scan)
         (subst (λ l. Carries comes.journal.value progress (found_of l) (found_on session Right)
         (running.taken ++ taken ∷ []) comes.after (λ transfer. TransferWaitsFor transfer
-        (running.taken ++ taken ∷ []) (which_of asker) (request_of wants)))
+        (running.taken ++ taken ∷ []) (which_of wants.to) wanted))
         (sym (asking.peer Left).scan) (record {
           course_is = comes.carries.course_is;
           carried = comes.carries.carried;
@@ -337,7 +340,7 @@ module _ {D : Type 0} {disk : Ghosts D} (new : Archive D disk) (pair : ℕ) (jou
         }))
 
     asks_one : (is_last taken.reply ≡ true → comes.after.cursor ≢ running.cursor) →
-        TakesOn new pair journal running taken session kept (One asker wants)
+        TakesOn new pair journal running taken session kept (One wants)
     asks_one last = record {
       now = comes.journal;
       after = comes.after;
@@ -363,23 +366,23 @@ module _ {D : Type 0} {disk : Ghosts D} (new : Archive D disk) (pair : ℕ) (jou
             let that = only_that side request contains in
             let course_is = comes.carries.course_is in
             subst (λ r. MayAsk comes.journal.value now_at side r × IsLawfulBody r) (sym that.1) (
-              subst (λ w. MayAsk comes.journal.value now_at w (request_of wants)) (sym that.0)
+              subst (λ w. MayAsk comes.journal.value now_at w wanted) (sym that.0)
                   (may_ask comes.journal.value now_at (plan_in progress (found_on session Left)
                   (found_on session Right)) comes.carries.planned c
                   (kept_for comes.carries.carried.kept) course_is.plan progress.cursor
                   course_is.cursor
                   comes.carries.at comes.carries.carries.spec comes.carries.carries.record_is
-                  comes.carries.carries.can (which_of asker) (request_of wants) asked.may),
+                  comes.carries.carries.can (which_of wants.to) wanted asked.may),
               asked.lawful,
             );
         some = some_so;
         stage =
             λ later asking. subst (λ o. IsStage comes.journal.value later o
             (running.taken ++ taken ∷ []) comes.after) (sym (asking.progress ∙ is_course)) (record {
-              to = which_of asker;
-              request = request_of wants;
-              waits = now_asks (which_of asker) later asking ∙ asks_own asker;
-              alone = now_asks (other (which_of asker)) later asking ∙ asks_across asker;
+              to = which_of wants.to;
+              request = wanted;
+              waits = now_asks (which_of wants.to) later asking ∙ asks_own wants.to;
+              alone = now_asks (other (which_of wants.to)) later asking ∙ asks_across wants.to;
               carries = carries_later later asking;
             });
       };
@@ -391,4 +394,4 @@ module _ {D : Type 0} {disk : Ghosts D} (new : Archive D disk) (pair : ℕ) (jou
       (is_last taken.reply ≡ true → comes.after.cursor ≢ running.cursor) →
       TakesOn new pair journal running taken session kept asks
   asks_course kept (Listings left right) comes = absurd comes.carries.is
-  asks_course kept (One side request) comes = asks_one kept side request comes
+  asks_course kept (One wants) comes = asks_one kept wants comes

@@ -15,6 +15,8 @@ use Rattle.syn_session.specs.declared.answering.ItemProgress.TheVariants as carr
 use Rattle.syn_coordinator.specs.declared.recorder.Recorder.{Recorder}
 use Rattle.syn_session.specs.declared.plan_progress.PlanProgress.{PlanProgress}
 use Rattle.syn_session.specs.declared.session.Asks.{Asks}
+use Rattle.syn_session.specs.declared.session.Asks.TheVariants.{One}
+use Rattle.syn_propagate.specs.declared.next.SideRequest.{SideRequest}
 use Rattle.syn_session.specs.Passing.{refused_at}
 use Rattle.syn_coordinator.specs.inner.Carrying.{AsksLater, CarriesOn, EndsCarrying, afterwards}
 use Rattle.syn_session.specs.Carrying.{IsCarriedOut, TakesAnswer}
@@ -110,14 +112,14 @@ module _ {D : Type 0} {disk : Ghosts D} (pair : ℕ) (taken : Exchange) (journal
     (before : Reached) (left right : Found) (all : List Exchange) where
   -- it asks for the same item again
   pub carries_further : (recorder : Recorder D disk) (progress : PlanProgress) →
-      IsMachine recorder.archive pair journal → IsQuiet recorder journal → (asks : Asks) →
-      TakesAnswer journal.value left right all before taken progress (Ok (carrying.Asks asks)) →
-      CarriesOn recorder recorder pair taken journal before progress left right all asks
-  carries_further recorder progress is quiet asks took = record {
+      IsMachine recorder.archive pair journal → IsQuiet recorder journal → (asked : SideRequest) →
+      TakesAnswer journal.value left right all before taken progress (Ok (carrying.Ask asked)) →
+      CarriesOn recorder recorder pair taken journal before progress left right all (One asked)
+  carries_further recorder progress is quiet asked took = record {
     fault = took.0;
     asks_so =
         asks_here pair taken journal before left right recorder is quiet progress
-        (all ++ taken ∷ []) asks took.1.1;
+        (all ++ taken ∷ []) (One asked) took.1.1;
     last = λ last. absurd (false≢true (sym took.1.0 ∙ last));
   }
 

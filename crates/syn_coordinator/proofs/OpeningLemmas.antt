@@ -19,6 +19,7 @@ use Rattle.syn_coordinator.specs.Machines.{Journal}
 use Rattle.syn_coordinator.specs.Tries.{Tries, found_in, is_in, listed, record_of}
 use Rattle.syn_coordinator.specs.declared.tried.Unconfirmed.{Unconfirmed}
 use Rattle.syn_coordinator.proofs.TriedLemmas.{room_left}
+use Rattle.syn_model.proofs.BaseLemmas.{and_false}
 
 -- ---- numbers
 
@@ -33,10 +34,6 @@ not_less m n e = grind (arith, nat_tests)
 
 less : (room size : ℕ) → size ≤ room → 6 ≤ size → nat_lt (room - size - 5) (room - 5) ≡ true
 less room size fits least = grind (arith, nat_tests)
-
-or_not : (b : Bool) → (b && false) ≡ false
-or_not true = refl
-or_not false = refl
 
 six : (n : ℕ) → 6 ≤ 5 + suc n
 six n = omega arith
@@ -53,7 +50,7 @@ no_less : (room generation image now after : ℕ) →
     ((after == generation) && nat_lt (now - 5) (room - 5)) ≡ false
 no_less room generation image now after (inl is) =
     ap (λ b. (after == generation) && b) (not_less _ _ (ap (λ n. n - 5) is.0))
-    ∙ or_not (after == generation)
+    ∙ and_false (after == generation)
 no_less room generation image now after (inr is) =
     ap (λ b. b && nat_lt (now - 5) (room - 5)) (is_later after generation is.1)
 

@@ -67,7 +67,7 @@ module _ (pair : ℕ) (machine : CoordinatorMachine) (running : Running) (taken 
       (on : TakesOn new.recorder.archive pair machine.journal running taken session kept asks)
       (quiet : machine.journal.writing ≡ None)
       (asked : (side : Which) →
-      IsAskedOn (peer_of session side) (peer_of next side) (asks_of asks side))
+      IsAskedOn session.number (peer_of session side) (peer_of next side) (asks_of asks side))
       (number : next.number ≡ session.number)
       (preferred : next.preference ≡ session.preference) (unstable : next.is_unstable ≡
       session.is_unstable)

@@ -43,13 +43,6 @@ use Rattle.syn_coordinator.proofs.DueLemmas.{when_up}
 use Rattle.syn_session.proofs.PlanLemmas.{named_once}
 use Rattle.syn_coordinator.proofs.WalkLemmas.{ends_at, keeps_none, passes_by}
 
--- where nothing was remembered before
-pub tries_by : {D : Type 0} {disk : Ghosts D} (new : Archive D disk) (what : Kept)
-    (old tried : Option Unconfirmed) (due : RecordOutcome) → old ≡ None →
-    TriesBy new what old tried due →
-    TriesBy new what None tried due
-tries_by new what old tried due none tries = subst (λ o. TriesBy new what o tried due) none tries
-
 -- the item of the plan that the walk has come to
 pub at_walk : (before : Reached) (progress : PlanProgress) (left right : Found) →
     IsPlanProgress progress left right before → (planned : Planned) →
@@ -87,12 +80,20 @@ module _ {D : Type 0} {disk : Ghosts D} (new : Archive D disk) (tried : Option U
           (at_walk before progress left right is planned at)
           (subst (λ n. IsDue n planned taken what) (sym is.cursor) is_due) due settles quiet tries
 
+      -- the same, where nothing was remembered before
+      from_none : (was : Option Unconfirmed) → was ≡ None → (due : RecordOutcome) →
+          Settles new pair journal what due → TriesBy new what was tried due →
+          Advanced new tried pair (plan_at before) taken (walk_at journal before) planned what due
+      from_none was none due settles tries =
+          became due settles (subst (λ o. TriesBy new what o tried due) none tries)
+
       -- the machine is down
-      pub is_cut_off : (due : RecordOutcome) → Settles new pair journal what due →
-          TriesBy new what None tried due →
+      pub is_cut_off : (was : Option Unconfirmed) → was ≡ None → (due : RecordOutcome) →
+          Settles new pair journal what due → TriesBy new what was tried due →
           is_stopped (disk.arms (disk_of new)) ≡ true → (progress : PlanProgress) (how : Ended) →
           Ends new tried pair taken journal before (kept_by what due) progress left right how
-      is_cut_off due settles tries cut progress how = by due (became due settles tries)
+      is_cut_off was none due settles tries cut progress how =
+          by due (from_none was none due settles tries)
         where
           by : (due : RecordOutcome) → Advanced new tried pair (plan_at before) taken
               (walk_at journal before) planned what due →
@@ -164,13 +165,12 @@ module _ {D : Type 0} {disk : Ghosts D} (new : Archive D disk) (tried : Option U
               by (stopped became later advances down cut leaves tries) =
                   absurd (false≢true (sym goes ∙ cut))
 
-      pub is_ended : (it : RecordOutcome) (how : Ended) → EndsAs it how →
-          Settles new pair journal what it →
-          TriesBy new what None tried it →
+      pub is_ended : (was : Option Unconfirmed) → was ≡ None → (it : RecordOutcome) (how : Ended) →
+          EndsAs it how → Settles new pair journal what it → TriesBy new what was tried it →
           Ends new tried pair taken journal before [] progress left right how
-      is_ended it how so settles tries =
+      is_ended was none it how so settles tries =
           ends_at pair taken journal before new tried planned what progress left right it how so is
-          (became it settles tries)
+          (from_none was none it settles tries)
 
 -- ---- what is carried
 

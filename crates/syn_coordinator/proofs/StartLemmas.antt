@@ -28,6 +28,7 @@ use Rattle.syn_coordinator.proofs.TriedLemmas.{tries_none}
 use Rattle.syn_archive.specs.declared.archive.Archive.{Archive}
 use Rattle.syn_coordinator.specs.Steps.{KeepsSo, moves_on, moves_down}
 use Rattle.syn_model.specs.Which.{Which}
+use Rattle.syn_model.proofs.HistoryLemmas.{first_stays}
 
 is_up : Status → Bool
 is_up Up = true
@@ -41,13 +42,6 @@ not_up down up = false≢true (sym (ap is_up down) ∙ ap is_up up)
 halted_not_up : {s : Status} → s ≡ Halted → s ≢ Up
 unfolding is_up
 halted_not_up halted up = false≢true (sym (ap is_up halted) ∙ ap is_up up)
-
--- a first cause stays the first before others, and lack of memory is the first where there is none
-pub still_first : (xs ys : List Cause) (w : Refusal) → first_cause xs ≡ Some w →
-    first_cause (xs ++ ys) ≡ Some w
-still_first [] ys w e = absurd (none-some _ e)
-still_first ((true, v) ∷ xs) ys w e = e
-still_first ((false, v) ∷ xs) ys w e = still_first xs ys w e
 
 pub then_memory : (xs : List Cause) → first_cause xs ≡ None →
     first_cause (xs ++ (true, why.Memory) ∷ []) ≡ Some why.Memory

@@ -1,11 +1,11 @@
 -- A tick is the step of a coordinator that ticks.
 use Rattle.std.proofs.Common.{◌≡◌, ◌⊎◌, ℕ, inl, inr, Bool, true, false, not, if◌then◌else◌, List}
-use Rattle.std.proofs.Common.{[], ◌++◌, Option, Some, None, refl, sym, ap, ap₂, ◌∙◌, subst, ◌||◌}
+use Rattle.std.proofs.Common.{[], Option, Some, None, refl, sym, ap, ap₂, ◌∙◌, subst, ◌||◌}
 use Rattle.std.proofs.Common.{nat_le}
 use Rattle.std.specs.Prelude.{is_some, ◌&&◌}
 use Rattle.syn_disk.specs.declared.disk.Disk.{Ghosts}
 use Rattle.syn_headline.specs.Coordinator.{CoordinatorMachine, CoordinatorTicks, no_session}
-use Rattle.syn_headline.specs.Coordinator.{resends, gives_up, Running, messages_to, is_resent}
+use Rattle.syn_headline.specs.Coordinator.{resends, gives_up, Running, is_resent}
 use Rattle.syn_headline.specs.Coordinator.{report_of, most_resends}
 use Rattle.syn_headline.specs.Network.{Left, Right, Message}
 use Rattle.syn_model.specs.Refusal.{Refusal, NoAnswer, Memory}
@@ -22,12 +22,9 @@ use Rattle.syn_model.specs.Archive as model
 use Rattle.std.proofs.lemmas.Bool.{false≢true}
 use Rattle.std.proofs.lemmas.List.Folds.{list_any-append}
 use Rattle.syn_session.specs.declared.plan_progress.PlanProgress.{PlanProgress}
-use Rattle.syn_session.specs.Stages.{reached_by, waiting_of}
-
--- none is there
-pub is_none : {A : Type 0} (o : Option A) → is_some o ≡ false → o ≡ None
-is_none None e = refl
-is_none (Some a) e = absurd (false≢true (sym e))
+use Rattle.syn_session.specs.Stages.{reached_by}
+use Rattle.syn_session.proofs.SessionLemmas.{messages_resent}
+use Rattle.syn_model.proofs.BaseLemmas.{none_of}
 
 -- whether it was sent again so often
 pub worn_so : (archive : model.Archive) (session : Session) (running : Running) →
@@ -89,7 +86,7 @@ module _ {D : Type 0} {disk : Ghosts D} (old new : Coordinator D disk) (pair : �
   pub tick_none : old.running ≡ None → new.running ≡ None → messages ≡ [] →
       Does old new pair (CoordinatorTicks machine) [] messages
   tick_none was is nothing =
-      let none = is_none machine.running (run_alike machine.journal.value old.running
+      let none = none_of machine.running (run_alike machine.journal.value old.running
       machine.running stands.running ∙ ap is_some was) in
       goes_on _ _ (no_session none)
       (stays machine.running (subst (λ s. IsRunning machine.journal.value s machine.running)
@@ -115,10 +112,7 @@ module _ {D : Type 0} {disk : Ghosts D} (old new : Coordinator D disk) (pair : �
         (stays (Some (resent_once running))
         (subst (λ s. IsRunning machine.journal.value s (Some (resent_once running))) (sym is)
         (resent machine.journal.value running session_is)) (λ _. ap is_some now.1)) refl
-        (ap₂ (λ n m. messages_to n Left m ++ messages_to n Right running.right) session_is.number
-        (session_is.peer Left).waits
-        ∙ (ap (λ m. messages_to session.number Left (waiting_of session.left)
-        ++ messages_to session.number Right m) (session_is.peer Right).waits ∙ sym sent))
+        (sym (sent ∙ messages_resent machine.journal.value session running session_is))
         (sym (ended_by true true (ap is_some was) (ap is_some is)))
 
     pub tick_ends : (why : Refusal) → ((is_worn_now session ≡ true) × (why ≡ NoAnswer))

@@ -25,7 +25,7 @@ use crate::recorder::Recorder;
 use std::alloc::Global;
 use syn_archive::Archive;
 use syn_disk::Disk;
-use syn_image::Kept;
+use syn_image::{Kept, SESSION_LENGTH};
 use syn_path::Side;
 use syn_refusal::Refusal;
 use syn_session::{Report, Sending, Session, SessionError};
@@ -33,9 +33,6 @@ use syn_session::{Report, Sending, Session, SessionError};
 mod answers;
 mod journal;
 mod opening;
-
-/// How many bytes the record of a session takes after its length.
-const SESSION_RECORD: usize = 9;
 
 /// What runs sessions between the two replicas of a pair, one at a time, over the archive of what
 /// both last agreed on.
@@ -246,7 +243,7 @@ impl<D: Disk> Coordinator<D> {
         if self.recorder.archive.last_session() == u64::MAX {
             return Err(SessionError::Full);
         }
-        if self.recorder.archive.room() < SESSION_RECORD {
+        if self.recorder.archive.room() < SESSION_LENGTH {
             return Err(SessionError::JournalFull);
         }
         Ok(())

@@ -224,8 +224,8 @@ goes_on fault P (Err e) none memory = inl memory
 -- what is asked for follows, if it may be asked
 pub asked : (transfer : Transfer) (taken : Exchanges) (to : Which) (request : Request) (next : Next)
     → AsksFor next to request → Asks transfer taken to request → FollowsAny transfer taken next
-asked transfer taken to request (Ask side wanted) is asks reply =
-    subst (λ t. Asks transfer taken t (request_of wanted)) (sym is.0)
+asked transfer taken to request (Ask wanted) is asks reply =
+    subst (λ t. Asks transfer taken t (request_of wanted.request)) (sym is.0)
     (subst (λ r. Asks transfer taken to r) (sym is.1) asks)
 asked transfer taken to request Done is asks reply = absurd is
 asked transfer taken to request (Refused why) is asks reply = absurd is

@@ -21,10 +21,8 @@ use Rattle.syn_propagate.specs.Carrying.{IsWhole, WasFetched, WasStaged, nothing
 use Rattle.syn_propagate.specs.Transfers.{with_answer}
 use Rattle.syn_propagate.specs.inner.Progresses.{HasCome, HasStaged}
 use Rattle.syn_propagate.specs.declared.transfer_spec.TransferSpec.{TransferSpec}
-
--- a path is itself in path order
-path_itself : (path : Path) → eq_by_cmp path_cmp path path ≡ true
-path_itself path = (eq_by_cmp_equiv (lists_total nat_list_cmp_total)).refl path
+use Rattle.syn_model.proofs.BaseLemmas.{contains_one}
+use Rattle.syn_model.proofs.PathLemmas.{path_itself}
 
 -- what a fitting piece is
 pub fits_means : (known : Option ℕ) (offset total count : ℕ)
@@ -145,14 +143,6 @@ so_far c taken None offset total none same =
 so_far c taken (Some was) offset total come same =
     subst (λ n. HasStaged c taken n offset) (sym (same was refl)) come.1
 
--- what was asked before lies before what is asked now
-only : {X : Type 0} (x y : X) → Contains (x ∷ []) y → x ≡ y
-only x y (k, small, is) = first k small is
-  where
-    first : (k : ℕ) → k < 1 → slice_index_or (x ∷ []) k y ≡ y → x ≡ y
-    first zero small is = is
-    first (suc k) small is = absurd (omega arith)
-
 later : (c : TransferSpec) (f s f' s' : ℕ) → f ≤ f' → s ≤ s' → (request : Request)
     → IsEarlier c f s request → IsEarlier c f' s' request
 later c f s f' s' up over (Begin pair) is = tt
@@ -170,7 +160,7 @@ pub earlier_more : (c : TransferSpec) (taken : Exchanges) (f s f' s' : ℕ) (to 
 earlier_more c taken f s f' s' to number request reply were up over is exchange within =
     elim (Contains-append_cases taken _ exchange within) [
       | inl before ↦ later c f s f' s' up over exchange.request (were exchange before)
-      | inr new ↦ subst (λ e. IsEarlier c f' s' e.request) (only _ exchange new) is
+      | inr new ↦ subst (λ e. IsEarlier c f' s' e.request) (contains_one _ exchange new) is
     ]
 
 -- so it is asked for the first time

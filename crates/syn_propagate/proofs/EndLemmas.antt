@@ -15,7 +15,7 @@ use Rattle.syn_propagate.specs.declared.next.Next.TheVariants.{Ask, Done, Refuse
 pub goes_on_after : (c : TransferSpec) (request : Request) (answer : Reply)
     (result : Result Next TransferError) → is_last (reply_of answer) ≡ false →
     IfOk result IsAsking → IfOk result (EndsBy c request (reply_of answer))
-goes_on_after c request answer (Ok (Ask side asked)) on asking = on
+goes_on_after c request answer (Ok (Ask asked)) on asking = on
 goes_on_after c request answer (Ok Done) on asking = absurd asking
 goes_on_after c request answer (Ok (Refused why)) on asking = absurd asking
 goes_on_after c request answer (Err e) on asking = tt

@@ -9,6 +9,6 @@ use Rattle.syn_propagate.specs.declared.next.Next.TheVariants.{Ask, Done, Refuse
 
 -- it asks this side for this
 abbrev pub AsksFor : Next → Which → Request → Type 0
-AsksFor (Ask side asked) to request = (which_of side ≡ to) × (request_of asked ≡ request)
+AsksFor (Ask asked) to request = (which_of asked.to ≡ to) × (request_of asked.request ≡ request)
 AsksFor Done to request = ⊥
 AsksFor (Refused why) to request = ⊥

@@ -30,8 +30,8 @@ pub record Asks (transfer : Transfer) (taken : Exchanges) (to : Which) (request 
 
 -- what follows the answer to what it asked last
 abbrev pub Follows : Transfer → Exchanges → model.Reply → Next → Type 0
-Follows transfer taken reply (Ask side request) =
-    Asks transfer taken (which_of side) (request_of request)
+Follows transfer taken reply (Ask asked) =
+    Asks transfer taken (which_of asked.to) (request_of asked.request)
 Follows transfer taken reply Done = WasCarried (spec_of transfer) taken
 Follows transfer taken reply (Refused why) = reply ≡ model.Refused (cause_of why)
 
@@ -41,7 +41,7 @@ FollowsAny transfer taken next = (reply : model.Reply) → Follows transfer take
 
 -- it goes on only where it asks
 abbrev pub IsOverUnlessAsking : Transfer → Next → Type 0
-IsOverUnlessAsking transfer (Ask side request) = Unit {0}
+IsOverUnlessAsking transfer (Ask asked) = Unit {0}
 IsOverUnlessAsking transfer Done = IsOver transfer
 IsOverUnlessAsking transfer (Refused why) = IsOver transfer
 
@@ -60,14 +60,14 @@ WaitsForItem = (transfer : Transfer) (taken : Exchanges) (to : Which) (request :
 
 -- it asks for something
 abbrev pub IsAsking : Next → Type 0
-IsAsking (Ask side asked) = Unit {0}
+IsAsking (Ask asked) = Unit {0}
 IsAsking Done = ⊥
 IsAsking (Refused why) = ⊥
 
 -- the last answer is that a side refused, or that the replacement is done: it goes on after no
 -- other
 abbrev pub EndsBy : TransferSpec → Request → model.Reply → Next → Type 0
-EndsBy c request reply (Ask side asked) = is_last reply ≡ false
+EndsBy c request reply (Ask asked) = is_last reply ≡ false
 EndsBy c request reply Done = (reply ≡ model.Done)
     × (size : ℕ) × (request ≡ Replace c.item c.path c.target_since size)
 EndsBy c request reply (Refused why) = Unit {0}

@@ -7,6 +7,8 @@
 //! which on no event may have touched the path on either side. Its contract speaks of any exchanges
 //! that a session took (`taken`).
 //!
+//! - What is asked next is a `SideRequest`: the request, and the side that it is for. It is made
+//!   here once, and moved on as a whole.
 //! - `WaitsFor transfer taken to request`: it has come so far by these exchanges, and waits for the
 //!   answer to this request. `IsFresh`: nothing was asked for the item yet.
 //! - The first `step` asks for the first piece (`starts`). Each further one takes the answer
@@ -35,6 +37,6 @@ mod transfer;
 mod transfer_spec;
 
 pub use error::TransferError;
-pub use next::Next;
+pub use next::{Next, SideRequest};
 pub use transfer::{Transfer, transfer_laws};
 pub use transfer_spec::TransferSpec;

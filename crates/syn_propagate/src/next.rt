@@ -4,11 +4,18 @@ use syn_message::Request;
 use syn_path::Side;
 use syn_refusal::Refusal;
 
+/// What a side is to be asked.
+#[derive(Debug, Drop)]
+pub struct SideRequest {
+    pub to: Side,
+    pub request: Request,
+}
+
 /// What a transfer wants next.
 #[derive(Debug, Drop)]
 pub enum Next {
-    /// The side is to be asked for this.
-    Ask(Side, Request),
+    /// This is to be asked.
+    Ask(SideRequest),
     /// What was fetched is in its place on the other side.
     Done,
     /// A side refused what it was asked.

@@ -5,7 +5,7 @@ ghost use Rattle.syn_model.specs.Limits.{greatest_piece};
 ghost use Rattle.syn_model.specs.Path.{IsPath};
 
 use crate::error::TransferError;
-use crate::next::Next;
+use crate::next::{Next, SideRequest};
 use std::alloc::{AllocError, Global};
 use syn_message::Request;
 use syn_model::{are_bytes, is_long, is_short};
@@ -45,7 +45,10 @@ impl TransferSpec {
             since,
             offset,
         };
-        Ok(Next::Ask(self.source, request))
+        Ok(Next::Ask(SideRequest {
+            to: self.source,
+            request,
+        }))
     }
 
     /// Asks the other side to stage a piece.
@@ -64,7 +67,10 @@ impl TransferSpec {
             offset,
             bytes,
         };
-        Next::Ask(self.source.other(), request)
+        Next::Ask(SideRequest {
+            to: self.source.other(),
+            request,
+        })
     }
 
     /// Asks the other side to put what is staged, of so many bytes. Refused 11 where memory is
@@ -88,7 +94,10 @@ impl TransferSpec {
             since,
             length,
         };
-        Ok(Next::Ask(self.source.other(), request))
+        Ok(Next::Ask(SideRequest {
+            to: self.source.other(),
+            request,
+        }))
     }
 
     /// The path once more, which is lawful. Refused where memory is refused.

@@ -19,7 +19,7 @@ use Rattle.syn_model.specs.Archive as archive
 use Rattle.syn_session.specs.declared.session.Session.{Session}
 use Rattle.syn_session.specs.Answering.{IsAnswering, IsHeard, exchange_of}
 use Rattle.syn_session.specs.Sessions.{IsPeer, IsSession}
-use Rattle.syn_session.specs.Stages.{peer_of, waiting_of}
+use Rattle.syn_session.specs.Stages.{AreOfSession, peer_of, waiting_of}
 use Rattle.syn_session.proofs.WaitingLemmas.{in_filter, may_less}
 use Rattle.syn_path.specs.Sides.{which_of}
 use Rattle.syn_path.specs.declared.side.Side.{Side}
@@ -38,7 +38,7 @@ module _ (kept : archive.Archive) (old new : Session) (running : Running) (side 
 
   -- what waits on the side then
   left_now : waiting_of (peer_of new side) ≡ without number (waiting_of (peer_of old side))
-  left_now = answers.waits (is.peer side).rising
+  left_now = answers.taken.waits (is.peer side).rising
 
   own : (on : Which) → on ≡ side → (waits :
       outstanding (hearing running exchange_now) on ≡ without number (outstanding running on)) →
@@ -63,6 +63,10 @@ module _ (kept : archive.Archive) (old new : Session) (running : Running) (side 
         waits = now;
         count = omega (arith, count, long, left, less, was, all, same);
         few = subst (λ n. n ≤ 2 ^ 32) (sym answered.2) (is.peer on).few;
+        of_session =
+            subst (λ s. AreOfSession running.session (peer_of old s)
+            → AreOfSession running.session (peer_of new s)) (sym e)
+            (answers.taken.of_session running.session) (is.peer on).of_session;
         rising =
             subst AreRising (sym answered.1)
             (without-rising number (waiting_of (peer_of old on)) (is.peer on).rising);
@@ -89,6 +93,8 @@ module _ (kept : archive.Archive) (old new : Session) (running : Running) (side 
             ap₂ (λ a b. a + b) count (ap length waits)
             ∙ ((is.peer on).count ∙ ap (λ l. l.asked) (sym same));
         few = subst (λ n. n ≤ 2 ^ 32) (ap (λ l. l.asked) (sym same)) (is.peer on).few;
+        of_session =
+            subst (AreOfSession running.session) (sym same) (is.peer on).of_session;
         rising = subst (λ l. AreRising (waiting_of l)) (sym same) (is.peer on).rising;
         below =
             subst (λ l. All (λ one. one.number < l.asked) (waiting_of l)) (sym same)

@@ -9,30 +9,25 @@ use Rattle.syn_headline.specs.Network.{Which, other}
 use Rattle.syn_headline.specs.Planning.{Planned, WritesTo, seen_on}
 use Rattle.syn_headline.specs.Side.{Request, Begin, ListAt, Fetch, Stage, Replace}
 use Rattle.syn_headline.specs.Side as model
-use Rattle.syn_message.specs.Requests.{request_of}
-use Rattle.syn_path.specs.Sides.{which_of}
-use Rattle.syn_message.specs.declared.request.Request.{Request as Asked}
-use Rattle.syn_path.specs.declared.side.Side.{Side}
 use Rattle.syn_model.specs.Archive as kept_in
 use Rattle.syn_model.specs.Archive.{Kept, Recorded}
 use Rattle.syn_model.specs.Refusal.{Memory, Refusal as Why}
 use Rattle.syn_propagate.specs.Carrying.{source_of, target_of}
-use Rattle.syn_propagate.specs.Transfers.{Asks as TransferAsks, EndsBy, IsForItem, WaitsFor}
-use Rattle.syn_propagate.specs.Transfers.{WaitsForItem, spec_of}
+use Rattle.syn_propagate.specs.Transfers.{EndsBy, IsForItem, WaitsFor, WaitsForItem, spec_of}
 use Rattle.syn_propagate.specs.declared.transfer_spec.TransferSpec.{TransferSpec}
 use Rattle.syn_propagate.specs.Refusals.{refusal_of}
 use Rattle.syn_propagate.specs.declared.error.TransferError.{TransferError}
 use Rattle.syn_propagate.specs.declared.error.TransferError.TheVariants as error_is
 use Rattle.syn_propagate.specs.declared.next.Next.TheVariants as next
+use Rattle.syn_propagate.specs.declared.next.SideRequest.{SideRequest}
 use Rattle.syn_refusal.specs.Refusals.{cause_of}
 use Rattle.syn_refusal.specs.declared.refusal.Refusal.{Refusal}
 use Rattle.syn_scan.specs.Found.{Found}
 use Rattle.syn_session.specs.declared.answering.ItemProgress.TheVariants as carrying
 use Rattle.syn_session.specs.declared.plan_progress.Carried.{Carried}
 use Rattle.syn_session.specs.declared.plan_progress.PlanProgress.{PlanProgress}
-use Rattle.syn_session.specs.declared.session.Asks.TheVariants.{One}
 use Rattle.syn_session.specs.Answering.{exchange_of}
-use Rattle.syn_session.specs.Carrying.{IsCarriedOut, TakesAnswer}
+use Rattle.syn_session.specs.Carrying.{AsksFor, IsCarriedOut, TakesAnswer}
 use Rattle.syn_session.specs.Plans.{Plan}
 use Rattle.syn_session.specs.Stages.{AreAskedBefore, Carries, IsAskedBefore, IsCarriageOf}
 use Rattle.syn_session.specs.Stages.{IsCarriedFor, Reached, plan_in}
@@ -117,19 +112,18 @@ module _ (archive : kept_in.Archive) (progress : PlanProgress) (left right : Fou
     }
 
     pub takes_on : (later : Carried) → spec_of later.transfer ≡ spec_of was.transfer →
-        later.kept ≡ was.kept → (side : Side) (asks : Asked) → is_last reply ≡ false →
-        TransferAsks later.transfer (all ++ taken ∷ []) (which_of side) (request_of asks) →
+        later.kept ≡ was.kept → (asked : SideRequest) → is_last reply ≡ false →
+        AsksFor later.transfer (all ++ taken ∷ []) asked →
         TakesAnswer archive left right all before taken (record progress { carried = Some later })
-        (Ok (carrying.Asks (One side asks)))
-    takes_on later same_carriage same_record side asks goes asks_it = (
+        (Ok (carrying.Ask asked))
+    takes_on later same_carriage same_record asked goes asks_it = (
       fault,
       (
         goes,
         carries_on archive progress left right before carries.course_is carries.planned carries.at
             was
             later same_carriage same_record for_it (all ++ taken ∷ []) asked_all
-            (λ transfer. TransferAsks transfer (all ++ taken ∷ []) (which_of side)
-            (request_of asks)) asks_it,
+            (λ transfer. AsksFor transfer (all ++ taken ∷ []) asked) asks_it,
       ),
     )
 

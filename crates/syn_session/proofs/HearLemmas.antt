@@ -32,14 +32,12 @@ use Rattle.syn_session.specs.Hearing.{HasHeard, IsAsking, IsFresh, IsScanned, Sc
 use Rattle.syn_session.specs.Sessions.{IsPeer, IsStage}
 use Rattle.syn_session.specs.Stages.{IsToList, lists, found_on, peer_of, reached_by, requests_on}
 use Rattle.syn_session.specs.Stages.{outstanding_of, waiting_of}
-use Rattle.syn_session.proofs.WaitingLemmas.{contains_out, from_map, in_map, listings_all}
+use Rattle.syn_session.proofs.WaitingLemmas.{contains_out, in_map, listings_all}
 use Rattle.syn_session.proofs.WaitingLemmas.{may_listings, none_wait, numbered_requests}
 use Rattle.syn_session.proofs.WaitingLemmas.{out_contains, pairs_map, same_directory}
 use Rattle.syn_path.specs.Sides.{which_of}
 use Rattle.syn_path.specs.declared.side.Side.{Side}
-
-none_at : {T : Type 0} (x : T) → Contains [] x → ⊥
-none_at x has = omega (arith, has.1)
+use Rattle.syn_model.proofs.BaseLemmas.{contains_none, from_map}
 
 -- ---- what was found stays with an answer that shows nothing there
 
@@ -106,6 +104,8 @@ module _ (session new : Session) (heard : Running) (h : HasHeard session heard)
         waits = was.waits ∙ sym (waiting_new side);
         count = was.count ∙ sym (keeps.count side);
         few = subst (λ n. n ≤ 2 ^ 32) (sym (keeps.count side)) was.few;
+        of_session = subst (λ w. All (λ one. one.asked.value.session ≡ heard.session) w.items)
+            (sym (keeps.waits side)) was.of_session;
         rising = subst AreRising (sym (waiting_new side)) was.rising;
         below =
             subst (λ n. All (λ one. one.number < n) (waiting_of (peer_of new side)))
@@ -138,7 +138,7 @@ module _ (session new : Session) (heard : Running) (h : HasHeard session heard)
   nothing_out : (side : Which) → waiting_of (peer_of new side) ≡ [] → (path : Path) →
       WaitsFor (peer_of session side).scan path → ⊥
   nothing_out side none path is =
-      none_at (ListAt path) (subst (λ w. Contains (map (λ (one : Outstanding). one.request) w)
+      contains_none (ListAt path) (subst (λ w. Contains (map (λ (one : Outstanding). one.request) w)
       (ListAt path)) (sym (waiting_new side) ∙ none) (out side path is))
 
   pub scanned_new : IsListed session new → IsScanned new heard

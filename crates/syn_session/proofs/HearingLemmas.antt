@@ -36,17 +36,16 @@ use Rattle.syn_session.specs.Stages.{peer_of, outstanding_of, reached_by, reques
 use Rattle.syn_session.proofs.AnswerLemmas.{heard_so, unstable_then}
 use Rattle.syn_session.proofs.HeardNext.{no_begin_in, no_list_in}
 use Rattle.syn_session.proofs.HearLemmas.{found_still}
-use Rattle.syn_session.proofs.WaitingLemmas.{alone_is, asked_has, first_is, from_map, in_filter}
-use Rattle.syn_session.proofs.WaitingLemmas.{in_map, its_number, only_in, other_number, out_before}
+use Rattle.syn_session.proofs.WaitingLemmas.{alone_is, asked_has, first_is, in_filter}
+use Rattle.syn_session.proofs.WaitingLemmas.{in_map, its_number, other_number, out_before}
 use Rattle.syn_session.proofs.WaitingLemmas.{out_still, same_directory, still_in-filter}
-use Rattle.syn_session.proofs.TellingLemmas.{by_sides, list_not_begin, or_false}
+use Rattle.syn_session.proofs.TellingLemmas.{list_not_begin}
 use Rattle.syn_session.proofs.TellingLemmas.{either_nothing, not_across, other_side, tells_nothing}
 use Rattle.syn_session.proofs.TellingLemmas.{scans_further}
 use Rattle.syn_path.specs.Sides.{which_of}
 use Rattle.syn_path.specs.declared.side.Side.{Side}
-
-none_waits : {T : Type 0} (x : T) → Contains [] x → ⊥
-none_waits x has = omega (arith, has.1)
+use Rattle.syn_model.proofs.BaseLemmas.{or_false, contains_none, contains_one, from_map}
+use Rattle.syn_headline.proofs.StagedLemmas.{on_both}
 
 not_true : (b : Bool) → not b ≡ true → b ≡ false
 not_true false e = refl
@@ -65,7 +64,7 @@ module _ (kept : archive.Archive) (before now : Session) (running : Running) (si
   scanning = subst (λ c. IsStage kept before c running.taken (reached_by running)) scans is.stage
 
   left_now : waiting_of (peer_of now side) ≡ without number (waiting_of (peer_of before side))
-  left_now = answers.waits (is.peer side).rising
+  left_now = answers.taken.waits (is.peer side).rising
 
   waited : Contains (requests_on (peer_of before side)) request
   waited = asked_has (waiting_of (peer_of before side)) number request answers.asked
@@ -95,7 +94,7 @@ module _ (kept : archive.Archive) (before now : Session) (running : Running) (si
 
   scan_same : (on : Which) → (peer_of now on).scan ≡ (peer_of before on).scan
   scan_same =
-      by_sides (λ on. (peer_of now on).scan ≡ (peer_of before on).scan) side answers.scan
+      on_both (λ on. (peer_of now on).scan ≡ (peer_of before on).scan) side answers.scan
       (ap (λ (l : PeerState). l.scan) answers.across)
 
   -- while it scans it waits for nothing but a begin or a listing
@@ -106,8 +105,8 @@ module _ (kept : archive.Archive) (before now : Session) (running : Running) (si
       by : IsBeginningOrListing before running.taken → ⊥
       by (begins each) = elim (each side) [
         | inl (pair, e) ↦ no_begin pair
-            (sym (only_in (Begin pair) request (subst (λ l. Contains l request) e waited)))
-        | inr (e, pair, position, was) ↦ none_waits request
+            (sym (contains_one (Begin pair) request (subst (λ l. Contains l request) e waited)))
+        | inr (e, pair, position, was) ↦ contains_none request
             (subst (λ l. Contains l request) e waited)
       ]
       by (lists both each) = let it = each side request waited in no_list it.0 it.1
@@ -157,9 +156,9 @@ module _ (kept : archive.Archive) (before now : Session) (running : Running) (si
     no_list_waits : (on : Which) (path : Path) →
         Contains (requests_on (peer_of before on)) (ListAt path) → ⊥
     no_list_waits on path has = elim (each_begins on) [
-      | inl (asked, e) ↦ list_not_begin path asked (sym (only_in (Begin asked) (ListAt path)
+      | inl (asked, e) ↦ list_not_begin path asked (sym (contains_one (Begin asked) (ListAt path)
           (subst (λ l. Contains l (ListAt path)) e has)))
-      | inr (e, asked, at, was) ↦ none_waits (ListAt path)
+      | inr (e, asked, at, was) ↦ contains_none (ListAt path)
           (subst (λ l. Contains l (ListAt path)) e has)
     ]
 
@@ -188,7 +187,7 @@ module _ (kept : archive.Archive) (before now : Session) (running : Running) (si
         (number, Contains-push running.taken _))
 
     pub found_begun : (on : Which) → IsFoundIn (found_on now on) on heard.taken
-    found_begun = by_sides (λ on. IsFoundIn (found_on now on) on heard.taken) side
+    found_begun = on_both (λ on. IsFoundIn (found_on now on) on heard.taken) side
         (subst (λ s. IsFoundIn (found_of s) side heard.taken) (sym (scan_same side))
         (found_still (found_on before side) side running.taken exchange (scanning.found side)
         (ap (λ (r : model.Reply). if is_side side side then entries_in r else 0) said
@@ -204,10 +203,10 @@ module _ (kept : archive.Archive) (before now : Session) (running : Running) (si
     module _ (silent : waiting_of (peer_of now (other side)) ≡ []) where
       pub both_begun : BothBegun heard.taken
       both_begun =
-          by_sides (λ on. (p : ℕ) × (k : ℕ) × WasTaken heard.taken on (Begin p) (Begun k)) side
+          on_both (λ on. (p : ℕ) × (k : ℕ) × WasTaken heard.taken on (Begin p) (Begun k)) side
           (pair, position, begun_now) (elim (each_begins (other side))
           as (λ _. (p : ℕ) × (k : ℕ) × WasTaken heard.taken (other side) (Begin p) (Begun k)) [
-            | inl (asked, e) ↦ absurd (none_waits (Begin asked)
+            | inl (asked, e) ↦ absurd (contains_none (Begin asked)
                 (subst (λ l. Contains l (Begin asked))
                 (sym e ∙ ap (map (λ (one : Outstanding). one.request))
                 (sym waits_across ∙ silent)) (0, omega arith, refl)))
@@ -215,11 +214,12 @@ module _ (kept : archive.Archive) (before now : Session) (running : Running) (si
           ])
 
       silent_on : (on : Which) → waiting_of (peer_of now on) ≡ []
-      silent_on = by_sides (λ on. waiting_of (peer_of now on) ≡ []) side silent_here silent
+      silent_on = on_both (λ on. waiting_of (peer_of now on) ≡ []) side silent_here silent
 
       pub begun_lines : (on : Which) → IsToList now on
       begun_lines on r has =
-          absurd (none_waits r (subst (λ w. Contains (map (λ (one : Outstanding). one.request) w) r)
+          absurd (contains_none r (subst (λ w. Contains (map (λ (one : Outstanding). one.request) w)
+          r)
           (silent_on on) has))
 
       pub begun_out : (on : Which) (path : Path) → WaitsFor (peer_of now on).scan path →
@@ -242,11 +242,11 @@ module _ (kept : archive.Archive) (before now : Session) (running : Running) (si
           ap (map (λ (one : Outstanding). one.request)) (waits_then on later asking)
 
       nothing_on : (on : Which) (r : Request) → Contains (asks_of asks on) r → ⊥
-      nothing_on on r has = none_waits r (subst (λ rs. Contains rs r) (nothing on) has)
+      nothing_on on r has = contains_none r (subst (λ rs. Contains rs r) (nothing on) has)
 
       to_begin : (later : Session) → IsAsking now later asks → (on : Which) →
           IsToBegin later heard.taken on
-      to_begin later asking = by_sides (λ on. IsToBegin later heard.taken on) side
+      to_begin later asking = on_both (λ on. IsToBegin later heard.taken on) side
           (inr (
             requests_then side later asking
                 ∙ ap (map (λ (one : Outstanding). one.request)) silent_here,
@@ -312,9 +312,9 @@ module _ (kept : archive.Archive) (before now : Session) (running : Running) (si
             BothBegun running.taken × ((on : Which) → IsToList before on)
         by (lists both each) = (both, each)
         by (begins each) = elim (each side) [
-          | inl (pair, e) ↦ absurd (list_not_begin path pair (sym (only_in (Begin pair) request
+          | inl (pair, e) ↦ absurd (list_not_begin path pair (sym (contains_one (Begin pair) request
               (subst (λ l. Contains l request) e waited) ∙ listing)))
-          | inr (e, pair, position, was) ↦ absurd (none_waits request
+          | inr (e, pair, position, was) ↦ absurd (contains_none request
               (subst (λ l. Contains l request) e waited))
         ]
 
@@ -348,13 +348,13 @@ module _ (kept : archive.Archive) (before now : Session) (running : Running) (si
       waiting_same : (on : Which) → (peer_of after on).waiting ≡ (peer_of now on).waiting
       waiting_same on =
           ap (λ (l : PeerState). l.waiting) (peer_same on)
-          ∙ by_sides (λ o. (peer_of taken o).waiting ≡ (peer_of now o).waiting) side keeps.waits
+          ∙ on_both (λ o. (peer_of taken o).waiting ≡ (peer_of now o).waiting) side keeps.waits
           (ap (λ (l : PeerState). l.waiting) keeps.across) on
 
       count_same : (on : Which) → (peer_of after on).asked ≡ (peer_of now on).asked
       count_same on =
           ap (λ (l : PeerState). l.asked) (peer_same on)
-          ∙ by_sides (λ o. (peer_of taken o).asked ≡ (peer_of now o).asked) side keeps.count
+          ∙ on_both (λ o. (peer_of taken o).asked ≡ (peer_of now o).asked) side keeps.count
           (ap (λ (l : PeerState). l.asked) keeps.across) on
 
       waits_same : (on : Which) → waiting_of (peer_of after on) ≡ waiting_of (peer_of now on)
@@ -375,6 +375,9 @@ module _ (kept : archive.Archive) (before now : Session) (running : Running) (si
                     waits = (h.peer on).waits ∙ sym (waits_same on);
                     count = (h.peer on).count ∙ sym (count_same on);
                     few = subst (λ n. n ≤ 2 ^ 32) (sym (count_same on)) (h.peer on).few;
+                    of_session =
+                        subst (λ w. All (λ one. one.asked.value.session ≡ running.session) w.items)
+                        (sym (waiting_same on)) (h.peer on).of_session;
                     rising = subst AreRising (sym (waits_same on)) (h.peer on).rising;
                     below =
                         subst (λ n. All (λ one. one.number < n) (waiting_of (peer_of after on)))
@@ -396,7 +399,7 @@ module _ (kept : archive.Archive) (before now : Session) (running : Running) (si
       pub listed_found : (on : Which) → IsFoundIn (found_on after on) on heard.taken
       listed_found on =
           subst (λ (l : PeerState). IsFoundIn (found_of l.scan) on heard.taken) (sym (peer_same on))
-          (by_sides (λ o. IsFoundIn (found_on taken o) o heard.taken) side found
+          (on_both (λ o. IsFoundIn (found_on taken o) o heard.taken) side found
           (subst (λ (l : PeerState). IsFoundIn (found_of l.scan) (other side) heard.taken)
           (sym keeps.across) found_across) on)
 
@@ -455,7 +458,7 @@ module _ (kept : archive.Archive) (before now : Session) (running : Running) (si
           )
 
       pub listed_lines : (on : Which) → IsToList after on
-      listed_lines = by_sides (λ on. IsToList after on) side list_here across
+      listed_lines = on_both (λ on. IsToList after on) side list_here across
         where
           across : IsToList after (other side)
           across r has =
@@ -485,7 +488,7 @@ module _ (kept : archive.Archive) (before now : Session) (running : Running) (si
 
       pub listed_out : (on : Which) (q : Path) → WaitsFor (peer_of after on).scan q →
           Contains (requests_on (peer_of after on)) (ListAt q)
-      listed_out = by_sides (λ on. (q : Path) → WaitsFor (peer_of after on).scan q →
+      listed_out = on_both (λ on. (q : Path) → WaitsFor (peer_of after on).scan q →
           Contains (requests_on (peer_of after on)) (ListAt q)) side out_waits
           (λ q waits. subst (λ (l : PeerState). Contains (requests_on l) (ListAt q))
           (sym across_same)

@@ -1,13 +1,14 @@
 -- A session that begins, and one whose requests are sent again.
 use Rattle.std.proofs.Common.{◌≡◌, ◌≤◌, ◌<◌, ◌^◌, ◌⊎◌, ◌+◌, ℕ, false, List, [], ◌∷◌, map, get_or}
-use Rattle.std.proofs.Common.{Option, Some, None, refl, sym, ap, ◌∙◌, subst, inl, inr, arith}
+use Rattle.std.proofs.Common.{Option, Some, None, refl, sym, ap, ap₂, ◌∙◌, ◌++◌, subst, inl, inr}
+use Rattle.std.proofs.Common.{arith}
 use Rattle.std.specs.Prelude.{All, Contains}
 use Rattle.std.specs.List.{count_by}
 use Rattle.std.proofs.lemmas.Bool.{false≢true}
 use Rattle.std.proofs.lemmas.List.{length-map}
 use Rattle.std.proofs.lemmas.List.Elements.{All-cons, All-map, All-nil, Contains-push_cases}
 use Rattle.syn_headline.specs.Coordinator.{AreRising, MayWait, Running, Outstanding, outstanding}
-use Rattle.syn_headline.specs.Coordinator.{asked_count, once_more}
+use Rattle.syn_headline.specs.Coordinator.{asked_count, messages_to, once_more}
 use Rattle.syn_headline.specs.Network.{Which, Left, Right, other, is_side}
 use Rattle.syn_headline.specs.Session.{Exchange, WasAsked}
 use Rattle.syn_headline.specs.Side.{Request, Begin, ListAt}
@@ -19,18 +20,21 @@ use Rattle.syn_session.specs.declared.plan_progress.PlanProgress.{PlanProgress}
 use Rattle.syn_session.specs.declared.peer.PeerState.{PeerState}
 use Rattle.syn_session.specs.declared.session.Session.{Session}
 use Rattle.syn_session.specs.Sessions.{IsPeer, IsSession, IsStage, asks, begin_of, begun}
-use Rattle.syn_session.specs.Sessions.{once_later, resent_once}
-use Rattle.syn_session.specs.Stages.{IsBeginningOrListing, IsToBegin, IsToList, Reached, begins}
-use Rattle.syn_session.specs.Stages.{lists, peer_of, reached_by, requests_on, waiting_of}
-use Rattle.syn_session.proofs.WaitingLemmas.{from_map}
+use Rattle.syn_session.specs.Sendings.{messages_waiting}
+use Rattle.syn_session.specs.Sessions.{messages_now, once_later, resent_once}
+use Rattle.syn_session.specs.Stages.{AreOfSession, IsBeginningOrListing, IsToBegin, IsToList}
+use Rattle.syn_session.specs.Stages.{Reached, begins, lists, peer_of, reached_by, requests_on}
+use Rattle.syn_session.specs.Stages.{waiting_of}
+use Rattle.syn_session.proofs.WaitingLemmas.{sent_of}
 use Rattle.std.proofs.Common.{option_map}
 use Rattle.syn_path.specs.Sides.{which_of}
 use Rattle.syn_path.specs.declared.side.Side.{Side}
+use Rattle.syn_model.proofs.BaseLemmas.{from_map, contains_none}
 
 -- ---- a session that begins
 
 module _ (preference : Option Which) (peer : PeerState) (number pair : ℕ)
-    (waits : waiting_of peer ≡ begin_of pair)
+    (waits : waiting_of peer ≡ begin_of pair) (of : AreOfSession number peer)
     (asked : peer.asked ≡ 1) where
   rising : AreRising (waiting_of peer)
   rising = subst AreRising (sym waits) (λ i j d before less. absurd (omega (arith, before, less)))
@@ -50,6 +54,7 @@ module _ (preference : Option Which) (peer : PeerState) (number pair : ℕ)
         waits = sym waits;
         count = sym asked;
         few = subst (λ n. n ≤ 2 ^ 32) (sym asked) (omega arith);
+        of_session = of;
         rising = rising;
         below = below;
         may = may;
@@ -59,29 +64,27 @@ module _ (preference : Option Which) (peer : PeerState) (number pair : ℕ)
         waits = sym waits;
         count = sym asked;
         few = subst (λ n. n ≤ 2 ^ 32) (sym asked) (omega arith);
+        of_session = of;
         rising = rising;
         below = below;
         may = may;
       }
 
-none_taken : {T : Type 0} (x : T) → Contains [] x → ⊥
-none_taken x has = omega (arith, has.1)
-
 only_begin : (preference : Option Which) (number pair : ℕ) (side : Which) (n : ℕ) (a : Request) →
     WasAsked (begun preference number pair) side n a → n ≡ 0
-only_begin preference number pair side n a (inl (reply, has)) = absurd (none_taken _ has)
+only_begin preference number pair side n a (inl (reply, has)) = absurd (contains_none _ has)
 only_begin preference number pair Left n a (inr (resent, has)) = by (Contains-push_cases [] _ _ has)
   where
     by : let one : Outstanding = record { number = n; request = a; resent = resent } in
         Contains [] one ⊎ (asks 0 (Begin pair) ≡ one) → n ≡ 0
-    by (inl never) = absurd (none_taken _ never)
+    by (inl never) = absurd (contains_none _ never)
     by (inr is) = sym (ap (λ (o : Outstanding). o.number) is)
 only_begin preference number pair Right n a (inr (resent, has)) = by
     (Contains-push_cases [] _ _ has)
   where
     by : let one : Outstanding = record { number = n; request = a; resent = resent } in
         Contains [] one ⊎ (asks 0 (Begin pair) ≡ one) → n ≡ 0
-    by (inl never) = absurd (none_taken _ never)
+    by (inl never) = absurd (contains_none _ never)
     by (inr is) = sym (ap (λ (o : Outstanding). o.number) is)
 
 module _ (archive : model.Archive) (session : Session) (preference : Option Which) (number pair : ℕ)
@@ -89,6 +92,7 @@ module _ (archive : model.Archive) (session : Session) (preference : Option Whic
     (preferred : option_map which_of session.preference ≡ preference) (lawful : number < 2 ^ 64)
     (stable : session.is_unstable ≡ false) (scans : session.progress ≡ None)
     (waits : (side : Which) → waiting_of (peer_of session side) ≡ begin_of pair)
+    (of : (side : Which) → AreOfSession number (peer_of session side))
     (asked : (side : Which) → (peer_of session side).asked ≡ 1)
     (found : (side : Which) → IsFoundIn (found_of (peer_of session side).scan) side [])
     (out : (side : Which) → out_of (peer_of session side).scan ≡ []) where
@@ -98,7 +102,7 @@ module _ (archive : model.Archive) (session : Session) (preference : Option Whic
     preference = sym preferred;
     lawful = subst (λ n. n < 2 ^ 64) (sym numbered) lawful;
     peer = λ side. begins_peer preference (peer_of session side) number pair (waits side)
-        (asked side) side;
+        (of side) (asked side) side;
     once =
         λ side m n a b was_m was_n _. only_begin preference number pair side m a was_m
         ∙ sym (only_begin preference number pair side n b was_n);
@@ -107,7 +111,7 @@ module _ (archive : model.Archive) (session : Session) (preference : Option Whic
         subst (λ progress. IsStage archive session progress
         [] (record { plan = None; cursor = 0; kept = []; refused = [] })) (sym scans) (record {
           nothing = refl;
-          of_scan = λ exchange has. absurd (none_taken _ has);
+          of_scan = λ exchange has. absurd (contains_none _ has);
           found = found;
           at =
               begins (λ side. inl (
@@ -175,6 +179,7 @@ module _ (archive : model.Archive) (old new : Session) (taken : List Exchange) (
 -- a side whose requests were sent once more
 pub record SentAgain (old new : PeerState) : Type 0 where
   pub waits : waiting_of new ≡ once_more (waiting_of old)
+  pub of_session : (session : ℕ) → AreOfSession session old → AreOfSession session new
   pub asked : new.asked ≡ old.asked
   pub scan : new.scan ≡ old.scan
 
@@ -243,6 +248,7 @@ module _ (archive : model.Archive) (old new : Session) (running : Running)
           waits = waits_again side;
           count = count_again side;
           few = subst (λ n. n ≤ 2 ^ 32) (sym (again side).asked) (is.peer side).few;
+          of_session = (again side).of_session running.session (is.peer side).of_session;
           rising =
               subst AreRising (sym (again side).waits)
               (once_more-rising (waiting_of (peer_of old side)) (is.peer side).rising);
@@ -261,3 +267,16 @@ module _ (archive : model.Archive) (old new : Session) (running : Running)
         ∙ same_requests (waiting_of (peer_of old side)))
         (λ side. (again side).scan) progress is.stage;
   }
+
+-- what is sent again is what waits
+pub messages_resent : (archive : model.Archive) (session : Session) (running : Running) →
+    IsSession archive session running → messages_now session
+    ≡ messages_to running.session Left running.left
+    ++ messages_to running.session Right running.right
+messages_resent archive session running is = ap₂ (λ l r. l ++ r) (on Left) (on Right)
+  where
+    on : (side : Which) → messages_waiting side (peer_of session side)
+        ≡ messages_to running.session side (outstanding running side)
+    on side =
+        sent_of running.session side (peer_of session side).waiting.items
+        (is.peer side).of_session ∙ ap (messages_to running.session side) (sym (is.peer side).waits)

@@ -15,6 +15,7 @@ use Rattle.syn_model.specs.Decision.{Item, ToLeft, ToRight, MarkSame, MarkDir, C
 use Rattle.syn_model.specs.Path.{Path}
 use Rattle.syn_model.proofs.PathLemmas.{same_path}
 use Rattle.syn_session.specs.Plans.{Plan, AreRecordedBefore, recorded_count}
+use Rattle.syn_model.proofs.BaseLemmas.{and_false, and_true, or_false}
 
 -- ---- tests that change at one place
 
@@ -159,18 +160,6 @@ none_counts p [] never = refl
 none_counts p (x ∷ xs) never =
     sum_by-cons (λ x. cond (p x) 1 0) x xs
     ∙ ap₂ (λ b n. cond b 1 0 + n) (never x) (none_counts p xs never)
-
-and_false : (b : Bool) → (b && false) ≡ false
-and_false true = refl
-and_false false = refl
-
-and_true : (b : Bool) → (b && true) ≡ b
-and_true true = refl
-and_true false = refl
-
-or_false : (b : Bool) → (b || false) ≡ b
-or_false true = refl
-or_false false = refl
 
 -- nothing counts where nothing was recorded, and never more than the plan has
 pub nothing_counted : (is_of : Item → Bool) (plan : Plan) → recorded_count is_of plan [] ≡ 0

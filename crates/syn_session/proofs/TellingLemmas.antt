@@ -13,20 +13,11 @@ use Rattle.syn_session.specs.declared.session.Session.{Session}
 use Rattle.syn_session.specs.Hearing.{HasHeard}
 use Rattle.syn_session.specs.Sessions.{Tells, TellsOf}
 use Rattle.syn_session.specs.Stages.{IsOfScan, nothing_reached, reached_by}
-
--- of a side and the one across
-pub by_sides : (P : Which → Type 0) (side : Which) → P side → P (other side) → (on : Which) → P on
-by_sides P Left own across Left = own
-by_sides P Left own across Right = across
-by_sides P Right own across Left = across
-by_sides P Right own across Right = own
+use Rattle.syn_model.proofs.BaseLemmas.{or_false}
+use Rattle.syn_headline.proofs.StagedLemmas.{on_both}
 
 pub list_not_begin : (path : Path) (pair : ℕ) → ListAt path ≡ Begin pair → ⊥
 list_not_begin path pair e = cc
-
-pub or_false : (b : Bool) → (b || false) ≡ b
-or_false true = refl
-or_false false = refl
 
 pub either_nothing : (b : Bool) → let n : ℕ = if b then 0 else 0 in n ≡ 0
 either_nothing true = refl

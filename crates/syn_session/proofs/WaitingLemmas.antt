@@ -12,7 +12,7 @@ use Rattle.std.proofs.lemmas.Bool.Decides.{nat_tests}
 use Rattle.std.proofs.lemmas.List.{get_or-map, length-append, length-map, map-append, take_all}
 use Rattle.std.proofs.lemmas.List.{take-append-le}
 use Rattle.std.proofs.lemmas.List.Elements.{All-contains, All-contains_itself, All-filter}
-use Rattle.std.proofs.lemmas.List.Elements.{All-append, filter_passes}
+use Rattle.std.proofs.lemmas.List.Elements.{All-append, All-map, filter_passes}
 use Rattle.std.proofs.lemmas.Map.Views.{list_any-from_Contains}
 use Rattle.std.proofs.lemmas.Option.{none-some}
 use Rattle.syn_headline.specs.Coordinator.{AreRising, IsListing, MayWait, Outstanding, asked_in}
@@ -28,11 +28,13 @@ use Rattle.syn_model.specs.Path.{Path, path_cmp}
 use Rattle.syn_model.proofs.PathLemmas.{path_total, path_itself, same_path}
 use Rattle.syn_scan.specs.Asked.{is_out}
 use Rattle.syn_scan.specs.Asked as scan
-use Rattle.syn_session.specs.Sessions.{once_later}
+use Rattle.syn_session.specs.Sessions.{once_later, sent_again}
 use Rattle.syn_session.specs.Answering.{IsAskedOn}
+use Rattle.syn_session.specs.Sendings.{message_waiting}
 use Rattle.syn_session.specs.Stages.{outstanding_of, waiting_of}
 use Rattle.syn_session.specs.declared.peer.PeerState.{PeerState}
 use Rattle.syn_session.specs.declared.requests.Waiting.{Waiting}
+use Rattle.syn_model.proofs.BaseLemmas.{contains_one, from_map}
 
 -- Lists
 
@@ -73,14 +75,6 @@ in_map {X} {Y} f (y ∷ xs) x (zero, h, e) = (0, omega arith, ap f e)
 in_map {X} {Y} f (y ∷ xs) x (suc k, h, e) =
     let rest = in_map f xs x (k, omega (arith, h), e) in
     (suc rest.0, let w = rest.1 in omega (arith, w), rest.2)
-
-pub from_map : {X Y : Type 0} (f : X → Y) (xs : List X) (y : Y) → Contains (map f xs) y →
-    (x : X) × Contains xs x × (f x ≡ y)
-from_map {X} {Y} f [] y c = absurd (omega (arith, c.1))
-from_map {X} {Y} f (x ∷ xs) y (zero, h, e) = (x, (0, omega arith, refl), e)
-from_map {X} {Y} f (x ∷ xs) y (suc k, h, e) =
-    let rest = from_map f xs y (k, omega (arith, h), e) in
-    (rest.0, (suc rest.1.0, let w = rest.1.1 in omega (arith, w), rest.1.2), rest.2)
 
 pub pairs_map : {X Y : Type 0} (R : Y → Y → Type 0) (f : X → Y) (xs : List X) →
     AllPairs (λ one other. R (f one) (f other)) xs → AllPairs R (map f xs)
@@ -167,30 +161,33 @@ alone_is (one ∷ next ∷ more) number request few is = absurd (omega (arith, f
 
 -- The code's list
 
+abbrev pub has_number : ℕ → Waiting → Bool
+has_number number one = one.asked.value.number == number
+
 pub asks_at : (waiting : List Waiting) (i number : ℕ) (d : Waiting) → i < length waiting →
-    ((get_or waiting i d).number == number) ≡ true →
-    ((k : ℕ) → k < i → ((get_or waiting k d).number == number) ≡ false) →
+    has_number number (get_or waiting i d) ≡ true →
+    ((k : ℕ) → k < i → has_number number (get_or waiting k d) ≡ false) →
     asked_in (map outstanding_of waiting) number
-    ≡ Some (request_of (get_or waiting i d).request)
+    ≡ Some (request_of (get_or waiting i d).asked.value.request)
 asks_at [] i number d less same before = absurd (omega (arith, less))
 asks_at (one ∷ more) zero number d less same before =
-    ap (λ b. if b then Some (request_of one.request)
+    ap (λ b. if b then Some (request_of one.asked.value.request)
     else asked_in (map outstanding_of more) number) same
 asks_at (one ∷ more) (suc i) number d less same before =
-    ap (λ b. if b then Some (request_of one.request)
+    ap (λ b. if b then Some (request_of one.asked.value.request)
     else asked_in (map outstanding_of more) number) (before 0 (omega arith))
     ∙ asks_at more i number d (omega (arith, less)) same
     (λ k l. before (suc k) (omega (arith, l)))
 
 pub removed_at : (waiting : List Waiting) (i number : ℕ) (d : Waiting) → i < length waiting →
-    ((get_or waiting i d).number == number) ≡ true →
-    ((k : ℕ) → k < i → ((get_or waiting k d).number == number) ≡ false) →
+    has_number number (get_or waiting i d) ≡ true →
+    ((k : ℕ) → k < i → has_number number (get_or waiting k d) ≡ false) →
     AreRising (map outstanding_of waiting) →
     map outstanding_of (remove waiting i) ≡ without number (map outstanding_of waiting)
 removed_at [] i number d less same before rising = absurd (omega (arith, less))
 removed_at (one ∷ more) zero number d less same before rising =
     let above = subst (λ n. All (λ later. n < later.number) (map outstanding_of more))
-    (eqb-true one.number number same)
+    (eqb-true one.asked.value.number number same)
     (later_above (outstanding_of one) (map outstanding_of more) rising) in
     sym (ap (λ b. cond (not b) (outstanding_of one ∷ without number (map outstanding_of more))
     (without number (map outstanding_of more))) same
@@ -204,13 +201,13 @@ removed_at (one ∷ more) (suc i) number d less same before rising =
     (without number (map outstanding_of more))) (before 0 (omega arith)))
 
 pub none_has : (waiting : List Waiting) (number : ℕ) →
-    nat_lt (position_or_len (λ one. one.number == number) waiting) (length waiting) ≡ false →
+    nat_lt (position_or_len (has_number number) waiting) (length waiting) ≡ false →
     asked_in (map outstanding_of waiting) number ≡ None
 none_has [] number e = refl
 none_has (one ∷ more) number e =
-    elim (one.number == number) as (λ b.
-    nat_lt (cond (not b) (1 + position_or_len (λ one. one.number == number) more) 0)
-    (suc (length more)) ≡ false → (if b then Some (request_of one.request)
+    elim (has_number number one) as (λ b.
+    nat_lt (cond (not b) (1 + position_or_len (has_number number) more) 0)
+    (suc (length more)) ≡ false → (if b then Some (request_of one.asked.value.request)
     else asked_in (map outstanding_of more) number) ≡ None) [
       | true ↦ λ e. absurd (first_less (length more) e)
       | false ↦ λ e. none_has more number (less _ _ e)
@@ -299,10 +296,6 @@ listings_all waiting P each k d less =
     (All-contains_itself waiting k d less)) in
     subst IsListing (sym it.1) tt
 
-pub only_in : {X : Type 0} (x y : X) → Contains (x ∷ []) y → x ≡ y
-only_in {X} x y (zero, h, e) = e
-only_in {X} x y (suc k, h, e) = absurd (omega (arith, h))
-
 pub same_directory : (path other : Path) → ListAt path ≡ ListAt other → path ≡ other
 same_directory path other e = ap path_in e
   where
@@ -348,8 +341,7 @@ none_passes {X} p (x ∷ xs) e (suc k) d less =
     rest true b e = absurd (true≢false e)
 
 pub resent_all : (was now : List Waiting) → length now ≡ length was → ((k : ℕ) (d : Waiting) →
-    k < length was → outstanding_of (get_or now k d) ≡ once_later (outstanding_of (get_or was k d)))
-    → map outstanding_of now ≡ once_more (map outstanding_of was)
+    k < length was → get_or now k d ≡ sent_again (get_or was k d)) → now ≡ map sent_again was
 resent_all [] [] long each = refl
 resent_all [] (one ∷ now) long each = absurd (omega (arith, long))
 resent_all (one ∷ was) [] long each = absurd (omega (arith, long))
@@ -357,6 +349,18 @@ resent_all (one ∷ was) (two ∷ now) long each =
     ap₂ (λ o l. o ∷ l) (each 0 one (omega arith))
     (resent_all was now (omega (arith, long))
     (λ k d less. each (suc k) d (omega (arith, less))))
+
+pub resent_waits : (waiting : List Waiting) →
+    map outstanding_of (map sent_again waiting) ≡ once_more (map outstanding_of waiting)
+resent_waits [] = refl
+resent_waits (one ∷ more) =
+    ap (λ l. once_later (outstanding_of one) ∷ l) (resent_waits more)
+
+pub resent_of : (session : ℕ) (waiting : List Waiting) →
+    All (λ one. one.asked.value.session ≡ session) waiting →
+    All (λ one. one.asked.value.session ≡ session) (map sent_again waiting)
+resent_of session waiting all =
+    All-map (λ one. one.asked.value.session ≡ session) sent_again waiting all
 
 pub written_back : (n : ℕ) (now was : List Waiting) → length now ≡ length was → n ≡ length was →
     take n (now ++ drop (length now) was) ≡ now
@@ -376,10 +380,10 @@ numbered-append count (request ∷ requests) more =
     ∙ ap (λ n. numbered (suc count) requests ++ numbered n more)
     (let e : suc count + length requests ≡ count + suc (length requests) = omega arith in e))
 
-pub asked_more : (old between new : PeerState) (first second : List Request) →
-    IsAskedOn old between first → IsAskedOn between new second →
-    IsAskedOn old new (first ++ second)
-asked_more old between new first second a b = record {
+pub asked_more : (session : ℕ) (old between new : PeerState) (first second : List Request) →
+    IsAskedOn session old between first → IsAskedOn session between new second →
+    IsAskedOn session old new (first ++ second)
+asked_more session old between new first second a b = record {
   waits =
       b.waits ∙ (ap₂ (λ w n. w ++ numbered n second) a.waits a.count
       ∙ (append_assoc (waiting_of old) (numbered old.asked first)
@@ -401,6 +405,7 @@ asked_more old between new first second a b = record {
               inr (omega (arith, few, two, zero_more))
         ]
       ];
+  of_session = λ of. b.of_session (a.of_session of);
   scan = b.scan ∙ a.scan;
 }
 
@@ -412,3 +417,26 @@ sent_more session to count first second =
     ap (messages_to session to) (numbered-append count first second)
     ∙ map-append (λ one. Asks to session one.number one.request) (numbered count first)
     (numbered (count + length first) second)
+
+-- What is sent of what waits
+
+-- a request that is taken out leaves those of the session
+pub taken_of : (session : ℕ) (waiting : List Waiting) (i : ℕ) → i < length waiting →
+    All (λ one. one.asked.value.session ≡ session) waiting →
+    All (λ one. one.asked.value.session ≡ session) (remove waiting i)
+taken_of session [] i less all k d within = absurd (omega (arith, less))
+taken_of session (one ∷ more) zero less all k d within =
+    all (suc k) d (omega (arith, within))
+taken_of session (one ∷ more) (suc i) less all zero d within = all 0 d (omega arith)
+taken_of session (one ∷ more) (suc i) less all (suc k) d within =
+    taken_of session more i (omega (arith, less)) (λ n e l. all (suc n) e (omega (arith, l))) k d
+    (omega (arith, within))
+
+pub sent_of : (session : ℕ) (side : Which) (waiting : List Waiting) →
+    All (λ one. one.asked.value.session ≡ session) waiting →
+    map (message_waiting side) waiting ≡ messages_to session side (map outstanding_of waiting)
+sent_of session side [] all = refl
+sent_of session side (one ∷ more) all =
+    ap₂ (λ s l. Asks side s one.asked.value.number (request_of one.asked.value.request) ∷ l)
+    (all 0 one (omega arith))
+    (sent_of session side more (λ n d l. all (suc n) d (omega (arith, l))))

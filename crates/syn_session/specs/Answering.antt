@@ -6,9 +6,10 @@ use Rattle.syn_headline.specs.Coordinator.{numbered}
 use Rattle.syn_headline.specs.Network.{Message, Which, Left, Right, other}
 use Rattle.syn_headline.specs.Side.{ListAt, Reply, Request}
 use Rattle.syn_message.specs.Requests.{request_of}
+use Rattle.syn_path.specs.declared.side.Side.{Side}
 use Rattle.syn_path.specs.declared.side.Side.TheVariants as to
 use Rattle.syn_session.specs.Sessions.{IsPeer}
-use Rattle.syn_session.specs.Stages.{HasTaken, peer_of, waiting_of}
+use Rattle.syn_session.specs.Stages.{AreOfSession, HasTaken, peer_of, waiting_of}
 use Rattle.syn_session.specs.declared.peer.PeerState.{PeerState}
 use Rattle.syn_session.specs.declared.session.Asks.{Asks}
 use Rattle.syn_session.specs.declared.session.Asks.TheVariants.{Listings, One}
@@ -19,7 +20,7 @@ use Rattle.syn_path.specs.Sides.{which_of}
 pub record IsAnswering (old new : Session) (side : Which) (number : ℕ) (request : Request)
     : Type 0 where
   pub asked : asked_in (waiting_of (peer_of old side)) number ≡ Some request
-  pub waits : HasTaken (peer_of old side) (peer_of new side) number
+  pub taken : HasTaken (peer_of old side) (peer_of new side) number
   pub count : (peer_of new side).asked ≡ (peer_of old side).asked
   pub scan : (peer_of new side).scan ≡ (peer_of old side).scan
   pub across : peer_of new (other side) ≡ peer_of old (other side)
@@ -36,25 +37,30 @@ pub record IsHeard (session : Session) (running : Running) : Type 0 where
   pub peer : (side : Which) → IsPeer (peer_of session side) running side
   pub once : AsksOnce running
 
+-- what is asked of a side where that side alone is asked
+abbrev pub asks_alone : Side → Which → Request → List Request
+asks_alone to.Left Left request = request ∷ []
+asks_alone to.Left Right request = []
+asks_alone to.Right Left request = []
+asks_alone to.Right Right request = request ∷ []
+
 -- what is asked of a side
 abbrev pub asks_of : Asks → Which → List Request
 asks_of (Listings left right) Left = map ListAt left.items
 asks_of (Listings left right) Right = map ListAt right.items
-asks_of (One to.Left request) Left = request_of request ∷ []
-asks_of (One to.Left request) Right = []
-asks_of (One to.Right request) Left = []
-asks_of (One to.Right request) Right = request_of request ∷ []
+asks_of (One asked) side = asks_alone asked.to side (request_of asked.request)
 
 -- an answer of a side, to what it was asked
 abbrev pub exchange_of : Which → ℕ → Request → Reply → Exchange
 exchange_of side number request reply =
     record { side = side; number = number; request = request; reply = reply }
 
--- the side is asked for what comes now
-pub record IsAskedOn (old new : PeerState) (requests : List Request) : Type 0 where
+-- the side is asked for what comes now, in that session
+pub record IsAskedOn (session : ℕ) (old new : PeerState) (requests : List Request) : Type 0 where
   pub waits : waiting_of new ≡ waiting_of old ++ numbered old.asked requests
   pub count : new.asked ≡ old.asked + length requests
   pub few : (requests ≡ []) ⊎ (new.asked ≤ 2 ^ 32)
+  pub of_session : AreOfSession session old → AreOfSession session new
   pub scan : new.scan ≡ old.scan
 
 abbrev pub messages_asked : Session → Asks → List Message

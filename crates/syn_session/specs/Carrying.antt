@@ -10,6 +10,7 @@ use Rattle.syn_path.specs.Sides.{which_of}
 use Rattle.syn_model.specs.Archive.{Archive}
 use Rattle.syn_model.specs.Refusal.{Memory}
 use Rattle.syn_propagate.specs.Transfers.{Asks as TransferAsks}
+use Rattle.syn_propagate.specs.declared.next.SideRequest.{SideRequest}
 use Rattle.syn_propagate.specs.declared.transfer.Transfer.{Transfer}
 use Rattle.syn_refusal.specs.Refusals.{cause_of}
 use Rattle.syn_refusal.specs.declared.refusal.Refusal.{Refusal}
@@ -31,19 +32,23 @@ pub record IsCarriedOut (progress : PlanProgress) (left right : Found) (all : Li
   pub apart : conflict_at planned.item ≡ None
   pub asked : AreAskedBefore (plan_in progress left right) (suc progress.cursor) all
 
--- the transfer asks for this, and for no listing
+-- the transfer asks for this
+abbrev pub AsksFor : Transfer → List Exchange → SideRequest → Type 0
+AsksFor transfer taken asked =
+    TransferAsks transfer taken (which_of asked.to) (request_of asked.request)
+
+-- and for no listing
 abbrev pub AsksOne : Transfer → List Exchange → Asks → Type 0
 AsksOne transfer taken (Listings left right) = ⊥
-AsksOne transfer taken (One side request) =
-    TransferAsks transfer taken (which_of side) (request_of request)
+AsksOne transfer taken (One asked) = AsksFor transfer taken asked
 
 module _ (archive : Archive) (left right : Found) (all : List Exchange) (before : Reached)
     (taken : Exchange) (progress : PlanProgress) where
   -- what the answer comes to
   abbrev pub ComesTo : ItemProgress → Type 0
-  ComesTo (has.Asks asks) = (is_last taken.reply ≡ false)
+  ComesTo (has.Ask asked) = (is_last taken.reply ≡ false)
       × Carries archive progress left right (all ++ taken ∷ []) before
-      (λ transfer. AsksOne transfer (all ++ taken ∷ []) asks)
+      (λ transfer. AsksFor transfer (all ++ taken ∷ []) asked)
   ComesTo (has.Done kept) = (planned : Planned)
       × IsCarriedOut progress left right (all ++ taken ∷ []) before planned
       × IsDue progress.cursor planned taken (kept_for kept)

@@ -26,7 +26,8 @@ IsFresh heard side request = (n : ℕ) (before : Request) → WasAsked heard sid
 
 -- it asks for this on both lines
 pub record IsAsking (old new : Session) (asks : Asks) : Type 0 where
-  pub peer : (side : Which) → IsAskedOn (peer_of old side) (peer_of new side) (asks_of asks side)
+  pub peer : (side : Which) → IsAskedOn old.number (peer_of old side) (peer_of new side)
+      (asks_of asks side)
   pub progress : new.progress ≡ old.progress
 
 -- what is asked next may be, for the first time, beside what waits; and something waits then

@@ -1,13 +1,25 @@
 -- What a coordinator sends, as the model has it.
 use Rattle.std.specs.Prelude.{List, map}
-use Rattle.syn_headline.specs.Network.{Message, Asks}
+use Rattle.syn_headline.specs.Network.{Message, Asks, Which}
 use Rattle.syn_message.specs.Requests.{request_of}
+use Rattle.syn_message.specs.declared.request.RequestMessage.{RequestMessage}
 use Rattle.syn_path.specs.Sides.{which_of}
+use Rattle.syn_session.specs.declared.peer.PeerState.{PeerState}
+use Rattle.syn_session.specs.declared.requests.Waiting.{Waiting}
 use Rattle.syn_session.specs.declared.sending.Sending.{Sending}
 
+abbrev pub message_to : Which → RequestMessage → Message
+message_to side asked = Asks side asked.session asked.number (request_of asked.request)
+
 abbrev pub message_of : Sending → Message
-message_of sending = Asks (which_of sending.to) sending.asked.session sending.asked.number
-    (request_of sending.asked.request)
+message_of sending = message_to (which_of sending.to) sending.asked.value
 
 abbrev pub messages_of : List Sending → List Message
 messages_of sends = map message_of sends
+
+-- what is sent of the requests that wait on a side
+abbrev pub message_waiting : Which → Waiting → Message
+message_waiting side one = message_to side one.asked.value
+
+abbrev pub messages_waiting : Which → PeerState → List Message
+messages_waiting side peer = map (message_waiting side) peer.waiting.items

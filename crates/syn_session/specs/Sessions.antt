@@ -12,10 +12,12 @@ use Rattle.syn_headline.specs.Side.{Request, Begin}
 use Rattle.syn_model.specs.Archive as model
 use Rattle.syn_model.specs.Refusal.{Refusal}
 use Rattle.syn_scan.specs.Found.{Found}
-use Rattle.syn_session.specs.Stages.{IsCarrying, IsPlanProgress, IsScanning, Reached, peer_of}
-use Rattle.syn_session.specs.Stages.{nothing_reached, reached_by, waiting_of}
+use Rattle.syn_session.specs.Sendings.{messages_waiting}
+use Rattle.syn_session.specs.Stages.{AreOfSession, IsCarrying, IsPlanProgress, IsScanning}
+use Rattle.syn_session.specs.Stages.{Reached, nothing_reached, peer_of, reached_by, waiting_of}
 use Rattle.syn_session.specs.declared.plan_progress.PlanProgress.{PlanProgress}
 use Rattle.syn_session.specs.declared.peer.PeerState.{PeerState}
+use Rattle.syn_session.specs.declared.requests.Waiting.{Waiting}
 use Rattle.syn_session.specs.declared.session.Session.{Session}
 use Rattle.std.specs.Prelude.{option_map}
 use Rattle.syn_path.specs.Sides.{which_of}
@@ -29,6 +31,10 @@ begin_of pair = asks 0 (Begin pair) ∷ []
 abbrev pub once_later : Outstanding → Outstanding
 once_later one = record one { resent = suc one.resent }
 
+-- a request that was sent once more, as it was
+abbrev pub sent_again : Waiting → Waiting
+sent_again one = record one { resent = suc one.resent }
+
 abbrev pub is_worn_out : List Outstanding → Bool
 is_worn_out waiting = list_any (λ one. nat_le most_resends one.resent) waiting
 
@@ -37,6 +43,7 @@ pub record IsPeer (peer : PeerState) (running : Running) (side : Which) : Type 0
   pub waits : outstanding running side ≡ waiting_of peer
   pub count : asked_count running side ≡ peer.asked
   pub few : peer.asked ≤ 2 ^ 32
+  pub of_session : AreOfSession running.session peer
   pub rising : AreRising (waiting_of peer)
   pub below : All (λ one. one.number < peer.asked) (waiting_of peer)
   pub may : MayWait (waiting_of peer)
@@ -88,8 +95,7 @@ begun preference number pair =
     asking (new_session preference number) (begins pair) (begins pair)
 
 abbrev pub messages_now : Session → List Message
-messages_now session = messages_to session.number Left (waiting_of session.left)
-    ++ messages_to session.number Right (waiting_of session.right)
+messages_now session = messages_waiting Left session.left ++ messages_waiting Right session.right
 
 abbrev pub begin_messages : ℕ → ℕ → List Message
 begin_messages number pair = messages_to number Left (begin_of pair)

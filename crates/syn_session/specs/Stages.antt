@@ -1,6 +1,6 @@
 -- What a session that runs is at: it scans both sides, or it carries out its plan.
 use Rattle.std.specs.Prelude.{◌≡◌, ◌<◌, ◌^◌, ◌⊎◌, ℕ, suc, List, [], ◌∷◌, map, filter_map}
-use Rattle.std.specs.Prelude.{length, take, slice_get, Option, Some, None, Contains}
+use Rattle.std.specs.Prelude.{length, take, slice_get, Option, Some, None, All, Contains}
 use Rattle.syn_headline.specs.Coordinator.{AreRising, Outstanding, Running, without}
 use Rattle.syn_headline.specs.Network.{Which, Left, Right, other}
 use Rattle.syn_headline.specs.Planning.{Planned, WritesTo, seen_on}
@@ -33,8 +33,8 @@ use Rattle.syn_image.specs.Archives.{kept_for}
 
 abbrev pub outstanding_of : Waiting → Outstanding
 outstanding_of waiting = record {
-  number = waiting.number;
-  request = request_of waiting.request;
+  number = waiting.asked.value.number;
+  request = request_of waiting.asked.value.request;
   resent = waiting.resent;
 }
 
@@ -42,13 +42,17 @@ outstanding_of waiting = record {
 abbrev pub waiting_of : PeerState → List Outstanding
 waiting_of peer = map outstanding_of peer.waiting.items
 
+-- each request that waits on the side is one of that session
+abbrev pub AreOfSession : ℕ → PeerState → Type 0
+AreOfSession session peer = All (λ one. one.asked.value.session ≡ session) peer.waiting.items
+
 abbrev pub requests_on : PeerState → List Request
 requests_on peer = map (λ one. one.request) (waiting_of peer)
 
 -- the request of that number waits no more, where no other has it
-abbrev pub HasTaken : PeerState → PeerState → ℕ → Type 0
-HasTaken old new number =
-    AreRising (waiting_of old) → waiting_of new ≡ without number (waiting_of old)
+pub record HasTaken (old new : PeerState) (number : ℕ) : Type 0 where
+  pub waits : AreRising (waiting_of old) → waiting_of new ≡ without number (waiting_of old)
+  pub of_session : (session : ℕ) → AreOfSession session old → AreOfSession session new
 
 abbrev pub peer_of : Session → Which → PeerState
 peer_of session Left = session.left

@@ -10,18 +10,17 @@ ghost use Rattle.syn_scan.specs.Found.{Found};
 ghost use Rattle.syn_session.specs.Answering.{exchange_of};
 
 use crate::plan_progress::{Carried, PlanProgress};
-use crate::session::Asks;
 use std::alloc::Global;
 use syn_image::ItemRecord;
 use syn_message::Reply;
-use syn_propagate::{Next, transfer_laws};
+use syn_propagate::{Next, SideRequest, transfer_laws};
 use syn_refusal::Refusal;
 
 /// What an answer for the item that is carried comes to.
 #[derive(Debug, Drop)]
 pub enum ItemProgress {
     /// This is to be asked next.
-    Asks(Asks),
+    Ask(SideRequest),
     /// The item is in its place on the other side, and the archive is to have this.
     Done(ItemRecord),
     /// A side refused what it was asked.
@@ -49,9 +48,9 @@ impl PlanProgress {
         let Carried { transfer, kept } = taken;
         let mut transfer = transfer;
         match transfer.step(alloc, Some(reply)) {
-            Ok(Next::Ask(side, request)) => {
+            Ok(Next::Ask(asked)) => {
                 self.carried = Some(Carried { transfer, kept });
-                Ok(ItemProgress::Asks(Asks::One(side, request)))
+                Ok(ItemProgress::Ask(asked))
             }
             // By calls, or the prover would look here at all that each holds.
             Ok(Next::Done) => {

@@ -117,20 +117,20 @@ impl Session {
         &mut self,
         alloc: Global,
         from: Side,
-        request: Request,
+        request: &Request,
         reply: Reply,
     ) -> Result<Option<Asks>, Refusal>
         requires lawful { IsLawfulReply (reply_of reply) }
         ensures step { (archive : Keeping) (before : Ran) (running : Running) (number : ℕ)
             → IsSession archive before running
-            → IsAnswering before self.old (which_of from) number (request_of request)
+            → IsAnswering before self.old (which_of from) number (request_of request.now)
             → before.progress ≡ None
-            → Hears self.new running (which_of from) number (request_of request) (reply_of reply)
-            result }
+            → Hears self.new running (which_of from) number (request_of request.now)
+            (reply_of reply) result }
     {
         match request {
             Request::Begin { pair: _ } => self.hear_begun(alloc, from, reply),
-            Request::List { path } => self.hear_listed(alloc, from, &path, reply),
+            Request::List { path } => self.hear_listed(alloc, from, path, reply),
             _ => Err(Refusal::BadMessage),
         }
     }

@@ -11,9 +11,12 @@
 //!   both lines, left first and in rising number, and `count_resend` counts that each is sent
 //!   again. `is_worn` says whether one may be sent again no more. `waits_on` says whether a request
 //!   waits on a side.
-//! - What waits on a side may wait there, and its numbers rise (`IsPeer`: `may`, `rising`).
-//! - `take_waiting` gives the request that waits for the answer of that number, which waits no more
-//!   (`some`: `HasTaken`). Where none does, nothing changes (`none`).
+//! - What waits on a side may wait there, its numbers rise, and all of it is of this session
+//!   (`IsPeer`: `may`, `rising`, `of_session`).
+//! - A request becomes one message, with its session and its number in it (`RequestMessage`). What
+//!   waits and what is sent, now and again, own that message together.
+//! - `take_waiting` gives the message whose answer has that number, which waits no more (`some`:
+//!   `IsAnswering`). Where none does, nothing changes (`none`).
 //! - `hear` takes the answer to a begin or to a listing (`step`: `Hears`). It gives the listings
 //!   that are next, or nothing where each directory of both sides was answered. Or the session
 //!   ends, for what the answer is or 11.

@@ -1,20 +1,21 @@
 //! What a session asks of one side.
 ghost use Rattle.std.specs.Prelude.{◌≡◌, ◌+◌, [], ◌∷◌, ◌++◌, None, false, nat_lt, option_map};
-ghost use Rattle.std.specs.Prelude.{length, map, IfOk, IfErr, IfSome, OnOk};
+ghost use Rattle.std.specs.Prelude.{ℕ, length, map, IfOk, IfErr, IfSome, OnOk};
 ghost use Rattle.syn_headline.specs.Coordinator.{asked_in, messages_to, numbered, once_more};
 ghost use Rattle.syn_headline.specs.Network.{Which};
 ghost use Rattle.syn_headline.specs.Side.{ListAt};
 ghost use Rattle.syn_message.specs.Requests.{request_of};
 ghost use Rattle.syn_path.specs.Sides.{which_of};
 ghost use Rattle.syn_session.specs.Scanning.{IsFoundIn, found_of, out_of};
-ghost use Rattle.syn_session.specs.Sendings.{messages_of};
+ghost use Rattle.syn_session.specs.Sendings.{messages_of, messages_waiting};
 
 use crate::error::SessionError;
 use crate::requests::{Waiting, count_resends, is_any_worn, place_of};
 use crate::sending::Sending;
 use crate::side_scan::SideScan;
 use std::alloc::{AllocError, Global};
-use syn_message::Request;
+use std::rc::Rc;
+use syn_message::{Request, RequestMessage};
 use syn_path::{Path, Side};
 
 /// The number of requests that a session may send to a side: four bytes spell their numbers.
@@ -37,20 +38,21 @@ pub struct PeerState {
 impl PeerState {
     ghost use Rattle.syn_session.specs.Answering.{IsAskedOn};
     ghost use Rattle.syn_session.specs.Sessions.{begin_of, is_worn_out};
-    ghost use Rattle.syn_session.specs.Stages.{HasTaken, waiting_of};
+    ghost use Rattle.syn_session.specs.Stages.{AreOfSession, HasTaken, waiting_of};
     ghost use Rattle.syn_session.specs.inner.Listing.{ListsNext};
 
-    /// The side is to begin the session. Room for all that may wait is taken here. Refused 11 where
-    /// memory is refused.
-    pub(crate) fn new(alloc: Global, pair: u64) -> Result<PeerState, AllocError>
+    /// The side is to begin the session of that number. Room for all that may wait is taken here.
+    /// Refused 11 where memory is refused.
+    pub(crate) fn new(alloc: Global, session: u64, pair: u64) -> Result<PeerState, AllocError>
         ensures waits { IfOk result (λ peer. waiting_of peer ≡ begin_of pair) }
+        ensures of_session { IfOk result (AreOfSession session) }
         ensures asked { IfOk result (λ peer. peer.asked ≡ 1) }
         ensures found { (side : Which)
             → IfOk result (λ peer. IsFoundIn (found_of peer.scan) side []) }
         ensures out { IfOk result (λ peer. out_of peer.scan ≡ []) }
     {
         let mut waiting = Vec::with_capacity(alloc, MOST_LISTINGS)?;
-        waiting.push(Waiting::begin(pair))?;
+        waiting.push(Waiting::new(alloc, session, 0, Request::Begin { pair })?)?;
         let scan = SideScan::new(alloc)?;
         Ok(PeerState {
             waiting,
@@ -60,8 +62,8 @@ impl PeerState {
     }
 
     /// The request that waits for the answer of that number, which has come; none where none does.
-    pub(crate) fn take_waiting(&mut self, number: u32) -> Option<Request>
-        ensures request { option_map (λ request. request_of request) result
+    pub(crate) fn take_waiting(&mut self, number: u32) -> Option<Rc<RequestMessage>>
+        ensures request { option_map (λ asked. request_of asked.value.request) result
             ≡ asked_in (waiting_of self.old) number }
         ensures some { IfSome result (λ _. HasTaken self.old self.new number) }
         ensures none { result ≡ None → self.new ≡ self.old }
@@ -69,7 +71,7 @@ impl PeerState {
         ensures scan { self.new.scan ≡ self.old.scan }
     {
         match place_of(&self.waiting, number) {
-            Some(at) => Some(self.waiting.remove(at).request),
+            Some(at) => Some(self.waiting.remove(at).asked),
             None => None,
         }
     }
@@ -111,7 +113,8 @@ impl PeerState {
         session: u64,
         request: Request,
     ) -> Result<(), SessionError>
-        ensures asked { OnOk result (IsAskedOn self.old self.new (request_of request ∷ [])) }
+        ensures asked { OnOk result (IsAskedOn session self.old self.new
+            (request_of request ∷ [])) }
         ensures ok { OnOk result (messages_of sends.new.items ≡ messages_of sends.old.items
             ++ messages_to session (which_of to)
             (numbered self.old.asked (request_of request ∷ []))) }
@@ -120,15 +123,11 @@ impl PeerState {
         if self.asked >= MOST_REQUESTS {
             return Err(SessionError::Memory);
         }
-        let one = Waiting {
-            number: self.asked as u32,
-            request,
-            resent: 0,
-        };
-        let message = one.message(alloc, session)?;
+        let one = Waiting::new(alloc, session, self.asked as u32, request)?;
+        let sending = one.sending(to)?;
         self.waiting.push(one)?;
         self.asked += 1;
-        sends.push(Sending { to, asked: message })?;
+        sends.push(sending)?;
         Ok(())
     }
 
@@ -142,7 +141,8 @@ impl PeerState {
         session: u64,
         paths: Vec<Path>,
     ) -> Result<(), SessionError>
-        ensures asked { OnOk result (IsAskedOn self.old self.new (map ListAt paths.items)) }
+        ensures asked { OnOk result (IsAskedOn session self.old self.new
+            (map ListAt paths.items)) }
         ensures ok { OnOk result (messages_of sends.new.items ≡ messages_of sends.old.items
             ++ messages_to session (which_of to)
             (numbered self.old.asked (map ListAt paths.items))) }
@@ -155,19 +155,12 @@ impl PeerState {
     }
 
     /// Adds the requests that wait to what is to be sent. Refused 11 where memory is refused.
-    pub(crate) fn send(
-        &self,
-        alloc: Global,
-        sends: &mut Vec<Sending>,
-        to: Side,
-        session: u64,
-    ) -> Result<(), AllocError>
+    pub(crate) fn send(&self, sends: &mut Vec<Sending>, to: Side) -> Result<(), AllocError>
         ensures { OnOk result (messages_of sends.new.items ≡ messages_of sends.old.items
-            ++ messages_to session (which_of to) (waiting_of self.now)) }
+            ++ messages_waiting (which_of to) self.now) }
     {
         for one in &self.waiting {
-            let message = one.message(alloc, session)?;
-            sends.push(Sending { to, asked: message })?;
+            sends.push(one.sending(to)?)?;
         }
         Ok(())
     }
@@ -183,6 +176,8 @@ impl PeerState {
     pub(crate) fn count_resend(&mut self)
         requires { is_worn_out (waiting_of self.old) ≡ false }
         ensures waits { waiting_of self.new ≡ once_more (waiting_of self.old) }
+        ensures of_session { (session : ℕ) → AreOfSession session self.old
+            → AreOfSession session self.new }
         ensures asked { self.new.asked ≡ self.old.asked }
         ensures scan { self.new.scan ≡ self.old.scan }
     {

@@ -1,13 +1,16 @@
 //! The requests that wait for their answers.
 ghost use Rattle.std.specs.Prelude.{◌≡◌, ◌==◌, false, map, nat_le, position, IfOk};
 ghost use Rattle.std.specs.List.{list_any};
-ghost use Rattle.syn_headline.specs.Coordinator.{most_resends, once_more};
-ghost use Rattle.syn_headline.specs.Side.{Begin};
+ghost use Rattle.syn_headline.specs.Coordinator.{most_resends};
 ghost use Rattle.syn_message.specs.Requests.{request_of};
-ghost use Rattle.syn_session.specs.Stages.{outstanding_of};
+ghost use Rattle.syn_path.specs.Sides.{which_of};
+ghost use Rattle.syn_session.specs.Sessions.{sent_again};
 
+use crate::sending::Sending;
 use std::alloc::{AllocError, Global};
+use std::rc::Rc;
 use syn_message::{Request, RequestMessage};
+use syn_path::Side;
 
 /// How often a request is sent again at most.
 const MOST_RESENDS: u8 = 8;
@@ -15,39 +18,47 @@ const MOST_RESENDS: u8 = 8;
 /// A request that waits for its answer.
 #[derive(Debug, Drop)]
 pub struct Waiting {
-    pub(crate) number: u32,
-    pub(crate) request: Request,
+    /// It was sent so, and is sent again as it is.
+    pub(crate) asked: Rc<RequestMessage>,
     /// How often it was sent again.
     pub(crate) resent: u8,
 }
 
 impl Waiting {
-    ghost use Rattle.syn_session.specs.Sessions.{asks, once_later};
+    ghost use Rattle.syn_session.specs.Sendings.{message_of, message_waiting};
+    ghost use Rattle.syn_session.specs.Sessions.{asks};
     ghost use Rattle.syn_session.specs.Stages.{outstanding_of};
 
-    /// The first request of a session to a side: it is to begin there.
-    pub(crate) fn begin(pair: u64) -> Waiting
-        ensures { outstanding_of result ≡ asks 0 (Begin pair) }
+    /// A request of a session, under its number there, that was not sent again yet. Refused 11
+    /// where memory is refused.
+    pub(crate) fn new(
+        alloc: Global,
+        session: u64,
+        number: u32,
+        request: Request,
+    ) -> Result<Waiting, AllocError>
+        ensures asks { IfOk result (λ one. outstanding_of one ≡ asks number (request_of request)) }
+        ensures session { IfOk result (λ one. one.asked.value.session ≡ session) }
     {
-        Waiting {
-            number: 0,
-            request: Request::Begin { pair },
+        let message = RequestMessage {
+            session,
+            number,
+            request,
+        };
+        Ok(Waiting {
+            asked: Rc::new(alloc, message)?,
             resent: 0,
-        }
+        })
     }
 
-    /// The request, with its session and its number in it. Refused 11 where memory is refused.
-    pub(crate) fn message(&self, alloc: Global, session: u64) -> Result<RequestMessage, AllocError>
-        ensures session { IfOk result (λ asked. asked.session ≡ session) }
-        ensures number { IfOk result (λ asked. asked.number ≡ self.now.number) }
-        ensures request { IfOk result (λ asked. request_of asked.request
-            ≡ request_of self.now.request) }
+    /// What is sent of it to the side. Refused 11 where it has as many owners as can be counted.
+    pub(crate) fn sending(&self, to: Side) -> Result<Sending, AllocError>
+        ensures { IfOk result (λ sending. message_of sending
+            ≡ message_waiting (which_of to) self.now) }
     {
-        let request = self.request.copy(alloc)?;
-        Ok(RequestMessage {
-            session,
-            number: self.number,
-            request,
+        Ok(Sending {
+            to,
+            asked: self.asked.clone()?,
         })
     }
 
@@ -61,7 +72,7 @@ impl Waiting {
     /// It was sent once more.
     pub(crate) fn count_resend(&mut self)
         requires { nat_le most_resends self.old.resent ≡ false }
-        ensures { outstanding_of self.new ≡ once_later (outstanding_of self.old) }
+        ensures { self.new ≡ sent_again self.old }
     {
         self.resent += 1;
     }
@@ -69,9 +80,9 @@ impl Waiting {
 
 /// Where the request of that number stands among these; none where none has it.
 pub(crate) fn place_of(waiting: &[Waiting], number: u32) -> Option<usize>
-    ensures { result ≡ position (λ one. one.number == number) waiting.now }
+    ensures { result ≡ position (λ one. one.asked.value.number == number) waiting.now }
 {
-    waiting.iter().position(|one| one.number == number)
+    waiting.iter().position(|one| one.asked.number == number)
 }
 
 /// Whether one of these was sent again as often as it may be.
@@ -84,8 +95,7 @@ pub(crate) fn is_any_worn(waiting: &[Waiting]) -> bool
 /// Each of these was sent once more.
 pub(crate) fn count_resends(waiting: &mut Vec<Waiting>)
     requires { list_any (λ one. nat_le most_resends one.resent) waiting.old.items ≡ false }
-    ensures { map outstanding_of waiting.new.items
-        ≡ once_more (map outstanding_of waiting.old.items) }
+    ensures { waiting.new.items ≡ map sent_again waiting.old.items }
 {
     for one in waiting.iter_mut() {
         one.count_resend();

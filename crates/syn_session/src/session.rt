@@ -24,8 +24,10 @@ use crate::plan_progress::PlanProgress;
 use crate::report::{End, Report};
 use crate::sending::Sending;
 use std::alloc::Global;
-use syn_message::{Reply, Request};
+use std::rc::Rc;
+use syn_message::{Reply, Request, RequestMessage};
 use syn_path::{Path, Side};
+use syn_propagate::SideRequest;
 use syn_refusal::Refusal;
 
 /// A session that runs.
@@ -48,7 +50,7 @@ pub enum Asks {
     /// These directories are to be listed.
     Listings { left: Vec<Path>, right: Vec<Path> },
     /// One request, and nothing of the other side.
-    One(Side, Request),
+    One(SideRequest),
 }
 
 impl Session {
@@ -78,8 +80,8 @@ impl Session {
         ensures lawful { number < 2 ^ 64 }
         ensures memory { IfErr result (λ e. e ≡ SessionError.Memory) }
     {
-        let left = PeerState::new(alloc, pair)?;
-        let right = PeerState::new(alloc, pair)?;
+        let left = PeerState::new(alloc, number, pair)?;
+        let right = PeerState::new(alloc, number, pair)?;
         Ok(Session {
             number,
             preference,
@@ -102,12 +104,15 @@ impl Session {
     /// refused.
     pub fn waiting(&self, alloc: Global) -> Result<Vec<Sending>, SessionError>
         ensures ok { IfOk result (λ sends. messages_of sends.items ≡ messages_now self.now) }
+        ensures resends { (archive : Keeping) (running : Running)
+            → IsSession archive self.now running → IfOk result (λ sends. messages_of sends.items
+            ≡ messages_to running.session Left running.left
+            ++ messages_to running.session Right running.right) }
         ensures memory { IfErr result (λ e. e ≡ SessionError.Memory) }
     {
         let mut sends = Vec::new(alloc);
-        self.left.send(alloc, &mut sends, Side::Left, self.number)?;
-        self.right
-            .send(alloc, &mut sends, Side::Right, self.number)?;
+        self.left.send(&mut sends, Side::Left)?;
+        self.right.send(&mut sends, Side::Right)?;
         Ok(sends)
     }
 
@@ -130,9 +135,14 @@ impl Session {
 
     /// Takes out the request that waits for the answer of that number from the side, in that
     /// session; none where none does.
-    pub fn take_waiting(&mut self, from: Side, session: u64, number: u32) -> Option<Request>
-        ensures some { IfSome result (λ request. (self.old.number ≡ session)
-            × IsAnswering self.old self.new (which_of from) number (request_of request)) }
+    pub fn take_waiting(
+        &mut self,
+        from: Side,
+        session: u64,
+        number: u32,
+    ) -> Option<Rc<RequestMessage>>
+        ensures some { IfSome result (λ asked. (self.old.number ≡ session) × IsAnswering self.old
+            self.new (which_of from) number (request_of asked.value.request)) }
         ensures none { result ≡ None → (self.new ≡ self.old) × (self.old.number ≡ session
             → asked_in (waiting_of (peer_of self.old (which_of from))) number ≡ None) }
     {
@@ -199,8 +209,10 @@ impl Session {
     /// Asks the sides for what comes next, and gives what is to be sent. Refused 11 where memory
     /// is refused, or where a number would need more than four bytes.
     pub fn ask(&mut self, alloc: Global, asks: Asks) -> Result<Vec<Sending>, SessionError>
-        ensures left { OnOk result (IsAskedOn self.old.left self.new.left (asks_of asks Left)) }
-        ensures right { OnOk result (IsAskedOn self.old.right self.new.right (asks_of asks Right)) }
+        ensures left { OnOk result (IsAskedOn self.old.number self.old.left self.new.left
+            (asks_of asks Left)) }
+        ensures right { OnOk result (IsAskedOn self.old.number self.old.right self.new.right
+            (asks_of asks Right)) }
         ensures number { self.new.number ≡ self.old.number }
         ensures preference { self.new.preference ≡ self.old.preference }
         ensures unstable { self.new.is_unstable ≡ self.old.is_unstable }
@@ -211,7 +223,7 @@ impl Session {
     {
         match asks {
             Asks::Listings { left, right } => self.ask_listings(alloc, left, right),
-            Asks::One(side, request) => self.ask_one(alloc, side, request),
+            Asks::One(SideRequest { to, request }) => self.ask_one(alloc, to, request),
         }
     }
 
@@ -222,8 +234,9 @@ impl Session {
         left: Vec<Path>,
         right: Vec<Path>,
     ) -> Result<Vec<Sending>, SessionError>
-        ensures left { OnOk result (IsAskedOn self.old.left self.new.left (map ListAt left.items)) }
-        ensures right { OnOk result (IsAskedOn self.old.right self.new.right
+        ensures left { OnOk result (IsAskedOn self.old.number self.old.left self.new.left
+            (map ListAt left.items)) }
+        ensures right { OnOk result (IsAskedOn self.old.number self.old.right self.new.right
             (map ListAt right.items)) }
         ensures number { self.new.number ≡ self.old.number }
         ensures preference { self.new.preference ≡ self.old.preference }
@@ -251,7 +264,7 @@ impl Session {
         side: Side,
         request: Request,
     ) -> Result<Vec<Sending>, SessionError>
-        ensures peer { OnOk result (IsAskedOn (peer_of self.old (which_of side))
+        ensures peer { OnOk result (IsAskedOn self.old.number (peer_of self.old (which_of side))
             (peer_of self.new (which_of side)) (request_of request ∷ [])) }
         ensures across { peer_of self.new (other (which_of side))
             ≡ peer_of self.old (other (which_of side)) }

@@ -15,6 +15,7 @@ use Rattle.syn_session.specs.declared.sending.Sending.{Sending}
 use Rattle.syn_sync.specs.Drivers.{Outlets}
 use Rattle.syn_sync.specs.Outlets.{Adds, Outlet, Writes}
 use Rattle.syn_sync.specs.Runs.{frame_to, frames_to}
+use Rattle.syn_model.proofs.BaseLemmas.{and_false, and_true}
 
 pub some_none : (a : Option Bytes) (bytes : Bytes) → AppendsSome a a bytes
 some_none a bytes = ([], bytes, refl, Appends-nil a)
@@ -72,14 +73,6 @@ writes_twice a b c first second calm one two = record {
       let same = one.closed closed in
       two.closed (ap (λ o. o.goes) same ∙ closed) ∙ same;
 }
-
-and_true : (b : Bool) → (b && true) ≡ b
-and_true true = refl
-and_true false = refl
-
-and_false : (b : Bool) → (b && false) ≡ false
-and_false true = refl
-and_false false = refl
 
 -- the machine goes on, or it was stopped
 pub calm_writes : (a b : Outlet) (bytes : Bytes) → Writes a b bytes b.goes

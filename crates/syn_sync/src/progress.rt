@@ -50,15 +50,14 @@ pub struct Progress<W> {
 }
 
 impl<W: Write> Progress<W> {
-    /// Nothing was told yet. With `counts` a last line says how many items of the plan were settled
-    /// and how many bytes were fetched. It is written again in its place, so it wants a terminal.
-    pub fn new(alloc: Global, writer: W, counts: bool) -> Progress<W>
+    /// Nothing was told yet.
+    pub fn new(alloc: Global, writer: W) -> Progress<W>
         ensures { writer_in result ≡ writer }
     {
         Progress {
             alloc,
             writer,
-            counts,
+            counts: false,
             path: None,
             waiting: None,
             replaced: false,
@@ -67,6 +66,16 @@ impl<W: Write> Progress<W> {
             settled: 0,
             fetched: 0,
         }
+    }
+
+    /// Nothing was told yet. A last line says how many items of the plan were settled and how many
+    /// bytes were fetched. It is written again in its place, so it wants a terminal.
+    pub fn with_counts(alloc: Global, writer: W) -> Progress<W>
+        ensures { writer_in result ≡ writer }
+    {
+        let mut progress = Progress::new(alloc, writer);
+        progress.counts = true;
+        progress
     }
 
     /// Tells the conflicts of the session that ended, and each refused item that was not told. Then

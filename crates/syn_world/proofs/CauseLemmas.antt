@@ -13,7 +13,7 @@ use Rattle.syn_model.specs.Spelling.{event_spelling}
 use Rattle.syn_replica.specs.Steps.{add_refusal}
 use Rattle.syn_agent.proofs.CauseLemmas.{none_is_no, rooms}
 use Rattle.syn_replica.proofs.RoomLemmas.{spelled_long}
-use Rattle.syn_replica.proofs.CauseLemmas.{first_skips, first_stays}
+use Rattle.syn_model.proofs.HistoryLemmas.{first_skips, first_stays}
 
 pub memory_not_device : why.Memory ≢ why.Device
 memory_not_device e = cc

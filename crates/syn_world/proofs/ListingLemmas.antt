@@ -1,6 +1,6 @@
 -- When the names of a listing rise.
 use Rattle.std.proofs.Common.{◌≡◌, ◌∙◌, ◌+◌, ◌<◌, ◌↔◌, Bool, true, false, true≢false, List, []}
-use Rattle.std.proofs.Common.{Ordering, Less, Equal, Greater, IsTrue, is_lt, ap, ap₂, arith, length}
+use Rattle.std.proofs.Common.{IsTrue, is_lt, ap, ap₂, arith, length}
 use Rattle.std.proofs.Common.{refl, sym}
 use Rattle.std.proofs.lemmas.List.{get_or-map, length-map}
 use Rattle.std.specs.List.{IsAllAdjacentAnswer}
@@ -9,11 +9,7 @@ use Rattle.syn_mark.specs.declared.mark.Mark.TheVariants as mark
 use Rattle.syn_model.specs.Path.{Name, name_cmp}
 use Rattle.syn_model.specs.Tree.{Directory}
 use Rattle.syn_message.specs.Listings.{AreRising, entries_of, entry_of}
-
-less_of : (o : Ordering) → is_lt o ≡ true → o ≡ Less
-less_of Less e = refl
-less_of Equal e = absurd (true≢false (sym e))
-less_of Greater e = absurd (true≢false (sym e))
+use Rattle.syn_model.proofs.BaseLemmas.{less_of}
 
 -- what a walk over neighbours answers of code's entries
 pub rising_answer : (xs : List (Name × Mark)) (b : Bool)

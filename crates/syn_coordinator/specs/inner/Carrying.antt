@@ -1,5 +1,6 @@
 -- What an answer for the item that a session has come to comes to, where that item is carried.
 use Rattle.std.specs.Prelude.{◌≡◌, ◌⊎◌, ◌≤◌, ◌≢◌, ℕ, suc, true, List, [], ◌∷◌, ◌++◌, None, Some}
+use Rattle.std.specs.Prelude.{MatchResult, Result}
 use Rattle.syn_coordinator.specs.Recorders.{written}
 use Rattle.syn_coordinator.specs.declared.recorder.Recorder.{Recorder}
 use Rattle.syn_coordinator.specs.declared.ended.Ended.{Ended}
@@ -7,11 +8,13 @@ use Rattle.syn_coordinator.specs.declared.ended.Ended.TheVariants.{Early}
 use Rattle.syn_coordinator.specs.inner.Settling.{AsksSo, EndsSo, IsQuiet}
 use Rattle.syn_disk.specs.declared.disk.Disk.{Ghosts}
 use Rattle.syn_headline.specs.Coordinator.{Exchange, fault_of, is_last}
+use Rattle.syn_headline.specs.Planning.{Planned}
 use Rattle.syn_coordinator.specs.Machines.{IsMachine, Journal}
 use Rattle.syn_model.specs.Refusal.{Memory}
 use Rattle.syn_refusal.specs.Refusals.{cause_of}
 use Rattle.syn_refusal.specs.declared.refusal.Refusal.{Refusal}
 use Rattle.syn_scan.specs.Found.{Found}
+use Rattle.syn_session.specs.Carrying.{IsCarriedOut}
 use Rattle.syn_session.specs.Stages.{IsPlanProgress, Reached}
 use Rattle.syn_session.specs.declared.plan_progress.PlanProgress.{PlanProgress}
 use Rattle.syn_session.specs.declared.session.Asks.{Asks}
@@ -40,3 +43,14 @@ module _ {D : Type 0} {disk : Ghosts D} (old new : Recorder D disk) (pair : ℕ)
         IsQuiet new journal → IsPlanProgress progress left right before → EndsCarrying (Early why)
     afterwards : (ended : Ended) → fault_of all taken.side taken.request taken.reply ≡ None →
         EndsSo old new pair taken journal before progress left right ended → EndsCarrying ended
+
+-- The item that is carried is left for this cause: it asks for a later one, or the session ends
+abbrev pub LeavesItem : {D : Type 0} → {disk : Ghosts D} → Recorder D disk → Recorder D disk →
+    PlanProgress → PlanProgress → Found → Found → (Planned → Exchange → Type 0) →
+    Result Asks Ended → Type 0
+LeavesItem old new was progress left right Because result = (pair : ℕ) (journal : Journal)
+    (taken : Exchange) (all : List Exchange) (before : Reached) (planned : Planned)
+    → IsMachine old.archive pair journal → IsQuiet old journal
+    → IsCarriedOut was left right all before planned → Because planned taken
+    → MatchResult result (AsksLater old new pair taken journal before progress left right all)
+    (EndsSo old new pair taken journal before progress left right)

@@ -55,11 +55,16 @@ impl<D: Disk> Coordinator<D> {
             drop(reply);
             return Vec::new(alloc);
         };
-        let Some(request) = running.take_waiting(from, session, number) else {
+        let Some(asked) = running.take_waiting(from, session, number) else {
             drop(reply);
             return Vec::new(alloc);
         };
-        match self.recorder.take(alloc, running, from, request, reply) {
+        let taken = self
+            .recorder
+            .take(alloc, running, from, &asked.request, reply);
+        // Before the next request, which may take as much memory.
+        drop(asked);
+        match taken {
             Ok(asks) => match running.ask(alloc, asks) {
                 Ok(sends) => sends,
                 Err(_) => self.end(alloc, Ended::Early(Refusal::Memory)),

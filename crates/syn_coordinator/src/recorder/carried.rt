@@ -2,14 +2,12 @@
 ghost use Rattle.std.specs.Prelude.{◌≡◌, ℕ, List, MatchResult};
 ghost use Rattle.syn_headline.specs.Coordinator.{Exchange, IsDue, IsFor};
 ghost use Rattle.syn_headline.specs.Network.{Which};
-ghost use Rattle.syn_headline.specs.Planning.{Planned};
 ghost use Rattle.syn_headline.specs.Side.{Request as Asked, Refused};
 ghost use Rattle.syn_coordinator.specs.Machines.{IsMachine, Journal};
 ghost use Rattle.syn_message.specs.Replies.{reply_of};
 ghost use Rattle.syn_propagate.specs.Transfers.{WaitsFor};
 ghost use Rattle.syn_refusal.specs.Refusals.{cause_of};
 ghost use Rattle.syn_session.specs.Answering.{exchange_of};
-ghost use Rattle.syn_session.specs.Carrying.{IsCarriedOut};
 ghost use Rattle.syn_session.specs.Stages.{Carries, Reached};
 ghost use Rattle.syn_image.specs.Archives.{kept_for};
 
@@ -25,8 +23,8 @@ use syn_session::{Asks, ItemProgress, PlanProgress};
 
 impl<D: Disk> Recorder<D> {
     ghost use Rattle.syn_coordinator.specs.inner.Advancing.{Breaks};
-    ghost use Rattle.syn_coordinator.specs.inner.Carrying.{AsksLater, CarriesOn, EndsCarrying};
-    ghost use Rattle.syn_coordinator.specs.inner.Settling.{EndsSo, IsQuiet};
+    ghost use Rattle.syn_coordinator.specs.inner.Carrying.{CarriesOn, EndsCarrying, LeavesItem};
+    ghost use Rattle.syn_coordinator.specs.inner.Settling.{IsQuiet};
 
     /// Takes the answer for the item that the session has come to, which is carried, and goes on
     /// through the plan until it asks for something, or the session ends.
@@ -54,7 +52,7 @@ impl<D: Disk> Recorder<D> {
         ensures breaks { Breaks self.old self.new result }
     {
         match progress.take_answer(alloc, reply)? {
-            ItemProgress::Asks(asks) => Ok(asks),
+            ItemProgress::Ask(asked) => Ok(Asks::One(asked)),
             ItemProgress::Done(kept) => self.walk_after(alloc, progress, left, right, kept),
             ItemProgress::Refused(why) => self.walk_past(alloc, progress, left, right, why),
         }
@@ -70,15 +68,8 @@ impl<D: Disk> Recorder<D> {
         right: &Scan,
         kept: ItemRecord,
     ) -> Result<Asks, Ended>
-        ensures step { (pair : ℕ) (journal : Journal) (taken : Exchange) (all : List Exchange)
-            (before : Reached) (planned : Planned) → IsMachine self.old.archive pair journal
-            → IsQuiet self.old journal
-            → IsCarriedOut progress.old left.now right.now all before planned
-            → IsDue progress.old.cursor planned taken (kept_for kept)
-            → MatchResult result
-            (AsksLater self.old self.new pair taken journal before progress.new left.now right.now
-            all)
-            (EndsSo self.old self.new pair taken journal before progress.new left.now right.now) }
+        ensures step { LeavesItem self.old self.new progress.old progress.new left.now right.now
+            (λ planned taken. IsDue progress.old.cursor planned taken (kept_for kept)) result }
         ensures breaks { Breaks self.old self.new result }
     {
         self.settle(alloc, progress, kept)?;
@@ -94,16 +85,9 @@ impl<D: Disk> Recorder<D> {
         right: &Scan,
         why: Refusal,
     ) -> Result<Asks, Ended>
-        ensures step { (pair : ℕ) (journal : Journal) (taken : Exchange) (all : List Exchange)
-            (before : Reached) (planned : Planned) → IsMachine self.old.archive pair journal
-            → IsQuiet self.old journal
-            → IsCarriedOut progress.old left.now right.now all before planned
-            → taken.reply ≡ Refused (cause_of why)
-            → IsFor progress.old.cursor planned taken.request
-            → MatchResult result
-            (AsksLater self.old self.new pair taken journal before progress.new left.now right.now
-            all)
-            (EndsSo self.old self.new pair taken journal before progress.new left.now right.now) }
+        ensures step { LeavesItem self.old self.new progress.old progress.new left.now right.now
+            (λ planned taken. (taken.reply ≡ Refused (cause_of why))
+            × IsFor progress.old.cursor planned taken.request) result }
         ensures breaks { Breaks self.old self.new result }
     {
         self.give_up(alloc, progress, why)?;

@@ -32,18 +32,18 @@ impl<D: Disk> Recorder<D> {
         alloc: Global,
         session: &mut Session,
         from: Side,
-        request: Request,
+        request: &Request,
         reply: Reply,
     ) -> Result<Asks, Ended>
         requires lawful { IsLawfulReply (reply_of reply) }
         ensures step { (pair number : ℕ) (journal : Journal) (before : Ran) (running : Running)
             → IsMachine self.old.archive pair journal → IsQuiet self.old journal
             → IsSession journal.value before running
-            → IsAnswering before session.old (which_of from) number (request_of request)
+            → IsAnswering before session.old (which_of from) number (request_of request.now)
             → written self.old ≡ [] → TakesSo self.new.archive self.new.tried pair
             journal running
-            (exchange_of (which_of from) number (request_of request) (reply_of reply)) session.new
-            (written self.new) result }
+            (exchange_of (which_of from) number (request_of request.now) (reply_of reply))
+            session.new (written self.new) result }
         ensures breaks { Breaks self.old self.new result }
     {
         let Some(progress) = &mut session.progress else {
@@ -53,8 +53,6 @@ impl<D: Disk> Recorder<D> {
             };
         };
         transfer_laws();
-        // By a call, or the prover would look here at each kind of request.
-        drop(request);
         let left = session.left.scan.found();
         let right = session.right.scan.found();
         self.on_carried(alloc, progress, left, right, reply)

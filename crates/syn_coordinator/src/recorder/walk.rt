@@ -217,9 +217,9 @@ fn ask_first(alloc: Global, progress: &mut PlanProgress, carried: Carried) -> Re
     plan_laws();
     let mut carried = carried;
     match carried.transfer.step(alloc, None) {
-        Ok(Next::Ask(side, request)) => {
+        Ok(Next::Ask(asked)) => {
             drop(progress.carried.replace(carried));
-            Ok(Asks::One(side, request))
+            Ok(Asks::One(asked))
         }
         Ok(_) => unreachable!(),
         Err(error) => {

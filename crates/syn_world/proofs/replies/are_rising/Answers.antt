@@ -1,8 +1,8 @@
 use Rattle.std.proofs.Common.{rules, is_lt}
 use Rattle.std.proofs.lemmas.List.Sorted.{answers_always}
 use Rattle.syn_model.specs.Path.{name_cmp}
-use Rattle.syn_world.proofs.ListingLemmas.{rising_answer}
 use Rattle.syn_world.proofs.replies.are_rising.Goals as goal
+use Rattle.syn_world.proofs.ListingLemmas.{rising_answer}
 
 pub returns : goal.returns
 returns c =

@@ -21,12 +21,13 @@ use Rattle.syn_coordinator.specs.Tries.{HoldsTried, Tries}
 use Rattle.syn_coordinator.proofs.DueLemmas.{when_runs}
 use Rattle.syn_model.proofs.ExitLemmas.{if_err_of_exit, match_of_exit}
 use Rattle.syn_coordinator.proofs.HaltLemmas.{keeps_not_halted, up_not_halted}
-use Rattle.syn_coordinator.proofs.TickLemmas.{is_none}
-use Rattle.syn_coordinator.proofs.StartLemmas.{room_for, started, start_failed, still_first}
+use Rattle.syn_coordinator.proofs.StartLemmas.{room_for, started, start_failed}
 use Rattle.syn_coordinator.proofs.StartLemmas.{then_memory}
 use Rattle.syn_coordinator.proofs.TriedLemmas.{untried_up}
 use Rattle.syn_coordinator.proofs.coordinator.Coordinator.start.Goals as goal
 use Rattle.syn_path.specs.Sides.{which_of}
+use Rattle.syn_model.proofs.BaseLemmas.{none_of}
+use Rattle.syn_model.proofs.HistoryLemmas.{first_stays}
 
 pub returns-in_err-check_start-clause-step : goal.returns-in_err-check_start-clause-step
 returns-in_err-check_start-clause-step g c pair machine stands =
@@ -43,7 +44,7 @@ returns-in_err-check_start-clause-refused g c pair machine stands =
     × Stands c.args.self.now pair machine)
     c.from_residual.ensures.1
     (λ other. (
-      still_first (refusals_of pair machine) ((true, why.Memory) ∷ []) _
+      first_stays (refusals_of pair machine) ((true, why.Memory) ∷ []) _
           (c.in_err-check_start.ensures.refused pair machine stands),
       stands,
     ))
@@ -58,7 +59,7 @@ returns-in-Err-clause-step g c pair machine stands e =
     (subst (λ n. HoldsTried c.keep_session.new.self.archive (Session n)
     c.keep_session.new.self.tried) numbered (c.in-Err.ensures.breaks device).2)
     (room_for pair machine (c.in_ok-check_start.ensures.refused pair machine stands))
-    (is_none c.args.self.now.running c.in_ok-check_start.ensures.idle)
+    (none_of c.args.self.now.running c.in_ok-check_start.ensures.idle)
     (subst (λ n. KeepsSo c.keep_session.new.self.archive pair machine.journal (Session n) []
     Halted) numbered (c.in-Err.ensures.device pair machine.journal stands.journal device))
 

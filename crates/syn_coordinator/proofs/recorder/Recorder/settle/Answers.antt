@@ -5,7 +5,7 @@ use Rattle.syn_coordinator.proofs.AdvanceLemmas.{record_due}
 use Rattle.syn_session.proofs.CourseLemmas.{no_conflict}
 use Rattle.syn_coordinator.proofs.EndedLemmas.{match_of_memory}
 use Rattle.syn_coordinator.proofs.SettleLemmas.{ends_for_memory, is_cut_off, is_ended, is_kept}
-use Rattle.syn_coordinator.proofs.SettleLemmas.{is_refused, still_is, tries_by}
+use Rattle.syn_coordinator.proofs.SettleLemmas.{is_refused, still_is}
 use Rattle.syn_coordinator.specs.declared.due.RecordOutcome.TheVariants as due
 use Rattle.syn_image.specs.Archives.{kept_for}
 use Rattle.syn_coordinator.proofs.BreakLemmas.{cut_breaks}
@@ -18,10 +18,8 @@ returns-then-is_cut-clause-step g c pair journal left right taken before planned
       c.keep-due.ensures.written,
       is_cut_off c.keep-due.new.self.archive c.keep-due.new.self.tried pair taken journal before
           c.args.progress.now left right course_is planned at
-          (kept_for c.args.kept) is_due quiet.1 c.keep-due.result
-          (c.keep-due.ensures.settles pair journal is)
-          (tries_by c.keep-due.new.self.archive (kept_for c.args.kept) c.args.self.now.tried
-          c.keep-due.new.self.tried c.keep-due.result quiet.0 c.keep-due.ensures.tried)
+          (kept_for c.args.kept) is_due quiet.1 c.args.self.now.tried quiet.0 c.keep-due.result
+          (c.keep-due.ensures.settles pair journal is) c.keep-due.ensures.tried
           (sym c.is_cut.ensures ∙ c.if-is_cut.true) c.args.progress.now Failed,
     )
 
@@ -86,10 +84,9 @@ returns-in-Ends-clause-step g c pair journal left right taken before planned is 
       c.in-Ends.ensures.written,
       is_ended c.keep-due.new.self.archive c.keep-due.new.self.tried pair taken journal before
           c.args.progress.now left right course_is planned at
-          (kept_for c.args.kept) is_due quiet.1 (due.Ends c.in-Ends.why) (Early c.in-Ends.why) refl
-          (c.in-Ends.ensures.settles pair journal is)
-          (tries_by c.keep-due.new.self.archive (kept_for c.args.kept) c.args.self.now.tried
-          c.keep-due.new.self.tried (due.Ends c.in-Ends.why) quiet.0 c.in-Ends.ensures.tried),
+          (kept_for c.args.kept) is_due quiet.1 c.args.self.now.tried quiet.0
+          (due.Ends c.in-Ends.why) (Early c.in-Ends.why) refl
+          (c.in-Ends.ensures.settles pair journal is) c.in-Ends.ensures.tried,
     )
 
 pub returns-in-Unsent-clause-step : goal.returns-in-Unsent-clause-step
@@ -99,10 +96,8 @@ returns-in-Unsent-clause-step g c pair journal left right taken before planned i
       c.in-Unsent.ensures.written,
       is_ended c.keep-due.new.self.archive c.keep-due.new.self.tried pair taken journal before
           c.args.progress.now left right course_is planned at
-          (kept_for c.args.kept) is_due quiet.1 due.Unsent Failed refl
-          (c.in-Unsent.ensures.settles pair journal is)
-          (tries_by c.keep-due.new.self.archive (kept_for c.args.kept) c.args.self.now.tried
-          c.keep-due.new.self.tried due.Unsent quiet.0 c.in-Unsent.ensures.tried),
+          (kept_for c.args.kept) is_due quiet.1 c.args.self.now.tried quiet.0 due.Unsent Failed
+          refl (c.in-Unsent.ensures.settles pair journal is) c.in-Unsent.ensures.tried,
     )
 
 pub returns-in-Unconfirmed-clause-step : goal.returns-in-Unconfirmed-clause-step
@@ -113,10 +108,8 @@ returns-in-Unconfirmed-clause-step g c pair journal left right taken before plan
       c.in-Unconfirmed.ensures.written,
       is_ended c.keep-due.new.self.archive c.keep-due.new.self.tried pair taken journal before
           c.args.progress.now left right course_is planned at
-          (kept_for c.args.kept) is_due quiet.1 due.Unconfirmed Failed refl
-          (c.in-Unconfirmed.ensures.settles pair journal is)
-          (tries_by c.keep-due.new.self.archive (kept_for c.args.kept) c.args.self.now.tried
-          c.keep-due.new.self.tried due.Unconfirmed quiet.0 c.in-Unconfirmed.ensures.tried),
+          (kept_for c.args.kept) is_due quiet.1 c.args.self.now.tried quiet.0 due.Unconfirmed Failed
+          refl (c.in-Unconfirmed.ensures.settles pair journal is) c.in-Unconfirmed.ensures.tried,
     )
 
 pub returns-then-is_cut-clause-breaks : goal.returns-then-is_cut-clause-breaks

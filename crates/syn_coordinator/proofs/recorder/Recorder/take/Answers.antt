@@ -20,7 +20,7 @@ pub returns-clause-step : goal.returns-clause-step
 returns-clause-step g c =
     λ pair number journal before running is quiet session answers nothing.
     let side = which_of c.args.from in
-    let request = request_of c.args.request in
+    let request = request_of c.args.request.now in
     let reply = reply_of c.args.reply in
     let left = c.found-left.result.now in
     let right = c.found-right.result.now in
@@ -41,12 +41,12 @@ returns-in-Some-2-clause-step g c =
     let heard =
     c.in_ok-asks.ensures.step journal.value before running number session answers scans in (
       hears_on _ pair journal running (exchange_of (which_of c.args.from) number
-          (request_of c.args.request) (reply_of c.args.reply)) c.hear.new.self is _ nothing
+          (request_of c.args.request.now) (reply_of c.args.reply)) c.hear.new.self is _ nothing
           c.in-Some-2.asks heard.0 heard.1 (subst
           (ScansOn c.hear.new.self (hearing running (exchange_of (which_of c.args.from) number
-          (request_of c.args.request) (reply_of c.args.reply)))) c.in-Some-2.is heard.2)
+          (request_of c.args.request.now) (reply_of c.args.reply)))) c.in-Some-2.is heard.2)
           (not_last journal.value before c.args.session.now running (which_of c.args.from) number
-          (request_of c.args.request) (reply_of c.args.reply) session answers scans heard.0),
+          (request_of c.args.request.now) (reply_of c.args.reply) session answers scans heard.0),
       quiet.0,
     )
 
@@ -57,9 +57,9 @@ returns-in-None-clause-step g c =
     let heard =
     c.in_ok-asks.ensures.step journal.value before running number session answers scans in
     c.begin_plan.ensures.step pair journal running (exchange_of (which_of c.args.from) number
-    (request_of c.args.request) (reply_of c.args.reply)) is quiet heard.0 heard.1
+    (request_of c.args.request.now) (reply_of c.args.reply)) is quiet heard.0 heard.1
     (subst (ScansOn c.hear.new.self (hearing running (exchange_of (which_of c.args.from) number
-    (request_of c.args.request) (reply_of c.args.reply)))) c.in-None.is heard.2)
+    (request_of c.args.request.now) (reply_of c.args.reply)))) c.in-None.is heard.2)
     nothing
 
 pub returns-in_err-asks-clause-step : goal.returns-in_err-asks-clause-step
@@ -67,11 +67,11 @@ returns-in_err-asks-clause-step g c =
     λ pair number journal before running is quiet session answers nothing.
     let scans = sym answers.progress ∙ c.in_default.is in
     subst (λ r. TakesSo c.args.self.now.archive c.args.self.now.tried pair journal running
-    (exchange_of (which_of c.args.from) number (request_of c.args.request)
+    (exchange_of (which_of c.args.from) number (request_of c.args.request.now)
     (reply_of c.args.reply)) c.hear.new.self (written c.args.self.now) r)
     (sym (exit_is c.from_residual.result _ c.from_residual.ensures.1))
     (hears_end _ pair journal running (exchange_of (which_of c.args.from) number
-    (request_of c.args.request) (reply_of c.args.reply)) c.hear.new.self is _
+    (request_of c.args.request.now) (reply_of c.args.reply)) c.hear.new.self is _
     (tries_none c.args.self.now.tried journal quiet.0 quiet.1) _ nothing _
     (c.in_err-asks.ensures.step journal.value before running number session answers scans))
 

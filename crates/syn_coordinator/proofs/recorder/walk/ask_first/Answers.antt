@@ -16,12 +16,12 @@ returns-in-Ok-Ask-clause-step c archive left right all before planned is at carr
     at
     c.args.carried carries all asked in
     subst (λ carried. Carries archive (record progress { carried = carried }) left right all before
-    (λ transfer. AsksOne transfer all (One c.in-Ok-Ask.side c.in-Ok-Ask.request)))
+    (λ transfer. AsksOne transfer all (One c.in-Ok-Ask.asked)))
     (sym c.replace.ensures.after)
     (carries_on archive progress left right before is planned at c.args.carried
     (record c.args.carried
     { transfer = c.step.new.self }) c.step.ensures.spec refl carries all
     (asked_past (plan_in progress left right) progress.cursor all asked)
-    (λ transfer. AsksOne transfer all (One c.in-Ok-Ask.side c.in-Ok-Ask.request))
+    (λ transfer. AsksOne transfer all (One c.in-Ok-Ask.asked))
     (subst (λ next. Follows c.step.new.self all Staged next) c.in-Ok-Ask.field-0-is
     (c.in-Ok-Ask.ensures.starts all refl c.requires fresh Staged)))

@@ -21,9 +21,9 @@ loop-path-preserved c =
     map-append ListAt c.loop-path.yielded (path ∷ []) in
     record {
       whole = first_of (search rules, grind (arith, common_steps));
-      asked = subst (IsAskedOn old c.ask.new.self) (sym all)
-          (asked_more old c.loop-path.self c.ask.new.self first (ListAt path ∷ []) was.asked
-          c.in_ok-ask.ensures.asked);
+      asked = subst (IsAskedOn c.args.session old c.ask.new.self) (sym all)
+          (asked_more c.args.session old c.loop-path.self c.ask.new.self first (ListAt path ∷ [])
+          was.asked c.in_ok-ask.ensures.asked);
       sent =
           c.in_ok-ask.ensures.ok ∙ (ap₂ (λ l n. l
           ++ messages_to c.args.session to (numbered n (ListAt path ∷ []))) was.sent

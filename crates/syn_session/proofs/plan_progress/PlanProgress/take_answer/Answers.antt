@@ -29,7 +29,7 @@ returns-in-Ok-Ask c = record {
       (c.in-Ok-Ask.ensures.ends all to request c.args.reply refl waits) in
       takes_on archive c.args.self.now left right all before to number request reply carries was
       same c.transfer_laws.ensures goes.0 (record was { transfer = c.step.new.self })
-      c.in-Ok-Ask.ensures.spec refl c.in-Ok-Ask.side c.in-Ok-Ask.request ends goes.1;
+      c.in-Ok-Ask.ensures.spec refl c.in-Ok-Ask.asked ends goes.1;
 }
 
 pub returns-in-Ok-Done : goal.returns-in-Ok-Done

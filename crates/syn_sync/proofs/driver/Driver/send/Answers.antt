@@ -1,6 +1,8 @@
 use Rattle.std.proofs.Common.{refl, subst, sym}
-use Rattle.syn_headline.specs.Network.{Asks, Which}
-use Rattle.syn_message.specs.Requests.{request_of}
+use Rattle.syn_headline.specs.Network.{Asks, Left, Right, Which}
+use Rattle.syn_link.specs.Frames.{frame_of}
+use Rattle.syn_message.specs.Requests.{asking_of, asking_spelling, request_of}
+use Rattle.syn_message.specs.declared.request.RequestMessage.{RequestMessage}
 use Rattle.syn_path.specs.Sides.{which_of}
 use Rattle.syn_sync.proofs.WriteLemmas.{sent_left, sent_right}
 use Rattle.syn_sync.proofs.driver.Driver.send.Goals as goal
@@ -10,7 +12,7 @@ use Rattle.syn_sync.specs.Runs.{frame_to}
 
 pub returns-in-Left-clause-written : goal.returns-in-Left-clause-written
 returns-in-Left-clause-written g c =
-    let asked = c.args.sending.now.asked in
+    let asked = c.args.sending.now.asked.value in
     let from = outlets_of {R = g.row.R.Denot} {W = g.row.W.Denot} g.W.Write.contents
     c.args.self.now in
     let to = outlets_of {R = g.row.R.Denot} {W = g.row.W.Denot} g.W.Write.contents
@@ -19,11 +21,14 @@ returns-in-Left-clause-written g c =
     subst (λ at. (side : Which) → Writes (from side) (to side)
     (frame_to side (Asks (which_of at) asked.session asked.number request)) (to side).goes)
     (sym c.in-Left.is)
-    (sent_left asked.session asked.number request from to c.send.ensures.written refl)
+    (sent_left asked.session asked.number request from to
+    (subst (λ (m : RequestMessage). Writes (from Left) (to Left)
+    (frame_of (asking_spelling (asking_of m))) (to Left).goes) c.deref.ensures
+    c.send.ensures.written) refl)
 
 pub returns-in-Right-clause-written : goal.returns-in-Right-clause-written
 returns-in-Right-clause-written g c =
-    let asked = c.args.sending.now.asked in
+    let asked = c.args.sending.now.asked.value in
     let from = outlets_of {R = g.row.R.Denot} {W = g.row.W.Denot} g.W.Write.contents
     c.args.self.now in
     let to = outlets_of {R = g.row.R.Denot} {W = g.row.W.Denot} g.W.Write.contents
@@ -32,4 +37,7 @@ returns-in-Right-clause-written g c =
     subst (λ at. (side : Which) → Writes (from side) (to side)
     (frame_to side (Asks (which_of at) asked.session asked.number request)) (to side).goes)
     (sym c.in-Right.is)
-    (sent_right asked.session asked.number request from to c.send-in-Right.ensures.written refl)
+    (sent_right asked.session asked.number request from to
+    (subst (λ (m : RequestMessage). Writes (from Right) (to Right)
+    (frame_of (asking_spelling (asking_of m))) (to Right).goes) c.deref-in-Right.ensures
+    c.send-in-Right.ensures.written) refl)

@@ -3,6 +3,8 @@ use Rattle.std.specs.Prelude.{slice_get}
 use Rattle.std.proofs.lemmas.Option.{slice_get_past, slice_get_read}
 use Rattle.syn_headline.specs.Network.{Asks, Answers}
 use Rattle.syn_headline.specs.World.{Delivers, no_message}
+use Rattle.syn_message.specs.Requests.{request_of}
+use Rattle.syn_message.specs.declared.request.RequestMessage.{RequestMessage}
 use Rattle.syn_path.specs.Sides.{which_of}
 use Rattle.syn_world.specs.Failures.{failures_in}
 use Rattle.syn_world.proofs.FailureLemmas.{counts_still}
@@ -25,15 +27,22 @@ returns-in-None g c model is = steps (record {
 pub returns-in-Ok : goal.returns-in-Ok
 returns-in-Ok g c model is =
     let sending = c.in-Some-Asks.sending in
-    let asked = sending.asked in
+    let asked = sending.asked.value in
+    let to = which_of sending.to in
+    let session = c.deref-in-Some-Asks.result.now.session in
     steps (c.deliver_request.ensures model c.args.message is
     (sent_is c.args.self.lists.sent.items model.sent c.args.message (Some (messages.Asks sending))
     is.lists.sent
     (ap (λ l. slice_get l c.args.message) (sym c.deref.ensures.value)
     ∙ (slice_get_read _ _ _ _ refl c.in-Some-Asks.ensures.lookup.3.0
     c.in-Some-Asks.ensures.lookup.1 ∙ ap (λ m. Some m) c.in-Some-Asks.field-0-is))
-    ∙ ap (λ r. Some (Asks (which_of sending.to) asked.session asked.number r))
-    (sym c.in-Ok.ensures)))
+    ∙ (ap (λ (m : RequestMessage). Some (Asks to m.session asked.number (request_of asked.request)))
+    (sym c.deref-in-Some-Asks.ensures)
+    ∙ (ap (λ (m : RequestMessage). Some (Asks to session m.number (request_of asked.request)))
+    (sym c.deref-in-Some-Asks-2.ensures)
+    ∙ ap (λ r. Some (Asks to session c.deref-in-Some-Asks-2.result.now.number r))
+    (ap (λ (m : RequestMessage). request_of m.request) (sym c.deref-in-Some-Asks-3.ensures)
+    ∙ sym c.in-Ok.ensures)))))
 
 pub returns-in-Err : goal.returns-in-Err
 returns-in-Err g c model is =
