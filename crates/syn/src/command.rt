@@ -14,7 +14,7 @@ use std::net::{Net, TcpListener, TcpStream};
 use std::sync::Wait;
 use std::thread::Threads;
 use std::time::Clock;
-use syn_cli::{Command, ImageCommand, LineError, read_words};
+use syn_cli::{Command, ImageCommand, ImportCommand, LineError, ReconcileCommand, read_words};
 use syn_command::{CommandError, Failure, Outcome, ProgressMode, Status, print_meanings, report};
 use syn_disk::OsFile;
 use syn_files::{
@@ -146,30 +146,16 @@ where
     O: Write,
     E: Write,
 {
-    let (rt, alloc, disks) = (context.rt, context.alloc, context.disks);
+    let (rt, alloc, disks, telling) = (context.rt, context.alloc, context.disks, context.telling);
     let outcome = match command {
         Command::Session(pairing) => {
-            run_session(rt, alloc, disks, *pairing, context.telling, output, errors)?
+            run_session(rt, alloc, disks, *pairing, telling, output, errors)?
         }
-        Command::Keep(given) => {
-            keep_servers(rt, alloc, disks, given, context.telling, output, errors)?
-        }
+        Command::Keep(given) => keep_servers(rt, alloc, disks, given, telling, output, errors)?,
         Command::Plan(pairing) => print_plan(rt, alloc, disks, *pairing, output)?,
         Command::Edit(given) => done_at(edit(rt, alloc, given, disks, input)?, output)?,
-        Command::Import(given) => {
-            let (files, telling) = (context.files, context.telling);
-            done_at(
-                import(rt, alloc, disks, files, given, telling, errors)?,
-                output,
-            )?
-        }
-        Command::Reconcile(given) if given.is_dry => {
-            plan_named(alloc, disks, context.files, given, output, errors)?
-        }
-        Command::Reconcile(given) => {
-            let (files, telling) = (context.files, context.telling);
-            reconcile_named(alloc, disks, files, given, telling, output, errors)?
-        }
+        Command::Import(given) => import_into(context, given, output, errors)?,
+        Command::Reconcile(given) => reconcile_with(context, given, output, errors)?,
         Command::Export(given) => done_at(export(rt, alloc, disks, context.files, given)?, output)?,
         Command::Image(given) => carry_out_on_image(context, given, output)?,
         Command::Serve(given) => {
@@ -182,6 +168,63 @@ where
         }
     };
     output.flush()?;
+    Ok(outcome)
+}
+
+/// Makes what is in a replica what stands in a folder.
+fn import_into<H, F, N, O, E>(
+    context: &Context<'_, H, F, N>,
+    command: &ImportCommand<'_>,
+    output: &mut O,
+    errors: &mut E,
+) -> Result<Outcome, Failure>
+where
+    H: Net<Stream = TcpStream>,
+    F: Files,
+    N: NamedDisks,
+    O: Write,
+    E: Write,
+{
+    let (files, telling) = (context.files, context.telling);
+    let position = import(
+        context.rt,
+        context.alloc,
+        context.disks,
+        files,
+        command,
+        telling,
+        errors,
+    )?;
+    done_at(position, output)
+}
+
+/// Makes a folder and a replica the same, or prints what that would do.
+fn reconcile_with<H, F, N, O, E>(
+    context: &Context<'_, H, F, N>,
+    command: &ReconcileCommand<'_>,
+    output: &mut O,
+    errors: &mut E,
+) -> Result<Outcome, Failure>
+where
+    F: Files,
+    N: NamedDisks,
+    O: Write,
+    E: Write,
+{
+    let (alloc, disks, files) = (context.alloc, context.disks, context.files);
+    let outcome = if command.is_dry {
+        plan_named(alloc, disks, files, command, output, errors)?
+    } else {
+        reconcile_named(
+            alloc,
+            disks,
+            files,
+            command,
+            context.telling,
+            output,
+            errors,
+        )?
+    };
     Ok(outcome)
 }
 

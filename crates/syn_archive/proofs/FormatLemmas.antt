@@ -9,19 +9,19 @@ use Rattle.syn_model.specs.Version.{current_version}
 use Rattle.syn_model.specs.Tree.{Directory, empty_directory}
 use Rattle.syn_model.specs.Archive.{new_archive}
 use Rattle.syn_model.specs.MarkSpelling.{archive_spelling, mark_spelling}
-use Rattle.syn_placed.proofs.TreeLemmas.{entries-one}
 use Rattle.syn_mark.proofs.MarkLemmas.{one_marks, one_present}
 use Rattle.syn_model.specs.Contents.{digest_spelling}
 use Rattle.syn_wire.specs.Trees.{pair_by}
 use Rattle.syn_wire.proofs.MarkLemmas.{marks_walk}
 use Rattle.syn_archive.specs.Refusals.{IsOfFormat, of_journal}
+use Rattle.syn_model.proofs.RowLemmas.{entries-at_root}
 
 empty_length : length (mark_spelling empty_directory) ≡ 3
 empty_length =
     ap length
     (marks_walk current_version empty_directory (one_marks Directory tt).part.parents
     (one_present Directory) ∙ ap (flat_map (pair_by digest_spelling empty_directory))
-    (entries-one Directory))
+    (entries-at_root Directory))
 
 pub image_fits : (pair : ℕ) (image : Bytes) → image ≡ archive_spelling pair new_archive →
     longest_image < length image → ⊥

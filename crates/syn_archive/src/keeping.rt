@@ -15,12 +15,11 @@ ghost use Rattle.syn_archive.specs.Refusals.{refusal_in};
 use crate::agreed::{Agreed, Update};
 use crate::error::ArchiveError;
 use std::alloc::Global;
-use syn_image::{dir_length, encode_dir, encode_record, encode_session, record_length};
+use syn_image::{
+    SESSION_LENGTH, dir_length, encode_dir, encode_record, encode_session, record_length,
+};
 use syn_mark::{Mark, MarkTree};
 use syn_path::Path;
-
-/// How many bytes spell a session that begins.
-const SESSION_LENGTH: usize = 9;
 
 /// What is to be kept.
 #[derive(Drop)]

@@ -22,12 +22,21 @@ use syn_path::Path;
 use syn_replica::Replica;
 use syn_tree::{Edit, Tree};
 
+/// What becomes of something in a folder that can stand in no replica.
+#[derive(Clone, Copy, Debug, PartialEq, Eq)]
+pub enum OnStranger {
+    /// All is refused.
+    Refuse,
+    /// It is left out, and told.
+    Skip,
+}
+
 /// Makes what is at and below the path what stands in the folder, by edits of the user, all of them
-/// or none. Where it is that already, no edit is made. What can stand in no replica is left out
-/// where `is_skipping` says so: the replica keeps what it has there. What is left out is told to
-/// `errors`, and then each edit where `told` says so.
+/// or none. Where it is that already, no edit is made. Where something that can stand in no replica
+/// is skipped, the replica keeps what it has there. What is skipped is told to `errors`, and then
+/// each edit where `told` says so.
 ///
-/// Refused 7 where something can stand in no replica and is not left out, and as `import_part` is.
+/// Refused 7 where something can stand in no replica and is not skipped, and as `import_part` is.
 /// The disk comes back.
 pub fn import_folder<D: Disk, F: Folder, E: Write>(
     alloc: Global,
@@ -35,11 +44,11 @@ pub fn import_folder<D: Disk, F: Folder, E: Write>(
     user: u32,
     path: &Path,
     folder: &F,
-    is_skipping: bool,
+    on_stranger: OnStranger,
     told: ProgressMode,
     errors: &mut E,
 ) -> Result<Replica<D>, (CommandError, D)>
-    ensures known { is_skipping ≡ false → OnOk result (F.strangers folder.now ≡ []) }
+    ensures known { on_stranger ≡ OnStranger.Refuse → OnOk result (F.strangers folder.now ≡ []) }
     ensures part { (history : History) → Stands replica history → F.strangers folder.now ≡ []
         → IfOk result (λ new. subtree (tree_shown new) path.now ≡ F.tree folder.now) }
     ensures imported { (history : History) → Stands replica history
@@ -66,7 +75,7 @@ pub fn import_folder<D: Disk, F: Folder, E: Write>(
         → refused.1 ≡ disk_of replica) }
     ensures refusals { IfErr result (λ refused. IsOfFolder refused.0 ⊎ IsOfEdits refused.0) }
 {
-    match part_of(alloc, folder, is_skipping, replica.tree(), path, errors) {
+    match part_of(alloc, folder, on_stranger, replica.tree(), path, errors) {
         Ok(part) => import_part(alloc, replica, user, path, &part, told, errors),
         Err(error) => Err((CommandError::from(error), replica.into_disk())),
     }
@@ -75,22 +84,23 @@ pub fn import_folder<D: Disk, F: Folder, E: Write>(
 /// What of the folder goes to the path of the tree: all of it, or what can stand in a replica,
 /// with what the tree has in the place of the rest, which is told to `errors`.
 ///
-/// Refused 7 where something can stand in no replica and is not left out, or is the folder itself,
+/// Refused 7 where something can stand in no replica and is not skipped, or is the folder itself,
 /// and 11 where memory is refused.
 pub fn part_of<F: Folder, E: Write>(
     alloc: Global,
     folder: &F,
-    is_skipping: bool,
+    on_stranger: OnStranger,
     tree: &Tree,
     path: &Path,
     errors: &mut E,
 ) -> Result<Tree, FolderError>
-    ensures known { is_skipping ≡ false → OnOk result (F.strangers folder.now ≡ []) }
+    ensures known { on_stranger ≡ OnStranger.Refuse → OnOk result (F.strangers folder.now ≡ []) }
     ensures part { IfOk result (λ part. part ≡ skipped (directory_at tree.now path.now)
         (F.tree folder.now) (F.strangers folder.now)) }
 {
-    if !is_skipping {
-        all_known(alloc, folder)?;
+    match on_stranger {
+        OnStranger::Refuse => all_known(alloc, folder)?,
+        OnStranger::Skip => {}
     }
     let part = skipping(alloc, folder, tree, path)?;
     for stranger in folder.strangers() {

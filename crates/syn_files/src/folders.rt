@@ -13,7 +13,8 @@ use std::net::{Net, TcpStream};
 use std::thread::Threads;
 use syn_cli::{ExportCommand, ImportCommand, ReplicaPlace};
 use syn_command::{
-    CommandError, ProgressMode, export_part, import_folder, part_of, plan_import, send_edits,
+    CommandError, OnStranger, ProgressMode, export_part, import_folder, part_of, plan_import,
+    send_edits,
 };
 use syn_daemon::reach;
 use syn_folder::{ExportedFolder, Folder, FolderError, SystemFolder};
@@ -76,7 +77,12 @@ pub fn import<H: Net<Stream = TcpStream>, N: NamedDisks, F: Files, E: Write>(
 {
     let path = path_of(alloc, line.path)?;
     let folder = SystemFolder::open(alloc, files, line.folder, &path)?;
-    let (user, is_skipping) = (line.user, line.is_skipping);
+    let user = line.user;
+    let on_stranger = if line.is_skipping {
+        OnStranger::Skip
+    } else {
+        OnStranger::Refuse
+    };
     match line.place {
         ReplicaPlace::File(name) => {
             let replica = replica_in(alloc, disks, name)?;
@@ -86,7 +92,7 @@ pub fn import<H: Net<Stream = TcpStream>, N: NamedDisks, F: Files, E: Write>(
                 user,
                 &path,
                 &folder,
-                is_skipping,
+                on_stranger,
                 told,
                 errors,
             );
@@ -101,7 +107,7 @@ pub fn import<H: Net<Stream = TcpStream>, N: NamedDisks, F: Files, E: Write>(
                 user,
                 &path,
                 &folder,
-                is_skipping,
+                on_stranger,
                 told,
                 errors,
             )
@@ -130,12 +136,12 @@ fn import_over<F: Folder, E: Write>(
     user: u32,
     path: &Path,
     folder: &F,
-    is_skipping: bool,
+    on_stranger: OnStranger,
     told: ProgressMode,
     errors: &mut E,
 ) -> Result<u64, CommandError> {
     let (position, tree) = tree_over(alloc, stream)?;
-    let part = part_of(alloc, folder, is_skipping, &tree, path, errors)?;
+    let part = part_of(alloc, folder, on_stranger, &tree, path, errors)?;
     let edits = plan_import(alloc, &tree, path, &part, errors)?;
     let mut connection = UserConnection::new(alloc, stream, stream);
     send_edits(alloc, &mut connection, user, position, edits, told, errors)

@@ -1,7 +1,7 @@
 //! Two servers that are kept the same: a session runs whenever one of them has changed.
 
 use crate::named::{NamedDisks, archive_in};
-use crate::sessions::Told;
+use crate::sessions::{Told, progress_for, reported};
 use crate::upkeep::shorten_archive;
 use std::alloc::Global;
 use std::io::{self, ErrorKind, Write};
@@ -19,7 +19,7 @@ use syn_path::Side;
 use syn_print::show_report;
 use syn_refusal::Refusal;
 use syn_session::{End, Report, Sending};
-use syn_sync::{Progress, SessionWatch, tell_unreached};
+use syn_sync::{SessionWatch, tell_unreached};
 use syn_user::SideConnection;
 
 /// Runs a session of the line's servers, and another one each time that a side has changed since.
@@ -49,7 +49,7 @@ where
     if !telling.each {
         return keep(rt, alloc, coordinator, line, &mut Lost(errors), output);
     }
-    let mut progress = Progress::new(alloc, errors, telling.counts);
+    let mut progress = progress_for(alloc, errors, telling);
     keep(rt, alloc, coordinator, line, &mut progress, output)
 }
 
@@ -311,24 +311,34 @@ where
         }
         went => went?,
     }
-    let Some(report) = coordinator.report() else {
-        return Err(CommandError::Refused(Refusal::NoAnswer));
-    };
+    let report = reported(coordinator)?;
     watch.ended(report);
-    let open = Open {
-        conflicts: report.conflicts.len(),
-        refused: report.refused.len(),
-        ended: report.ended,
-    };
+    let open = print_news(alloc, report, before.open, output)?;
     let is_complete = report.end == End::Complete;
-    if report.done > 0 || report.marked > 0 || open != before.open {
-        show_report(alloc, report, output)?;
-        output.flush()?;
-    }
     shorten_archive(alloc, coordinator);
     Ok(Settled {
         positions: is_complete.then_some(after),
         open,
         is_told: false,
     })
+}
+
+/// Prints the report of a session that did something, or left other things undone than the one
+/// before, and answers what it left undone.
+fn print_news<O: Write>(
+    alloc: Global,
+    report: &Report,
+    before: Open,
+    output: &mut O,
+) -> Result<Open, CommandError> {
+    let open = Open {
+        conflicts: report.conflicts.len(),
+        refused: report.refused.len(),
+        ended: report.ended,
+    };
+    if report.done > 0 || report.marked > 0 || open != before {
+        show_report(alloc, report, output)?;
+        output.flush()?;
+    }
+    Ok(open)
 }

@@ -48,8 +48,21 @@ where
     if !telling.each {
         return drive(rt, alloc, disks, pairing, &mut Unwatched, output);
     }
-    let mut progress = Progress::new(alloc, errors, telling.counts);
+    let mut progress = progress_for(alloc, errors, telling);
     drive(rt, alloc, disks, pairing, &mut progress, output)
+}
+
+/// Tells each item of a session, and their counts where these are wanted.
+pub(crate) fn progress_for<E: Write>(
+    alloc: Global,
+    errors: E,
+    telling: ProgressMode,
+) -> Progress<E> {
+    if telling.counts {
+        Progress::with_counts(alloc, errors)
+    } else {
+        Progress::new(alloc, errors)
+    }
 }
 
 /// What watches a session and hears how it ended.
@@ -204,7 +217,7 @@ pub(crate) fn shared<D: Disk + Drop>(
 }
 
 /// The report of the session that ended last. Each that ended has one.
-fn reported<D: Disk>(coordinator: &Coordinator<D>) -> Result<&Report, CommandError> {
+pub(crate) fn reported<D: Disk>(coordinator: &Coordinator<D>) -> Result<&Report, CommandError> {
     let report = coordinator.report();
     report.ok_or(CommandError::Refused(Refusal::NoAnswer))
 }

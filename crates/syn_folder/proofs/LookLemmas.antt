@@ -13,17 +13,7 @@ use Rattle.std.proofs.lemmas.List.Elements.{Contains-append_cases, Contains-push
 use Rattle.std.proofs.lemmas.List.Elements.{Contains-push_cases}
 use Rattle.std.proofs.lemmas.List.Sorted.{Contains-permutation, IsPermutation-sym}
 use Rattle.syn_folder.specs.Looks.{AreShown}
-
-pub contains_none : {A : Type 0} (x : A) → Contains [] x → ⊥
-contains_none x within = omega (arith, within.1)
-
-pub contains_one : {A : Type 0} (y x : A) → Contains (y ∷ []) x → y ≡ x
-contains_one y x within =
-    elim (Contains-push_cases [] y x within) [
-      | inl none ↦ absurd (contains_none x none)
-      | inr is ↦
-          is
-    ]
+use Rattle.syn_model.proofs.BaseLemmas.{contains_none, contains_one}
 
 pub shown_none : {A B : Type 0} (Shows : A → B → Type 0) → AreShown Shows [] []
 shown_none Shows one = (

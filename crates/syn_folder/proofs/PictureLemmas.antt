@@ -14,7 +14,7 @@ use Rattle.std.proofs.lemmas.List.Elements.{Contains-push_cases, filter_map-appe
 use Rattle.syn_model.specs.Limits.{fits_paths, fits_part, fits_replica}
 use Rattle.syn_model.specs.Path.{Path, is_root, path_cmp, root}
 use Rattle.syn_model.specs.Tree.{Content, Directory, IsTree, Pair, Tree, empty_directory}
-use Rattle.syn_model.proofs.PathLemmas.{path_itself, same_path}
+use Rattle.syn_model.proofs.PathLemmas.{path_itself, same_path, not_root}
 use Rattle.syn_placed.specs.Pairs.{Pairs, rooted, tree_with}
 use Rattle.syn_placed.proofs.FindLemmas.{find_after}
 use Rattle.syn_placed.proofs.RisingLemmas.{Rising, are_rising}
@@ -31,7 +31,7 @@ use Rattle.syn_folder.specs.declared.system.looks.Look.{Look}
 use Rattle.syn_folder.specs.declared.system.looks.Seen.{Seen}
 use Rattle.syn_folder.specs.declared.system.looks.Shown.{Shown}
 use Rattle.syn_folder.specs.declared.system.looks.Shown.TheVariants as shown
-use Rattle.syn_folder.proofs.LookLemmas.{contains_none}
+use Rattle.syn_model.proofs.BaseLemmas.{contains_none}
 
 first_or_later : {A : Type 0} (y : A) (xs : List A) (x : A) → Contains (y ∷ xs) x
     → (y ≡ x) ⊎ Contains xs x
@@ -140,10 +140,6 @@ filtered_none f xs x found is here =
     is
     ∙ sym (filter_map-append f xs (x ∷ [])
     ∙ (ap (λ o. filter_map f xs ++ cons_option o []) here ∙ append-nil (filter_map f xs)))
-
-pub not_root : (path : Path) → (length path == 0) ≡ false → is_root path ≡ false
-not_root [] empty = absurd cc
-not_root (name ∷ path) empty = refl
 
 -- what stands below the root
 pub below_root : {A : Type 0} (path : Path) (o : Option A) (x : A) → is_root path ≡ false

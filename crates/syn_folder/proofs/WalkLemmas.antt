@@ -19,7 +19,7 @@ use Rattle.syn_folder.specs.declared.system.looks.Look.{Look}
 use Rattle.syn_folder.specs.declared.system.looks.Seen.{Seen}
 use Rattle.syn_folder.specs.declared.system.looks.Shown.{Shown}
 use Rattle.syn_folder.specs.declared.system.looks.Shown.TheVariants as shown
-use Rattle.syn_folder.proofs.LookLemmas.{contains_none}
+use Rattle.syn_model.proofs.BaseLemmas.{contains_none}
 
 -- nothing was looked at yet
 pub followed_none : (at : Path) (pending : List Path) → IsFollowed at [] pending

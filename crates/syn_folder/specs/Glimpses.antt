@@ -1,7 +1,7 @@
 -- When two glimpses of a folder of the system are taken for the same.
 use Rattle.std.specs.Prelude.{◌≡◌, ◌≤◌, length}
 use Rattle.syn_folder.specs.declared.system.glimpse.Glimpse.{Glimpse}
-use Rattle.syn_folder.specs.declared.system.glimpse.TheConstants.{MOST_LOOKED}
+use Rattle.syn_folder.specs.declared.system.walking.TheConstants.{MOST_LOOKED}
 
 -- the same names were listed, and what stood there looked the same; and it was no more than is
 -- compared

@@ -6,13 +6,10 @@ use crate::error::FolderError;
 use crate::system::listing::is_listed;
 use crate::system::looking::{is_gone, read_names};
 use crate::system::looks::Look;
+use crate::system::walking::MOST_LOOKED;
 use std::alloc::Global;
 use std::fs::Files;
 use std::{io, str};
-
-/// Of a folder with more files, directories and others than this no glimpse says that it is the
-/// same.
-const MOST_LOOKED: usize = 65_536;
 
 /// How a folder looks by its names, and by the numbers, modes, lengths and times of what stands in
 /// it. A glimpse reads no file.

@@ -14,7 +14,7 @@ use syn_path::{Key, Path};
 use syn_tree::measures::MOST_BELOW;
 
 /// How many files, directories and others of a folder are looked at.
-const MOST_LOOKED: usize = 65_536;
+pub(super) const MOST_LOOKED: usize = 65_536;
 
 /// What was looked at in a folder.
 #[derive(Drop)]

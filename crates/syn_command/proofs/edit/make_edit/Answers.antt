@@ -1,11 +1,12 @@
 use Rattle.std.proofs.Common.{◌≡◌, ◌++◌, ◌∷◌, ◌∙◌, [], inl, inr, take, ap, subst, sym}
 use Rattle.std.proofs.lemmas.Result.{err_from_is_err_and}
 use Rattle.syn_disk.proofs.LeftLemmas.{leaves_weaker}
-use Rattle.syn_replica.proofs.RoomLemmas.{refused_at}
+use Rattle.syn_model.proofs.HistoryLemmas.{first_stays}
 use Rattle.syn_model.specs.Event.{Edit, Edited}
 use Rattle.syn_model.specs.History.{IsHistory, event_refusal, standing_of}
+use Rattle.syn_model.specs.Standing.{causes_at}
 use Rattle.syn_replica.specs.Replica.{KeepsBeforeOrAfter, Stands, room_shown}
-use Rattle.syn_replica.specs.Steps.{add_refusal}
+use Rattle.syn_replica.specs.Steps.{add_refusal, room_causes}
 use Rattle.syn_tree.specs.Edits.{edit_of}
 use Rattle.syn_command.specs.Asked.{edit_asked}
 use Rattle.syn_command.specs.declared.edit.TheConstants.{MOST_INPUT}
@@ -40,7 +41,8 @@ returns-in_err-edit-clause-refused g c history left why stands e refused =
     let told = err_from_is_err_and c.from_residual-in_err-edit.result
     c.from_residual-in_err-edit.ensures.1 in
     let cause = c.in_err-edit.ensures.refused history why stands
-    (refused_at (room_shown c.args.replica.now) (standing_of history) (Edited line.user edit) why
+    (first_stays (causes_at (standing_of history) (Edited line.user edit))
+    (room_causes (room_shown c.args.replica.now) (Edited line.user edit)) why
     (ap (λ (x : Edit). event_refusal history (Edited line.user x)) is ∙ (same ∙ refused))) in
     rw (told.1, told.2) (inl cause)
 
@@ -103,7 +105,8 @@ returns-clause-refused g c history left why stands e refused =
     let same =
     same_refusal laws.fits laws.put laws.steps history line.user line.kind c.args.path left in
     absurd (c.in_ok-edit.ensures.refused history why stands
-    (refused_at (room_shown c.args.replica.now) (standing_of history) (Edited line.user edit) why
+    (first_stays (causes_at (standing_of history) (Edited line.user edit))
+    (room_causes (room_shown c.args.replica.now) (Edited line.user edit)) why
     (ap (λ (x : Edit). event_refusal history (Edited line.user x)) is ∙ (same ∙ refused))))
 
 pub returns-in_err-asked-clause-any_moment : goal.returns-in_err-asked-clause-any_moment

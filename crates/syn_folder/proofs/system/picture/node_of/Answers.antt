@@ -3,8 +3,9 @@ use Rattle.syn_folder.specs.Looks.{content_in, look_in}
 use Rattle.syn_model.specs.Path.{Path, is_root}
 use Rattle.syn_model.specs.Tree.{Pair}
 use Rattle.syn_tree.specs.Contents.{content_of}
-use Rattle.syn_folder.proofs.PictureLemmas.{below_root, not_root}
+use Rattle.syn_folder.proofs.PictureLemmas.{below_root}
 use Rattle.syn_folder.proofs.system.picture.node_of.Goals as goal
+use Rattle.syn_model.proofs.PathLemmas.{not_root}
 
 pub returns-clause-entry : goal.returns-clause-entry
 returns-clause-entry c =
