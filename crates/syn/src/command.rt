@@ -15,11 +15,13 @@ use std::sync::Wait;
 use std::thread::Threads;
 use std::time::Clock;
 use syn_cli::{Command, ImageCommand, ImportCommand, LineError, ReconcileCommand, read_words};
-use syn_command::{CommandError, Failure, Outcome, ProgressMode, Status, print_meanings, report};
+use syn_command::{
+    CommandError, Failure, Outcome, ProgressMode, Status, print_meanings, tell_answer,
+};
 use syn_disk::OsFile;
 use syn_files::{
     NamedDisks, edit, export, import, keep_servers, migrate, plan_named, print_image, print_log,
-    print_numbers, print_plan, reconcile_named, run_session, serve_named, show,
+    print_numbers, print_path, print_plan, reconcile_named, run_session, serve_named,
 };
 
 /// Carries out what the words ask for, of which the first is the program's own name. What is asked
@@ -67,16 +69,16 @@ where
         alloc,
         files,
         disks: &DisksInFiles(files),
-        telling: ProgressMode {
+        progress: ProgressMode {
             each: arguments.is_verbose,
             counts: is_terminal,
         },
     };
     let answer = carry_out(&context, &arguments.command, input, output, errors);
     if arguments.is_verbose || is_terminal {
-        report(Some(&arguments.command), &answer, errors)
+        tell_answer(Some(&arguments.command), &answer, errors)
     } else {
-        report(None, &answer, errors)
+        tell_answer(None, &answer, errors)
     }
 }
 
@@ -88,7 +90,7 @@ struct Context<'c, H, F, N> {
     alloc: Global,
     files: &'c F,
     disks: &'c N,
-    telling: ProgressMode,
+    progress: ProgressMode,
 }
 
 /// Tells why the words are no command, or the help or the version where the words ask for it.
@@ -101,11 +103,11 @@ fn tell<O: Write, E: Write>(error: &LineError, output: &mut O, errors: &mut E) -
     match error {
         LineError::Memory => {
             let failure = Failure::Refused(CommandError::Memory);
-            return report(None, &Err(failure), errors);
+            return tell_answer(None, &Err(failure), errors);
         }
         LineError::Usage(asked) => match asked.kind() {
             ErrorKind::DisplayHelp | ErrorKind::DisplayVersion => {
-                return report(None, &help(asked, output), errors);
+                return tell_answer(None, &help(asked, output), errors);
             }
             _ => {}
         },
@@ -146,20 +148,25 @@ where
     O: Write,
     E: Write,
 {
-    let (rt, alloc, disks, telling) = (context.rt, context.alloc, context.disks, context.telling);
+    let (rt, alloc, disks, progress) = (context.rt, context.alloc, context.disks, context.progress);
     let outcome = match command {
         Command::Session(pairing) => {
-            run_session(rt, alloc, disks, *pairing, telling, output, errors)?
+            run_session(rt, alloc, disks, *pairing, progress, output, errors)?
         }
-        Command::Keep(given) => keep_servers(rt, alloc, disks, given, telling, output, errors)?,
+        Command::Keep(command) => keep_servers(
+            rt, alloc, disks, command, progress, output, errors,
+        )?,
         Command::Plan(pairing) => print_plan(rt, alloc, disks, *pairing, output)?,
-        Command::Edit(given) => done_at(edit(rt, alloc, given, disks, input)?, output)?,
-        Command::Import(given) => import_into(context, given, output, errors)?,
-        Command::Reconcile(given) => reconcile_with(context, given, output, errors)?,
-        Command::Export(given) => done_at(export(rt, alloc, disks, context.files, given)?, output)?,
-        Command::Image(given) => carry_out_on_image(context, given, output)?,
-        Command::Serve(given) => {
-            serve_named(rt, alloc, disks, context.files, given)?;
+        Command::Edit(command) => done_at(edit(rt, alloc, command, disks, input)?, output)?,
+        Command::Import(command) => import_into(context, command, output, errors)?,
+        Command::Reconcile(command) => reconcile_with(context, command, output, errors)?,
+        Command::Export(command) => done_at(
+            export(rt, alloc, disks, context.files, command)?,
+            output,
+        )?,
+        Command::Image(command) => carry_out_on_image(context, command, output)?,
+        Command::Serve(command) => {
+            serve_named(rt, alloc, disks, context.files, command)?;
             Outcome::Done
         }
         Command::Simulate { script, is_traced } => {
@@ -185,14 +192,14 @@ where
     O: Write,
     E: Write,
 {
-    let (files, telling) = (context.files, context.telling);
+    let (files, progress) = (context.files, context.progress);
     let position = import(
         context.rt,
         context.alloc,
         context.disks,
         files,
         command,
-        telling,
+        progress,
         errors,
     )?;
     done_at(position, output)
@@ -220,7 +227,7 @@ where
             disks,
             files,
             command,
-            context.telling,
+            context.progress,
             output,
             errors,
         )?
@@ -253,8 +260,10 @@ where
             format(alloc, context.files, file, *kind, *pair)?;
             writeln!(output, "ok")?;
         }
-        ImageCommand::Show { place } => print_image(rt, alloc, disks, *place, output)?,
-        ImageCommand::ShowPath { place, path } => show(rt, alloc, disks, *place, path, output)?,
+        ImageCommand::Show { location } => print_image(rt, alloc, disks, *location, output)?,
+        ImageCommand::ShowPath { location, path } => print_path(
+            rt, alloc, disks, *location, path, output,
+        )?,
         ImageCommand::Check { file } => print_numbers(alloc, disks, file, output)?,
         ImageCommand::Migrate { file } => {
             migrate(alloc, disks, file)?;

@@ -5,7 +5,7 @@ use std::fs::{Files, OpenFile, OpenOptions};
 use std::io;
 use syn_cli::ImageKind;
 use syn_command::{CommandError, format_image};
-use syn_disk::{Access, DISK_SIZE, FileDisk, OsFile, take_lock};
+use syn_disk::{Access, DISK_SIZE, FileDisk, OpenError, OsFile, take_lock};
 
 /// Makes the file an image of the kind, for the pair. Where that is refused, the file is as long as
 /// it was, or missing.
@@ -26,7 +26,7 @@ where
     take_lock(&file, Access::Write)?;
     let before = file.metadata()?.len();
     if before > DISK_SIZE as u64 {
-        return Err(CommandError::Longer);
+        return Err(CommandError::from(OpenError::Length(before)));
     }
     // Keeps the lock until what was refused is undone.
     let held = file.try_clone()?;

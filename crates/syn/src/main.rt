@@ -34,7 +34,8 @@
 //! - Words that ask for nothing are told as such (`mistaken`), and what `simulate` prints is the
 //!   run of the script that it read (`PrintsRun`).
 //! - That the file of the line is the one that is opened, that no file has the number of a standard
-//!   stream, and that a refusal is one line on standard error, is shown by tests alone.
+//!   stream, and that a refusal begins with the line `syn: refused N NAME` on standard error, is
+//!   shown by tests alone.
 #![tactic(auto)]
 
 mod command;
@@ -48,7 +49,7 @@ use std::alloc::Global;
 use std::io::{self, BufWriter, ErrorKind, IsTerminal, Write};
 use std::process::ExitCode;
 use streams::open_closed_streams;
-use syn_command::{Failure, Status, report};
+use syn_command::{Failure, Status, tell_answer};
 
 fn main(rt: HostRuntime) -> ExitCode {
     if let Err(error) = open_closed_streams(&rt) {
@@ -99,6 +100,6 @@ fn no_text(rt: &HostRuntime) -> ExitCode {
 /// Tells that the command was refused before it was read: it is out of memory, or a standard stream
 /// was closed and nothing could be opened in its place.
 fn refused(rt: &HostRuntime, error: io::Error) -> ExitCode {
-    let status = report(None, &Err(Failure::from(error)), &mut rt.stderr());
+    let status = tell_answer(None, &Err(Failure::from(error)), &mut rt.stderr());
     ExitCode::from(status.code())
 }

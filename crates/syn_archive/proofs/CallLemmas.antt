@@ -17,14 +17,14 @@ use Rattle.syn_archive.specs.inner.Agreements.{agreed_archive}
 
 pub reopens : {D : Type 0} {disk : Ghosts D} (old new : Archive D disk)
     (result : Result Unit ArchiveError) → OnOk result (pair_of new ≡ pair_of old) →
-    IfErr result (λ _. machine.state_of new.machine ≡ machine.state_of old.machine) →
+    IfErr result (λ _. machine.state_of new.journaled ≡ machine.state_of old.journaled) →
     IfErr result (λ _. IsHalted old → IsHalted new) →
     IfErr result (λ e. refusal_of e ≢ Memory → IsHalted new) →
-    IfErr result (λ _. machine.KeepsReadings old.machine new.machine
-    ⊎ machine.ShowsDisk new.machine) →
+    IfErr result (λ _. machine.KeepsReadings old.journaled new.journaled
+    ⊎ machine.ShowsDisk new.journaled) →
     ((value : Value) → journal.Stands (journal_of old) value →
-    IfErr result (λ _. machine.KeepsReadings old.machine new.machine)) →
-    (IsHalted old → IfErr result (λ _. machine.KeepsReadings old.machine new.machine)) →
+    IfErr result (λ _. machine.KeepsReadings old.journaled new.journaled)) →
+    (IsHalted old → IfErr result (λ _. machine.KeepsReadings old.journaled new.journaled)) →
     Reads disk (ended refusal_of result) (disk_of old) (disk_of new) →
     Reopens old new (ended refusal_of result)
 reopens old new (Ok done) pair state halted halts readings room remembers device = record {
@@ -40,7 +40,7 @@ reopens old new (Ok done) pair state halted halts readings room remembers device
 reopens old new (Err e) pair state halted halts readings room remembers device =
     let memory : SameMemory old new =
     record { pair = ap (λ a. a.pair) state; archive = ap agreed_archive state } in
-    let kept : machine.KeepsReadings old.machine new.machine → KeepsReadings old new =
+    let kept : machine.KeepsReadings old.journaled new.journaled → KeepsReadings old new =
     λ keeps. record { memory = memory; left_is = keeps.left_is; generation = keeps.generation } in
     record {
       pair = memory.pair;

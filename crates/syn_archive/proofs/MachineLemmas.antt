@@ -34,7 +34,7 @@ use Rattle.syn_archive.proofs.StandLemmas.{left_behind}
 
 module _ {D : Type 0} {disk : Ghosts D} (archive : Archive D disk) (pair : ℕ) (now : Journal) where
   runs_as : pair_of archive ≡ pair → Runs archive now →
-      machine.Runs (kept_as pair) archive.machine now
+      machine.Runs (kept_as pair) archive.journaled now
   runs_as same was = record {
     value = was.stands.value;
     runs = was.stands.runs;
@@ -47,7 +47,7 @@ module _ {D : Type 0} {disk : Ghosts D} (archive : Archive D disk) (pair : ℕ) 
   }
 
   pub as_machine : IsMachine archive pair now →
-      machine.IsMachine (kept_as pair) archive.machine now
+      machine.IsMachine (kept_as pair) archive.journaled now
   as_machine is = record {
     remembers = record { pair_is = is.pair_is; archive_is = is.remembers };
     stands = by is.state;
@@ -57,16 +57,16 @@ module _ {D : Type 0} {disk : Ghosts D} (archive : Archive D disk) (pair : ℕ) 
   }
     where
       by : Runs archive now ⊎ Fails archive now →
-          machine.StandsAs (kept_as pair) archive.machine now now.status
+          machine.StandsAs (kept_as pair) archive.journaled now now.status
       by (inl was) =
-          subst (machine.StandsAs (kept_as pair) archive.machine now) (sym was.up)
+          subst (machine.StandsAs (kept_as pair) archive.journaled now) (sym was.up)
           (runs_as is.pair_is was)
       by (inr fails) =
-          subst (machine.StandsAs (kept_as pair) archive.machine now) (sym fails.halted)
+          subst (machine.StandsAs (kept_as pair) archive.journaled now) (sym fails.halted)
           fails.is_halted
 
   pub of_machine : (now.status ≡ Up → (now.writing ≡ None) × (now.compacting ≡ false)) →
-      machine.IsMachine (kept_as pair) archive.machine now → IsMachine archive pair now
+      machine.IsMachine (kept_as pair) archive.journaled now → IsMachine archive pair now
   of_machine settled is = record {
     pair_is = is.remembers.pair_is;
     remembers = is.remembers.archive_is;
@@ -77,7 +77,7 @@ module _ {D : Type 0} {disk : Ghosts D} (archive : Archive D disk) (pair : ℕ) 
   }
     where
       by : (status : Status) → now.status ≡ status →
-          machine.StandsAs (kept_as pair) archive.machine now status →
+          machine.StandsAs (kept_as pair) archive.journaled now status →
           Runs archive now ⊎ Fails archive now
       by Up up was =
           inl (record {
@@ -151,7 +151,7 @@ module _ {D : Type 0} {disk : Ghosts D} (old new : Archive D disk) (pair : ℕ) 
   module _ (kept : Kept)
       (not_idle : (archive_layout pair).is_idle machine_is.value kept ≡ false) where
     pub keeps_record : (ended : Option Refusal) → Writes old new (Some kept) ended →
-        WritesRecord (kept_as pair) new.machine machine_is kept ended →
+        WritesRecord (kept_as pair) new.journaled machine_is kept ended →
         KeepsRecord new pair machine_is kept ended
     keeps_record ended told (machine.written arms meets it) =
         let was = when_runs old pair machine_is (λ h. none-some _ (told.halted.1 h)) is in
@@ -186,7 +186,7 @@ module _ {D : Type 0} {disk : Ghosts D} (old new : Archive D disk) (pair : ℕ) 
         refuses refusal other (of_machine new pair machine_is still_settled it)
 
   pub compacts_image : (ended : Option Refusal) → Compacts old new ended →
-      WritesImage (kept_as pair) new.machine machine_is ended →
+      WritesImage (kept_as pair) new.journaled machine_is ended →
       CompactsImage new pair machine_is ended
   compacts_image ended told (machine.image_written arms meets it) =
       let was = when_runs old pair machine_is (λ h. none-some _ (told.halted.1 h)) is in
@@ -206,12 +206,12 @@ module _ {D : Type 0} {disk : Ghosts D} (old new : Archive D disk) (pair : ℕ) 
   compacts_image ended told (machine.image_refused refusal other it) =
       stays refusal other (of_machine new pair machine_is still_settled it)
 
-  down_now : (next : Journal) → machine.IsDown (kept_as pair) new.machine next →
+  down_now : (next : Journal) → machine.IsDown (kept_as pair) new.journaled next →
       IsDown new pair next
   down_now next it = record { down = it.down; stopped = it.stopped; leaves = it.leaves }
 
   pub reads_disk : (ended : Option Refusal) →
-      machine.ReadsDisk (kept_as pair) new.machine machine_is ended →
+      machine.ReadsDisk (kept_as pair) new.journaled machine_is ended →
       ReadsDisk new pair machine_is ended
   reads_disk ended (machine.read calls next added some opens opened it) =
       read calls next added some opens opened.up
@@ -226,7 +226,7 @@ module _ {D : Type 0} {disk : Ghosts D} (old new : Archive D disk) (pair : ℕ) 
       (of_machine new pair (after_device machine_is machine_is.status arms 0) still_settled it)
 
 pub starts : {D : Type 0} {disk : Ghosts D} (new : Archive D disk) (pair : ℕ) (before : Journal) →
-    machine.Starts (kept_as pair) new.machine before → Starts new pair before
+    machine.Starts (kept_as pair) new.journaled before → Starts new pair before
 starts new pair before it =
     let now = of_machine new pair it.next (λ _. (it.opened.idle, it.opened.settled)) it.is in
     record {

@@ -185,7 +185,7 @@ stands_shown archive value runs means =
 -- and for each archive that the disk stands for
 pub stands_for_each : {D : Type 0} {disk : Ghosts D} (archive : Archive D disk)
     (bytes : List ℕ) (number : ℕ) (kept : model.Archive) →
-    IsOpened (λ a. a.pair) Gives bytes archive.machine →
+    IsOpened (λ a. a.pair) Gives bytes archive.journaled →
     number < 2 ^ 64 → DiskStands number bytes kept →
     (number ≡ pair_of archive) × Stands archive kept
 stands_for_each archive bytes number kept opened fits d =

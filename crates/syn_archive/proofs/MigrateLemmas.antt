@@ -234,7 +234,7 @@ module _ (sound : StandsForSound) (stands : ArchiveImageStands) (fit : ArchiveIm
 
   module _ {D : Type 0} {disk : Ghosts D} where
     pub migrated_stands : (archive : Archive D disk) (bytes : List ℕ) →
-        Migrated (λ a. a.pair) GivesOld image_of bytes archive.machine →
+        Migrated (λ a. a.pair) GivesOld image_of bytes archive.journaled →
         Stands archive (shown archive)
     migrated_stands archive bytes m = record {
       remembers = refl;
@@ -244,7 +244,7 @@ module _ (sound : StandsForSound) (stands : ArchiveImageStands) (fit : ArchiveIm
     }
 
     module _ (archive : Archive D disk) (bytes : List ℕ)
-        (m : Migrated (λ a. a.pair) GivesOld image_of bytes archive.machine) where
+        (m : Migrated (λ a. a.pair) GivesOld image_of bytes archive.journaled) where
       -- what the disk gave in the first version is what was migrated
       same_given : (number : ℕ) (kept : model.Archive) → number < 2 ^ 64 →
           DiskStandsIn One number bytes kept →

@@ -91,7 +91,7 @@ module _ {D : Type 0} {disk : Ghosts D} (old new : Archive D disk) (payload : By
   has_room fits is = omega (arith, some_bytes what, (appends.full.0 is).1, ap length spelled, fits)
 
   unwritten_readings : (refusal : Refusal) → why ≡ Some refusal →
-      new.machine.state ≡ old.machine.state → KeepsReadings old new
+      new.journaled.state ≡ old.journaled.state → KeepsReadings old new
   unwritten_readings refusal some same = record {
     memory = record { pair = ap (λ a. a.pair) same; archive = ap agreed_archive same };
     left_is = appends.left_is ∙ ap (λ w. left_after w (left_shown old) (record_size payload)) some;
@@ -101,7 +101,7 @@ module _ {D : Type 0} {disk : Ghosts D} (old new : Archive D disk) (payload : By
   pub writes : ((kept : model.Archive) → Stands old kept →
       KeepsBeforeOrAfter old kept what (disk.seen (disk_of new))) →
       (why ≡ None → HasRecord old new what) →
-      ((refusal : Refusal) → why ≡ Some refusal → new.machine.state ≡ old.machine.state) →
+      ((refusal : Refusal) → why ≡ Some refusal → new.journaled.state ≡ old.journaled.state) →
       Writes old new (Some what) why
   writes seen has same = record {
     seen = seen;
@@ -117,8 +117,8 @@ module _ {D : Type 0} {disk : Ghosts D} (old new : Archive D disk) (payload : By
   }
 
   module _ (update : Update) (none : why ≡ None)
-      (state : new.machine.state ≡ after_update old.machine.state update)
-      (keeps : Keeps (shown old) what (agreed_archive (after_update old.machine.state update)))
+      (state : new.journaled.state ≡ after_update old.journaled.state update)
+      (keeps : Keeps (shown old) what (agreed_archive (after_update old.journaled.state update)))
     where
       pub written_shown : shown new ≡ after_kept (shown old) what
       written_shown = ap agreed_archive state ∙ keeps.gives
@@ -149,7 +149,7 @@ module _ {D : Type 0} {disk : Ghosts D} (old new : Archive D disk) (payload : By
 
 pub compacts : {D : Type 0} {disk : Ghosts D} (old new : Archive D disk) (why : Option Refusal) →
     MachineCompacts (journal_of old) (journal_of new) (archive_spelling (pair_of old) (shown old))
-    why → new.machine.state ≡ old.machine.state →
+    why → new.journaled.state ≡ old.journaled.state →
     ((kept : model.Archive) → Stands old kept →
     KeepsOrCompacts old kept (disk.seen (disk_of new))) → Compacts old new why
 compacts {disk = disk} old new why by_machine same seen = record {

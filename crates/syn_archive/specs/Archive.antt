@@ -3,7 +3,7 @@ use Rattle.std.specs.Prelude.{◌≡◌, ◌⊎◌, ◌+◌, ◌-◌, List, ℕ}
 use Rattle.syn_disk.specs.declared.disk.Disk.{Ghosts}
 use Rattle.syn_journal.specs.Journal as journal
 use Rattle.syn_journal.specs.declared.journal.Journal.{Journal}
-use Rattle.syn_journal.specs.Journaled as machine
+use Rattle.syn_journal.specs.Journaled as journaled
 use Rattle.syn_journal.specs.Layout.{Value, HasJournal, bytes_left}
 use Rattle.syn_model.specs.Tree.{Tree}
 use Rattle.syn_model.specs.Archive as model
@@ -14,20 +14,20 @@ use Rattle.syn_archive.specs.declared.archive.Archive.{Archive}
 
 module _ {D : Type 0} {disk : Ghosts D} (archive : Archive D disk) where
   abbrev pub pair_of : ℕ
-  pair_of = (machine.state_of archive.machine).pair
+  pair_of = (journaled.state_of archive.journaled).pair
 
   abbrev pub marks_shown : Tree
-  marks_shown = (machine.state_of archive.machine).marks
+  marks_shown = (journaled.state_of archive.journaled).marks
 
   abbrev pub session_shown : ℕ
-  session_shown = (machine.state_of archive.machine).last_session
+  session_shown = (journaled.state_of archive.journaled).last_session
 
   -- what it has in memory, as the model has it
   abbrev pub shown : model.Archive
   shown = record { marks = marks_shown; last_session = session_shown }
 
   abbrev pub journal_of : Journal D disk
-  journal_of = machine.journal_of archive.machine
+  journal_of = journaled.journal_of archive.journaled
 
   abbrev pub disk_of : D
   disk_of = journal.disk_of journal_of

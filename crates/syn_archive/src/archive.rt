@@ -41,7 +41,7 @@ mod open;
 /// of its machine.
 #[derive(Drop)]
 pub struct Archive<D: Disk> {
-    machine: Journaled<D, Agreed>,
+    journaled: Journaled<D, Agreed>,
 }
 
 impl<D: Disk> Archive<D> {
@@ -81,43 +81,43 @@ impl<D: Disk> Archive<D> {
             last_session: 0,
             marks,
         };
-        let machine = Journaled::format(alloc, disk, agreed)?;
-        Ok(Archive { machine })
+        let journaled = Journaled::format(alloc, disk, agreed)?;
+        Ok(Archive { journaled })
     }
 
     /// The number of the pair.
     pub fn pair(&self) -> u64
         ensures { result ≡ pair_of self.now }
     {
-        self.machine.state().pair
+        self.journaled.state().pair
     }
 
     /// The number of the last session; 0 before the first.
     pub fn last_session(&self) -> u64
         ensures { result ≡ session_shown self.now }
     {
-        self.machine.state().last_session
+        self.journaled.state().last_session
     }
 
     /// The marks, as they stand in memory.
     pub fn tree(&self) -> &MarkTree
         ensures { result.now ≡ marks_shown self.now }
     {
-        &self.machine.state().marks
+        &self.journaled.state().marks
     }
 
     /// The generation of the journal's current half: 1 after `format`.
     pub fn generation(&self) -> u64
         ensures { result ≡ generation_shown self.now }
     {
-        self.machine.generation()
+        self.journaled.generation()
     }
 
     /// The length of the longest payload that still fits in the journal, or 0 where none does.
     pub fn room(&self) -> usize
         ensures { result ≡ room_shown self.now }
     {
-        self.machine.room()
+        self.journaled.room()
     }
 
     /// Whether each change is refused 10: a device call failed, or a reopening gave no state that
@@ -125,21 +125,21 @@ impl<D: Disk> Archive<D> {
     pub fn is_halted(&self) -> bool
         ensures { (result ≡ true) ↔ IsHalted self.now }
     {
-        self.machine.is_halted()
+        self.journaled.is_halted()
     }
 
     /// Whether its machine has stopped, so that no device call is made any more.
     pub fn is_cut(&self) -> bool
         ensures { result ≡ is_stopped (D.Disk.arms (disk_of self.now)) }
     {
-        self.machine.is_cut()
+        self.journaled.is_cut()
     }
 
     /// The disk, as the last call left it.
     pub fn into_disk(self) -> D
         ensures { result ≡ disk_of self }
     {
-        self.machine.into_disk()
+        self.journaled.into_disk()
     }
 
     /// Does nothing. It says of an archive that stands for what is kept that a stop leaves that on
@@ -324,7 +324,7 @@ impl<D: Disk> Archive<D> {
         archive_laws();
         layout_laws();
         let Prepared { payload, update } = self.prepare(alloc, what)?;
-        self.machine.write(alloc, &payload, update)
+        self.journaled.write(alloc, &payload, update)
     }
 
     /// Its payload and its update, where it can be kept. It is refused as `keep` refuses it, but
@@ -337,17 +337,17 @@ impl<D: Disk> Archive<D> {
             ≤ room_shown self.now) }
         ensures payload { IfOk result (λ prepared. prepared.payload.items
             ≡ kept_spelling (kept_in (session_shown self.now) what.entry)) }
-        ensures ready { IfOk result (λ prepared. IsReady self.now.machine.state prepared.update) }
+        ensures ready { IfOk result (λ prepared. IsReady self.now.journaled.state prepared.update) }
         ensures keeps { IfOk result (λ prepared. Keeps (shown self.now)
             (kept_in (session_shown self.now) what.entry)
-            (agreed_archive (after_update self.now.machine.state prepared.update))) }
+            (agreed_archive (after_update self.now.journaled.state prepared.update))) }
         ensures refused { IfErr result (NotPrepared (IsHalted self.now) (room_shown self.now)
             (shown self.now) (kept_in (session_shown self.now) what.entry)) }
     {
         if self.is_halted() {
             return Err(ArchiveError::Halted);
         }
-        let agreed = self.machine.state();
+        let agreed = self.journaled.state();
         agreed.check(&what)?;
         if what.length() > self.room() {
             return Err(ArchiveError::JournalFull);
@@ -375,6 +375,6 @@ impl<D: Limit> Archive<D> {
         ensures memory { SameMemory self.old self.new }
         ensures readings { SameReadings (journal_of self.old) (journal_of self.new) }
     {
-        self.machine.arm(arm);
+        self.journaled.arm(arm);
     }
 }

@@ -6,7 +6,7 @@ use Rattle.std.proofs.lemmas.Option.{none-some, same_Some}
 use Rattle.clap.specs.Words.{Row, Text, first_of}
 use Rattle.syn_path.specs.declared.side.Side.{Side}
 use Rattle.syn_tree.specs.Modes.{mode_digits, mode_of}
-use Rattle.syn_cli.specs.Reads.{AreGiven, HasMode, HasPlace, HasUser, HasValues, IsEdit}
+use Rattle.syn_cli.specs.Reads.{AreGiven, HasMode, HasLocation, HasUser, HasValues, IsEdit}
 use Rattle.syn_cli.specs.Reads.{HasNumber, IsGiven, IsNoMode, TakesPreference, IsOtherSide}
 use Rattle.syn_cli.specs.Reads.{IsNoNumber, IsNumber, IsOtherKind, IsWrong, IsWrongIn}
 use Rattle.syn_cli.specs.Reads.{MayHaveNumber, MayHaveSide, NothingReads, kind_word, side_word}
@@ -24,8 +24,8 @@ use Rattle.syn_cli.specs.declared.command.ImageCommand.{ImageCommand}
 use Rattle.syn_cli.specs.declared.command.ImageCommand.TheVariants as image
 use Rattle.syn_cli.specs.declared.command.Command.{Command}
 use Rattle.syn_cli.specs.declared.command.Command.TheVariants as command
-use Rattle.syn_cli.specs.declared.command.ReplicaPlace.{ReplicaPlace}
-use Rattle.syn_cli.specs.declared.command.ReplicaPlace.TheVariants as place
+use Rattle.syn_cli.specs.declared.command.ReplicaLocation.{ReplicaLocation}
+use Rattle.syn_cli.specs.declared.command.ReplicaLocation.TheVariants as location
 use Rattle.syn_cli.specs.declared.command.ServeCommand.{ServeCommand}
 use Rattle.syn_cli.specs.declared.value.ValueName.{ValueName}
 use Rattle.syn_cli.specs.declared.value.ValueName.TheVariants as value
@@ -79,10 +79,10 @@ same_verb a b e = sym (verb_at-word a) ∙ (ap verb_at e ∙ verb_at-word b)
 
 -- ---- what a command has was given
 
-file_given : (rows : List Row) (p : ReplicaPlace) → HasPlace rows p →
+file_given : (rows : List Row) (p : ReplicaLocation) → HasLocation rows p →
     IsGiven rows (name_of value.File)
-file_given rows (place.File file) has = (file.now, has.0)
-file_given rows (place.Served address) has = (address.now, has.0)
+file_given rows (location.File file) has = (file.now, has.0)
+file_given rows (location.Served address) has = (address.now, has.0)
 
 edit_given : (rows : List Row) (kind : EditKind) → HasMode rows kind →
     AreGiven rows (value.File ∷ value.User ∷ value.Path ∷ []) →
@@ -97,8 +97,8 @@ image_given : (rows : List Row) (l : ImageCommand) → HasImageValues rows l →
     AreGiven rows (values_of (image_verb l))
 image_given rows (image.Format kind pair file) has =
     ((kind_word kind, has.0), ((has.1.0, has.1.1), ((file.now, has.2), tt)))
-image_given rows (image.Show place) has = (file_given rows place has.0, tt)
-image_given rows (image.ShowPath place path) has = (file_given rows place has.0, tt)
+image_given rows (image.Show location) has = (file_given rows location has.0, tt)
+image_given rows (image.ShowPath location path) has = (file_given rows location has.0, tt)
 image_given rows (image.Check file) has = ((file.now, has), tt)
 image_given rows (image.Migrate file) has = ((file.now, has), tt)
 image_given rows (image.Log file lines) has = ((file.now, has.0), tt)
@@ -125,11 +125,16 @@ pub values_given : (rows : List Row) (l : Command) → HasValues rows l →
 values_given rows (command.Image about) has = image_given rows about has
 values_given rows (command.Edit edit) has =
     edit_given rows edit.kind has.3
-    (file_given rows edit.place has.0, ((has.1.0, has.1.1), ((edit.path.now, has.2), tt)))
+    (file_given rows edit.location has.0, ((has.1.0, has.1.1), ((edit.path.now, has.2), tt)))
 values_given rows (command.Export exported) has =
-    (file_given rows exported.place has.0, ((exported.folder.now, has.1), tt))
-values_given rows (command.Import imported) has =
-    (file_given rows imported.place has.0, ((has.1.0, has.1.1), ((imported.folder.now, has.2), tt)))
+    (file_given rows exported.location has.0, ((exported.folder.now, has.1), tt))
+values_given rows (command.Import imported) has = (
+  file_given rows imported.location has.0,
+  (
+    (has.1.0, has.1.1),
+    ((imported.folder.now, has.2), tt),
+  ),
+)
 values_given rows (command.Reconcile reconciled) has = (
   (reconciled.folder.now, has.folder),
   (
@@ -228,8 +233,8 @@ is_image _ = false
 image_is : (l : ImageCommand) → is_image (image_verb l) ≡ true
 unfolding is_image
 image_is (image.Format kind pair file) = refl
-image_is (image.Show place) = refl
-image_is (image.ShowPath place path) = refl
+image_is (image.Show location) = refl
+image_is (image.ShowPath location path) = refl
 image_is (image.Check file) = refl
 image_is (image.Migrate file) = refl
 image_is (image.Log file lines) = refl
@@ -243,8 +248,8 @@ no_session_edits (Servers left right) is = is
 
 no_image_edits : (l : ImageCommand) → IsEdit (image_verb l) → ⊥
 no_image_edits (image.Format kind pair file) is = is
-no_image_edits (image.Show place) is = is
-no_image_edits (image.ShowPath place path) is = is
+no_image_edits (image.Show location) is = is
+no_image_edits (image.ShowPath location path) is = is
 no_image_edits (image.Check file) is = is
 no_image_edits (image.Migrate file) is = is
 no_image_edits (image.Log file lines) is = is
@@ -375,8 +380,8 @@ module _ (rows : List Row) where
 
   no_image_seconds : (l : ImageCommand) → TakesSeconds (image_verb l) → ⊥
   no_image_seconds (image.Format kind pair file) takes = takes
-  no_image_seconds (image.Show place) takes = takes
-  no_image_seconds (image.ShowPath place path) takes = takes
+  no_image_seconds (image.Show location) takes = takes
+  no_image_seconds (image.ShowPath location path) takes = takes
   no_image_seconds (image.Check file) takes = takes
   no_image_seconds (image.Migrate file) takes = takes
   no_image_seconds (image.Log file lines) takes = takes
@@ -416,8 +421,8 @@ module _ (rows : List Row) where
 
   no_image_prefers : (l : ImageCommand) → TakesPreference (image_verb l) → ⊥
   no_image_prefers (image.Format kind pair file) takes = takes
-  no_image_prefers (image.Show place) takes = takes
-  no_image_prefers (image.ShowPath place path) takes = takes
+  no_image_prefers (image.Show location) takes = takes
+  no_image_prefers (image.ShowPath location path) takes = takes
   no_image_prefers (image.Check file) takes = takes
   no_image_prefers (image.Migrate file) takes = takes
   no_image_prefers (image.Log file lines) takes = takes

@@ -31,8 +31,8 @@ use Rattle.syn_cli.specs.declared.command.Command.TheVariants as command
 use Rattle.syn_cli.specs.declared.command.Pairing.{Pairing}
 use Rattle.syn_cli.specs.declared.command.ReconcileCommand.{ReconcileCommand}
 use Rattle.syn_cli.specs.declared.command.FolderCommand.{FolderCommand}
-use Rattle.syn_cli.specs.declared.command.ReplicaPlace.{ReplicaPlace}
-use Rattle.syn_cli.specs.declared.command.ReplicaPlace.TheVariants as place
+use Rattle.syn_cli.specs.declared.command.ReplicaLocation.{ReplicaLocation}
+use Rattle.syn_cli.specs.declared.command.ReplicaLocation.TheVariants as location
 use Rattle.syn_cli.specs.declared.command.ServeCommand.{ServeCommand}
 use Rattle.syn_cli.specs.declared.value.ValueName.{ValueName}
 use Rattle.syn_cli.specs.declared.value.ValueName.TheVariants as value
@@ -63,10 +63,10 @@ abbrev pub IsSet : List Row → Text → Type 0
 IsSet rows id = HasText rows id (codes "true")
 
 -- a file, or with the flag the address of a server in its place
-abbrev pub HasPlace : List Row → ReplicaPlace → Type 0
-HasPlace rows (place.File file) =
+abbrev pub HasLocation : List Row → ReplicaLocation → Type 0
+HasLocation rows (location.File file) =
     HasText rows (name_of value.File) file.now × ¬ IsSet rows (codes "served")
-HasPlace rows (place.Served address) =
+HasLocation rows (location.Served address) =
     HasText rows (name_of value.File) address.now × IsSet rows (codes "served")
 
 -- the text given for an id, or none where nothing is given
@@ -128,8 +128,8 @@ TakesSeconds _ = ⊥
 -- the verb of a command about an image
 abbrev pub image_verb : ImageCommand → Verb
 image_verb (image.Format kind pair file) = verb.Format
-image_verb (image.Show place) = verb.Show
-image_verb (image.ShowPath place path) = verb.Show
+image_verb (image.Show location) = verb.Show
+image_verb (image.ShowPath location path) = verb.Show
 image_verb (image.Check file) = verb.Check
 image_verb (image.Migrate file) = verb.Migrate
 image_verb (image.Log file lines) = verb.Log
@@ -157,9 +157,9 @@ abbrev pub HasImageValues : List Row → ImageCommand → Type 0
 HasImageValues rows (image.Format kind pair file) =
     HasText rows (name_of value.Kind) (kind_word kind)
     × HasNumber 64 rows (name_of value.Pair) pair × HasText rows (name_of value.File) file.now
-HasImageValues rows (image.Show place) = HasPlace rows place
+HasImageValues rows (image.Show location) = HasLocation rows location
     × (first_of (name_of value.Path) rows ≡ None)
-HasImageValues rows (image.ShowPath place path) = HasPlace rows place
+HasImageValues rows (image.ShowPath location path) = HasLocation rows location
     × HasText rows (name_of value.Path) path.now
 HasImageValues rows (image.Check file) = HasText rows (name_of value.File) file.now
 HasImageValues rows (image.Migrate file) = HasText rows (name_of value.File) file.now
@@ -231,13 +231,13 @@ pub record HasServed (rows : List Row) (served : ServeCommand) : Type 0 where
 -- the values of a command are those that are given
 abbrev pub HasValues : List Row → Command → Type 0
 HasValues rows (command.Image about) = HasImageValues rows about
-HasValues rows (command.Edit edit) = HasPlace rows edit.place
+HasValues rows (command.Edit edit) = HasLocation rows edit.location
     × HasNumber 32 rows (name_of value.User) edit.user
     × HasText rows (name_of value.Path) edit.path.now × HasMode rows edit.kind
-HasValues rows (command.Export exported) = HasPlace rows exported.place
+HasValues rows (command.Export exported) = HasLocation rows exported.location
     × HasText rows (name_of value.Folder) exported.folder.now
     × MayHaveText rows (name_of value.Path) exported.path × HasExisting rows exported.existing
-HasValues rows (command.Import imported) = HasPlace rows imported.place
+HasValues rows (command.Import imported) = HasLocation rows imported.location
     × HasNumber 32 rows (name_of value.User) imported.user
     × HasText rows (name_of value.Folder) imported.folder.now
     × MayHaveText rows (name_of value.Path) imported.path

@@ -29,21 +29,21 @@ pub enum EditKind {
 
 /// Where a replica is.
 #[derive(Clone, Copy, Debug, PartialEq, Eq)]
-pub enum ReplicaPlace<'a> {
+pub enum ReplicaLocation<'a> {
     /// In the file of this name.
     File(&'a str),
     /// After the server at this HOST:PORT. The text is looked at when it is used.
     Served(&'a str),
 }
 
-impl<'a> ReplicaPlace<'a> {
+impl<'a> ReplicaLocation<'a> {
     /// The name of the file, or the address of the server.
     pub fn as_str(&self) -> &'a str
         ensures { result.now ≡ text_of self.now }
     {
         match self {
-            ReplicaPlace::File(file) => file,
-            ReplicaPlace::Served(address) => address,
+            ReplicaLocation::File(file) => file,
+            ReplicaLocation::Served(address) => address,
         }
     }
 }
@@ -63,7 +63,7 @@ pub enum Existing {
 #[derive(Clone, Copy, Debug, PartialEq, Eq)]
 pub struct EditCommand<'a> {
     pub kind: EditKind,
-    pub place: ReplicaPlace<'a>,
+    pub location: ReplicaLocation<'a>,
     pub user: u32,
     pub path: &'a str,
 }
@@ -71,7 +71,7 @@ pub struct EditCommand<'a> {
 /// An export of a directory of a replica into a folder. With no path it is the root.
 #[derive(Clone, Copy, Debug, PartialEq, Eq)]
 pub struct ExportCommand<'a> {
-    pub place: ReplicaPlace<'a>,
+    pub location: ReplicaLocation<'a>,
     pub folder: &'a str,
     pub path: Option<&'a str>,
     pub existing: Existing,
@@ -80,7 +80,7 @@ pub struct ExportCommand<'a> {
 /// An import of a folder into a directory of a replica, by a user. With no path it is the root.
 #[derive(Clone, Copy, Debug, PartialEq, Eq)]
 pub struct ImportCommand<'a> {
-    pub place: ReplicaPlace<'a>,
+    pub location: ReplicaLocation<'a>,
     pub user: u32,
     pub folder: &'a str,
     pub path: Option<&'a str>,
@@ -171,11 +171,11 @@ pub enum ImageCommand<'a> {
     },
     /// Prints a whole image.
     Show {
-        place: ReplicaPlace<'a>,
+        location: ReplicaLocation<'a>,
     },
     /// Prints what stands at the path.
     ShowPath {
-        place: ReplicaPlace<'a>,
+        location: ReplicaLocation<'a>,
         path: &'a str,
     },
     /// Prints the numbers of the image in a file.

@@ -264,7 +264,7 @@ fn top_command<'a>(alloc: Global) -> Result<Command<'a>, AllocError>
 }
 
 /// The program with its commands.
-pub(crate) fn syn_command<'a>(alloc: Global) -> Result<Command<'a>, AllocError>
+pub(crate) fn clap_command<'a>(alloc: Global) -> Result<Command<'a>, AllocError>
     ensures { IfOk result (λ c. app_of c ≡ syn_app) }
 {
     let mut top = top_command(alloc)?;

@@ -21,8 +21,8 @@ mod words;
 
 pub use command::{
     Arguments, Between, Command, EditCommand, EditKind, Existing, ExportCommand, FolderCommand,
-    ImageCommand, ImageKind, ImportCommand, KeepCommand, Pairing, ReconcileCommand, ReplicaPlace,
-    ServeCommand,
+    ImageCommand, ImageKind, ImportCommand, KeepCommand, Pairing, ReconcileCommand,
+    ReplicaLocation, ServeCommand,
 };
 pub use error::LineError;
 pub use value::ValueName;

@@ -2,7 +2,7 @@
 ghost use Rattle.std.specs.Prelude.{◌≡◌, ◌≢◌, ◌↔◌, ℕ, IfOk, IfErr, OnErr, Some, None, IsTrue};
 ghost use Rattle.std.specs.Prelude.{IfSome, IfNone};
 ghost use Rattle.clap.specs.Words.{first_of, found_of, rows_of};
-ghost use Rattle.syn_cli.specs.Reads.{HasPlace, IsNumber, IsSet, folder_side_word, kind_word};
+ghost use Rattle.syn_cli.specs.Reads.{HasLocation, IsNumber, IsSet, folder_side_word, kind_word};
 ghost use Rattle.syn_cli.specs.Reads.{side_word};
 ghost use Rattle.syn_cli.specs.Verbs.{name_of};
 ghost use Rattle.syn_cli.specs.declared.error.LineError.TheVariants.{Value};
@@ -11,7 +11,7 @@ ghost use Rattle.syn_path.specs.declared.side.Side.{Side as Named};
 ghost use Rattle.syn_tree.specs.Modes.{mode_digits, mode_of};
 ghost use Rattle.syn_tree.specs.declared.mode.Mode.{Mode as Bits};
 
-use crate::command::{ImageKind, ReplicaPlace};
+use crate::command::{ImageKind, ReplicaLocation};
 use crate::error::LineError;
 use crate::value::ValueName;
 use clap::ArgMatches;
@@ -20,47 +20,49 @@ use syn_tree::Mode;
 
 /// The text that is given for the value.
 #[tactic(auto, using(crate::proofs::CommandLemmas::first_value_rows))]
-pub(crate) fn text<'a>(found: &ArgMatches<'a>, value: ValueName) -> Result<&'a str, LineError>
-    ensures ok { IfOk result (λ text. first_of (name_of value) (rows_of (found_of found.now))
+pub(crate) fn text<'a>(matches: &ArgMatches<'a>, value: ValueName) -> Result<&'a str, LineError>
+    ensures ok { IfOk result (λ text. first_of (name_of value) (rows_of (found_of matches.now))
         ≡ Some text.now) }
     ensures value { IfErr result (λ error. error ≡ Value value) }
     ensures nothing { OnErr result
-        (first_of (name_of value) (rows_of (found_of found.now)) ≡ None) }
+        (first_of (name_of value) (rows_of (found_of matches.now)) ≡ None) }
 {
-    found.get_str(value.as_str()).ok_or(LineError::Value(value))
+    matches
+        .get_str(value.as_str())
+        .ok_or(LineError::Value(value))
 }
 
 /// The text that is given for the value, if any is.
 #[tactic(auto, using(crate::proofs::CommandLemmas::first_value_rows))]
-pub(crate) fn optional_text<'a>(found: &ArgMatches<'a>, value: ValueName) -> Option<&'a str>
-    ensures some { IfSome result (λ text. first_of (name_of value) (rows_of (found_of found.now))
+pub(crate) fn optional_text<'a>(matches: &ArgMatches<'a>, value: ValueName) -> Option<&'a str>
+    ensures some { IfSome result (λ text. first_of (name_of value) (rows_of (found_of matches.now))
         ≡ Some text.now) }
     ensures none { IfNone result
-        (first_of (name_of value) (rows_of (found_of found.now)) ≡ None) }
+        (first_of (name_of value) (rows_of (found_of matches.now)) ≡ None) }
 {
-    found.get_str(value.as_str())
+    matches.get_str(value.as_str())
 }
 
 /// Whether the flag is among the words. `clap` gives a flag that is the text `true`.
 #[tactic(auto, using(crate::proofs::CommandLemmas::first_value_rows))]
-pub(crate) fn is_set(found: &ArgMatches<'_>, id: &str) -> bool
-    ensures { IsTrue result ↔ IsSet (rows_of (found_of found.now)) id.now }
+pub(crate) fn is_set(matches: &ArgMatches<'_>, id: &str) -> bool
+    ensures { IsTrue result ↔ IsSet (rows_of (found_of matches.now)) id.now }
 {
-    matches!(found.get_str(id), Some("true"))
+    matches!(matches.get_str(id), Some("true"))
 }
 
 /// The file or the server that is given.
-pub(crate) fn place<'a>(found: &ArgMatches<'a>) -> Result<ReplicaPlace<'a>, LineError>
-    ensures ok { IfOk result (λ place. HasPlace (rows_of (found_of found.now)) place) }
+pub(crate) fn location<'a>(matches: &ArgMatches<'a>) -> Result<ReplicaLocation<'a>, LineError>
+    ensures ok { IfOk result (λ location. HasLocation (rows_of (found_of matches.now)) location) }
     ensures value { IfErr result (λ error. error ≡ Value ValueName.File) }
     ensures nothing { OnErr result
-        (first_of (name_of ValueName.File) (rows_of (found_of found.now)) ≡ None) }
+        (first_of (name_of ValueName.File) (rows_of (found_of matches.now)) ≡ None) }
 {
-    let text = text(found, ValueName::File)?;
-    if is_set(found, "served") {
-        Ok(ReplicaPlace::Served(text))
+    let text = text(matches, ValueName::File)?;
+    if is_set(matches, "served") {
+        Ok(ReplicaLocation::Served(text))
     } else {
-        Ok(ReplicaPlace::File(text))
+        Ok(ReplicaLocation::File(text))
     }
 }
 

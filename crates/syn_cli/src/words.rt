@@ -8,7 +8,7 @@ ghost use Rattle.syn_cli.specs.declared.command.Command.{Command};
 ghost use Rattle.syn_cli.specs.inner.Lacking.{IsLackOf};
 
 use crate::command::Arguments;
-use crate::commands::syn_command;
+use crate::commands::clap_command;
 use crate::error::LineError;
 use crate::matched::command_of;
 use crate::value::ValueName;
@@ -50,23 +50,23 @@ pub fn read_words<'a>(alloc: Global, words: &'a [&'a str]) -> Result<Arguments<'
     ensures wrong { IfErr result (λ error. IfValue error
         (IsWrongValue (subcommand_of syn_app (map (λ word. word.now) words.entry.now)))) }
 {
-    let command = syn_command(alloc)?;
+    let command = clap_command(alloc)?;
     let matches = match command.try_get_matches_from(words) {
         Ok(matches) => matches,
         Err(error) => return Err(told(error)),
     };
-    let Some((name, found)) = matches.subcommand() else {
+    let Some((name, subcommand)) = matches.subcommand() else {
         return Err(LineError::Value(ValueName::Command));
     };
-    asked_of(name, found, is_verbose(&matches, found))
+    asked_of(name, subcommand, is_verbose(&matches, subcommand))
 }
 
 /// Whether more is to be told of the command: the flag may stand before the command or after it.
-fn is_verbose(matches: &ArgMatches<'_>, found: &ArgMatches<'_>) -> bool
+fn is_verbose(matches: &ArgMatches<'_>, subcommand: &ArgMatches<'_>) -> bool
     ensures { IsTrue result ↔ (IsSet (rows_of (found_of matches.now)) (codes "verbose")
-        ⊎ IsSet (rows_of (found_of found.now)) (codes "verbose")) }
+        ⊎ IsSet (rows_of (found_of subcommand.now)) (codes "verbose")) }
 {
-    is_set(matches, "verbose") || is_set(found, "verbose")
+    is_set(matches, "verbose") || is_set(subcommand, "verbose")
 }
 
 /// What a parse that failed is told as.
@@ -84,18 +84,18 @@ fn told(error: clap::Error) -> LineError
 /// The command of a name and its matches, and whether a refusal is to be explained.
 fn asked_of<'a>(
     name: &'a str,
-    found: &ArgMatches<'a>,
+    matches: &ArgMatches<'a>,
     is_verbose: bool,
 ) -> Result<Arguments<'a>, LineError>
     ensures ok { IfOk result (λ asked.
-        ReadsRows name.entry.now (rows_of (found_of found.now)) asked.command) }
+        ReadsRows name.entry.now (rows_of (found_of matches.now)) asked.command) }
     ensures verbose { IfOk result (λ asked. asked.is_verbose ≡ is_verbose) }
-    ensures lacks { IfErr result (IsLackOf name.entry.now (rows_of (found_of found.now))) }
+    ensures lacks { IfErr result (IsLackOf name.entry.now (rows_of (found_of matches.now))) }
 {
     let Some(verb) = read_verb(name) else {
         return Err(LineError::Value(ValueName::Command));
     };
-    let command = command_of(verb, found)?;
+    let command = command_of(verb, matches)?;
     Ok(Arguments {
         command,
         is_verbose,

@@ -4,4 +4,3 @@ pub mod ImportLemmas
 mod MigrateLemmas
 mod SentLemmas
 mod AskedLemmas
-mod ShownLemmas

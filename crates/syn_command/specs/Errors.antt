@@ -11,7 +11,7 @@ use Rattle.syn_user.specs.Refusals.{refusal_of as of_user}
 use Rattle.syn_folder.specs.Refusals.{refusal_of as of_folder}
 use Rattle.syn_command.specs.declared.error.CommandError.{CommandError}
 use Rattle.syn_command.specs.declared.error.CommandError.TheVariants.{Path, Open, Replica, Archive}
-use Rattle.syn_command.specs.declared.error.CommandError.TheVariants.{Refused, Device, Longer}
+use Rattle.syn_command.specs.declared.error.CommandError.TheVariants.{Refused, Device}
 use Rattle.syn_command.specs.declared.error.CommandError.TheVariants.{Memory, User, Folder}
 use Rattle.syn_cli.specs.declared.command.EditKind.{EditKind}
 use Rattle.syn_cli.specs.declared.command.EditKind.TheVariants.{Put}
@@ -26,7 +26,6 @@ refusal_of (Refused refusal) = cause_of refusal
 refusal_of (User error) = of_user error
 refusal_of (Folder error) = of_folder error
 refusal_of (Device error) = why.Device
-refusal_of Longer = why.Device
 refusal_of Memory = why.Memory
 
 -- the refusals of a stream that cannot be read or written

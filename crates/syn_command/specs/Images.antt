@@ -14,42 +14,43 @@ use Rattle.syn_archive.specs.Refusals.{IsOfFormat}
 use Rattle.syn_archive.specs.declared.error.ArchiveError.TheVariants.{Damaged}
 use Rattle.syn_command.specs.declared.error.CommandError.{CommandError}
 use Rattle.syn_command.specs.declared.error.CommandError.TheVariants as error
-use Rattle.syn_command.specs.declared.image.Image.{Image}
-use Rattle.syn_command.specs.declared.image.Image.TheVariants.{Replica, Archive}
+use Rattle.syn_command.specs.declared.image.OpenedImage.{OpenedImage}
+use Rattle.syn_command.specs.declared.image.OpenedImage.TheVariants.{Replica, Archive}
 use Rattle.syn_cli.specs.declared.command.ImageKind.{ImageKind}
 use Rattle.syn_cli.specs.declared.command.ImageKind.TheVariants as kind
 
 -- the bytes of the disk give what the image has
-abbrev pub IsOn : {D : Type 0} → {disk : Ghosts D} → List ℕ → Image D disk → Type 0
+abbrev pub IsOn : {D : Type 0} → {disk : Ghosts D} → List ℕ → OpenedImage D disk → Type 0
 IsOn bytes (Replica r) =
     replica_disk.DiskGives (replica.pair_of r) bytes (replica.standing_shown r)
 IsOn bytes (Archive a) = archive_disk.DiskStands (archive.pair_of a) bytes (archive.shown a)
 
 -- the disk that an image is on
-abbrev pub disk_under : {D : Type 0} → {disk : Ghosts D} → Image D disk → D
+abbrev pub disk_under : {D : Type 0} → {disk : Ghosts D} → OpenedImage D disk → D
 disk_under (Replica r) = replica.disk_of r
 disk_under (Archive a) = archive.disk_of a
 
 -- the letters that an image of its kind begins with
-abbrev pub letters_of : {D : Type 0} → {disk : Ghosts D} → Image D disk → List ℕ
+abbrev pub letters_of : {D : Type 0} → {disk : Ghosts D} → OpenedImage D disk → List ℕ
 letters_of (Replica r) = codes "SYNR"
 letters_of (Archive a) = codes "SYNA"
 
 -- it is an archive of this pair, and stands for this one
 abbrev pub StandsForArchive : {D : Type 0} → {disk : Ghosts D} → ℕ → model.Archive →
-    Image D disk → Type 0
+    OpenedImage D disk → Type 0
 StandsForArchive pair kept (Replica r) = ⊥
 StandsForArchive pair kept (Archive a) = (pair ≡ archive.pair_of a) × archive.Stands a kept
 
 -- it is a replica of this pair, and stands for this history
 abbrev pub StandsForHistory : {D : Type 0} → {disk : Ghosts D} → ℕ → History →
-    Image D disk → Type 0
+    OpenedImage D disk → Type 0
 StandsForHistory pair history (Replica r) =
     (pair ≡ replica.pair_of r) × replica.Stands r history
 StandsForHistory pair history (Archive a) = ⊥
 
 -- it is a new image of the kind, of this pair
-abbrev pub IsFormatted : {D : Type 0} → {disk : Ghosts D} → ImageKind → ℕ → Image D disk → Type 0
+abbrev pub IsFormatted : {D : Type 0} → {disk : Ghosts D} → ImageKind → ℕ → OpenedImage D disk →
+    Type 0
 IsFormatted kind.Replica pair image = StandsForHistory pair [] image
 IsFormatted kind.Archive pair image = StandsForArchive pair new_archive image
 

@@ -3,6 +3,8 @@ pub mod Errors
 pub mod Images
 pub mod Imports
 pub mod Printed
+pub mod Progresses
+pub mod SettledLines
 pub mod Shown
 pub mod Status
 pub mod Sent

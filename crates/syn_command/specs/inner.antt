@@ -1,2 +1,3 @@
 -- Definitions that no public clause reaches.
 pub mod Asking
+pub mod SessionLines

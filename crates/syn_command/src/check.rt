@@ -2,12 +2,12 @@
 ghost use Rattle.std.specs.Prelude.{◌≡◌, IfOk, IfErr, OnOk};
 ghost use Rattle.std.specs.Io.KnownBytes.{Appends};
 ghost use Rattle.std.specs.String.{string_bytes};
-ghost use Rattle.syn_command.specs.declared.image.Image.TheVariants as image;
+ghost use Rattle.syn_command.specs.declared.image.OpenedImage.TheVariants as image;
 ghost use Rattle.syn_command.specs.Errors.{IsOfStream};
 ghost use Rattle.syn_command.specs.Shown.{numbers_shown};
 
 use crate::error::CommandError;
-use crate::image::Image;
+use crate::image::OpenedImage;
 use std::alloc::{AllocError, Global};
 use std::io::Write;
 use syn_archive::Archive;
@@ -17,9 +17,9 @@ use syn_replica::Replica;
 /// Prints the line of numbers of the image.
 ///
 /// Refused 9 where the output cannot be written, and 11 where memory is refused.
-pub fn check_image<D: Disk, W: Write>(
+pub fn print_image_numbers<D: Disk, W: Write>(
     alloc: Global,
-    image: &Image<D>,
+    image: &OpenedImage<D>,
     output: &mut W,
 ) -> Result<(), CommandError>
     ensures printed { OnOk result (Appends (W.contents output.old) (W.contents output.new)
@@ -31,12 +31,12 @@ pub fn check_image<D: Disk, W: Write>(
 }
 
 /// The line of numbers of the image.
-fn numbers_line<D: Disk>(alloc: Global, image: &Image<D>) -> Result<String, AllocError>
+fn numbers_line<D: Disk>(alloc: Global, image: &OpenedImage<D>) -> Result<String, AllocError>
     ensures { IfOk result (λ line. string_bytes line ≡ numbers_shown image.now) }
 {
     match image {
-        Image::Replica(replica) => replica_numbers(alloc, replica),
-        Image::Archive(archive) => archive_numbers(alloc, archive),
+        OpenedImage::Replica(replica) => replica_numbers(alloc, replica),
+        OpenedImage::Archive(archive) => archive_numbers(alloc, archive),
     }
 }
 

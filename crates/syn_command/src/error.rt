@@ -21,7 +21,7 @@ use thiserror::Error;
 pub enum CommandError {
     /// The text is no path.
     Path(PathError),
-    /// The file is no disk, or somebody else has it.
+    /// The file is no disk, cannot become one, or somebody else has it.
     Open(OpenError),
     /// The replica refuses the call, or the disk has no replica.
     Replica(ReplicaError),
@@ -36,8 +36,6 @@ pub enum CommandError {
     /// Standard input cannot be read, standard output cannot be written, or the file cannot be
     /// made.
     Device(io::Error),
-    /// The file is longer than an image: to cut it would lose what somebody has there.
-    Longer,
     /// Memory was refused.
     Memory,
 }
@@ -55,7 +53,7 @@ impl CommandError {
             CommandError::Refused(refusal) => *refusal,
             CommandError::User(error) => error.refusal(),
             CommandError::Folder(error) => error.refusal(),
-            CommandError::Device(_) | CommandError::Longer => Refusal::Device,
+            CommandError::Device(_) => Refusal::Device,
             CommandError::Memory => Refusal::Memory,
         }
     }

@@ -23,7 +23,7 @@ use syn_replica::Replica;
 
 /// An image that was opened.
 #[derive(Drop)]
-pub enum Image<D: Disk> {
+pub enum OpenedImage<D: Disk> {
     Replica(Replica<D>),
     Archive(Archive<D>),
 }
@@ -34,7 +34,7 @@ pub enum Image<D: Disk> {
 /// Refused 9 where a device call fails, 18 where the disk holds no image, 26 where that is of
 /// version 1, 19 where it holds neither an archive nor a replica, and 11 where memory is refused.
 /// Nothing is written.
-pub fn open_image<D: Disk + Drop>(alloc: Global, disk: D) -> Result<Image<D>, CommandError>
+pub fn open_image<D: Disk + Drop>(alloc: Global, disk: D) -> Result<OpenedImage<D>, CommandError>
     ensures given { IfOk result (λ image. IsOn (D.seen disk) image) }
     ensures letters { IfOk result (λ image. (value : Value) → meaning (D.seen disk) ≡ Ok value
         → take 4 value.image ≡ letters_of image) }
@@ -49,9 +49,9 @@ pub fn open_image<D: Disk + Drop>(alloc: Global, disk: D) -> Result<Image<D>, Co
         Untouched D.seen D.may_leave D.moment D.left_since disk (disk_under image)) }
 {
     match Archive::open(alloc, disk, None) {
-        Ok(archive) => Ok(Image::Archive(archive)),
+        Ok(archive) => Ok(OpenedImage::Archive(archive)),
         Err((ArchiveError::Damaged, disk)) => match Replica::open(alloc, disk, None) {
-            Ok(replica) => Ok(Image::Replica(replica)),
+            Ok(replica) => Ok(OpenedImage::Replica(replica)),
             Err((error, _)) => Err(CommandError::Replica(error)),
         },
         Err((error, _)) => Err(CommandError::Archive(error)),
@@ -64,7 +64,10 @@ pub fn open_image<D: Disk + Drop>(alloc: Global, disk: D) -> Result<Image<D>, Co
 /// Refused 9 where a device call fails, 18 where the disk holds no image, 19 where it holds neither
 /// an archive nor a replica, 7 where it is of version 1 and its generation is the greatest, and 11
 /// where memory is refused; the disk comes back. Only after 9 may something be written.
-pub fn migrate_image<D: Disk + Drop>(alloc: Global, disk: D) -> Result<Image<D>, (CommandError, D)>
+pub fn migrate_image<D: Disk + Drop>(
+    alloc: Global,
+    disk: D,
+) -> Result<OpenedImage<D>, (CommandError, D)>
     // It stands for what the disk stands for, in whichever version, and the disk then gives it in
     // version 2.
     ensures archive { (version : Version) (number : ℕ) (kept : model.Archive) → number < 2 ^ 64
@@ -101,9 +104,9 @@ pub fn migrate_image<D: Disk + Drop>(alloc: Global, disk: D) -> Result<Image<D>,
         ⊎ Untouched D.seen D.may_leave D.moment D.left_since disk refused.1) }
 {
     match Archive::migrate(alloc, disk) {
-        Ok(archive) => Ok(Image::Archive(archive)),
+        Ok(archive) => Ok(OpenedImage::Archive(archive)),
         Err((ArchiveError::Damaged, disk)) => match Replica::migrate(alloc, disk) {
-            Ok(replica) => Ok(Image::Replica(replica)),
+            Ok(replica) => Ok(OpenedImage::Replica(replica)),
             Err((error, disk)) => Err((CommandError::Replica(error), disk)),
         },
         Err((error, disk)) => Err((CommandError::Archive(error), disk)),
@@ -118,17 +121,17 @@ pub fn format_image<D: Disk + Drop>(
     disk: D,
     kind: ImageKind,
     pair: u64,
-) -> Result<Image<D>, CommandError>
+) -> Result<OpenedImage<D>, CommandError>
     ensures formatted { IfOk result (IsFormatted kind pair) }
     ensures refusals { IfErr result (IsFormatRefusal kind) }
 {
     match kind {
         ImageKind::Replica => match Replica::format(alloc, disk, pair) {
-            Ok(replica) => Ok(Image::Replica(replica)),
+            Ok(replica) => Ok(OpenedImage::Replica(replica)),
             Err((error, _)) => Err(CommandError::Replica(error)),
         },
         ImageKind::Archive => match Archive::format(alloc, disk, pair) {
-            Ok(archive) => Ok(Image::Archive(archive)),
+            Ok(archive) => Ok(OpenedImage::Archive(archive)),
             Err((error, _)) => Err(CommandError::Archive(error)),
         },
     }

@@ -34,7 +34,7 @@ pub enum OnStranger {
 /// Makes what is at and below the path what stands in the folder, by edits of the user, all of them
 /// or none. Where it is that already, no edit is made. Where something that can stand in no replica
 /// is skipped, the replica keeps what it has there. What is skipped is told to `errors`, and then
-/// each edit where `told` says so.
+/// each edit where `progress` says so.
 ///
 /// Refused 7 where something can stand in no replica and is not skipped, and as `import_part` is.
 /// The disk comes back.
@@ -45,7 +45,7 @@ pub fn import_folder<D: Disk, F: Folder, E: Write>(
     path: &Path,
     folder: &F,
     on_stranger: OnStranger,
-    told: ProgressMode,
+    progress: ProgressMode,
     errors: &mut E,
 ) -> Result<Replica<D>, (CommandError, D)>
     ensures known { on_stranger ≡ OnStranger.Refuse → OnOk result (F.strangers folder.now ≡ []) }
@@ -76,7 +76,7 @@ pub fn import_folder<D: Disk, F: Folder, E: Write>(
     ensures refusals { IfErr result (λ refused. IsOfFolder refused.0 ⊎ IsOfEdits refused.0) }
 {
     match part_of(alloc, folder, on_stranger, replica.tree(), path, errors) {
-        Ok(part) => import_part(alloc, replica, user, path, &part, told, errors),
+        Ok(part) => import_part(alloc, replica, user, path, &part, progress, errors),
         Err(error) => Err((CommandError::from(error), replica.into_disk())),
     }
 }
@@ -110,8 +110,8 @@ pub fn part_of<F: Folder, E: Write>(
 }
 
 /// Puts the tree in the place of what is at and below the path, by edits of the user, all of them
-/// or none. Where it is there already, no edit is made. Each edit is told to `errors`, where `told`
-/// says so, once they are made.
+/// or none. Where it is there already, no edit is made. Each edit is told to `errors`, where
+/// `progress` says so, once they are made.
 ///
 /// Refused 2 where the path's parent is no directory, and 7 where the replica would pass a limit:
 /// that limit is told to `errors`. Else it is refused as the replica refuses edits, or the
@@ -122,7 +122,7 @@ pub fn import_part<D: Disk, E: Write>(
     user: u32,
     path: &Path,
     part: &Tree,
-    told: ProgressMode,
+    progress: ProgressMode,
     errors: &mut E,
 ) -> Result<Replica<D>, (CommandError, D)>
     ensures part { (history : History) → Stands replica history
@@ -152,7 +152,7 @@ pub fn import_part<D: Disk, E: Write>(
     ensures refusals { IfErr result (λ refused. IsOfFolder refused.0 ⊎ IsOfEdits refused.0) }
 {
     match plan_import(alloc, replica.tree(), path, part, errors) {
-        Ok(edits) => make_edits(alloc, replica, user, edits, told, errors),
+        Ok(edits) => make_edits(alloc, replica, user, edits, progress, errors),
         Err(error) => Err((CommandError::from(error), replica.into_disk())),
     }
 }
@@ -163,7 +163,7 @@ fn make_edits<D: Disk, E: Write>(
     replica: Replica<D>,
     user: u32,
     edits: Vec<Edit>,
-    told: ProgressMode,
+    progress: ProgressMode,
     errors: &mut E,
 ) -> Result<Replica<D>, (CommandError, D)>
     ensures made { (history : History) → Stands replica history
@@ -176,7 +176,7 @@ fn make_edits<D: Disk, E: Write>(
     ensures refused { IfErr result (λ refused. ¬ IsOfFolder refused.0) }
     ensures refusals { IfErr result (λ refused. IsOfEdits refused.0) }
 {
-    let lines = match lines_of(alloc, &edits, told) {
+    let lines = match lines_of(alloc, &edits, progress) {
         Ok(lines) => lines,
         Err(error) => return Err((CommandError::from(error), replica.into_disk())),
     };

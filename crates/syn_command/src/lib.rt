@@ -1,9 +1,9 @@
 //! What a command does with a disk, why it is refused, and the status that it ends with.
 //!
 //! An image on a disk is opened, made, shown and checked, an edit of a replica is made as a line
-//! asks for it, and of two sides it is told what a session would do. How a command came out is told
-//! on standard error, and is the exit status. Which disk it is, is the caller's to say: nothing
-//! here opens a file or a connection.
+//! asks for it, and of two servers it is told what a session would do. How a command came out is
+//! told on standard error, and is the exit status. Which disk it is, is the caller's to say:
+//! nothing here opens a file or a connection.
 //!
 //! # What it promises
 //!
@@ -27,7 +27,7 @@
 //!   They add the image's first line and a line for each path, in path order. Or they add the bytes
 //!   of the file, or the lines of what is strictly below the directory. They are refused 5 exactly
 //!   where nothing is there.
-//! - `check_image` adds the line of numbers of the image (`printed`).
+//! - `print_image_numbers` adds the line of numbers of the image (`printed`).
 //! - The status of an answer is exact: 0 for one that was done, 1 for one that was refused
 //!   (`report`).
 //! - `export_part` writes what is at a path of a tree into a folder, any that is a `Folder`. The
@@ -46,15 +46,13 @@
 //! - `send_edits` asks a server for such edits. Where it succeeds, they were asked for one after
 //!   another, and each was answered with the position after the one before (`made`). Else some of
 //!   them were, and at most the next one was asked for besides (`stopped`).
-//! - `plan_between` answers what a session would do. It lists both sides as a session lists
-//!   them: replicas that are open, or connections (`ListedSide`). It answers the plan of the two
-//!   scans and the marks, by a session's own plan (`items`). Nothing begins, nothing is carried,
-//!   and nothing is recorded. Each scan is by what its side replied, one listing after another
-//!   (`left`, `right`: `IsScanned`). It is refused for lack of memory, or where a side was not
-//!   scanned (`cause`: `NotScanned`). Then a listing was refused, or the reply to it ends a
-//!   session, or more were asked for than a scan has nodes. `plan_of_replicas` does so with two
-//!   replicas, whose plan is that of their trees, and whose replies are by their histories
-//!   (`NotShown`).
+//! - `plan_between` answers what a session of two servers would do. It lists both over their
+//!   connections as a session lists them. It answers the plan of the two scans and the marks
+//!   (`items`), as `syn_recon` has it. Nothing begins, nothing is carried, and nothing is recorded.
+//!   Each scan is by what its side replied, one listing after another (`left`, `right`:
+//!   `IsScanned`). It is refused for lack of memory, or where a side was not scanned (`cause`:
+//!   `NotScanned`). Then a listing was refused, or the reply to it ends a session, or more were
+//!   asked for than a scan has nodes.
 #![tactic(auto)]
 
 mod check;
@@ -67,24 +65,28 @@ mod import;
 mod outcome;
 mod planning;
 mod preview;
+mod progress;
 mod progress_mode;
 mod sending;
+mod session_lines;
 mod show;
 mod status;
 mod telling;
 
-pub use check::check_image;
+pub use check::print_image_numbers;
 pub use edit::{make_edit, read_edit};
 pub use error::CommandError;
 pub use export::export_part;
 pub use failure::Failure;
-pub use image::{Image, format_image, migrate_image, open_image};
+pub use image::{OpenedImage, format_image, migrate_image, open_image};
 pub use import::{OnStranger, import_folder, import_part, part_of};
 pub use outcome::{Outcome, outcome_of, outcome_planned};
 pub use planning::plan_import;
-pub use preview::{ListedSide, Planned, plan_between, plan_of_replicas};
+pub use preview::{SessionPreview, plan_between};
+pub use progress::SessionProgress;
 pub use progress_mode::ProgressMode;
 pub use sending::send_edits;
+pub use session_lines::{carried_line, marked_line};
 pub use show::{show_image, show_path};
 pub use status::Status;
-pub use telling::{print_meanings, report};
+pub use telling::{print_meanings, tell_answer};

@@ -1,35 +1,31 @@
-//! What a session would do, where none runs.
+//! What a session of two servers would do, where none runs.
 ghost use Rattle.std.specs.Prelude.{◌≡◌, ◌⊎◌, IfErr, IfOk, option_map};
+ghost use Rattle.syn_headline.specs.Side.{ListAt};
+ghost use Rattle.syn_message.specs.Replies.{IsLawfulReply, reply_of};
 ghost use Rattle.syn_path.specs.Sides.{which_of};
-ghost use Rattle.syn_model.specs.History.{History, tree_of};
-ghost use Rattle.syn_model.specs.Plan.{plan, scan_of as scan_of_tree};
+ghost use Rattle.syn_model.specs.Plan.{plan};
 ghost use Rattle.syn_model.specs.Refusal.{Memory};
 ghost use Rattle.syn_refusal.specs.Refusals.{cause_of};
-ghost use Rattle.syn_command.specs.Listings.{IsScanned, NotScanned, NotShown};
+ghost use Rattle.syn_command.specs.Listings.{IsScanned, IsUnlisted, NotScanned};
 ghost use Rattle.syn_command.specs.inner.Asking.{IsAsked};
 ghost use Rattle.syn_recon.specs.Items.{items_of};
-ghost use Rattle.syn_replica.specs.Replica.{Stands};
 ghost use Rattle.syn_scan.specs.Found.{IsWhole, scan_of};
 ghost use Rattle.syn_session.specs.Scanning.{found_of};
+ghost use Rattle.syn_user.specs.Sides.{IsReplied, side_line};
 
-use crate::preview::side::ReplicaSide;
 use std::alloc::Global;
-use syn_disk::Disk;
+use std::io::{Read, Write};
 use syn_mark::{MOST_NODES, MarkTree};
-use syn_path::Side;
-use syn_recon::Item;
+use syn_message::Reply;
+use syn_path::{Path, Side};
+use syn_recon::{Item, plan};
 use syn_refusal::Refusal;
-use syn_replica::Replica;
-use syn_scan::Scan;
-use syn_session::{PlanProgress, SideScan};
-
-mod side;
-
-pub use side::ListedSide;
+use syn_session::SideScan;
+use syn_user::SideConnection;
 
 /// What a session would do, and what both sides showed.
 #[derive(Debug, Drop)]
-pub struct Planned {
+pub struct SessionPreview {
     pub left: SideScan,
     pub right: SideScan,
     /// What would be done, in path order.
@@ -42,78 +38,49 @@ pub struct Planned {
 /// Refused as a session that scans the sides ends early: with what a side refuses a listing, 22
 /// where one has more than 4,096 nodes, 23 where its answers are none, and 11 where memory is
 /// refused.
-pub fn plan_between<L: ListedSide, R: ListedSide>(
+pub fn plan_between<R: Read, W: Write>(
     alloc: Global,
-    left: &mut L,
-    right: &mut R,
+    left: &mut SideConnection<R, W>,
+    right: &mut SideConnection<R, W>,
     archive: &MarkTree,
     preference: Option<Side>,
-) -> Result<Planned, Refusal>
+) -> Result<SessionPreview, Refusal>
     ensures items { IfOk result (λ planned. items_of planned.items.items
         ≡ plan (option_map which_of preference) (scan_of (found_of planned.left))
         (scan_of (found_of planned.right)) archive.now) }
-    ensures left { IfOk result (λ planned. IsScanned L.lists left.old planned.left left.new) }
-    ensures right { IfOk result (λ planned. IsScanned R.lists right.old planned.right right.new) }
+    ensures left { IfOk result (λ planned.
+        IsScanned (side_line R.remaining W.contents left.old) planned.left
+        (side_line R.remaining W.contents left.new)) }
+    ensures right { IfOk result (λ planned.
+        IsScanned (side_line R.remaining W.contents right.old) planned.right
+        (side_line R.remaining W.contents right.new)) }
 
     // Which side is not scanned, and why. The right is asked nothing where the left is not.
     ensures cause { IfErr result (λ why. (cause_of why ≡ Memory)
-        ⊎ ((NotScanned L.lists L.refuses left.old (cause_of why) left.new × (right.new ≡ right.old))
-        ⊎ NotScanned R.lists R.refuses right.old (cause_of why) right.new)) }
+        ⊎ ((NotScanned (side_line R.remaining W.contents left.old) (cause_of why)
+        (side_line R.remaining W.contents left.new) × (right.new ≡ right.old))
+        ⊎ NotScanned (side_line R.remaining W.contents right.old) (cause_of why)
+        (side_line R.remaining W.contents right.new))) }
 {
     let left = scan_side(alloc, left)?;
     let right = scan_side(alloc, right)?;
-    let items = items_between(alloc, left.found(), right.found(), archive, preference)?;
-    Ok(Planned { left, right, items })
-}
-
-/// The plan of a session of both replicas with an archive of these marks, refused as `plan_between`
-/// is. Each replica shows its tree.
-pub fn plan_of_replicas<L: Disk, R: Disk>(
-    alloc: Global,
-    left: &Replica<L>,
-    right: &Replica<R>,
-    archive: &MarkTree,
-    preference: Option<Side>,
-) -> Result<Planned, Refusal>
-    ensures items { (on_left on_right : History) → Stands left.now on_left
-        → Stands right.now on_right → IfOk result (λ planned. items_of planned.items.items
-        ≡ plan (option_map which_of preference) (scan_of_tree (tree_of on_left))
-        (scan_of_tree (tree_of on_right)) archive.now) }
-    ensures left { (history : History) → Stands left.now history → IfOk result
-        (λ planned. scan_of (found_of planned.left) ≡ scan_of_tree (tree_of history)) }
-    ensures right { (history : History) → Stands right.now history → IfOk result
-        (λ planned. scan_of (found_of planned.right) ≡ scan_of_tree (tree_of history)) }
-    ensures cause { (on_left on_right : History) → Stands left.now on_left
-        → Stands right.now on_right → IfErr result (λ why. (cause_of why ≡ Memory)
-        ⊎ (NotShown on_left (cause_of why) ⊎ NotShown on_right (cause_of why))) }
-{
-    let (mut left, mut right) = (ReplicaSide::new(left), ReplicaSide::new(right));
-    plan_between(alloc, &mut left, &mut right, archive, preference)
-}
-
-/// The items of a session's plan between two scans.
-fn items_between(
-    alloc: Global,
-    left: &Scan,
-    right: &Scan,
-    archive: &MarkTree,
-    preference: Option<Side>,
-) -> Result<Vec<Item>, Refusal>
-    ensures items { IfOk result (λ items. items_of items.items
-        ≡ plan (option_map which_of preference) (scan_of left.now) (scan_of right.now)
-        archive.now) }
-    ensures memory { IfErr result (λ why. cause_of why ≡ Memory) }
-{
-    let progress = PlanProgress::new(alloc, left, right, archive, preference);
-    Ok(progress.map_err(|error| error.refusal())?.items)
+    match plan(alloc, left.scan(), right.scan(), archive, preference) {
+        Ok(items) => Ok(SessionPreview { left, right, items }),
+        Err(error) => Err(error.refusal()),
+    }
 }
 
 /// What the side shows, once each of its directories was listed.
-fn scan_side<S: ListedSide>(alloc: Global, side: &mut S) -> Result<SideScan, Refusal>
-    ensures asked { IfOk result (λ scan. IsAsked S.lists side.old scan side.new) }
+fn scan_side<R: Read, W: Write>(
+    alloc: Global,
+    side: &mut SideConnection<R, W>,
+) -> Result<SideScan, Refusal>
+    ensures asked { IfOk result (λ scan. IsAsked (side_line R.remaining W.contents side.old) scan
+        (side_line R.remaining W.contents side.new)) }
     ensures whole { IfOk result (λ scan. IsWhole (found_of scan)) }
     ensures cause { IfErr result (λ why. (cause_of why ≡ Memory)
-        ⊎ NotScanned S.lists S.refuses side.old (cause_of why) side.new) }
+        ⊎ NotScanned (side_line R.remaining W.contents side.old) (cause_of why)
+        (side_line R.remaining W.contents side.new)) }
 {
     let Ok(mut scan) = SideScan::new(alloc) else {
         return Err(Refusal::Memory);
@@ -122,7 +89,7 @@ fn scan_side<S: ListedSide>(alloc: Global, side: &mut S) -> Result<SideScan, Ref
     for _ in 0..=MOST_NODES {
         match scan.next(alloc) {
             Ok(Some(path)) => {
-                let reply = side.list(alloc, &path)?;
+                let reply = list_side(alloc, side, &path)?;
                 scan.take(alloc, &path, reply)?;
             }
             Ok(None) => return Ok(scan),
@@ -130,4 +97,19 @@ fn scan_side<S: ListedSide>(alloc: Global, side: &mut S) -> Result<SideScan, Ref
         }
     }
     Err(Refusal::TooLarge)
+}
+
+/// The reply of the side to a listing of the directory. Refused as `SideConnection::list` is.
+fn list_side<R: Read, W: Write>(
+    alloc: Global,
+    side: &mut SideConnection<R, W>,
+    path: &Path,
+) -> Result<Reply, Refusal>
+    ensures lawful { IfOk result (λ reply. IsLawfulReply (reply_of reply)) }
+    ensures listed { IfOk result (λ reply. IsReplied (side_line R.remaining W.contents side.old)
+        (side_line R.remaining W.contents side.new) (ListAt path.now) (reply_of reply)) }
+    ensures refused { IfErr result (λ why. IsUnlisted (side_line R.remaining W.contents side.old)
+        (side_line R.remaining W.contents side.new) path.now (cause_of why)) }
+{
+    side.list(alloc, path).map_err(|error| error.refusal())
 }

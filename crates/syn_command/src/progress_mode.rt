@@ -5,7 +5,7 @@ use std::io::Write;
 use syn_tree::Edit;
 
 /// What a terminal takes for: back to the beginning of the line, and nothing in it.
-const CLEARED: &str = "\r\x1b[K";
+pub(crate) const CLEARED: &str = "\r\x1b[K";
 
 /// How much is told of the edits of an import, or of the items of a session or of a folder. What
 /// cannot be written is left out.
@@ -64,10 +64,10 @@ pub(crate) fn edit_line(alloc: Global, edit: &Edit) -> Result<String, AllocError
 pub(crate) fn lines_of(
     alloc: Global,
     edits: &[Edit],
-    told: ProgressMode,
+    progress: ProgressMode,
 ) -> Result<String, AllocError> {
     let mut lines = String::new(alloc);
-    if told.each {
+    if progress.each {
         for edit in edits {
             lines.push_str(&edit_line(alloc, edit)?)?;
         }

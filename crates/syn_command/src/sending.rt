@@ -13,8 +13,8 @@ use syn_tree::Edit;
 use syn_user::UserConnection;
 
 /// Asks a server for the edits, as edits of the user, and answers the position after them. The
-/// first is asked of a replica that has the position. As much of the edits as `told` says is told
-/// to `errors`.
+/// first is asked of a replica that has the position. As much of the edits as `progress` says is
+/// told to `errors`.
 ///
 /// Refused as the server refuses an edit: then those before it stand. Refused 13 where the answer
 /// to one shows that somebody else edits the replica: then that one stands, too.
@@ -24,7 +24,7 @@ pub fn send_edits<R: Read, W: Write, E: Write>(
     user: u32,
     position: u64,
     edits: Vec<Edit>,
-    told: ProgressMode,
+    progress: ProgressMode,
     errors: &mut E,
 ) -> Result<u64, CommandError>
     ensures last { IfOk result (λ last. last ≡ position + length edits.items) }
@@ -35,8 +35,8 @@ pub fn send_edits<R: Read, W: Write, E: Write>(
         (line_of R.remaining W.contents connection.old) position (map edit_of edits.items)
         (line_of R.remaining W.contents connection.new)) }
 {
-    let sent = send_each(alloc, connection, user, position, edits, told, errors);
-    told.end(errors);
+    let sent = send_each(alloc, connection, user, position, edits, progress, errors);
+    progress.end(errors);
     sent
 }
 
@@ -47,7 +47,7 @@ fn send_each<R: Read, W: Write, E: Write>(
     user: u32,
     position: u64,
     edits: Vec<Edit>,
-    told: ProgressMode,
+    progress: ProgressMode,
     errors: &mut E,
 ) -> Result<u64, CommandError>
     ensures last { IfOk result (λ last. last ≡ position + length edits.items) }
@@ -65,7 +65,7 @@ fn send_each<R: Read, W: Write, E: Write>(
         let line = edit_line(alloc, &edit)?;
         let made = connection.edit(alloc, user, edit)?;
         count = count.saturating_add(1);
-        told.tell(&line, count, all, "edits are made", errors);
+        progress.tell(&line, count, all, "edits are made", errors);
         last = next_position(last, made)?;
     }
     Ok(last)

@@ -9,7 +9,7 @@ ghost use Rattle.syn_model.specs.Refusal.{Absent};
 ghost use Rattle.syn_command.specs.Errors.{refusal_of, IsOfStream};
 
 use crate::error::CommandError;
-use crate::image::Image;
+use crate::image::OpenedImage;
 use std::alloc::Global;
 use std::io::Write;
 use syn_disk::Disk;
@@ -24,7 +24,7 @@ use syn_tree::{Found, Tree};
 /// Refused 9 where the output cannot be written, and 11 where memory is refused.
 pub fn show_image<D: Disk, W: Write>(
     alloc: Global,
-    image: &Image<D>,
+    image: &OpenedImage<D>,
     output: &mut W,
 ) -> Result<(), CommandError>
     ensures printed { OnOk result (Appends (W.contents output.old) (W.contents output.new)
@@ -32,8 +32,8 @@ pub fn show_image<D: Disk, W: Write>(
     ensures stream { IfErr result IsOfStream }
 {
     match image {
-        Image::Replica(replica) => Ok(show_replica(alloc, replica, output)?),
-        Image::Archive(archive) => Ok(show_archive(alloc, archive, output)?),
+        OpenedImage::Replica(replica) => Ok(show_replica(alloc, replica, output)?),
+        OpenedImage::Archive(archive) => Ok(show_archive(alloc, archive, output)?),
     }
 }
 

@@ -1,6 +1,6 @@
 //! What a run of the program tells the shell.
 ghost use Rattle.std.specs.Prelude.{◌≡◌};
-ghost use Rattle.syn_command.specs.Status.{code_of, status_in};
+ghost use Rattle.syn_command.specs.Status.{code_of};
 
 use crate::outcome::Outcome;
 
@@ -38,13 +38,17 @@ impl Status {
 }
 
 /// The status of what a command came to.
-pub fn status_in(outcome: Outcome) -> Status
-    ensures { result ≡ status_in outcome }
-{
-    match outcome {
-        Outcome::Done => Status::Done,
-        Outcome::Incomplete => Status::Incomplete,
-        Outcome::Conflicts => Status::Conflicts,
-        Outcome::Work => Status::Work,
+impl From<Outcome> for Status {
+    ghost use Rattle.syn_command.specs.Status.{status_in};
+
+    ghost from_gives = { λ outcome status. status ≡ status_in outcome };
+
+    fn from(outcome: Outcome) -> Status {
+        match outcome {
+            Outcome::Done => Status::Done,
+            Outcome::Incomplete => Status::Incomplete,
+            Outcome::Conflicts => Status::Conflicts,
+            Outcome::Work => Status::Work,
+        }
     }
 }

@@ -5,7 +5,7 @@ ghost use Rattle.syn_command.specs.Status.{status_of};
 use crate::error::CommandError;
 use crate::failure::Failure;
 use crate::outcome::Outcome;
-use crate::status::{Status, status_in};
+use crate::status::Status;
 use std::io::{self, Write};
 use syn_cli::{Between, Command, ImageCommand};
 use syn_disk::{DISK_SIZE, OpenError};
@@ -16,7 +16,7 @@ use syn_refusal::Refusal;
 /// one in plain words. Of a script the first faulty line is told.
 ///
 /// An error of `errors` itself is not told: there is nowhere left to tell it.
-pub fn report<E: Write>(
+pub fn tell_answer<E: Write>(
     asked: Option<&Command<'_>>,
     answer: &Result<Outcome, Failure>,
     errors: &mut E,
@@ -24,7 +24,7 @@ pub fn report<E: Write>(
     ensures { result ≡ status_of answer.now }
 {
     match answer {
-        Ok(outcome) => status_in(*outcome),
+        Ok(outcome) => Status::from(*outcome),
         Err(failure) => {
             tell_failure(asked, failure, errors);
             Status::Refused
@@ -70,18 +70,18 @@ fn refuse<E: Write>(error: &CommandError, errors: &mut E) {
 fn name_line<E: Write>(line: &Command<'_>, errors: &mut E) -> io::Result<()> {
     match line {
         Command::Image(image) => name_image_line(image, errors),
-        Command::Edit(edit) => write!(errors, "syn: {} in {}", edit.path, edit.place.as_str()),
+        Command::Edit(edit) => write!(errors, "syn: {} in {}", edit.path, edit.location.as_str()),
         Command::Export(line) => write!(
             errors,
             "syn: {} into {}",
-            line.place.as_str(),
+            line.location.as_str(),
             line.folder
         ),
         Command::Import(line) => write!(
             errors,
             "syn: {} into {}",
             line.folder,
-            line.place.as_str()
+            line.location.as_str()
         ),
         Command::Reconcile(line) => write!(errors, "syn: {} and {}", line.folder, line.file),
         Command::Serve(line) => {
@@ -109,11 +109,11 @@ fn name_image_line<E: Write>(line: &ImageCommand<'_>, errors: &mut E) -> io::Res
         | ImageCommand::Check { file }
         | ImageCommand::Migrate { file }
         | ImageCommand::Log { file, .. } => write!(errors, "syn: {file}"),
-        ImageCommand::Show { place } => write!(errors, "syn: {}", place.as_str()),
-        ImageCommand::ShowPath { place, path } => write!(
+        ImageCommand::Show { location } => write!(errors, "syn: {}", location.as_str()),
+        ImageCommand::ShowPath { location, path } => write!(
             errors,
             "syn: {path} in {}",
-            place.as_str()
+            location.as_str()
         ),
     }
 }
@@ -145,7 +145,6 @@ fn explain<E: Write>(line: &Command<'_>, error: &CommandError, errors: &mut E) {
         CommandError::Folder(FolderError::Changed(_)) => {
             writeln!(errors, ": somebody changes the folder")
         }
-        CommandError::Longer => writeln!(errors, ": the file is longer than an image"),
         _ if refusal == Refusal::OldVersion => {
             writeln!(errors, ": {plain}: run `syn migrate` on it")
         }

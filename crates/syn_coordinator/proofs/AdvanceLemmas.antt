@@ -15,8 +15,8 @@ use Rattle.syn_model.specs.Decision.{Item, ToLeft, ToRight, MarkSame, MarkDir, C
 use Rattle.syn_refusal.specs.declared.refusal.Refusal.TheVariants as refusal
 use Rattle.syn_coordinator.specs.Machines.{Journal}
 use Rattle.syn_coordinator.specs.Tries.{HoldsTried, IsShown, Tries}
-use Rattle.syn_coordinator.specs.declared.ended.Ended.{Ended}
-use Rattle.syn_coordinator.specs.declared.ended.Ended.TheVariants.{Early, Failed}
+use Rattle.syn_coordinator.specs.declared.session_end.SessionEnd.{SessionEnd}
+use Rattle.syn_coordinator.specs.declared.session_end.SessionEnd.TheVariants.{Early, Failed}
 use Rattle.syn_coordinator.specs.declared.due.RecordOutcome.{RecordOutcome}
 use Rattle.syn_coordinator.specs.declared.tried.Unconfirmed.{Unconfirmed}
 use Rattle.syn_coordinator.proofs.TriedLemmas.{compact_writes, failed_at, kept_quiet}
@@ -101,7 +101,7 @@ halted_not_up halted up = cc
 module _ (before : Status) (tried : Option Unconfirmed) (journal : Journal)
     (tries : Tries tried journal) where
   -- the machine is as it was
-  pub remembers_still : (how : Ended) → journal.status ≡ before →
+  pub remembers_still : (how : SessionEnd) → journal.status ≡ before →
       Remembers before tried journal how
   remembers_still how same = record {
     tries = tries;

@@ -7,7 +7,7 @@ use Rattle.std.proofs.lemmas.List.Elements.{Contains-push}
 use Rattle.std.proofs.lemmas.Option.{none-some}
 use Rattle.syn_disk.specs.declared.disk.Disk.{Ghosts}
 use Rattle.syn_headline.specs.Coordinator.{Exchange, HasPlan, Running, fault_of, hearing}
-use Rattle.syn_headline.specs.Coordinator.{Outstanding, is_not_dir, is_unstable, makes, stays}
+use Rattle.syn_headline.specs.Coordinator.{Outstanding, is_not_dir, took_not_dir, makes, stays}
 use Rattle.syn_headline.specs.Network.{Left, Right, Which, other}
 use Rattle.syn_headline.specs.Side.{Begin, Fetch, Listed, ListAt, NotDir, Replace, Request, Stage}
 use Rattle.syn_headline.specs.Side as said
@@ -24,8 +24,8 @@ use Rattle.syn_session.specs.Scanning.{WasListedAt, WasNoDirectoryAt, found_of}
 use Rattle.syn_coordinator.specs.declared.recorder.Recorder.{Recorder}
 use Rattle.syn_session.specs.declared.plan_progress.PlanProgress.{PlanProgress}
 use Rattle.syn_session.specs.declared.peer.PeerState.{PeerState}
-use Rattle.syn_coordinator.specs.declared.ended.Ended.{Ended}
-use Rattle.syn_coordinator.specs.declared.ended.Ended.TheVariants.{Early}
+use Rattle.syn_coordinator.specs.declared.session_end.SessionEnd.{SessionEnd}
+use Rattle.syn_coordinator.specs.declared.session_end.SessionEnd.TheVariants.{Early}
 use Rattle.syn_session.specs.declared.session.Session.{Session}
 use Rattle.syn_session.specs.Answering.{IsAnswering, IsHeard, exchange_of}
 use Rattle.syn_coordinator.specs.inner.Taking.{TakesEnd, TakesOn, TakesSo}
@@ -155,7 +155,7 @@ module _ {D : Type 0} {disk : Ghosts D} (old : Recorder D disk) (pair : ℕ) (jo
             (λ last. absurd (scans_further running.taken taken.side taken.request
             (heard.of_scan taken (Contains-push running.taken taken)) taken.reply fault last)))
 
-        begins_ending : (ended : Ended) →
+        begins_ending : (ended : SessionEnd) →
             EndsSo old new pair taken journal first progress left right ended →
             TakesEnd new.archive new.tried pair journal running taken later (written new) ended
         begins_ending ended so =
@@ -172,7 +172,7 @@ module _ {D : Type 0} {disk : Ghosts D} (old : Recorder D disk) (pair : ℕ) (jo
             (subst (λ l. Ends new.archive new.tried pair taken journal first so.0 progress l right
             ended) same_left so.2)))
 
-        pub begins_so : (result : Result Asks Ended) → MatchResult result
+        pub begins_so : (result : Result Asks SessionEnd) → MatchResult result
             (AsksSo old new pair taken journal first progress left right
             (running.taken ++ taken ∷ []))
             (EndsSo old new pair taken journal first progress left right) →
@@ -297,13 +297,13 @@ module _ (pair : ℕ) (journal : Journal) (before session : Session) (running : 
           (heard_so journal.value before session running number request reply is side answers)
 
       unstable : fault_of running.taken side request reply ≡ None →
-          is_unstable (hearing running taken) ≡ next.is_unstable
+          took_not_dir (hearing running taken) ≡ next.has_unstable_path
       unstable fault =
           let it = law carries_now.carried.transfer running.taken side request carries_now.is in
           unstable_then journal.value before session running number request reply is side
-          ∙ (ap (λ b. before.is_unstable || b) (is_stable running.taken side
+          ∙ (ap (λ b. before.has_unstable_path || b) (is_stable running.taken side
           (spec_of carries_now.carried.transfer) request it reply fault)
-          ∙ (or_false before.is_unstable ∙ sym answers.unstable))
+          ∙ (or_false before.has_unstable_path ∙ sym answers.unstable))
 
       tells_before : IsPlanProgress later left right (reached_by running) → Tells next running
       tells_before course_is = record {
@@ -327,7 +327,7 @@ module _ (pair : ℕ) (journal : Journal) (before session : Session) (running : 
           later l right (running.taken ++ taken ∷ []) asks) same_left so.asks_so.2))
           so.last)
 
-      carries_ending : (ended : Ended) → EndsCarrying old new pair taken journal
+      carries_ending : (ended : SessionEnd) → EndsCarrying old new pair taken journal
           (reached_by running) later left right running.taken ended →
           TakesEnd new.archive new.tried pair journal running taken next (written new) ended
       carries_ending ended (carrying.at_once why fault same is_machine quiet course_is) =
@@ -344,7 +344,7 @@ module _ (pair : ℕ) (journal : Journal) (before session : Session) (running : 
           (subst (λ l. Ends new.archive new.tried pair taken journal
           (reached_by running) so.0 later l right ended) same_left so.2)))
 
-      pub carries_so : (result : Result Asks Ended) → MatchResult result
+      pub carries_so : (result : Result Asks SessionEnd) → MatchResult result
           (CarriesOn old new pair taken journal (reached_by running) later left right running.taken)
           (EndsCarrying old new pair taken journal (reached_by running) later left right
           running.taken) →

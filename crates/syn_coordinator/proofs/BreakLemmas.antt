@@ -5,8 +5,9 @@ use Rattle.syn_archive.specs.Archive.{disk_of}
 use Rattle.syn_coordinator.specs.Recorders.{BreaksNothing, BreaksUnsent, broken}
 use Rattle.syn_coordinator.specs.Recorders.{FailsOrStops, TellsNone}
 use Rattle.syn_coordinator.specs.declared.recorder.Recorder.{Recorder}
-use Rattle.syn_coordinator.specs.declared.ended.Ended.{Ended}
-use Rattle.syn_coordinator.specs.declared.ended.Ended.TheVariants.{Early, Failed, Settled}
+use Rattle.syn_coordinator.specs.declared.session_end.SessionEnd.{SessionEnd}
+use Rattle.syn_coordinator.specs.declared.session_end.SessionEnd.TheVariants.{Early, Failed}
+use Rattle.syn_coordinator.specs.declared.session_end.SessionEnd.TheVariants.{PlanDone}
 use Rattle.syn_coordinator.specs.inner.Advancing.{Breaks, BreaksAs, BreaksBy}
 use Rattle.syn_disk.specs.Arms.{is_stopped}
 use Rattle.syn_disk.specs.declared.disk.Disk.{Ghosts}
@@ -46,8 +47,8 @@ module _ {D : Type 0} {disk : Ghosts D} where
       counted = second.counted ∙ first.counted;
     }
 
-    pub then_ends : (how : Ended) → BreaksAs middle new how → BreaksAs old new how
-    then_ends Settled nothing = then_nothing nothing
+    pub then_ends : (how : SessionEnd) → BreaksAs middle new how → BreaksAs old new how
+    then_ends PlanDone nothing = then_nothing nothing
     then_ends (Early why) nothing = then_nothing nothing
     then_ends Failed (inl unsent) = inl (record {
       broken_is = unsent.broken_is ∙ first.broken_is;
@@ -60,7 +61,7 @@ module _ {D : Type 0} {disk : Ghosts D} where
       counted = counted_first off.counted;
     })
 
-    pub then_breaks : {A : Type 0} (result : Result A Ended) → Breaks middle new result →
+    pub then_breaks : {A : Type 0} (result : Result A SessionEnd) → Breaks middle new result →
         Breaks old new result
     then_breaks (Ok went) nothing = then_nothing nothing
     then_breaks (Err how) breaks = then_ends how breaks
@@ -68,7 +69,7 @@ module _ {D : Type 0} {disk : Ghosts D} where
   -- what is told of it otherwise
   module _ (old new : Recorder D disk) where
     -- where lack of memory alone ends it
-    pub nothing_breaks : {A : Type 0} (result : Result A Ended) →
+    pub nothing_breaks : {A : Type 0} (result : Result A SessionEnd) →
         IfErr result (λ how. how ≡ Early refusal.Memory) → BreaksNothing old new →
         Breaks old new result
     nothing_breaks (Ok went) memory nothing = nothing

@@ -9,7 +9,7 @@ use Rattle.syn_archive.specs.declared.archive.Archive.{Archive}
 use Rattle.syn_disk.specs.declared.disk.Disk.{Ghosts}
 use Rattle.syn_headline.specs.Coordinator.{Advances, AsksOnce, Exchange, HasPlan, MayAsk}
 use Rattle.syn_headline.specs.Coordinator.{Outstanding, Running, Walk, fault_of, hearing, is_last}
-use Rattle.syn_headline.specs.Coordinator.{MayWait, is_unstable, numbered, stands}
+use Rattle.syn_headline.specs.Coordinator.{MayWait, took_not_dir, numbered, stands}
 use Rattle.syn_headline.specs.Network.{IsRepeat, Left, Right, Which, other}
 use Rattle.syn_headline.specs.Planning.{Log, Planned, WritesTo, seen_on}
 use Rattle.syn_headline.specs.Session.{IsStagedTo, WasTaken, first_total, is_wanted, record_for}
@@ -31,7 +31,7 @@ use Rattle.syn_propagate.specs.declared.transfer_spec.TransferSpec.{TransferSpec
 use Rattle.syn_coordinator.specs.Machines.{Journal}
 use Rattle.syn_session.specs.Scanning.{found_of}
 use Rattle.syn_session.specs.declared.plan_progress.PlanProgress.{PlanProgress}
-use Rattle.syn_coordinator.specs.declared.ended.Ended.{Ended}
+use Rattle.syn_coordinator.specs.declared.session_end.SessionEnd.{SessionEnd}
 use Rattle.syn_session.specs.declared.session.Session.{Session}
 use Rattle.syn_coordinator.specs.declared.tried.Unconfirmed.{Unconfirmed}
 use Rattle.syn_session.specs.Answering.{IsHeard, asks_alone, asks_of}
@@ -178,7 +178,7 @@ module _ {D : Type 0} {disk : Ghosts D} (new : Archive D disk) (pair : ℕ) (jou
     (running : Running) (taken : Exchange) (session : Session) (progress : PlanProgress)
     (is_course : session.progress ≡ Some progress)
     (heard : IsHeard session (hearing running taken))
-    (unstable : is_unstable (hearing running taken) ≡ session.is_unstable)
+    (unstable : took_not_dir (hearing running taken) ≡ session.has_unstable_path)
     (silent : (side : Which) → waiting_of (peer_of session side) ≡ [])
     (fault : fault_of running.taken taken.side taken.request taken.reply ≡ None) (before : Reached)
     (same_cursor : before.cursor ≡ running.cursor)
@@ -215,7 +215,7 @@ module _ {D : Type 0} {disk : Ghosts D} (new : Archive D disk) (pair : ℕ) (jou
   }
 
   -- it comes to its end
-  pub ends_course : (tried : Option Unconfirmed) (kept : List Kept) (ended : Ended) →
+  pub ends_course : (tried : Option Unconfirmed) (kept : List Kept) (ended : SessionEnd) →
       Ends new tried pair
       taken journal before kept progress (found_on session Left) (found_on session Right) ended →
       TakesEnd new tried pair journal running taken session kept ended

@@ -7,7 +7,7 @@ use Rattle.syn_archive.specs.declared.archive.Archive.{Archive}
 use Rattle.syn_coordinator.specs.Recorders.{BreaksOff, BreaksUnsent}
 use Rattle.syn_coordinator.specs.Recorders.{FailsOrStops as Counted}
 use Rattle.syn_coordinator.specs.declared.recorder.Recorder.{Recorder}
-use Rattle.syn_coordinator.specs.declared.ended.Ended.{Ended}
+use Rattle.syn_coordinator.specs.declared.session_end.SessionEnd.{SessionEnd}
 use Rattle.syn_coordinator.specs.inner.Advancing.{BreaksAs}
 use Rattle.syn_coordinator.specs.inner.Taking.{TakesEnd, at_once, ends, goes_down}
 use Rattle.syn_disk.specs.Arms.{is_stopped}
@@ -57,7 +57,7 @@ module _ {D : Type 0} {disk : Ghosts D} (old new : Recorder D disk) where
 
   -- the session ended in the call
   pub ends_by_failure : (pair : ℕ) (journal : Journal) → journal.status ≡ Up → (running : Running)
-      (taken : Exchange) (session : Session) (kept : List Kept) (ended : Ended) →
+      (taken : Exchange) (session : Session) (kept : List Kept) (ended : SessionEnd) →
       TakesEnd new.archive new.tried pair journal running taken session kept ended →
       BreaksAs old new ended → IsHalted new.archive → FailsOrStops
   ends_by_failure pair journal up running taken session kept _

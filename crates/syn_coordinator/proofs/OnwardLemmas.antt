@@ -22,7 +22,7 @@ use Rattle.syn_coordinator.specs.inner.Carrying.{AsksLater, CarriesOn, EndsCarry
 use Rattle.syn_session.specs.Carrying.{IsCarriedOut, TakesAnswer}
 use Rattle.syn_coordinator.specs.inner.Settling.{AsksSo, EndsSo, HasCome, IsPast, IsQuiet}
 use Rattle.syn_session.specs.Stages.{AreAskedBefore, Reached, plan_in}
-use Rattle.syn_coordinator.specs.declared.ended.Ended.{Ended}
+use Rattle.syn_coordinator.specs.declared.session_end.SessionEnd.{SessionEnd}
 use Rattle.syn_coordinator.specs.inner.Walking.{IsAtItem, Passes}
 use Rattle.syn_coordinator.proofs.PassLemmas.{asks_here, at_turn, some_in, turn_asks, turn_ends}
 use Rattle.syn_coordinator.proofs.PassLemmas.{turn_further}
@@ -81,14 +81,14 @@ module _ {D : Type 0} {disk : Ghosts D} (pair : ℕ) (taken : Exchange) (journal
           );
     }
 
-    pub ends_later : (how : Ended) →
+    pub ends_later : (how : SessionEnd) →
         EndsSo middle new pair taken past.3.journal past.3.after later left right how →
         EndsSo old new pair taken journal before later left right how
     unfolding come
     ends_later how so =
         turn_ends pair taken journal before left right all old middle progress come new later how so
 
-    pub later_so : (result : Result Asks Ended) → MatchResult result
+    pub later_so : (result : Result Asks SessionEnd) → MatchResult result
         (AsksSo middle new pair taken past.3.journal past.3.after later left right all)
         (EndsSo middle new pair taken past.3.journal past.3.after later left right) →
         MatchResult result (AsksLater old new pair taken journal before later left right all)
@@ -126,7 +126,7 @@ module _ {D : Type 0} {disk : Ghosts D} (pair : ℕ) (taken : Exchange) (journal
   -- it is past the item
   pub goes_later : (old new : Recorder D disk) (progress : PlanProgress) →
       fault_of all taken.side taken.request taken.reply ≡ None →
-      (result : Result Asks Ended) → MatchResult result
+      (result : Result Asks SessionEnd) → MatchResult result
       (AsksLater old new pair taken journal before progress left right (all ++ taken ∷ []))
       (EndsSo old new pair taken journal before progress left right) →
       MatchResult result (CarriesOn old new pair taken journal before progress left right all)

@@ -24,8 +24,8 @@ use Rattle.syn_session.specs.declared.plan_progress.Carried.{Carried}
 use Rattle.syn_session.specs.Carrying.{AsksOne}
 use Rattle.syn_session.specs.declared.plan_progress.PlanProgress.{PlanProgress}
 use Rattle.syn_session.specs.declared.session.Asks.{Asks}
-use Rattle.syn_coordinator.specs.declared.ended.Ended.{Ended}
-use Rattle.syn_coordinator.specs.declared.ended.Ended.TheVariants.{Early, Settled}
+use Rattle.syn_coordinator.specs.declared.session_end.SessionEnd.{SessionEnd}
+use Rattle.syn_coordinator.specs.declared.session_end.SessionEnd.TheVariants.{Early, PlanDone}
 use Rattle.syn_session.specs.Passing.{refused_at}
 use Rattle.syn_session.specs.Plans.{Plan}
 use Rattle.syn_coordinator.specs.inner.Settling.{AsksSo, EndsSo, HasCome, IsPast, IsQuiet, PassesOn}
@@ -44,9 +44,9 @@ use Rattle.syn_session.proofs.CarryingLemmas.{is_carried}
 
 -- ---- what is answered
 
-module _ {P G : Type 0} (A : Asks → Type 0) (E : Ended → Type 0) (more : P → G) where
+module _ {P G : Type 0} (A : Asks → Type 0) (E : SessionEnd → Type 0) (more : P → G) where
   -- something may be asked
-  pub further_so : (result : Result (Option Asks) Ended) →
+  pub further_so : (result : Result (Option Asks) SessionEnd) →
       MatchResult result (λ next. MatchOption next P A) E →
       MatchResult result (λ next. MatchOption next G A) E
   further_so (Ok None) so = more so
@@ -81,7 +81,7 @@ module _ {D : Type 0} {disk : Ghosts D} (pair : ℕ) (taken : Exchange) (journal
       (progress : PlanProgress) →
       IsPlanProgress progress left right before →
       slice_get (plan_in progress left right) progress.cursor ≡ None →
-      Ends archive tried pair taken journal before [] progress left right Settled
+      Ends archive tried pair taken journal before [] progress left right PlanDone
   ends_settled archive tried is untried quiet progress course_is none =
       ends (walk_at journal before) before
       (stands (walk_at journal before)) refl refl (keeps_none before)
@@ -115,7 +115,7 @@ module _ {D : Type 0} {disk : Ghosts D} (pair : ℕ) (taken : Exchange) (journal
   pub ends_here : (recorder : Recorder D disk) → IsMachine recorder.archive pair journal →
       IsQuiet recorder journal → (was later : PlanProgress) →
       IsPlanProgress was left right before →
-      later ≡ was → (how : Ended) → how ≡ Early refusal.Memory →
+      later ≡ was → (how : SessionEnd) → how ≡ Early refusal.Memory →
       EndsSo recorder recorder pair taken journal before later left right how
   ends_here recorder is quiet was later course_is same how memory = (
     [],
@@ -186,7 +186,7 @@ module _ {D : Type 0} {disk : Ghosts D} (pair : ℕ) (taken : Exchange) (journal
     still_quiet quiet = (come.5, come.2.passes.quiet quiet)
 
     -- it runs out of turns
-    pub no_turn_left : journal.writing ≡ None → (how : Ended) → how ≡ Early refusal.Memory →
+    pub no_turn_left : journal.writing ≡ None → (how : SessionEnd) → how ≡ Early refusal.Memory →
         EndsSo first middle pair taken journal before progress left right how
     no_turn_left quiet how memory = (
       come.0,
@@ -250,7 +250,7 @@ module _ {D : Type 0} {disk : Ghosts D} (pair : ℕ) (taken : Exchange) (journal
       turn_further asks so = refl
 
       -- it ends
-      pub turn_ends : (how : Ended) →
+      pub turn_ends : (how : SessionEnd) →
           EndsSo middle last pair taken come.2.journal come.2.after later left right how →
           EndsSo first last pair taken journal before later left right how
       turn_ends how so = (

@@ -6,7 +6,7 @@ use Rattle.std.proofs.lemmas.Bool.{false≢true}
 use Rattle.syn_disk.specs.declared.disk.Disk.{Ghosts}
 use Rattle.syn_headline.specs.Coordinator.{AsksNext, CoordinatorMachine, CoordinatorTakes, EndsFor}
 use Rattle.syn_headline.specs.Coordinator.{Exchange, IsExpected, Running, asked_in}
-use Rattle.syn_headline.specs.Coordinator.{asking, after_taking, ignores, is_unstable, report_of}
+use Rattle.syn_headline.specs.Coordinator.{asking, after_taking, ignores, took_not_dir, report_of}
 use Rattle.syn_headline.specs.Coordinator.{sent_now, takes}
 use Rattle.syn_headline.specs.Coordinator as model
 use Rattle.syn_headline.specs.Network.{Left, Message, Right, Which}
@@ -21,7 +21,7 @@ use Rattle.syn_coordinator.specs.declared.recorder.Recorder.{Recorder}
 use Rattle.syn_coordinator.specs.Machines.{IsMachine}
 use Rattle.syn_coordinator.specs.declared.coordinator.Coordinator.{Coordinator}
 use Rattle.syn_coordinator.specs.Tries.{Tries}
-use Rattle.syn_coordinator.specs.declared.ended.Ended.{Ended}
+use Rattle.syn_coordinator.specs.declared.session_end.SessionEnd.{SessionEnd}
 use Rattle.syn_session.specs.declared.session.Asks.{Asks}
 use Rattle.syn_session.specs.declared.session.Session.{Session}
 use Rattle.syn_coordinator.specs.inner.Answered.{Answered, goes_down, goes_on, reported}
@@ -41,7 +41,8 @@ use Rattle.std.proofs.lemmas.Option.{none-some}
 
 -- what a session tells stays with its number, its plan and whether it is unstable
 pub tells_same : (old new : Session) (running : Running) → new.number ≡ old.number →
-    new.is_unstable ≡ old.is_unstable → new.progress ≡ old.progress → Tells old running →
+    new.has_unstable_path ≡ old.has_unstable_path → new.progress ≡ old.progress →
+    Tells old running →
     Tells new running
 tells_same old new running number unstable progress tells = record {
   number = tells.number ∙ sym number;
@@ -69,8 +70,8 @@ module _ (pair : ℕ) (machine : CoordinatorMachine) (running : Running) (taken 
       (asked : (side : Which) →
       IsAskedOn session.number (peer_of session side) (peer_of next side) (asks_of asks side))
       (number : next.number ≡ session.number)
-      (preferred : next.preference ≡ session.preference) (unstable : next.is_unstable ≡
-      session.is_unstable)
+      (preferred : next.preference ≡ session.preference) (unstable : next.has_unstable_path ≡
+      session.has_unstable_path)
       (progress : next.progress ≡ session.progress) where
     abbrev heard : Running
     heard = reaching running taken on.after
@@ -168,7 +169,7 @@ module _ (pair : ℕ) (machine : CoordinatorMachine) (running : Running) (taken 
         (subst (λ (r : Recorder D disk). TakesOn r.archive pair machine.journal running taken
         session (written r) asks) (sym same) on) told)
 
-    ends_now : (session : Session) (kept : List Kept) (ended : Ended) →
+    ends_now : (session : Session) (kept : List Kept) (ended : SessionEnd) →
         TakesEnd new.recorder.archive new.recorder.tried pair machine.journal running taken session
         kept ended →
         ((now : Running) → Tells session now →
@@ -193,7 +194,7 @@ module _ (pair : ℕ) (machine : CoordinatorMachine) (running : Running) (taken 
         walks.goes down) stopped down leaves refl tries
 
     pub ends_so : (recorder : Recorder D disk) → new.recorder ≡ recorder → (session : Session)
-        (ended : Ended) (messages : List Message) → messages ≡ [] →
+        (ended : SessionEnd) (messages : List Message) → messages ≡ [] →
         TakesEnd recorder.archive recorder.tried pair machine.journal running taken session
         (written recorder) ended → ((now : Running) → Tells session now →
         report_shown new ≡ Some (report_of now (ended_by ended))) →

@@ -28,8 +28,8 @@ use Rattle.syn_coordinator.specs.Machines.{IsMachine, Journal}
 use Rattle.syn_session.specs.declared.plan_progress.PlanProgress.{PlanProgress}
 use Rattle.syn_coordinator.specs.declared.due.RecordOutcome.{RecordOutcome}
 use Rattle.syn_coordinator.specs.declared.due.RecordOutcome.TheVariants as due
-use Rattle.syn_coordinator.specs.declared.ended.Ended.{Ended}
-use Rattle.syn_coordinator.specs.declared.ended.Ended.TheVariants.{Early}
+use Rattle.syn_coordinator.specs.declared.session_end.SessionEnd.{SessionEnd}
+use Rattle.syn_coordinator.specs.declared.session_end.SessionEnd.TheVariants.{Early}
 use Rattle.syn_coordinator.specs.declared.tried.Unconfirmed.{Unconfirmed}
 use Rattle.syn_coordinator.proofs.TriedLemmas.{tries_none}
 use Rattle.syn_coordinator.specs.inner.Advancing.{Advanced, EndsAs, ended, kept_by, kept_it}
@@ -90,7 +90,8 @@ module _ {D : Type 0} {disk : Ghosts D} (new : Archive D disk) (tried : Option U
       -- the machine is down
       pub is_cut_off : (was : Option Unconfirmed) → was ≡ None → (due : RecordOutcome) →
           Settles new pair journal what due → TriesBy new what was tried due →
-          is_stopped (disk.arms (disk_of new)) ≡ true → (progress : PlanProgress) (how : Ended) →
+          is_stopped (disk.arms (disk_of new)) ≡ true → (progress : PlanProgress)
+          (how : SessionEnd) →
           Ends new tried pair taken journal before (kept_by what due) progress left right how
       is_cut_off was none due settles tries cut progress how =
           by due (from_none was none due settles tries)
@@ -165,7 +166,8 @@ module _ {D : Type 0} {disk : Ghosts D} (new : Archive D disk) (tried : Option U
               by (stopped became later advances down cut leaves tries) =
                   absurd (false≢true (sym goes ∙ cut))
 
-      pub is_ended : (was : Option Unconfirmed) → was ≡ None → (it : RecordOutcome) (how : Ended) →
+      pub is_ended : (was : Option Unconfirmed) → was ≡ None → (it : RecordOutcome)
+          (how : SessionEnd) →
           EndsAs it how → Settles new pair journal what it → TriesBy new what was tried it →
           Ends new tried pair taken journal before [] progress left right how
       is_ended was none it how so settles tries =

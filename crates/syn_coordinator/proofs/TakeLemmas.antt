@@ -10,7 +10,7 @@ use Rattle.syn_model.specs.Archive as model
 use Rattle.syn_refusal.specs.declared.refusal.Refusal.{Refusal}
 use Rattle.syn_coordinator.specs.Machines.{IsMachine, Journal}
 use Rattle.syn_coordinator.specs.Tries.{Tries}
-use Rattle.syn_coordinator.specs.declared.ended.Ended.TheVariants.{Early}
+use Rattle.syn_coordinator.specs.declared.session_end.SessionEnd.TheVariants.{Early}
 use Rattle.syn_session.specs.declared.session.Asks.{Asks}
 use Rattle.syn_session.specs.declared.session.Session.{Session}
 use Rattle.syn_coordinator.specs.declared.tried.Unconfirmed.{Unconfirmed}

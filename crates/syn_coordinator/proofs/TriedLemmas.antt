@@ -75,7 +75,7 @@ compact_writes pair machine journal (not_compacted status arms failures is meets
 -- the longest payload that fits is five bytes shorter than what is left
 pub room_left : {D : Type 0} {disk : Ghosts D} (archive : Archive D disk) →
     room_shown archive ≡ left_shown archive - 5
-room_left archive = by archive.machine.journal.gate
+room_left archive = by archive.journaled.journal.gate
   where
     by : (gate : ℕ) → 4194304 - gate - 6 ≡ 4194304 - 1 - gate - 5
     by gate = omega arith

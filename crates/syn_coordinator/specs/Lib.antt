@@ -5,4 +5,5 @@ pub mod Machines
 pub mod Tries
 pub mod Steps
 pub mod RecordOutcome
+pub mod Refusals
 pub mod inner

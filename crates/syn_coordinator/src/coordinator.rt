@@ -12,23 +12,23 @@ ghost use Rattle.syn_path.specs.Sides.{which_of};
 ghost use Rattle.syn_refusal.specs.Refusals.{cause_of};
 ghost use Rattle.syn_model.specs.Archive.{Archive as Keeping, Session as Begun};
 ghost use Rattle.syn_model.specs.Refusal.{Memory, first_cause};
-ghost use Rattle.syn_session.specs.Refusals.{CountsFailures, refusal_of};
+ghost use Rattle.syn_coordinator.specs.Refusals.{CountsFailures, refusal_of};
 ghost use Rattle.syn_session.specs.Reports.{report_model};
 ghost use Rattle.syn_session.specs.Sendings.{messages_of};
 ghost use Rattle.syn_session.specs.Sessions.{IsSession, Tells, begin_messages, begun};
 ghost use Rattle.syn_session.specs.declared.session.Session.{Session as Ran};
 ghost use Rattle.syn_image.specs.Archives.{kept_of};
 
-use crate::Unconfirmed;
-use crate::ended::Ended;
 use crate::recorder::Recorder;
-use std::alloc::Global;
+use crate::session_end::SessionEnd;
+use crate::{StartError, Unconfirmed};
+use std::alloc::{AllocError, Global};
 use syn_archive::Archive;
 use syn_disk::Disk;
 use syn_image::{Kept, SESSION_LENGTH};
 use syn_path::Side;
 use syn_refusal::Refusal;
-use syn_session::{Report, Sending, Session, SessionError};
+use syn_session::{Report, Sending, Session};
 
 mod answers;
 mod journal;
@@ -138,11 +138,10 @@ impl<D: Disk> Coordinator<D> {
         self.report.as_ref()
     }
 
-    /// What the last start that was answered Ok or 9, or the last `on_reply`, whichever came later,
-    /// wrote into the archive, in order. With it comes what was answered 9 in that call: the record
-    /// that was sent to the disk and not kept, which the archive may have when it is opened again.
-    /// Where the checkpoint before a record failed, none was sent. Another opening of the archive
-    /// changes neither.
+    /// The records that the last call wrote, in order, and the one that it sent to the disk and
+    /// was refused 9, if any. The last call is a `start` that was answered Ok or 9, or an
+    /// `on_reply`. The archive may have the refused record when it is opened again, which changes
+    /// neither answer. Where the checkpoint before a record failed, none was sent.
     pub fn kept(&self) -> (&[Kept], Option<&Kept>)
         ensures written { map kept_of result.0.now ≡ written self.now }
         ensures broken { option_map (λ kept. kept_of kept.now) result.1 ≡ broken self.now }
@@ -170,27 +169,27 @@ impl<D: Disk> Coordinator<D> {
         &mut self,
         alloc: Global,
         preference: Option<Side>,
-    ) -> Result<Vec<Sending>, SessionError>
+    ) -> Result<Vec<Sending>, StartError>
         // It is the step of a coordinator that starts, also where its device fails or is stopped.
         ensures step { (pair : ℕ) (machine : CoordinatorMachine) → Stands self.old pair machine
             → MatchResult result
             (λ sends. Does self.old self.new pair (CoordinatorStarts pair
             (option_map which_of preference) machine)
             (written self.new) (messages_of sends.items))
-            (λ e. e ≡ SessionError.Device
+            (λ e. e ≡ StartError.Device
             → Does self.old self.new pair (CoordinatorStarts pair
             (option_map which_of preference) machine) [] []) }
 
         // Any other refusal is the first cause that stands, and changes nothing.
         ensures refused { (pair : ℕ) (machine : CoordinatorMachine) → Stands self.old pair machine
-            → IfErr result (λ e. e ≢ SessionError.Device
+            → IfErr result (λ e. e ≢ StartError.Device
             → (first_cause (all_causes pair machine) ≡ Some (refusal_of e))
             × Stands self.new pair machine) }
 
         // It starts, or its device fails, only where no cause stands: no session runs then.
         ensures allowed { (pair : ℕ) (machine : CoordinatorMachine) → Stands self.old pair machine
             → MatchResult result (λ _. first_cause (refusals_of pair machine) ≡ None)
-            (λ e. e ≡ SessionError.Device → first_cause (refusals_of pair machine) ≡ None) }
+            (λ e. e ≡ StartError.Device → first_cause (refusals_of pair machine) ≡ None) }
         ensures failures { MatchResult result
             (λ _. D.failures (device_of self.new) ≡ D.failures (device_of self.old))
             (λ e. CountsFailures e (D.failures (device_of self.old))
@@ -201,9 +200,9 @@ impl<D: Disk> Coordinator<D> {
         ensures report { MatchResult result (λ _. report_shown self.new ≡ None)
             (λ _. report_shown self.new ≡ report_shown self.old) }
         ensures whole { OnOk result (broken self.new ≡ None) }
-        ensures breaks { result ≡ Err SessionError.Device → (written self.new ≡ [])
+        ensures breaks { result ≡ Err StartError.Device → (written self.new ≡ [])
             × (broken self.new ≡ Some (Begun (session_shown (archive_of self.old) + 1))) }
-        ensures stays { IfErr result (λ e. e ≢ SessionError.Device
+        ensures stays { IfErr result (λ e. e ≢ StartError.Device
             → (written self.new ≡ written self.old) × (broken self.new ≡ broken self.old)
             × (tried_shown self.new ≡ tried_shown self.old)) }
     {
@@ -225,26 +224,26 @@ impl<D: Disk> Coordinator<D> {
     }
 
     /// Why a session cannot be started, but for lack of memory and a device that fails.
-    fn check_start(&self) -> Result<(), SessionError>
+    fn check_start(&self) -> Result<(), StartError>
         ensures refused { (pair : ℕ) (machine : CoordinatorMachine) → Stands self.now pair machine
             → MatchResult result (λ _. first_cause (refusals_of pair machine) ≡ None)
             (λ e. first_cause (refusals_of pair machine) ≡ Some (refusal_of e)) }
-        ensures no_call { IfErr result (λ e. e ≢ SessionError.Device) }
+        ensures no_call { IfErr result (λ e. e ≢ StartError.Device) }
         ensures idle { OnOk result (runs self.now ≡ false) }
         ensures up { OnOk result (¬ IsHalted (archive_of self.now)) }
         ensures fits { OnOk result (session_shown (archive_of self.now) + 1 < 2 ^ 64) }
     {
         if self.recorder.archive.is_halted() {
-            return Err(SessionError::Halted);
+            return Err(StartError::Halted);
         }
         if self.running.is_some() {
-            return Err(SessionError::Busy);
+            return Err(StartError::Busy);
         }
         if self.recorder.archive.last_session() == u64::MAX {
-            return Err(SessionError::Full);
+            return Err(StartError::Full);
         }
         if self.recorder.archive.room() < SESSION_LENGTH {
-            return Err(SessionError::JournalFull);
+            return Err(StartError::JournalFull);
         }
         Ok(())
     }
@@ -276,20 +275,20 @@ impl<D: Disk> Coordinator<D> {
             return Vec::new(alloc);
         };
         if session.is_worn() {
-            return self.end(alloc, Ended::Early(Refusal::NoAnswer));
+            return self.end(alloc, SessionEnd::Early(Refusal::NoAnswer));
         }
         match session.waiting(alloc) {
             Ok(sends) => {
                 session.count_resend();
                 sends
             }
-            Err(_) => self.end(alloc, Ended::Early(Refusal::Memory)),
+            Err(_) => self.end(alloc, SessionEnd::Early(Refusal::Memory)),
         }
     }
 
     /// Ends the session that runs, if one does, and keeps its report. Nothing is sent then. It
     /// takes no memory.
-    fn end(&mut self, alloc: Global, ended: Ended) -> Vec<Sending>
+    fn end(&mut self, alloc: Global, ended: SessionEnd) -> Vec<Sending>
         ensures running { self.new.running ≡ None }
         ensures recorder { self.new.recorder ≡ self.old.recorder }
         ensures report { (session : Ran) (running : Running) → self.old.running ≡ Some session
@@ -312,7 +311,7 @@ fn first_requests(
     number: u64,
     pair: u64,
     preference: Option<Side>,
-) -> Result<(Session, Vec<Sending>), SessionError>
+) -> Result<(Session, Vec<Sending>), AllocError>
     ensures begun { (archive : Keeping)
         → IfOk result (λ first. IsSession archive first.0
         (begun (option_map which_of preference) number pair)) }
@@ -320,7 +319,6 @@ fn first_requests(
         ≡ begin_messages number pair) }
     ensures number { IfOk result (λ first. first.0.number ≡ number) }
     ensures fits { pair < 2 ^ 64 }
-    ensures memory { IfErr result (λ e. e ≡ SessionError.Memory) }
 {
     let session = Session::new(alloc, number, pair, preference)?;
     match session.waiting(alloc) {
@@ -333,12 +331,12 @@ fn first_requests(
 }
 
 /// What ended the session early, if anything did.
-fn refusal_in(ended: Ended) -> Option<Refusal>
+fn refusal_in(ended: SessionEnd) -> Option<Refusal>
     ensures { option_map cause_of result ≡ ended_by ended }
 {
     match ended {
-        Ended::Settled => None,
-        Ended::Early(why) => Some(why),
-        Ended::Failed => Some(Refusal::Device),
+        SessionEnd::PlanDone => None,
+        SessionEnd::Early(why) => Some(why),
+        SessionEnd::Failed => Some(Refusal::Device),
     }
 }

@@ -24,7 +24,7 @@
 //!   wrote and how the session ended. The reply has to be one that can be sent (`lawful`), as the
 //!   decoder gives it.
 //! - Where a record was sent to the disk in `on_reply` and not kept, `kept` has it as what was
-//!   answered 9, which is what `tried` has. Else it has none: no call failed, or one of a
+//!   answered 9, which is what `tried` has. Otherwise it has none: no call failed, or one of a
 //!   checkpoint before the record did (`breaks`).
 //! - Where the archive of a machine that was up is halted after `start`, `on_reply` or
 //!   `checkpoint`, a device call failed in it, unless the machine stopped (`halts`).
@@ -53,18 +53,20 @@
 //!   a stop right after the checkpoint (`failures`). The pair stays (`pair`).
 //! - `refusal_for` is why the archive refuses the record, but for its journal and its device.
 //! - `Unconfirmed` is a record that was being written as a device call failed, with the room and
-//!   the generation that the archive showed (`IsTriedBy`). `found` gives it where the archive,
-//!   which was opened again, has less room in the same generation (`found_in`).
+//!   the generation that the archive showed (`IsTriedBy`). `recovered_record` gives it where the
+//!   archive, which was opened again, has less room in the same generation (`found_in`).
 //! - `Tries tried machine`: what is remembered is what the machine's journal was writing, and
 //!   nothing is remembered where it was writing nothing.
 #![tactic(auto)]
 
 mod coordinator;
 mod due;
-mod ended;
+mod error;
 mod recorder;
+mod session_end;
 mod tried;
 
 pub use coordinator::Coordinator;
 pub use due::{RecordOutcome, keep_due, refusal_for};
-pub use tried::{Unconfirmed, found};
+pub use error::StartError;
+pub use tried::{Unconfirmed, recovered_record};

@@ -13,15 +13,14 @@ ghost use Rattle.syn_disk.specs.Arms.{is_stopped};
 ghost use Rattle.syn_headline.specs.Machine.{Halted, Up};
 ghost use Rattle.syn_image.specs.Archives.{kept_for, kept_of};
 ghost use Rattle.syn_model.specs.Archive.{Session as Begun};
-ghost use Rattle.syn_session.specs.Refusals.{CountsFailures};
+ghost use Rattle.syn_coordinator.specs.Refusals.{CountsFailures};
 
-use crate::{RecordOutcome, Unconfirmed, found, keep_due};
+use crate::{RecordOutcome, StartError, Unconfirmed, keep_due, recovered_record};
 use std::alloc::{AllocError, Global};
 use syn_archive::{Archive, ArchiveError};
 use syn_disk::Disk;
 use syn_image::{ItemRecord, Kept};
 use syn_refusal::Refusal;
-use syn_session::SessionError;
 
 mod carried;
 mod taking;
@@ -37,14 +36,14 @@ pub(crate) struct Recorder<D: Disk> {
     broke: Broken,
 }
 
-/// The record that was sent to the disk and refused 9 in the last call that could write.
+/// The record that the last writing call sent to the disk and that was refused 9.
 #[derive(Drop)]
 pub(crate) enum Broken {
-    /// Nothing was.
+    /// There is none.
     Nothing,
-    /// It is what was tried last.
+    /// It stands in `tried`.
     AsTried,
-    /// It is this, and the archive was opened again since.
+    /// This copy, which was made when the archive was opened again.
     Copied(Kept),
 }
 
@@ -116,7 +115,7 @@ impl<D: Disk> Recorder<D> {
 
     /// Keeps the number of the next session in the archive. Refused 9 where a device call fails,
     /// and 11 where memory is refused.
-    pub(crate) fn keep_session(&mut self, alloc: Global, number: u64) -> Result<(), SessionError>
+    pub(crate) fn keep_session(&mut self, alloc: Global, number: u64) -> Result<(), StartError>
         requires up { ¬ IsHalted self.old.archive }
         requires fits { session_shown self.old.archive + 1 < 2 ^ 64 }
         requires number { number ≡ session_shown self.old.archive + 1 }
@@ -124,11 +123,11 @@ impl<D: Disk> Recorder<D> {
             → OnOk result (KeepsSo self.new.archive pair journal (Begun number)
             (Begun number ∷ []) Up) }
         ensures device { (pair : ℕ) (journal : Journal) → IsMachine self.old.archive pair journal
-            → result ≡ Err SessionError.Device
+            → result ≡ Err StartError.Device
             → KeepsSo self.new.archive pair journal (Begun number) [] Halted }
         ensures memory { (pair : ℕ) (journal : Journal) → IsMachine self.old.archive pair journal
-            → IfErr result (λ e. (e ≡ SessionError.Device)
-            ⊎ ((e ≡ SessionError.Memory) × IsMachine self.new.archive pair journal)) }
+            → IfErr result (λ e. (e ≡ StartError.Device)
+            ⊎ ((e ≡ StartError.Memory) × IsMachine self.new.archive pair journal)) }
         ensures failures { MatchResult result
             (λ _. D.failures (disk_of self.new.archive) ≡ D.failures (disk_of self.old.archive))
             (λ e. CountsFailures e (D.failures (disk_of self.old.archive))
@@ -136,10 +135,10 @@ impl<D: Disk> Recorder<D> {
         ensures written { OnOk result (written self.new ≡ Begun number ∷ []) }
         ensures whole { OnOk result (broken self.new ≡ None) }
         ensures untried { OnOk result (self.new.tried ≡ self.old.tried) }
-        ensures breaks { result ≡ Err SessionError.Device → (written self.new ≡ [])
+        ensures breaks { result ≡ Err StartError.Device → (written self.new ≡ [])
             × (broken self.new ≡ Some (Begun number))
             × HoldsTried self.new.archive (Begun number) self.new.tried }
-        ensures stays { IfErr result (λ e. e ≢ SessionError.Device
+        ensures stays { IfErr result (λ e. e ≢ StartError.Device
             → (written self.new ≡ written self.old) × (broken self.new ≡ broken self.old)
             × (self.new.tried ≡ self.old.tried)) }
     {
@@ -157,12 +156,12 @@ impl<D: Disk> Recorder<D> {
 
     /// What a session is refused whose number was not kept. After a device call that failed, it is
     /// what was tried last.
-    fn not_begun(&mut self, alloc: Global, error: ArchiveError, number: u64) -> SessionError
+    fn not_begun(&mut self, alloc: Global, error: ArchiveError, number: u64) -> StartError
         ensures archive { self.new.archive ≡ self.old.archive }
-        ensures device { result ≡ SessionError.Device → (error ≡ ArchiveError.Device)
+        ensures device { result ≡ StartError.Device → (error ≡ ArchiveError.Device)
             × (self.new.written.items ≡ []) × (self.new.broke ≡ Broken.AsTried)
             × HoldsTried self.new.archive (Begun number) self.new.tried }
-        ensures other { (result ≡ SessionError.Device) ⊎ ((result ≡ SessionError.Memory)
+        ensures other { (result ≡ StartError.Device) ⊎ ((result ≡ StartError.Memory)
             × (error ≢ ArchiveError.Device) × (self.new ≡ self.old)) }
     {
         match error {
@@ -170,10 +169,10 @@ impl<D: Disk> Recorder<D> {
                 self.written = Vec::new(alloc);
                 self.tried = Some(Unconfirmed::new(Kept::Session(number), &self.archive));
                 self.broke = Broken::AsTried;
-                SessionError::Device
+                StartError::Device
             }
             // What else refuses a session was looked at before.
-            _ => SessionError::Memory,
+            _ => StartError::Memory,
         }
     }
 
@@ -238,6 +237,6 @@ impl<D: Disk> Recorder<D> {
             return None;
         }
         self.broke = broke;
-        found(self.tried.take(), &self.archive)
+        recovered_record(self.tried.take(), &self.archive)
     }
 }

@@ -44,7 +44,7 @@ impl Unconfirmed {
 }
 
 /// The record that was tried, where the archive, which was opened again, has it.
-pub fn found<D: Disk>(tried: Option<Unconfirmed>, archive: &Archive<D>) -> Option<Kept>
+pub fn recovered_record<D: Disk>(tried: Option<Unconfirmed>, archive: &Archive<D>) -> Option<Kept>
     ensures { option_map kept_of result ≡ found_in tried archive.now }
 {
     match tried {

@@ -2,7 +2,7 @@
 ghost use Rattle.syn_shared.specs.Shared.{IsFor};
 
 use crate::ending::Ending;
-use crate::told::Told;
+use crate::told::ToldLines;
 use log::{Log, info, warn};
 use std::alloc::{AllocError, Global};
 use std::fs::Files;
@@ -14,11 +14,10 @@ use syn_folder::{EditedFolder, FolderError, Glimpse, SystemFolder, take_glimpse}
 use syn_lock::Pass;
 use syn_path::Side;
 use syn_recon::Item;
-use syn_reconcile::{Outcome, ReconcileError, Report, WhenEmpty, reconcile_shared};
+use syn_reconcile::{ReconcileError, Report, Settlement, WhenEmpty, reconcile_shared};
 use syn_refusal::Refusal;
 use syn_replica::{ROOM_FOR_EDITS, Replica};
-use syn_serve::{UpkeepStep, keep_up};
-use syn_shared::SharedReplica;
+use syn_shared::{SharedReplica, UpkeepStep, keep_up};
 
 /// So often a folder is read that looks the same: what was written just as it was read may look as
 /// what was written then.
@@ -78,14 +77,14 @@ where
 
 /// What is known since the last look.
 #[derive(Drop)]
-struct Known {
+struct SinceLastLook {
     /// How the folder looked before it was read.
     glimpse: Option<Glimpse>,
     /// The position of the replica then.
     position: u64,
     /// How often the folder was read since it looks so and the replica has this position.
     looks: u8,
-    told: Told,
+    told: ToldLines,
 }
 
 /// Why a look did not come to its end.
@@ -112,15 +111,15 @@ where
     A: Disk + Drop,
     requires { IsFor shared.now pass }
 {
-    let mut known = Known {
+    let mut since = SinceLastLook {
         glimpse: None,
         position: 0,
         looks: 0,
-        told: Told::new(alloc),
+        told: ToldLines::new(alloc),
     };
     for _ in rt.forever() {
         let is_over = ending.is_over(rt);
-        look(rt, alloc, shared, &mut pass, &mut side, &mut known);
+        look(rt, alloc, shared, &mut pass, &mut side, &mut since);
         if is_over {
             return;
         }
@@ -135,7 +134,7 @@ fn look<H, D, F, A>(
     shared: &SharedReplica<D>,
     pass: &mut Pass<Replica<D>>,
     side: &mut FolderSide<'_, F, A>,
-    known: &mut Known,
+    since: &mut SinceLastLook,
 )
 where
     H: Wait + Log,
@@ -147,18 +146,18 @@ where
 {
     let seen = take_glimpse(alloc, side.files, side.root).ok();
     let position = shared.position(pass);
-    if !known.is_news(seen, position) {
+    if !since.is_news(seen, position) {
         return;
     }
     make_room(rt, alloc, shared, pass);
-    let answer = make_same(rt, alloc, shared, pass, side, &mut known.told);
-    let _ = tell(rt, alloc, side.root, &answer, &mut known.told);
+    let answer = make_same(rt, alloc, shared, pass, side, &mut since.told);
+    let _ = tell(rt, alloc, side.root, &answer, &mut since.told);
     if is_passing(&answer) {
-        known.looks = 0;
+        since.looks = 0;
     }
 }
 
-impl Known {
+impl SinceLastLook {
     /// Takes up how the folder looks and which position the replica has. Whether there may be
     /// something to do.
     fn is_news(&mut self, seen: Option<Glimpse>, position: u64) -> bool {
@@ -204,7 +203,7 @@ fn make_same<H, D, F, A>(
     shared: &SharedReplica<D>,
     pass: &mut Pass<Replica<D>>,
     side: &mut FolderSide<'_, F, A>,
-    told: &mut Told,
+    told: &mut ToldLines,
 ) -> Result<Report, LookError>
 where
     H: Wait + Log,
@@ -243,7 +242,7 @@ fn tell<H: Log>(
     alloc: Global,
     root: &str,
     answer: &Result<Report, LookError>,
-    told: &mut Told,
+    told: &mut ToldLines,
 ) -> Result<(), AllocError> {
     match answer {
         Ok(report) => tell_report(rt, alloc, report, told)?,
@@ -262,18 +261,18 @@ fn tell_report<H: Log>(
     rt: &H,
     alloc: Global,
     report: &Report,
-    told: &mut Told,
+    told: &mut ToldLines,
 ) -> Result<(), AllocError> {
     for settled in &report.settled {
         let path = settled.path();
-        match settled.outcome() {
-            Outcome::Done => {
+        match settled.settlement() {
+            Settlement::Done => {
                 let side = side_of(&settled.item);
                 info!(rt; "folder carried into the {side}: {path}");
             }
-            Outcome::Marked => {}
-            Outcome::Conflict => told.tell(rt, format!(in alloc; "folder conflict {path}")?)?,
-            Outcome::Refused(why) => {
+            Settlement::Marked => {}
+            Settlement::Conflict => told.tell(rt, format!(in alloc; "folder conflict {path}")?)?,
+            Settlement::Refused(why) => {
                 let number = why.number();
                 told.tell(rt, format!(in alloc; "folder refused {number} {path}")?)?;
             }

@@ -11,8 +11,7 @@ use syn_disk::Disk;
 use syn_lock::{Naming, Pass};
 use syn_refusal::Refusal;
 use syn_replica::Replica;
-use syn_serve::{ROOM_IN_SHORT_JOURNAL, UpkeepStep, keep_up};
-use syn_shared::{SharedError, SharedReplica};
+use syn_shared::{ROOM_IN_SHORT_JOURNAL, SharedError, SharedReplica, UpkeepStep, keep_up};
 
 /// Makes a step for each ring of the bell, until it is told to end. In a quiet moment after that
 /// it makes another one, which leaves the journal short, and so the next opening of the image.
@@ -56,34 +55,23 @@ fn tell<H: Wait + Log, D: Disk, L: Naming<Replica<D>>>(
             info!(server.rt; "checkpoint {generation}");
         }
         UpkeepStep::Reopened(Ok(())) => info!(server.rt; "reopened"),
-        UpkeepStep::Checkpointed(Err(error)) => tell_refused(server, error),
-        UpkeepStep::Reopened(Err(error)) => tell_failed(server, error),
+        UpkeepStep::Checkpointed(Err(error)) => {
+            tell_refused(server.rt, "checkpoint", error);
+            // A checkpoint that failed left the replica halted, and nobody else may come to ring.
+            if let Refusal::Device = error.refusal() {
+                server.bell.ring(server.rt);
+            }
+        }
+        // The next answer rings for another one.
+        UpkeepStep::Reopened(Err(error)) => tell_refused(server.rt, "reopening", error),
     }
 }
 
-/// Logs a checkpoint that was refused. One that was refused 9 left the replica halted, and nobody
-/// else may come to ring.
-fn tell_refused<H: Wait + Log, D: Disk, L: Naming<Replica<D>>>(
-    server: &Server<'_, H, D, L>,
-    error: SharedError,
-) {
+/// Logs a call of this name that was refused, unless the lock was taken (12).
+fn tell_refused<H: Log>(rt: &H, name: &str, error: SharedError) {
     match error.refusal() {
         Refusal::Busy => {}
-        why => warn!(server.rt; "checkpoint refused {} {why}", why.number()),
-    }
-    if let Refusal::Device = error.refusal() {
-        server.bell.ring(server.rt);
-    }
-}
-
-/// Logs a reopening that was refused. The next answer rings for another.
-fn tell_failed<H: Wait + Log, D: Disk, L: Naming<Replica<D>>>(
-    server: &Server<'_, H, D, L>,
-    error: SharedError,
-) {
-    match error.refusal() {
-        Refusal::Busy => {}
-        why => warn!(server.rt; "reopening refused {} {why}", why.number()),
+        why => warn!(rt; "{name} refused {} {why}", why.number()),
     }
 }
 

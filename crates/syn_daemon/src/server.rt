@@ -89,7 +89,7 @@ pub fn serve<H: Threads + Wait + Clock + Log + Sync, D: Disk + Send, G: Gates>(
     serve_within(rt, alloc, shared, listener, bounds, gates)
 }
 
-/// The same, and keeps a folder the same as the replica meanwhile, by a thread of its own. It
+/// Serves, and keeps a folder the same as the replica meanwhile, by a thread of its own: so it
 /// serves up to 61 connections at once. It logs `folder carried into the replica: PATH` and
 /// `folder carried into the folder: PATH` for what is carried, and once, as long as it stays so,
 /// `folder conflict PATH`, `folder refused NUMBER PATH`, `folder skipped TEXT` for what no replica
@@ -175,7 +175,9 @@ fn start_companion<'s, E, C: Companion + Send + Drop + 's>(
     scope.spawn(move || companion.keep()).is_ok()
 }
 
-/// The same within other bounds, refused as `serve` is.
+/// Serves with other numbers of connections and workers and other room.
+///
+/// Refused as `serve` is.
 pub fn serve_within<H: Threads + Wait + Clock + Log + Sync, D: Disk + Send, G: Gates>(
     rt: &H,
     alloc: Global,
@@ -189,7 +191,9 @@ pub fn serve_within<H: Threads + Wait + Clock + Log + Sync, D: Disk + Send, G: G
     serve_shared::<H, Replica<D>, SharedReplica<D>, G>(rt, alloc, shared, listener, bounds, gates)
 }
 
-/// The same of any state under a lock, which this call names.
+/// Names the lock of any state, so that its pools' type can, and serves the state under it.
+///
+/// Refused as `serve` is.
 fn serve_shared<H, S, X, G>(
     rt: &H,
     alloc: Global,
@@ -205,11 +209,13 @@ where
     G: Gates,
     ensures { IfErr result (λ why. (cause_of why ≡ NoSeat) ⊎ (cause_of why ≡ Memory)) }
 {
-    serve_named::<H, S, X, G, Brand>(rt, alloc, shared, listener, bounds, gates)
+    serve_under::<H, S, X, G, Brand>(rt, alloc, shared, listener, bounds, gates)
 }
 
-/// The same of the lock that `L` names.
-fn serve_named<H, S, X, G, L>(
+/// Fills both pools with passes of the lock that `L` names, and starts the threads.
+///
+/// Refused as `serve` is.
+fn serve_under<H, S, X, G, L>(
     rt: &H,
     alloc: Global,
     shared: &X,

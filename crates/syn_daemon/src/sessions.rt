@@ -24,7 +24,7 @@ use syn_disk::Disk;
 use syn_path::Side;
 use syn_refusal::Refusal;
 use syn_shared::SharedReplica;
-use syn_sync::{Driver, Link, SessionWatch};
+use syn_sync::{Driver, SessionConnection, SessionWatch};
 
 /// Drives one session, which prefers a side or none, with the servers at these addresses, each
 /// `HOST:PORT`, and closes both connections. The coordinator has the report.
@@ -215,8 +215,8 @@ fn drive<C: Disk, V: SessionWatch>(
     ensures ended { OnOk result (runs coordinator.new ≡ false) }
     ensures goes { OnOk result (is_stopped (C.Disk.arms (device_of coordinator.new)) ≡ false) }
 {
-    let left = Link::new(alloc, streams.left, streams.left);
-    let right = Link::new(alloc, streams.right, streams.right);
+    let left = SessionConnection::new(alloc, streams.left, streams.left);
+    let right = SessionConnection::new(alloc, streams.right, streams.right);
     Driver::new(left, right).run(alloc, coordinator, preference, &mut streams, watch)
 }
 

@@ -4,15 +4,15 @@ use std::alloc::{AllocError, Global};
 
 /// The lines that were told of the last look, and those of this one.
 #[derive(Drop)]
-pub(crate) struct Told {
+pub(crate) struct ToldLines {
     last: Vec<String>,
     now: Vec<String>,
 }
 
-impl Told {
+impl ToldLines {
     /// Nothing was told.
-    pub(crate) fn new(alloc: Global) -> Told {
-        Told {
+    pub(crate) fn new(alloc: Global) -> ToldLines {
+        ToldLines {
             last: Vec::new(alloc),
             now: Vec::new(alloc),
         }

@@ -68,7 +68,7 @@ fn first_row<'a>(
 fn is_same(left: &MarkEntry, right: &MarkEntry) -> bool
     ensures { result ≡ is_same_content left.now.1 right.now.1 }
 {
-    is_same_mark(*left.standing(), *right.standing())
+    is_same_mark(*left.content(), *right.content())
 }
 
 /// Both are directories, or files with one mode and equal digests.

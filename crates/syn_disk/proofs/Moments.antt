@@ -68,9 +68,9 @@ module _ (content bytes : List ℕ) (at : ℕ) (size : length content ≡ DISK_S
         },
       )
 
-pub only_settled : (content : List ℕ) (is_written : ℕ → Bool) → length content ≡ DISK_SIZE →
+pub only_durable : (content : List ℕ) (is_written : ℕ → Bool) → length content ≡ DISK_SIZE →
     ((i : ℕ) → is_written i ≡ false) → Only content (MayLeave content is_written)
-only_settled content is_written size none c left =
+only_durable content is_written size none c left =
     ext_get_or 0 c content (left.whole ∙ sym size) (λ i _. left.kept i (none i))
 
 module _ {S : Type 0} (may_leave : S → List ℕ → Type 0) (past : List S) (old new : S) where

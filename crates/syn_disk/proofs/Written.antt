@@ -6,17 +6,18 @@ use Rattle.syn_disk.specs.Moments.{MayLeave}
 use Rattle.syn_disk.specs.Extent.{is_in_some}
 use Rattle.syn_disk.specs.Mirror.{FileMayLeave, bytes_of, length-bytes}
 use Rattle.syn_disk.specs.declared.disk.TheConstants.{DISK_SIZE}
-use Rattle.syn_disk.specs.declared.file.image.Image.{Image}
+use Rattle.syn_disk.specs.declared.file.disk_bytes.DiskBytes.{DiskBytes}
 use Rattle.syn_disk.proofs.Extents.{is_in_some-push, outside}
 use Rattle.syn_disk.proofs.Moments.{left_before_write}
 use Rattle.syn_disk.proofs.Overwritten.{length-overwritten, overwritten-below, overwritten-after}
 
-in_bytes : (image : Image) (at : ℕ) (bytes : List ℕ) → at + length bytes ≤ DISK_SIZE →
+in_bytes : (image : DiskBytes) (at : ℕ) (bytes : List ℕ) → at + length bytes ≤ DISK_SIZE →
     at + length bytes ≤ length (bytes_of image)
 in_bytes image at bytes fits = omega (arith, length-bytes image)
 
 -- a write is also one that was torn
-pub torn_overwritten : (image : Image) (at : ℕ) (bytes : List ℕ) → at + length bytes ≤ DISK_SIZE →
+pub torn_overwritten : (image : DiskBytes) (at : ℕ) (bytes : List ℕ) →
+    at + length bytes ≤ DISK_SIZE →
     Torn at (length bytes) (bytes_of image) (overwritten (bytes_of image) at bytes)
 torn_overwritten image at bytes fits = record {
   size = length-overwritten (bytes_of image) at bytes (in_bytes image at bytes fits);
@@ -29,7 +30,8 @@ torn_overwritten image at bytes fits = record {
 
 -- once its range is marked, a stop leaves what it might have left before, with any bytes in the
 -- range
-pub file_left_before_write : (old new : Image) (ranges : List (ℕ × ℕ)) (at : ℕ) (bytes : List ℕ) →
+pub file_left_before_write : (old new : DiskBytes) (ranges : List (ℕ × ℕ)) (at : ℕ)
+    (bytes : List ℕ) →
     at + length bytes ≤ DISK_SIZE → (marked : List (ℕ × ℕ)) →
     marked ≡ ranges ++ (at, length bytes) ∷ [] →
     bytes_of new ≡ overwritten (bytes_of old) at bytes →

@@ -3,7 +3,7 @@ pub mod Arms
 pub mod Calls
 pub mod Cut
 pub mod Disk
-pub mod Half
+pub mod SimulatedHalf
 pub mod Halves
 pub mod MemDisk
 pub mod MomentLaws

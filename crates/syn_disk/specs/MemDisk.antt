@@ -24,7 +24,7 @@ abbrev pub leaves_of : MemDisk → List Leaves
 leaves_of disk = drop disk.restarts disk.leaves.items
 
 -- a stop leaves what a read gives, and so does one that loses all that was not synced
-pub record IsSettled (disk : MemDisk) : Type 0 where
+pub record IsSynced (disk : MemDisk) : Type 0 where
   pub none_written : (i : ℕ) → is_written (written_of disk) i ≡ false
   pub all_synced : synced_of disk ≡ bytes_of disk
 

@@ -6,29 +6,29 @@ use Rattle.syn_disk.specs.Padded.{padded}
 use Rattle.syn_disk.specs.Extent.{is_in_some}
 use Rattle.syn_disk.specs.PaddedLaws.{length-padded}
 use Rattle.syn_disk.specs.declared.disk.TheConstants.{DISK_SIZE, HALF_SIZE}
-use Rattle.syn_disk.specs.declared.file.image.Image.{Image}
-use Rattle.syn_disk.specs.declared.file.image.Part.{Part}
+use Rattle.syn_disk.specs.declared.file.disk_bytes.DiskBytes.{DiskBytes}
+use Rattle.syn_disk.specs.declared.file.disk_bytes.HalfBytes.{HalfBytes}
 
 -- the bytes of half a disk
-abbrev pub kept_of : Part → List ℕ
-kept_of part = padded part.kept.items HALF_SIZE 0
+abbrev pub half_of : HalfBytes → List ℕ
+half_of part = padded part.used.items HALF_SIZE 0
 
-abbrev pub bytes_of : Image → List ℕ
-bytes_of image = kept_of image.low ++ kept_of image.high
+abbrev pub bytes_of : DiskBytes → List ℕ
+bytes_of image = half_of image.low ++ half_of image.high
 
 -- of a file with these bytes, of which the ranges were written since the last sync
-abbrev pub FileMayLeave : Image × List (ℕ × ℕ) → List ℕ → Type 0
+abbrev pub FileMayLeave : DiskBytes × List (ℕ × ℕ) → List ℕ → Type 0
 FileMayLeave moment = MayLeave (bytes_of moment.0) (is_in_some moment.1)
 
-pub length-kept : (part : Part) → length (kept_of part) ≡ HALF_SIZE
-length-kept part = length-padded 0 part.kept.items HALF_SIZE part.fits
+pub length-half : (part : HalfBytes) → length (half_of part) ≡ HALF_SIZE
+length-half part = length-padded 0 part.used.items HALF_SIZE part.fits
 
-pub length-bytes : (image : Image) → length (bytes_of image) ≡ DISK_SIZE
+pub length-bytes : (image : DiskBytes) → length (bytes_of image) ≡ DISK_SIZE
 length-bytes image =
     omega (
       arith,
-      length-append (kept_of image.low)
-          (kept_of image.high),
-      length-kept image.low,
-      length-kept image.high,
+      length-append (half_of image.low)
+          (half_of image.high),
+      length-half image.low,
+      length-half image.high,
     )

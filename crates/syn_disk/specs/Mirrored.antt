@@ -10,11 +10,11 @@ module _ {H : Type 0} (file : MirroredFile H) where
 
   -- what a read gives
   abbrev pub seen_of : List ℕ
-  seen_of = bytes_of file.image
+  seen_of = bytes_of file.bytes
 
   -- what a stop now may leave
   abbrev pub MayBeLeft : List ℕ → Type 0
-  MayBeLeft = FileMayLeave (file.image, file.unsynced)
+  MayBeLeft = FileMayLeave (file.bytes, file.unsynced)
 
   -- a write or a sync of it failed
   abbrev pub has_failed_of : Bool

@@ -11,8 +11,8 @@ use crate::error::OpenError;
 use crate::{DeviceFailed, Disk, Tally};
 use std::alloc::Global;
 
+mod disk_bytes;
 pub mod host;
-mod image;
 pub mod locked;
 pub mod mirror;
 
@@ -123,7 +123,7 @@ impl<H: OsFile> FileDisk<MirroredFile<H>> {
         file: H,
         access: Access,
     ) -> Result<FileDisk<MirroredFile<H>>, OpenError>
-        ensures settled { IfOk result
+        ensures durable { IfOk result
             (λ disk. Only (seen_of (file_of disk)) (MayBeLeft (file_of disk))) }
         ensures held { IfOk result (λ disk. H.is_held (host_of (file_of disk)) access) }
         ensures failures { IfOk result (λ disk. failures_of disk ≡ 0) }
@@ -142,7 +142,7 @@ impl<F: DiskFile + Drop> FileDisk<F> {
         requires { F.is_sound file ≡ true }
         ensures seen { IfOk result (λ disk. F.seen (file_of disk) ≡ F.seen file) }
         ensures lock { IfOk result (λ disk. StillHeld (F.is_held file) (F.is_held (file_of disk))) }
-        ensures settled { IfOk result (λ disk. Only (F.seen file) (F.may_leave (file_of disk))) }
+        ensures durable { IfOk result (λ disk. Only (F.seen file) (F.may_leave (file_of disk))) }
         ensures failures { IfOk result (λ disk. failures_of disk ≡ 0) }
     {
         file.sync().map_err(|_| OpenError::Sync)?;

@@ -39,7 +39,7 @@
 //!
 //! The disk of the product is `FileDisk`, over any `DiskFile`. That trait says what each call on a
 //! file leaves of its bytes, and that no call may follow a write or a sync that failed. `FileDisk`
-//! keeps the contract of `Disk` over each such file. It syncs the file as it is opened (`settled`,
+//! keeps the contract of `Disk` over each such file. It syncs the file as it is opened (`durable`,
 //! of each way to open one), and fails each call once a write or a sync failed. `MirroredFile` is a
 //! `DiskFile` over a file of the system, with its bytes in memory.
 //!

@@ -11,7 +11,7 @@ use std::fs::Files;
 use std::io::Write;
 use std::net::{Net, TcpStream};
 use std::thread::Threads;
-use syn_cli::{ExportCommand, ImportCommand, ReplicaPlace};
+use syn_cli::{ExportCommand, ImportCommand, ReplicaLocation};
 use syn_command::{
     CommandError, OnStranger, ProgressMode, export_part, import_folder, part_of, plan_import,
     send_edits,
@@ -32,31 +32,32 @@ pub fn export<H: Net<Stream = TcpStream> + Threads + Sync, N: NamedDisks, F: Fil
     alloc: Global,
     disks: &N,
     files: &F,
-    line: &ExportCommand<'_>,
+    command: &ExportCommand<'_>,
 ) -> Result<u64, CommandError>
 where
     F::File: Sync,
-    ensures { IfSome line.now.path (λ path.
+    ensures { IfSome command.now.path (λ path.
         ((at : ModelPath) → ¬ NamesPath path.now at) → IsErrAnd result IsOfPath) }
 {
-    let path = path_of(alloc, line.path)?;
-    match line.place {
-        ReplicaPlace::File(name) => {
+    let path = path_of(alloc, command.path)?;
+    match command.location {
+        ReplicaLocation::File(name) => {
             let replica = replica_to_read(alloc, disks, name)?;
-            export_into(rt, alloc, files, replica.tree(), &path, line)?;
+            export_into(rt, alloc, files, replica.tree(), &path, command)?;
             Ok(replica.position())
         }
-        ReplicaPlace::Served(address) => {
+        ReplicaLocation::Served(address) => {
             let stream = reach(rt, address)?;
             let (position, tree) = tree_over(alloc, &stream)?;
-            export_into(rt, alloc, files, &tree, &path, line)?;
+            export_into(rt, alloc, files, &tree, &path, command)?;
             Ok(position)
         }
     }
 }
 
 /// Makes what is at the line's path what stands in its folder, by edits of its user, and answers
-/// the new position. As much of the edits as `told` says is told to `errors`, and what is skipped.
+/// the new position. As much of the edits as `progress` says is told to `errors`, and what is
+/// skipped.
 ///
 /// A text that names no path is refused. Else it is refused as the folder is read, as an opening
 /// is, 7 where something stands in the folder that can stand in no replica and nothing is to be
@@ -68,23 +69,23 @@ pub fn import<H: Net<Stream = TcpStream>, N: NamedDisks, F: Files, E: Write>(
     alloc: Global,
     disks: &N,
     files: &F,
-    line: &ImportCommand<'_>,
-    told: ProgressMode,
+    command: &ImportCommand<'_>,
+    progress: ProgressMode,
     errors: &mut E,
 ) -> Result<u64, CommandError>
-    ensures { IfSome line.now.path (λ path.
+    ensures { IfSome command.now.path (λ path.
         ((at : ModelPath) → ¬ NamesPath path.now at) → IsErrAnd result IsOfPath) }
 {
-    let path = path_of(alloc, line.path)?;
-    let folder = SystemFolder::open(alloc, files, line.folder, &path)?;
-    let user = line.user;
-    let on_stranger = if line.is_skipping {
+    let path = path_of(alloc, command.path)?;
+    let folder = SystemFolder::open(alloc, files, command.folder, &path)?;
+    let user = command.user;
+    let on_stranger = if command.is_skipping {
         OnStranger::Skip
     } else {
         OnStranger::Refuse
     };
-    match line.place {
-        ReplicaPlace::File(name) => {
+    match command.location {
+        ReplicaLocation::File(name) => {
             let replica = replica_in(alloc, disks, name)?;
             let imported = import_folder(
                 alloc,
@@ -93,13 +94,13 @@ pub fn import<H: Net<Stream = TcpStream>, N: NamedDisks, F: Files, E: Write>(
                 &path,
                 &folder,
                 on_stranger,
-                told,
+                progress,
                 errors,
             );
             let replica = imported.map_err(|(error, _)| error)?;
             Ok(replica.position())
         }
-        ReplicaPlace::Served(address) => {
+        ReplicaLocation::Served(address) => {
             let stream = reach(rt, address)?;
             import_over(
                 alloc,
@@ -108,7 +109,7 @@ pub fn import<H: Net<Stream = TcpStream>, N: NamedDisks, F: Files, E: Write>(
                 &path,
                 &folder,
                 on_stranger,
-                told,
+                progress,
                 errors,
             )
         }
@@ -137,14 +138,22 @@ fn import_over<F: Folder, E: Write>(
     path: &Path,
     folder: &F,
     on_stranger: OnStranger,
-    told: ProgressMode,
+    progress: ProgressMode,
     errors: &mut E,
 ) -> Result<u64, CommandError> {
     let (position, tree) = tree_over(alloc, stream)?;
     let part = part_of(alloc, folder, on_stranger, &tree, path, errors)?;
     let edits = plan_import(alloc, &tree, path, &part, errors)?;
     let mut connection = UserConnection::new(alloc, stream, stream);
-    send_edits(alloc, &mut connection, user, position, edits, told, errors)
+    send_edits(
+        alloc,
+        &mut connection,
+        user,
+        position,
+        edits,
+        progress,
+        errors,
+    )
 }
 
 /// Writes what the directory at the path of the tree has into the line's folder.
@@ -154,16 +163,16 @@ fn export_into<H: Threads + Sync, F: Files>(
     files: &F,
     tree: &Tree,
     path: &Path,
-    line: &ExportCommand<'_>,
+    command: &ExportCommand<'_>,
 ) -> Result<(), FolderError>
 where
     F::File: Sync,
 {
-    let mut folder = ExportedFolder::open(alloc, files, line.folder)?;
-    let written = export_part(alloc, tree, path, line.existing, &mut folder);
+    let mut folder = ExportedFolder::open(alloc, files, command.folder)?;
+    let written = export_part(alloc, tree, path, command.existing, &mut folder);
     if written.is_err() {
         folder.give_up();
     }
     written?;
-    folder.settle(rt, alloc)
+    folder.put_in_place(rt, alloc)
 }

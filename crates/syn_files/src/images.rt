@@ -9,8 +9,10 @@ use crate::network::{edit_served, show_path_served, show_tree_served};
 use std::alloc::Global;
 use std::io::{Read, Write};
 use std::net::{Net, TcpStream};
-use syn_cli::{EditCommand, ReplicaPlace};
-use syn_command::{CommandError, check_image, make_edit, migrate_image, show_image, show_path};
+use syn_cli::{EditCommand, ReplicaLocation};
+use syn_command::{
+    CommandError, make_edit, migrate_image, print_image_numbers, show_image, show_path,
+};
 use syn_disk::{Access, LockedDisk};
 use syn_path::Path;
 use syn_print::{read_log, show_log};
@@ -23,12 +25,16 @@ pub fn print_image<H: Net<Stream = TcpStream>, N: NamedDisks, O: Write>(
     rt: &H,
     alloc: Global,
     disks: &N,
-    place: ReplicaPlace<'_>,
+    location: ReplicaLocation<'_>,
     output: &mut O,
 ) -> Result<(), CommandError> {
-    match place {
-        ReplicaPlace::File(name) => show_image(alloc, &image_to_read(alloc, disks, name)?, output),
-        ReplicaPlace::Served(address) => show_tree_served(rt, alloc, address, output),
+    match location {
+        ReplicaLocation::File(name) => show_image(
+            alloc,
+            &image_to_read(alloc, disks, name)?,
+            output,
+        ),
+        ReplicaLocation::Served(address) => show_tree_served(rt, alloc, address, output),
     }
 }
 
@@ -42,7 +48,7 @@ pub fn print_numbers<N: NamedDisks, O: Write>(
     name: &str,
     output: &mut O,
 ) -> Result<(), CommandError> {
-    check_image(alloc, &image_to_read(alloc, disks, name)?, output)
+    print_image_numbers(alloc, &image_to_read(alloc, disks, name)?, output)
 }
 
 /// Makes the image of that name one of version 2, where it is one of version 1. No other process
@@ -81,20 +87,20 @@ pub fn print_log<N: NamedDisks, O: Write>(
 pub fn edit<H: Net<Stream = TcpStream>, N: NamedDisks, I: Read>(
     rt: &H,
     alloc: Global,
-    line: &EditCommand<'_>,
+    command: &EditCommand<'_>,
     disks: &N,
     input: &mut I,
 ) -> Result<u64, CommandError>
-    ensures { ((path : ModelPath) → ¬ NamesPath line.entry.now.path.now path)
+    ensures { ((path : ModelPath) → ¬ NamesPath command.entry.now.path.now path)
         → IsErrAnd result IsOfPath }
 {
-    let path = Path::parse(alloc, line.path)?;
-    match line.place {
-        ReplicaPlace::File(name) => {
+    let path = Path::parse(alloc, command.path)?;
+    match command.location {
+        ReplicaLocation::File(name) => {
             let mut replica = replica_in(alloc, disks, name)?;
-            make_edit(alloc, &mut replica, line, path, input)
+            make_edit(alloc, &mut replica, command, path, input)
         }
-        ReplicaPlace::Served(address) => edit_served(rt, alloc, address, line, path, input),
+        ReplicaLocation::Served(address) => edit_served(rt, alloc, address, command, path, input),
     }
 }
 
@@ -103,22 +109,22 @@ pub fn edit<H: Net<Stream = TcpStream>, N: NamedDisks, I: Read>(
 ///
 /// Else it is refused 5 where nothing is there, as an opening and as the server refuses it, 9 where
 /// the output cannot be written, and 11 where memory is refused.
-pub fn show<H: Net<Stream = TcpStream>, N: NamedDisks, O: Write>(
+pub fn print_path<H: Net<Stream = TcpStream>, N: NamedDisks, O: Write>(
     rt: &H,
     alloc: Global,
     disks: &N,
-    place: ReplicaPlace<'_>,
+    location: ReplicaLocation<'_>,
     path: &str,
     output: &mut O,
 ) -> Result<(), CommandError>
     ensures { ((at : ModelPath) → ¬ NamesPath path.now at) → IsErrAnd result IsOfPath }
 {
     let path = Path::parse(alloc, path)?;
-    match place {
-        ReplicaPlace::File(name) => {
+    match location {
+        ReplicaLocation::File(name) => {
             let replica = replica_to_read(alloc, disks, name)?;
             show_path(alloc, replica.tree(), &path, output)
         }
-        ReplicaPlace::Served(address) => show_path_served(rt, alloc, address, &path, output),
+        ReplicaLocation::Served(address) => show_path_served(rt, alloc, address, &path, output),
     }
 }

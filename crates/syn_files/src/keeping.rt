@@ -1,9 +1,9 @@
 //! Two servers that are kept the same: a session runs whenever one of them has changed.
 
 use crate::named::{NamedDisks, archive_in};
-use crate::sessions::{Told, progress_for, reported};
+use crate::sessions::{progress_for, reported};
 use crate::upkeep::shorten_archive;
-use std::alloc::Global;
+use std::alloc::{AllocError, Global};
 use std::io::{self, ErrorKind, Write};
 use std::net::{Net, TcpListener, TcpStream};
 use std::thread;
@@ -15,7 +15,7 @@ use syn_daemon::{reach, sync};
 use syn_disk::Disk;
 use syn_image::Kept;
 use syn_message::{Reply, ReplyMessage};
-use syn_path::Side;
+use syn_path::{Path, Side};
 use syn_print::show_report;
 use syn_refusal::Refusal;
 use syn_session::{End, Report, Sending};
@@ -25,7 +25,8 @@ use syn_user::SideConnection;
 /// Runs a session of the line's servers, and another one each time that a side has changed since.
 /// It looks every so many seconds, at least one, and an idle pair is written nothing. A report is
 /// printed where something was done, or where other items are refused or in conflict than after the
-/// session before. A side that cannot be reached is told once, and tried again.
+/// session before; also where memory was refused to keep which those were. A side that cannot be
+/// reached is told once, and tried again.
 ///
 /// It goes on as long as the process. Refused as an opening of the archive is, 9 where its device
 /// fails or the output cannot be written, and as `sync` is.
@@ -33,8 +34,8 @@ pub fn keep_servers<H, N, O, E>(
     rt: &H,
     alloc: Global,
     disks: &N,
-    line: &KeepCommand<'_>,
-    telling: ProgressMode,
+    command: &KeepCommand<'_>,
+    progress: ProgressMode,
     output: &mut O,
     errors: &mut E,
 ) -> Result<Outcome, CommandError>
@@ -44,20 +45,27 @@ where
     O: Write,
     E: Write,
 {
-    let archive = archive_in(alloc, disks, line.archive)?;
+    let archive = archive_in(alloc, disks, command.archive)?;
     let coordinator = Coordinator::new(alloc, archive);
-    if !telling.each {
-        return keep(rt, alloc, coordinator, line, &mut Lost(errors), output);
+    if !progress.each {
+        return keep(
+            rt,
+            alloc,
+            coordinator,
+            command,
+            &mut UnreachedOnly(errors),
+            output,
+        );
     }
-    let mut progress = progress_for(alloc, errors, telling);
-    keep(rt, alloc, coordinator, line, &mut progress, output)
+    let mut watch = progress_for(alloc, errors, progress);
+    keep(rt, alloc, coordinator, command, &mut watch, output)
 }
 
 /// Tells which side cannot be reached, and nothing else.
 #[derive(Drop)]
-struct Lost<'e, E>(&'e mut E);
+struct UnreachedOnly<'e, E>(&'e mut E);
 
-impl<E: Write> SessionWatch for Lost<'_, E> {
+impl<E: Write> SessionWatch for UnreachedOnly<'_, E> {
     fn unreached(&mut self, side: Side, why: &io::Error) {
         tell_unreached(self.0, side, why);
     }
@@ -69,22 +77,20 @@ impl<E: Write> SessionWatch for Lost<'_, E> {
     fn planned(&mut self, _items: usize) {}
 
     fn kept(&mut self, _kept: &[Kept]) {}
-}
 
-impl<E: Write> Told for Lost<'_, E> {
     fn ended(&mut self, _report: &Report) {}
 }
 
 /// Counts the events that a session adds to each side: its begin and its replacements.
 #[derive(Drop)]
-struct Counted<'w, V> {
+struct PositionCounter<'w, V> {
     watch: &'w mut V,
     /// The position of each side after what the session has added to it so far.
     left: u64,
     right: u64,
 }
 
-impl<V: SessionWatch> SessionWatch for Counted<'_, V> {
+impl<V: SessionWatch> SessionWatch for PositionCounter<'_, V> {
     fn unreached(&mut self, side: Side, why: &io::Error) {
         self.watch.unreached(side, why);
     }
@@ -113,22 +119,75 @@ impl<V: SessionWatch> SessionWatch for Counted<'_, V> {
     fn kept(&mut self, kept: &[Kept]) {
         self.watch.kept(kept);
     }
+
+    fn ended(&mut self, report: &Report) {
+        self.watch.ended(report);
+    }
 }
 
-/// What a session has left undone: how many conflicts and refused items, and what ended it early.
-#[derive(Clone, Copy, PartialEq, Eq)]
-struct Open {
-    conflicts: usize,
-    refused: usize,
+/// What a session has left undone: its conflicts, its refused items, and what ended it early.
+#[derive(Drop)]
+struct Unfinished {
+    conflicts: Vec<Path>,
+    refused: Vec<(Refusal, Path)>,
     ended: Option<Refusal>,
 }
 
+impl Unfinished {
+    /// Nothing is left undone.
+    fn nothing(alloc: Global) -> Unfinished {
+        Unfinished {
+            conflicts: Vec::new(alloc),
+            refused: Vec::new(alloc),
+            ended: None,
+        }
+    }
+
+    /// What the session of the report has left undone. Refused where memory is refused.
+    fn left_by(alloc: Global, report: &Report) -> Result<Unfinished, AllocError> {
+        Ok(Unfinished {
+            conflicts: copy_paths(alloc, &report.conflicts)?,
+            refused: copy_refused(alloc, &report.refused)?,
+            ended: report.ended,
+        })
+    }
+
+    /// The session of the report has left the same undone.
+    fn is_left_by(&self, report: &Report) -> bool {
+        self.conflicts == report.conflicts
+            && self.refused == report.refused
+            && self.ended == report.ended
+    }
+}
+
+/// A copy of the paths.
+fn copy_paths(alloc: Global, paths: &[Path]) -> Result<Vec<Path>, AllocError> {
+    let mut copies = Vec::new(alloc);
+    for path in paths {
+        copies.push(path.copy(alloc)?)?;
+    }
+    Ok(copies)
+}
+
+/// A copy of the refused items.
+fn copy_refused(
+    alloc: Global,
+    refused: &[(Refusal, Path)],
+) -> Result<Vec<(Refusal, Path)>, AllocError> {
+    let mut copies = Vec::new(alloc);
+    for (why, path) in refused {
+        copies.push((*why, path.copy(alloc)?))?;
+    }
+    Ok(copies)
+}
+
 /// What is known since the last session.
-#[derive(Clone, Copy)]
-struct Settled {
+#[derive(Drop)]
+struct SinceLastSession {
     /// The positions of both sides after it, where it was complete.
     positions: Option<(u64, u64)>,
-    open: Open,
+    /// What it left undone; none where memory was refused to keep that.
+    unfinished: Option<Unfinished>,
     /// Whether it was told that a side cannot be reached.
     is_told: bool,
 }
@@ -138,21 +197,29 @@ fn keep<H, D, V, O>(
     rt: &H,
     alloc: Global,
     mut coordinator: Coordinator<D>,
-    line: &KeepCommand<'_>,
+    command: &KeepCommand<'_>,
     watch: &mut V,
     output: &mut O,
 ) -> Result<Outcome, CommandError>
 where
     H: Net<Listener = TcpListener, Stream = TcpStream> + Clock,
     D: Disk + Drop,
-    V: Told,
+    V: SessionWatch,
     O: Write,
 {
     let mut sides = Sides {
-        left: Watched::new(line.left),
-        right: Watched::new(line.right),
+        left: Watched::new(command.left),
+        right: Watched::new(command.right),
     };
-    let ended = keep_sides(rt, alloc, &mut coordinator, &mut sides, line, watch, output);
+    let ended = keep_sides(
+        rt,
+        alloc,
+        &mut coordinator,
+        &mut sides,
+        command,
+        watch,
+        output,
+    );
     drop(sides);
     drop(coordinator);
     ended?;
@@ -165,32 +232,28 @@ fn keep_sides<H, D, V, O>(
     alloc: Global,
     coordinator: &mut Coordinator<D>,
     sides: &mut Sides<'_>,
-    line: &KeepCommand<'_>,
+    command: &KeepCommand<'_>,
     watch: &mut V,
     output: &mut O,
 ) -> Result<(), CommandError>
 where
     H: Net<Listener = TcpListener, Stream = TcpStream> + Clock,
     D: Disk,
-    V: Told,
+    V: SessionWatch,
     O: Write,
 {
-    let mut settled = Settled {
+    let mut since = SinceLastSession {
         positions: None,
-        open: Open {
-            conflicts: 0,
-            refused: 0,
-            ended: None,
-        },
+        unfinished: Some(Unfinished::nothing(alloc)),
         is_told: false,
     };
     for _round in 0..u64::MAX {
-        if let Some(found) = positions(rt, alloc, sides, watch, &mut settled) {
-            if settled.positions != Some(found) {
-                settled = session(rt, alloc, coordinator, line, watch, output, settled)?;
+        if let Some(found) = positions(rt, alloc, sides, watch, &mut since) {
+            if since.positions != Some(found) {
+                session(rt, alloc, coordinator, command, watch, output, &mut since)?;
             }
         }
-        thread::sleep(rt, Duration::from_secs(line.seconds.max(1)));
+        thread::sleep(rt, Duration::from_secs(command.seconds.max(1)));
     }
     Ok(())
 }
@@ -248,97 +311,93 @@ fn positions<H: Net<Stream = TcpStream>, V: SessionWatch>(
     alloc: Global,
     sides: &mut Sides<'_>,
     watch: &mut V,
-    settled: &mut Settled,
+    since: &mut SinceLastSession,
 ) -> Option<(u64, u64)> {
     let (side, error) = match sides.left.position(rt, alloc) {
         Ok(left) => match sides.right.position(rt, alloc) {
             Ok(right) => {
-                settled.is_told = false;
+                since.is_told = false;
                 return Some((left, right));
             }
             Err(error) => (Side::Right, error),
         },
         Err(error) => (Side::Left, error),
     };
-    if !settled.is_told {
+    if !since.is_told {
         watch.unreached(side, &error);
-        settled.is_told = true;
+        since.is_told = true;
     }
     None
 }
 
-/// Runs one session, prints its report where that says something new, and answers what is known
-/// since. Where a side cannot be reached, `sync` has told it, and the next look tries again; a
-/// connection that is lost in the session ends it 25.
+/// Runs one session, prints its report where that says something new, and keeps what is then known.
+/// Where a side cannot be reached, `sync` has told it, and the next look tries again; a connection
+/// that is lost in the session ends it 25.
 fn session<H, D, V, O>(
     rt: &H,
     alloc: Global,
     coordinator: &mut Coordinator<D>,
-    line: &KeepCommand<'_>,
+    command: &KeepCommand<'_>,
     watch: &mut V,
     output: &mut O,
-    before: Settled,
-) -> Result<Settled, CommandError>
+    since: &mut SinceLastSession,
+) -> Result<(), CommandError>
 where
     H: Net<Listener = TcpListener, Stream = TcpStream> + Clock,
     D: Disk,
-    V: Told,
+    V: SessionWatch,
     O: Write,
 {
-    let mut counted = Counted {
+    let mut counter = PositionCounter {
         watch: &mut *watch,
         left: 0,
         right: 0,
     };
-    let (left, right) = (line.left, line.right);
     let went = sync(
         rt,
         alloc,
         coordinator,
-        left,
-        right,
-        line.preference,
-        &mut counted,
+        command.left,
+        command.right,
+        command.preference,
+        &mut counter,
     );
-    let after = (counted.left, counted.right);
+    let after = (counter.left, counter.right);
     match went {
         Err(Refusal::Device) if !coordinator.archive().is_halted() => {
-            return Ok(Settled {
-                positions: None,
-                is_told: true,
-                ..before
-            });
+            since.positions = None;
+            since.is_told = true;
+            return Ok(());
         }
         went => went?,
     }
     let report = reported(coordinator)?;
     watch.ended(report);
-    let open = print_news(alloc, report, before.open, output)?;
-    let is_complete = report.end == End::Complete;
-    shorten_archive(alloc, coordinator);
-    Ok(Settled {
-        positions: is_complete.then_some(after),
-        open,
+    print_news(alloc, report, &since.unfinished, output)?;
+    *since = SinceLastSession {
+        positions: (report.end == End::Complete).then_some(after),
+        unfinished: Unfinished::left_by(alloc, report).ok(),
         is_told: false,
-    })
+    };
+    shorten_archive(alloc, coordinator);
+    Ok(())
 }
 
 /// Prints the report of a session that did something, or left other things undone than the one
-/// before, and answers what it left undone.
+/// before. Where it is not known what that one left, the report is printed, too.
 fn print_news<O: Write>(
     alloc: Global,
     report: &Report,
-    before: Open,
+    before: &Option<Unfinished>,
     output: &mut O,
-) -> Result<Open, CommandError> {
-    let open = Open {
-        conflicts: report.conflicts.len(),
-        refused: report.refused.len(),
-        ended: report.ended,
+) -> Result<(), CommandError> {
+    let leaves_same = match before {
+        Some(unfinished) => unfinished.is_left_by(report),
+        None => false,
     };
-    if report.done > 0 || report.marked > 0 || open != before {
+    if report.done > 0 || report.marked > 0 || !leaves_same {
         show_report(alloc, report, output)?;
         output.flush()?;
     }
-    Ok(open)
+    Ok(())
 }

@@ -9,7 +9,7 @@
 //! # What it promises
 //!
 //! - A text that names no path is refused 1, or 11, whatever the disk or the server is (`edit`,
-//!   `show`).
+//!   `print_path`).
 //! - `NamedDisks` locks a disk by its name, to change it or only to read it (`locked`). That lock
 //!   is held once the disk is read (`LockedDisk` of `syn_disk`: `held`). Nothing else is asked of
 //!   the disk but that it is one, so all here holds of any disks that have names.
@@ -28,7 +28,7 @@ mod side_by_side;
 mod upkeep;
 
 pub use folders::{export, import};
-pub use images::{edit, migrate, print_image, print_log, print_numbers, show};
+pub use images::{edit, migrate, print_image, print_log, print_numbers, print_path};
 pub use keeping::keep_servers;
 pub use named::NamedDisks;
 pub use network::serve_named;

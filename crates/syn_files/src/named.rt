@@ -3,7 +3,7 @@ ghost use Rattle.std.specs.Prelude.{IfOk};
 
 use std::alloc::Global;
 use syn_archive::Archive;
-use syn_command::{CommandError, Image, open_image};
+use syn_command::{CommandError, OpenedImage, open_image};
 use syn_disk::{Access, Disk, LockedDisk, OpenError};
 use syn_replica::Replica;
 
@@ -63,7 +63,7 @@ pub fn image_to_read<N: NamedDisks>(
     alloc: Global,
     disks: &N,
     name: &str,
-) -> Result<Image<N::Disk>, CommandError> {
+) -> Result<OpenedImage<N::Disk>, CommandError> {
     let locked = disks.lock(name, Access::Read)?;
     open_image(alloc, locked.into_disk(alloc)?)
 }

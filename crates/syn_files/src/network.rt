@@ -33,7 +33,7 @@ pub fn serve_named<'a, H, N, F>(
     alloc: Global,
     disks: &N,
     files: &'a F,
-    line: &ServeCommand<'a>,
+    command: &ServeCommand<'a>,
 ) -> Result<(), CommandError>
 where
     H: Net<Listener = TcpListener, Stream = TcpStream> + Threads + Wait + Clock + Eprint,
@@ -43,22 +43,22 @@ where
     F::File: Send,
     F::Dir: Send,
 {
-    let replica = replica_in(alloc, disks, line.file)?;
-    let Some(kept) = line.folder else {
+    let replica = replica_in(alloc, disks, command.file)?;
+    let Some(folder) = command.folder else {
         let shared = shared(alloc, replica)?;
-        return serve_alone(rt, alloc, &shared, line);
+        return serve_alone(rt, alloc, &shared, command);
     };
-    let name = archive_name(alloc, line.file, None)?;
+    let name = archive_name(alloc, command.file, None)?;
     let archive = archive_or_new(alloc, disks, &name, replica.pair())?;
     let side = FolderSide {
         files,
-        root: kept.folder,
+        root: folder.folder,
         archive,
-        user: kept.user,
-        seconds: kept.seconds.unwrap_or(1),
+        user: folder.user,
+        seconds: folder.seconds.unwrap_or(1),
     };
     let shared = shared(alloc, replica)?;
-    serve_with_folder(rt, alloc, &shared, line, side)
+    serve_with_folder(rt, alloc, &shared, command, side)
 }
 
 /// Serves the replica at the address.
@@ -66,16 +66,16 @@ fn serve_alone<H, D>(
     rt: &H,
     alloc: Global,
     shared: &SharedReplica<D>,
-    line: &ServeCommand<'_>,
+    command: &ServeCommand<'_>,
 ) -> Result<(), CommandError>
 where
     H: Net<Listener = TcpListener, Stream = TcpStream> + Threads + Wait + Clock + Eprint,
     H: Copy + Sync,
     D: Disk + Send,
 {
-    let listener = TcpListener::bind(rt, line.address)?;
+    let listener = TcpListener::bind(rt, command.address)?;
     let logged = Logged::new(*rt, LevelFilter::Info, Plain(*rt));
-    let most = line.connections;
+    let most = command.connections;
     serve(&logged, alloc, shared, &listener, most, &OpenGates)?;
     Ok(())
 }
@@ -85,7 +85,7 @@ fn serve_with_folder<H, D, F, A>(
     rt: &H,
     alloc: Global,
     shared: &SharedReplica<D>,
-    line: &ServeCommand<'_>,
+    command: &ServeCommand<'_>,
     side: FolderSide<'_, F, A>,
 ) -> Result<(), CommandError>
 where
@@ -97,9 +97,9 @@ where
     F::Dir: Send,
     A: Disk + Drop + Send,
 {
-    let listener = TcpListener::bind(rt, line.address)?;
+    let listener = TcpListener::bind(rt, command.address)?;
     let logged = Logged::new(*rt, LevelFilter::Info, Plain(*rt));
-    let most = line.connections;
+    let most = command.connections;
     serve_beside(&logged, alloc, shared, &listener, most, &OpenGates, side)?;
     Ok(())
 }
@@ -113,12 +113,12 @@ pub fn edit_served<H: Net<Stream = TcpStream>, I: Read>(
     rt: &H,
     alloc: Global,
     address: &str,
-    line: &EditCommand<'_>,
+    command: &EditCommand<'_>,
     path: Path,
     input: &mut I,
 ) -> Result<u64, CommandError> {
-    let edit = read_edit(alloc, line.kind, path, input)?;
-    edit_over(rt, alloc, address, line.user, edit)
+    let edit = read_edit(alloc, command.kind, path, input)?;
+    edit_over(rt, alloc, address, command.user, edit)
 }
 
 /// Asks the server at the address for the edit, and answers the new position. Refused as

@@ -8,24 +8,23 @@ use std::net::{Net, TcpStream};
 use std::thread::Threads;
 use syn_archive::Archive;
 use syn_cli::{Between, Pairing};
-use syn_command::{
-    CommandError, Outcome, Planned, outcome_planned, plan_between, plan_of_replicas,
-};
+use syn_command::{CommandError, Outcome, outcome_planned, plan_between};
 use syn_daemon::reach;
 use syn_disk::{Access, Disk, OpenError};
 use syn_mark::MarkTree;
 use syn_path::Side;
 use syn_print::{counts_of, show_plan};
-use syn_refusal::Refusal;
+use syn_recon::{Compared, Item, compare};
 use syn_replica::{Replica, ReplicaError};
 use syn_user::SideConnection;
 
 /// Prints what a session of the replicas and their archive would do, and answers what there is to
 /// do. Nothing is written, and no session begins.
 ///
-/// Refused as an opening to read is, left first and the archive last; 9 where an address cannot be
-/// reached; and as a session ends early that scans both sides. Of files it is refused 12 where both
-/// are one, and 14 and 20 as the session would be; a server does not tell these before it begins.
+/// Refused as an opening to read is, left first and the archive last. Of servers it is refused 9
+/// where an address cannot be reached, and as a session ends early that scans both sides. Of files
+/// it is refused 12 where both are one, 11 where memory is refused, and 14 and 20 as the session
+/// would be; a server does not tell the last two before it begins.
 pub fn print_plan<H: Net<Stream = TcpStream> + Threads + Sync, N: NamedDisks, O: Write>(
     rt: &H,
     alloc: Global,
@@ -44,21 +43,29 @@ pub fn print_plan<H: Net<Stream = TcpStream> + Threads + Sync, N: NamedDisks, O:
             let (left, right) = (reach(rt, left)?, reach(rt, right)?);
             let mut left = SideConnection::new(alloc, &left, &left);
             let mut right = SideConnection::new(alloc, &right, &right);
-            let planned = plan_between(alloc, &mut left, &mut right, archive.tree(), preference);
-            print_planned(alloc, planned, archive.tree(), output)
+            let planned = plan_between(alloc, &mut left, &mut right, archive.tree(), preference)?;
+            let (on_left, on_right) = (planned.left.scan().tree(), planned.right.scan().tree());
+            print_items(
+                alloc,
+                &planned.items,
+                on_left,
+                on_right,
+                archive.tree(),
+                output,
+            )
         }
         Between::Files { left, right } => {
             if left == right {
                 return Err(CommandError::Open(OpenError::Busy));
             }
             let images = images_in(rt, alloc, disks, left, right, archive, Access::Read)?;
-            plan_opened(alloc, &images, preference, output)
+            print_plan_of_images(alloc, &images, preference, output)
         }
     }
 }
 
 /// Prints what a session of the images would do.
-fn plan_opened<D: Disk, O: Write>(
+fn print_plan_of_images<D: Disk, O: Write>(
     alloc: Global,
     images: &Images<D>,
     preference: Option<Side>,
@@ -71,8 +78,8 @@ fn plan_opened<D: Disk, O: Write>(
     } = images;
     check_begin(left, archive)?;
     check_begin(right, archive)?;
-    let planned = plan_of_replicas(alloc, left, right, archive.tree(), preference);
-    print_planned(alloc, planned, archive.tree(), output)
+    let compared = compare(alloc, left.tree(), right.tree(), archive.tree(), preference)?;
+    print_compared(alloc, &compared, archive.tree(), output)
 }
 
 /// Refuses what the replica would refuse the next session of the archive: 14 where it has seen a
@@ -87,16 +94,28 @@ fn check_begin<D: Disk>(replica: &Replica<D>, archive: &Archive<D>) -> Result<()
     Ok(())
 }
 
-/// Prints the plan, where there is one, with the marks of an archive.
-fn print_planned<O: Write>(
+/// Prints the plan of two trees with the marks that both agreed on, and answers what there is to
+/// do.
+pub(crate) fn print_compared<O: Write>(
     alloc: Global,
-    planned: Result<Planned, Refusal>,
+    compared: &Compared,
     archive: &MarkTree,
     output: &mut O,
 ) -> Result<Outcome, CommandError> {
-    let planned = planned?;
-    let (on_left, on_right) = (planned.left.found().tree(), planned.right.found().tree());
-    show_plan(alloc, &planned.items, on_left, on_right, archive, output)?;
-    let conflicts = counts_of(&planned.items).conflicts;
-    Ok(outcome_planned(planned.items.len(), conflicts))
+    let (on_left, on_right) = (compared.left.tree(), compared.right.tree());
+    print_items(alloc, &compared.items, on_left, on_right, archive, output)
+}
+
+/// Prints the items of a plan with the marks of both sides and of the archive, and answers what
+/// there is to do.
+fn print_items<O: Write>(
+    alloc: Global,
+    items: &[Item],
+    left: &MarkTree,
+    right: &MarkTree,
+    archive: &MarkTree,
+    output: &mut O,
+) -> Result<Outcome, CommandError> {
+    show_plan(alloc, items, left, right, archive, output)?;
+    Ok(outcome_planned(items.len(), counts_of(items).conflicts))
 }

@@ -1,25 +1,25 @@
 //! A folder and the replica of a name, which are made the same.
 
 use crate::named::{NamedDisks, archive_on, replica_in, replica_to_read};
+use crate::plans::print_compared;
 use std::alloc::{AllocError, Global};
 use std::fs::Files;
 use std::io::{self, ErrorKind, Write};
 use syn_archive::Archive;
 use syn_cli::ReconcileCommand;
-use syn_command::{CommandError, Outcome, ProgressMode, outcome_planned};
+use syn_command::{CommandError, Outcome, ProgressMode, carried_line, marked_line};
 use syn_disk::{Access, Disk, MemDisk, OpenError};
 use syn_folder::{EditedFolder, SystemFolder};
 use syn_path::Side;
-use syn_print::{counts_of, show_plan};
 use syn_reconcile::{
-    ItemWatch, Outcome as Settlement, ReconcileError, Report, Settled, WhenEmpty, plan, reconcile,
+    ItemWatch, ReconcileError, Report, Settled, Settlement, WhenEmpty, plan, reconcile,
 };
 use syn_replica::Replica;
 
 /// Makes the line's folder and its replica the same, by what both last agreed on, prints a report,
 /// and answers what it came to. What no replica can have is told to `errors`, and left alone on
 /// both sides; each item that is carried or marked is told, too, and how many are settled, where
-/// `telling` says so.
+/// `progress` says so.
 ///
 /// Refused as the replica and the archive are opened, 9 and 13 as the folder is read, and as
 /// `reconcile` is: what was carried before stands then, and the same line goes on.
@@ -27,18 +27,18 @@ pub fn reconcile_named<N: NamedDisks, F: Files, O: Write, E: Write>(
     alloc: Global,
     disks: &N,
     files: &F,
-    line: &ReconcileCommand<'_>,
-    telling: ProgressMode,
+    command: &ReconcileCommand<'_>,
+    progress: ProgressMode,
     output: &mut O,
     errors: &mut E,
 ) -> Result<Outcome, CommandError> {
-    let name = archive_name(alloc, line.file, line.archive)?;
-    let replica = replica_in(alloc, disks, line.file)?;
+    let name = archive_name(alloc, command.file, command.archive)?;
+    let replica = replica_in(alloc, disks, command.file)?;
     let mut archive = archive_or_new(alloc, disks, &name, replica.pair())?;
-    let mut folder = SystemFolder::open_or_missing(alloc, files, line.folder)?;
+    let mut folder = SystemFolder::open_or_missing(alloc, files, command.folder)?;
     tell_strangers(&folder, errors);
     let (folder, archive) = (&mut folder, &mut archive);
-    let report = reconcile_opened(alloc, folder, replica, archive, line, telling, errors)?;
+    let report = reconcile_opened(alloc, folder, replica, archive, command, progress, errors)?;
     print_report(&report, output)?;
     Ok(outcome_of(&report))
 }
@@ -49,13 +49,13 @@ fn reconcile_opened<F: EditedFolder, R: Disk + Drop, A: Disk, E: Write>(
     folder: &mut F,
     replica: Replica<R>,
     archive: &mut Archive<A>,
-    line: &ReconcileCommand<'_>,
-    telling: ProgressMode,
+    command: &ReconcileCommand<'_>,
+    progress: ProgressMode,
     errors: &mut E,
 ) -> Result<Report, CommandError> {
     let mut watch = ItemsTold {
         alloc,
-        telling,
+        progress,
         planned: 0,
         settled: 0,
         errors: &mut *errors,
@@ -65,15 +65,15 @@ fn reconcile_opened<F: EditedFolder, R: Disk + Drop, A: Disk, E: Write>(
         folder,
         replica,
         archive,
-        line.user,
-        line.preference,
-        when_empty(line),
+        command.user,
+        command.preference,
+        when_empty(command),
         &mut watch,
     );
-    telling.end(errors);
+    progress.end(errors);
     match settled {
         Ok((_, report)) => Ok(report),
-        Err((error, _)) => Err(told(error, line, errors)),
+        Err((error, _)) => Err(command_error_of(error, command, errors)),
     }
 }
 
@@ -86,15 +86,17 @@ pub fn plan_named<N: NamedDisks, F: Files, O: Write, E: Write>(
     alloc: Global,
     disks: &N,
     files: &F,
-    line: &ReconcileCommand<'_>,
+    command: &ReconcileCommand<'_>,
     output: &mut O,
     errors: &mut E,
 ) -> Result<Outcome, CommandError> {
-    let name = archive_name(alloc, line.file, line.archive)?;
-    let replica = replica_to_read(alloc, disks, line.file)?;
-    let folder = SystemFolder::open_or_missing(alloc, files, line.folder)?;
+    let name = archive_name(alloc, command.file, command.archive)?;
+    let replica = replica_to_read(alloc, disks, command.file)?;
+    let folder = SystemFolder::open_or_missing(alloc, files, command.folder)?;
     tell_strangers(&folder, errors);
-    plan_with(alloc, disks, &name, &folder, &replica, line, output, errors)
+    plan_with(
+        alloc, disks, &name, &folder, &replica, command, output, errors,
+    )
 }
 
 /// Prints what is to be done of the folder and the replica, with the archive of that name, or with
@@ -105,48 +107,37 @@ fn plan_with<N: NamedDisks, F: EditedFolder, R: Disk, O: Write, E: Write>(
     name: &str,
     folder: &F,
     replica: &Replica<R>,
-    line: &ReconcileCommand<'_>,
+    command: &ReconcileCommand<'_>,
     output: &mut O,
     errors: &mut E,
 ) -> Result<Outcome, CommandError> {
     match disks.lock(name, Access::Read) {
         Err(error) if is_missing(&error) => {
             let archive = empty_archive(alloc, replica.pair())?;
-            plan_opened(alloc, folder, replica, &archive, line, output, errors)
+            print_plan_of_folder(alloc, folder, replica, &archive, command, output, errors)
         }
         locked => {
             let archive = archive_on(alloc, locked)?;
-            plan_opened(alloc, folder, replica, &archive, line, output, errors)
+            print_plan_of_folder(alloc, folder, replica, &archive, command, output, errors)
         }
     }
 }
 
 /// Prints what is to be done of the folder, the replica and the archive.
-fn plan_opened<F: EditedFolder, R: Disk, A: Disk, O: Write, E: Write>(
+fn print_plan_of_folder<F: EditedFolder, R: Disk, A: Disk, O: Write, E: Write>(
     alloc: Global,
     folder: &F,
     replica: &Replica<R>,
     archive: &Archive<A>,
-    line: &ReconcileCommand<'_>,
+    command: &ReconcileCommand<'_>,
     output: &mut O,
     errors: &mut E,
 ) -> Result<Outcome, CommandError> {
-    let when_empty = when_empty(line);
-    let compared = match plan(alloc, folder, replica, archive, line.preference, when_empty) {
-        Ok(compared) => compared,
-        Err(error) => return Err(told(error, line, errors)),
-    };
-    let (on_left, on_right) = (compared.left.tree(), compared.right.tree());
-    show_plan(
-        alloc,
-        &compared.items,
-        on_left,
-        on_right,
-        archive.tree(),
-        output,
-    )?;
-    let conflicts = counts_of(&compared.items).conflicts;
-    Ok(outcome_planned(compared.items.len(), conflicts))
+    let (preference, when_empty) = (command.preference, when_empty(command));
+    match plan(alloc, folder, replica, archive, preference, when_empty) {
+        Ok(compared) => print_compared(alloc, &compared, archive.tree(), output),
+        Err(error) => Err(command_error_of(error, command, errors)),
+    }
 }
 
 /// The file of what a folder and the replica in the file last agreed on: the one that is named, or
@@ -194,8 +185,8 @@ fn empty_archive(alloc: Global, pair: u64) -> Result<Archive<MemDisk>, CommandEr
 }
 
 /// What is done where one side has become empty.
-fn when_empty(line: &ReconcileCommand<'_>) -> WhenEmpty {
-    if line.is_emptied {
+fn when_empty(command: &ReconcileCommand<'_>) -> WhenEmpty {
+    if command.is_emptied {
         WhenEmpty::Carry
     } else {
         WhenEmpty::Refuse
@@ -213,7 +204,7 @@ fn tell_strangers<F: EditedFolder, E: Write>(folder: &F, errors: &mut E) {
 #[derive(Drop)]
 struct ItemsTold<'e, E> {
     alloc: Global,
-    telling: ProgressMode,
+    progress: ProgressMode,
     planned: usize,
     settled: usize,
     errors: &'e mut E,
@@ -230,7 +221,7 @@ impl<E: Write> ItemWatch for ItemsTold<'_, E> {
             return;
         };
         let (count, all) = (self.settled, self.planned);
-        self.telling
+        self.progress
             .tell(&line, count, all, "items are settled", self.errors);
     }
 }
@@ -238,9 +229,9 @@ impl<E: Write> ItemWatch for ItemsTold<'_, E> {
 /// What is told of an item: nothing where the report has it.
 fn item_line(alloc: Global, one: &Settled) -> Result<String, AllocError> {
     let path = one.path();
-    match one.outcome() {
-        Settlement::Done => format!(in alloc; "carried {path}\n"),
-        Settlement::Marked => format!(in alloc; "marked {path}\n"),
+    match one.settlement() {
+        Settlement::Done => carried_line(alloc, path),
+        Settlement::Marked => marked_line(alloc, path),
         Settlement::Conflict | Settlement::Refused(_) => Ok(String::new(alloc)),
     }
 }
@@ -262,7 +253,7 @@ fn print_report<O: Write>(report: &Report, output: &mut O) -> io::Result<()> {
     )?;
     for settled in &report.settled {
         let path = settled.path();
-        match settled.outcome() {
+        match settled.settlement() {
             Settlement::Conflict => writeln!(output, "conflict {path}")?,
             Settlement::Refused(why) => writeln!(output, "refused {} {path}", why.number())?,
             Settlement::Done | Settlement::Marked => {}
@@ -282,18 +273,18 @@ fn outcome_of(report: &Report) -> Outcome {
     }
 }
 
-/// Why the folder and the replica are not reconciled. That a side is empty is told in a line, since
-/// its number alone says too little.
-fn told<E: Write>(
+/// The error of a command for why the folder and the replica are not reconciled. That a side is
+/// empty is told in a line, since its number alone says too little.
+fn command_error_of<E: Write>(
     error: ReconcileError,
-    line: &ReconcileCommand<'_>,
+    command: &ReconcileCommand<'_>,
     errors: &mut E,
 ) -> CommandError {
     match error {
         ReconcileError::Empty(side) => {
             let empty = match side {
-                Side::Left => line.folder,
-                Side::Right => line.file,
+                Side::Left => command.folder,
+                Side::Right => command.file,
             };
             let _ = writeln!(
                 errors,

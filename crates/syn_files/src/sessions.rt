@@ -13,7 +13,7 @@ use std::thread::Threads;
 use std::time::Clock;
 use syn_archive::Archive;
 use syn_cli::{Between, Pairing};
-use syn_command::{CommandError, Outcome, ProgressMode, outcome_of};
+use syn_command::{CommandError, Outcome, ProgressMode, SessionProgress, outcome_of};
 use syn_coordinator::Coordinator;
 use syn_daemon::{OpenGates, run, sync};
 use syn_disk::{Access, Disk};
@@ -23,10 +23,10 @@ use syn_refusal::Refusal;
 use syn_replica::Replica;
 use syn_session::Report;
 use syn_shared::SharedReplica;
-use syn_sync::{Progress, SessionWatch, Unwatched};
+use syn_sync::{SessionWatch, Unwatched};
 
 /// Runs a session of the replicas and their archive, prints its report, and answers what it came
-/// to. Each item is told to `errors` where `telling` says so, and with the items their counts.
+/// to. Each item is told to `errors` where `progress` says so, and with the items their counts.
 ///
 /// Refused as an opening of a disk is, left first and the archive last; 9 where an address cannot
 /// be reached; and as the start of a session is.
@@ -35,7 +35,7 @@ pub fn run_session<H, N, O, E>(
     alloc: Global,
     disks: &N,
     pairing: Pairing<'_>,
-    telling: ProgressMode,
+    progress: ProgressMode,
     output: &mut O,
     errors: &mut E,
 ) -> Result<Outcome, CommandError>
@@ -45,39 +45,23 @@ where
     O: Write,
     E: Write,
 {
-    if !telling.each {
+    if !progress.each {
         return drive(rt, alloc, disks, pairing, &mut Unwatched, output);
     }
-    let mut progress = progress_for(alloc, errors, telling);
-    drive(rt, alloc, disks, pairing, &mut progress, output)
+    let mut watch = progress_for(alloc, errors, progress);
+    drive(rt, alloc, disks, pairing, &mut watch, output)
 }
 
 /// Tells each item of a session, and their counts where these are wanted.
 pub(crate) fn progress_for<E: Write>(
     alloc: Global,
     errors: E,
-    telling: ProgressMode,
-) -> Progress<E> {
-    if telling.counts {
-        Progress::with_counts(alloc, errors)
+    progress: ProgressMode,
+) -> SessionProgress<E> {
+    if progress.counts {
+        SessionProgress::with_counts(alloc, errors)
     } else {
-        Progress::new(alloc, errors)
-    }
-}
-
-/// What watches a session and hears how it ended.
-pub(crate) trait Told: SessionWatch {
-    /// The session ended with this report, which is not printed yet.
-    fn ended(&mut self, report: &Report);
-}
-
-impl Told for Unwatched {
-    fn ended(&mut self, _report: &Report) {}
-}
-
-impl<W: Write> Told for Progress<W> {
-    fn ended(&mut self, report: &Report) {
-        self.finish(report);
+        SessionProgress::new(alloc, errors)
     }
 }
 
@@ -93,7 +77,7 @@ fn drive<H, N, V, O>(
 where
     H: Net<Listener = TcpListener, Stream = TcpStream> + Threads + Wait + Clock + Copy + Sync,
     N: NamedDisks,
-    V: Told,
+    V: SessionWatch,
     O: Write,
 {
     match pairing.between {
@@ -132,7 +116,7 @@ fn drive_served<H, D, V, O>(
 where
     H: Net<Listener = TcpListener, Stream = TcpStream> + Clock,
     D: Disk + Drop,
-    V: Told,
+    V: SessionWatch,
     O: Write,
 {
     let mut coordinator = Coordinator::new(alloc, archive);
@@ -155,7 +139,7 @@ fn drive_opened<H, D, V, O>(
 where
     H: Net<Listener = TcpListener, Stream = TcpStream> + Threads + Wait + Clock + Copy + Sync,
     D: Disk + Drop + Send,
-    V: Told,
+    V: SessionWatch,
     O: Write,
 {
     let Images {
@@ -183,7 +167,7 @@ fn drive_shared<H, D, V, O>(
 where
     H: Net<Listener = TcpListener, Stream = TcpStream> + Threads + Wait + Clock + Copy + Sync,
     D: Disk + Drop + Send,
-    V: Told,
+    V: SessionWatch,
     O: Write,
 {
     let quiet = Logged::new(*rt, LevelFilter::Off, Discard);
@@ -223,7 +207,7 @@ pub(crate) fn reported<D: Disk>(coordinator: &Coordinator<D>) -> Result<&Report,
 }
 
 /// Prints the report of a session that went so, and answers what it came to.
-fn print_session<D: Disk, V: Told, O: Write>(
+fn print_session<D: Disk, V: SessionWatch, O: Write>(
     alloc: Global,
     went: Result<(), Refusal>,
     coordinator: &Coordinator<D>,

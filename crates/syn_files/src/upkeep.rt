@@ -3,8 +3,7 @@
 use std::alloc::Global;
 use syn_coordinator::Coordinator;
 use syn_disk::Disk;
-use syn_serve::{ROOM_IN_SHORT_JOURNAL, look_at};
-use syn_shared::SharedReplica;
+use syn_shared::{ROOM_IN_SHORT_JOURNAL, SharedReplica, journal_health};
 
 /// An archive's journal is short where it takes a payload of so many bytes. Its largest image has
 /// 409,524 bytes, so a checkpoint makes each journal short.
@@ -16,8 +15,8 @@ pub(crate) fn shorten<D: Disk>(alloc: Global, replica: &SharedReplica<D>) {
     let Ok(mut pass) = replica.own().pass() else {
         return;
     };
-    match look_at(replica, &mut pass) {
-        Some(look) if look.room < ROOM_IN_SHORT_JOURNAL => {
+    match journal_health(replica, &mut pass) {
+        Some(health) if health.room < ROOM_IN_SHORT_JOURNAL => {
             let _made = replica.try_checkpoint(alloc, &mut pass);
         }
         _ => {}

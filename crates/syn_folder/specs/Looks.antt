@@ -35,8 +35,8 @@ AreShown {A} {B} Shows from found =
     (one : B) → Contains found one ↔ ((seen : A) × Contains from seen × Shows seen one)
 
 -- the path of the system to what has these names in the folder: each after a slash
-abbrev pub place_of : Bytes → Path → Bytes
-place_of folder names = folder ++ flat_map (λ name. 47 ∷ name) names
+abbrev pub system_path_of : Bytes → Path → Bytes
+system_path_of folder names = folder ++ flat_map (λ name. 47 ∷ name) names
 
 -- why what looks so can stand in no replica
 abbrev pub IsWhyStrange : Metadata → Option Strangeness → Type 0

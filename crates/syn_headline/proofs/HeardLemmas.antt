@@ -28,7 +28,7 @@ use Rattle.syn_headline.specs.Planning.{Planned, SessionPlan, Log, HasBegun, IsP
 use Rattle.syn_headline.specs.Report.{Report, Complete, Incomplete, is_kept, conflict_at}
 use Rattle.syn_headline.specs.Coordinator.{Exchange, Running, Walk, WasTaken, BothBegun, MakesPlan}
 use Rattle.syn_headline.specs.Coordinator.{MayAsk, asked_of, numbered, messages_to, plan_of}
-use Rattle.syn_headline.specs.Coordinator.{report_of, is_whole, is_unstable, IsDue}
+use Rattle.syn_headline.specs.Coordinator.{report_of, is_whole, took_not_dir, IsDue}
 use Rattle.syn_headline.specs.Coordinator as fine
 use Rattle.syn_headline.specs.Picture.{IsSettled, HasPlan, IsOfPlan, IsWanted}
 use Rattle.syn_headline.specs.Session.{first_total, is_wanted, piece_total}
@@ -267,7 +267,7 @@ whole_parts running ended e = by (is_whole running ended) refl e
         (ended ≡ None) × (running.refused ≡ [])
     by true e _ =
         let both = and_parts (not (is_some ended) && not (nat_lt 0 (length running.refused)))
-        (not (is_unstable running)) e in
+        (not (took_not_dir running)) e in
         let two = and_parts (not (is_some ended))
         (not (nat_lt 0 (length running.refused))) both.0 in
         (none ended (not-true _ two.0), empty running.refused (not-true _ two.1))

@@ -9,7 +9,7 @@ use Rattle.syn_model.specs.Archive.{Archive, archive_of}
 use Rattle.syn_headline.specs.Network.{Which, Left, Right}
 use Rattle.syn_headline.specs.Planning.{Planned, SessionPlan, Log}
 use Rattle.syn_headline.specs.Coordinator.{Exchange, Outstanding, Running, MakesPlan, hearing}
-use Rattle.syn_headline.specs.Coordinator.{asked_of, is_not_dir, is_unstable}
+use Rattle.syn_headline.specs.Coordinator.{asked_of, is_not_dir, took_not_dir}
 use Rattle.syn_headline.specs.Coordinator as fine
 use Rattle.syn_headline.proofs.Walks.{IsSettledBy, AllSettled}
 use Rattle.syn_headline.specs.World as fine_world
@@ -73,10 +73,10 @@ module _ (old : fine_world.World) (r : Running) (h : IsHeard old r) (exchange : 
             absurd (on exchange.side here.0 no.0 here.1 (here.3 ∙ no.2))
 
     still_unstable : ListsNothing r.left × ListsNothing r.right →
-        is_unstable (hearing r exchange) ≡ is_unstable r
+        took_not_dir (hearing r exchange) ≡ took_not_dir r
     still_unstable nothing =
         list_any-append (λ e. is_not_dir e.reply) r.taken (exchange ∷ [])
-        ∙ (ap (λ b. is_unstable r || (b || false)) (steady nothing) ∙ or_false (is_unstable r))
+        ∙ (ap (λ b. took_not_dir r || (b || false)) (steady nothing) ∙ or_false (took_not_dir r))
       where
         or_false : (b : Bool) → (b || false) ≡ b
         or_false true = refl

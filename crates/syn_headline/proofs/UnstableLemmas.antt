@@ -17,7 +17,7 @@ use Rattle.syn_headline.specs.Network.{Which, Left, Right, Asks, Sent, AsksNothi
 use Rattle.syn_headline.specs.Planning.{SessionPlan}
 use Rattle.syn_headline.specs.Coordinator.{Exchange, Outstanding, Running, outstanding, WasTaken}
 use Rattle.syn_headline.specs.Coordinator.{MakesPlan, is_not_dir}
-use Rattle.syn_headline.specs.Coordinator.{is_unstable as took_not_dir}
+use Rattle.syn_headline.specs.Coordinator.{took_not_dir}
 use Rattle.syn_headline.specs.Reported.{HasUnstable}
 use Rattle.syn_headline.proofs.Invariant.{Histories, IsSound, IsTrue, Plans}
 use Rattle.syn_headline.proofs.ChildrenLemmas.{child_is}

@@ -27,7 +27,7 @@ pub use Rattle.syn_headline.specs.Session.{is_recorded, archive_layout, outstand
 pub use Rattle.syn_headline.specs.Session.{asked_of, without, asked_count, numbered, asking}
 pub use Rattle.syn_headline.specs.Session.{messages_to, most_listings, IsListing, MayWait}
 pub use Rattle.syn_headline.specs.Session.{AreRising, Waits, WasTaken, WasAsked, AsksOnce}
-pub use Rattle.syn_headline.specs.Session.{BothBegun, IsShown, is_not_dir, is_unstable, entries_in}
+pub use Rattle.syn_headline.specs.Session.{BothBegun, IsShown, is_not_dir, took_not_dir, entries_in}
 pub use Rattle.syn_headline.specs.Session.{nodes_shown, piece_total, first_total, fits_piece}
 pub use Rattle.syn_headline.specs.Session.{fault_of, plan_of, MakesPlan, HasPlan, record_for}
 pub use Rattle.syn_headline.specs.Session.{AtCursor, IsStagedTo, MayAsk, AsksNext, stays, makes}
@@ -163,7 +163,7 @@ pub data Advances (pair : ℕ) (plan : List Planned) (taken : Exchange) : Walk �
 -- ended it early, no item was refused and no path was unstable
 abbrev pub is_whole : Running → Option Refusal → Bool
 is_whole running ended = not (is_some ended) && not (nat_lt 0 (length running.refused))
-    && not (is_unstable running)
+    && not (took_not_dir running)
 
 abbrev pub report_of : Running → Option Refusal → Report
 report_of running ended = record {

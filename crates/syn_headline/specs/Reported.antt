@@ -12,7 +12,7 @@ use Rattle.syn_headline.specs.Network.{Which, Sent, Asks, Answers}
 use Rattle.syn_headline.specs.Acknowledged.{Stores, kept_in_session}
 use Rattle.syn_headline.specs.Planning.{Planned, SessionPlan, Log}
 use Rattle.syn_headline.specs.Report.{is_kept}
-use Rattle.syn_headline.specs.Coordinator.{Exchange, Running, IsFor, IsDue, is_unstable, fault_of}
+use Rattle.syn_headline.specs.Coordinator.{Exchange, Running, IsFor, IsDue, took_not_dir, fault_of}
 use Rattle.syn_headline.specs.Coordinator.{plan_of, record_for, report_of, is_resent}
 use Rattle.syn_headline.specs.Picture.{Picture}
 
@@ -58,7 +58,7 @@ pub record IsPlanned (log : Log) (running : Running) (plan : List Planned) : Typ
   pub logged : Contains log made
   pub of_session : made.session ≡ running.session
   pub plan_is : made.plan ≡ plan
-  pub unstable : (is_unstable running ≡ true) ↔ HasUnstable made
+  pub unstable : (took_not_dir running ≡ true) ↔ HasUnstable made
   pub refused : All (IsRefusedFor made running.taken running.kept) running.refused
 
 -- the session asked a side for this, and took that answer

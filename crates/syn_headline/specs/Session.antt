@@ -191,8 +191,8 @@ is_not_dir (NotDir position) = true
 is_not_dir _ = false
 
 -- a path of its scans was answered as no directory
-abbrev pub is_unstable : Running → Bool
-is_unstable running = list_any (λ exchange. is_not_dir exchange.reply) running.taken
+abbrev pub took_not_dir : Running → Bool
+took_not_dir running = list_any (λ exchange. is_not_dir exchange.reply) running.taken
 
 -- What an answer brings
 

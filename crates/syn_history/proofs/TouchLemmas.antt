@@ -14,8 +14,8 @@ use Rattle.syn_model.specs.Limits.{greatest}
 use Rattle.syn_model.specs.Event.{Token, IsLawfulToken, Event, Edited, Began, Replaced}
 use Rattle.syn_model.specs.Standing.{Touch, most_touches, surplus, above_last}
 use Rattle.syn_model.specs.Image.{IsStanding}
-use Rattle.syn_history.specs.declared.step.Step.{Step}
-use Rattle.syn_history.specs.declared.step.Step.TheVariants as step
+use Rattle.syn_history.specs.declared.step.TrailStep.{TrailStep}
+use Rattle.syn_history.specs.declared.step.TrailStep.TheVariants as step
 use Rattle.syn_history.specs.Trails.{step_of}
 use Rattle.syn_history.specs.Past.{Past, past_with, past_after, standing_with, IsLawful}
 use Rattle.syn_history.specs.Past.{are_between, is_of_session, is_lawful}
@@ -120,12 +120,12 @@ between_next from until touch touches first last =
     (le-leb from touch.position first) (le-leb (suc touch.position) until (omega (arith, last)))
 
 -- the session of a step that begins one
-abbrev begun : Step → ℕ → ℕ
+abbrev begun : TrailStep → ℕ → ℕ
 begun (step.Edited path) last = last
 begun (step.Began session) last = session
 begun (step.Replaced token path) last = last
 
-abbrev begins : Step → Bool
+abbrev begins : TrailStep → Bool
 begins (step.Edited path) = false
 begins (step.Began session) = true
 begins (step.Replaced token path) = false

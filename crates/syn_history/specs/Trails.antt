@@ -2,20 +2,20 @@
 use Rattle.std.specs.Prelude.{option_map}
 use Rattle.syn_model.specs.Event as model
 use Rattle.syn_model.specs.Event.{edited_path}
-use Rattle.syn_history.specs.declared.step.Step.{Step}
-use Rattle.syn_history.specs.declared.step.Step.TheVariants as has
-use Rattle.syn_history.specs.declared.trail.Parts.{Parts}
+use Rattle.syn_history.specs.declared.step.TrailStep.{TrailStep}
+use Rattle.syn_history.specs.declared.step.TrailStep.TheVariants as has
+use Rattle.syn_history.specs.declared.trail.TrailParts.{TrailParts}
 use Rattle.syn_history.specs.Events.{token_of}
 use Rattle.syn_history.specs.Past.{Past}
 
 -- an event without what it puts
-abbrev pub step_of : model.Event → Step
+abbrev pub step_of : model.Event → TrailStep
 step_of (model.Edited user edit) = has.Edited (edited_path edit)
 step_of (model.Began session) = has.Began session
 step_of (model.Replaced token path since new) = has.Replaced
     (record { session = token.session; item = token.item }) path
 
-abbrev pub past_from : Parts → Past
+abbrev pub past_from : TrailParts → Past
 past_from parts =
     record {
       position = parts.position;

@@ -6,37 +6,41 @@ ghost use Rattle.syn_history.specs.Trails.{step_of};
 
 use crate::error::HistoryError;
 use crate::event::Event;
-use crate::place::Place;
 use crate::token::Token;
+use crate::touched_path::TouchedPath;
 use std::alloc::Global;
 use syn_path::Path;
 use syn_tree::Edit;
 
 /// What an event adds to a trail, ready with all memory for it: the event without what it puts.
 #[derive(Debug, Drop)]
-pub enum Step {
+pub enum TrailStep {
     /// A user changes what is at the path.
-    Edited(Place),
+    Edited(TouchedPath),
     /// The session with this number begins.
     Began(u64),
     /// A session's item replaces what is at the path.
-    Replaced(Token, Place),
+    Replaced(Token, TouchedPath),
 }
 
-impl Step {
+impl TrailStep {
     /// The step of the event, with a slot for its path if that is wanted. Refused 11 where memory
     /// is refused, and for no other cause; the begin of a session takes none.
-    pub(crate) fn of(alloc: Global, event: &Event, has_slot: bool) -> Result<Step, HistoryError>
+    pub(crate) fn of(
+        alloc: Global,
+        event: &Event,
+        has_slot: bool,
+    ) -> Result<TrailStep, HistoryError>
         ensures step { IfOk result (λ step. step ≡ step_of (event_of event.now)) }
         ensures memory { IfErr result (λ e. e ≡ HistoryError.Memory) }
     {
         match event {
             Event::Edited { edit, .. } => {
-                Ok(Step::Edited(Place::of(alloc, edited_path(edit), has_slot)?))
+                Ok(TrailStep::Edited(TouchedPath::of(alloc, edited_path(edit), has_slot)?))
             }
-            Event::Began { session } => Ok(Step::Began(*session)),
+            Event::Began { session } => Ok(TrailStep::Began(*session)),
             Event::Replaced { token, path, .. } => {
-                Ok(Step::Replaced(*token, Place::of(alloc, path, has_slot)?))
+                Ok(TrailStep::Replaced(*token, TouchedPath::of(alloc, path, has_slot)?))
             }
         }
     }

@@ -24,10 +24,10 @@ ghost use Rattle.syn_history.specs.Index.{IsIndexed, last_positions};
 use crate::error::HistoryError;
 use crate::event::Event;
 use crate::index::{Index, MOST_TOUCHES, add_later, index_after, is_touched};
-use crate::place::Place;
-use crate::step::Step;
+use crate::step::TrailStep;
 use crate::token::Token;
 use crate::touch::Touch;
+use crate::touched_path::TouchedPath;
 use circular_buffer::HeapCircularBuffer;
 use std::alloc::Global;
 use std::marker::Model;
@@ -37,7 +37,7 @@ use syn_placed::{KeyMap, Slot};
 
 /// What an image has of a trail.
 #[derive(Debug, Drop)]
-pub struct Parts {
+pub struct TrailParts {
     /// The number of events.
     pub position: u64,
     /// The position from which on the touches are whole.
@@ -115,14 +115,14 @@ impl Trail {
     /// and the token is of a session from 1 to the one begun last. It has no index yet.
     ///
     /// Refused 11 where memory is refused.
-    pub fn from_parts(alloc: Global, parts: Parts) -> Result<Option<Trail>, HistoryError>
+    pub fn from_parts(alloc: Global, parts: TrailParts) -> Result<Option<Trail>, HistoryError>
         ensures parts { IfOk result (λ read. IfSome read (λ trail. trail ≡ past_from parts)) }
         ensures lawful { IfOk result (λ read. IfSome read IsLawful) }
         ensures none { IfOk result (λ read. IfNone read
             ((tree : model_tree.Tree) → ¬ IsStanding (standing_with tree (past_from parts)))) }
         ensures memory { IfErr result (λ e. e ≡ HistoryError.Memory) }
     {
-        let Parts {
+        let TrailParts {
             position,
             floor,
             touches: listed,
@@ -228,7 +228,7 @@ impl Trail {
     /// is.
     ///
     /// Refused 7 where the position is the greatest, and 11 where memory is refused.
-    pub fn prepare(&self, alloc: Global, event: &Event) -> Result<Step, HistoryError>
+    pub fn prepare(&self, alloc: Global, event: &Event) -> Result<TrailStep, HistoryError>
         ensures step { IfOk result (λ step. step ≡ step_of (event_of event.now)) }
         ensures room { OnOk result (self.now.position < greatest) }
         ensures full { (result ≡ Err HistoryError.Full) ↔ (self.now.position ≡ greatest) }
@@ -242,38 +242,38 @@ impl Trail {
 
     /// The step of the event, for this trail, with no look at the position. Refused 11 where memory
     /// is refused, and for no other cause; the begin of a session takes none.
-    pub fn step(&self, alloc: Global, event: &Event) -> Result<Step, HistoryError>
+    pub fn step(&self, alloc: Global, event: &Event) -> Result<TrailStep, HistoryError>
         ensures step { IfOk result (λ step. step ≡ step_of (event_of event.now)) }
         ensures memory { IfErr result (λ e. e ≡ HistoryError.Memory) }
     {
-        Step::of(alloc, event, self.index.is_some())
+        TrailStep::of(alloc, event, self.index.is_some())
     }
 
     /// Records the step of an event. It takes no memory.
-    pub fn record(&mut self, step: Step)
+    pub fn record(&mut self, step: TrailStep)
         requires { self.old.position < greatest }
         ensures { (event : model.Event) → step ≡ step_of event → self.new
             ≡ past_after self.old event }
     {
         match step {
-            Step::Edited(place) => self.touch(place),
-            Step::Began(session) => {
+            TrailStep::Edited(path) => self.touch(path),
+            TrailStep::Began(session) => {
                 self.session = session;
                 self.position += 1;
             }
-            Step::Replaced(token, place) => {
-                self.touch(place);
+            TrailStep::Replaced(token, path) => {
+                self.touch(path);
                 self.token = Some(token);
             }
         }
     }
 
     /// Goes on by an event that changed the path.
-    fn touch(&mut self, place: Place)
+    fn touch(&mut self, touched: TouchedPath)
         requires { self.old.position < greatest }
-        ensures { self.new ≡ past_touched self.old place }
+        ensures { self.new ≡ past_touched self.old touched }
     {
-        let (path, slot) = place.at(self.position);
+        let (path, slot) = touched.at(self.position);
         let touch = Touch::new(self.position, path);
         let index = self.index.take();
         let (index, floor) = add_touch(&mut self.touches, index, self.floor, touch, slot);
@@ -357,7 +357,7 @@ fn any_tells(touches: &[Touch], path: &Path, since: u64) -> bool
     touches.iter().any(|touch| since <= touch.position() && touch.path().comparable(path))
 }
 
-/// Parts like these are lawful.
+/// TrailParts like these are lawful.
 fn are_lawful(
     position: u64,
     floor: u64,

@@ -8,10 +8,10 @@ use Rattle.syn_model.specs.Version.{Version}
 use Rattle.syn_model.specs.Image.{IsStandingIn, image_spelling_in, touch_spelling}
 use Rattle.syn_history.specs.Past.{standing_with}
 use Rattle.syn_wire.specs.Reads.{NoneBeginsAnother}
-use Rattle.syn_image.specs.declared.image.Image.{Image}
+use Rattle.syn_image.specs.declared.image.ReplicaImage.{ReplicaImage}
 
 -- a pair with what its image keeps
-abbrev pub image_of : Image → ℕ × Standing
+abbrev pub image_of : ReplicaImage → ℕ × Standing
 image_of image = (image.pair, standing_with image.tree image.trail)
 
 abbrev pub IsImage : Version → ℕ × Standing → Type 0

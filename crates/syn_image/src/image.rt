@@ -13,9 +13,9 @@ use syn_history::{Token, Touch, Trail};
 use syn_tree::Tree;
 use syn_wire::{Version, WireError, write_path, write_token, write_tree, write_u16, write_u64};
 
-/// What an image holds.
+/// What the image of a replica holds.
 #[derive(Debug, Drop)]
-pub struct Image {
+pub struct ReplicaImage {
     /// The number of the pair that the replica is of.
     pub pair: u64,
     /// The tree that the history leaves.
@@ -32,7 +32,7 @@ pub(crate) fn front(version: Version) -> [u8; 5]
 }
 
 /// Whether the bytes begin as an image of the first version does, whatever follows.
-pub fn is_old_image(bytes: &[u8]) -> bool
+pub fn is_old_replica(bytes: &[u8]) -> bool
     ensures { (result ≡ true) ↔ IsOldImage bytes.now }
 {
     bytes.starts_with(&front(Version::One))
@@ -42,7 +42,7 @@ pub fn is_old_image(bytes: &[u8]) -> bool
 /// is written entry by entry, so that there is no second copy of it.
 ///
 /// Refused 11 where memory is refused.
-pub fn encode_image(
+pub fn encode_replica(
     alloc: Global,
     pair: u64,
     tree: &Tree,

@@ -16,9 +16,9 @@ ghost use Rattle.syn_image.specs.inner.Pasts.{HasTouches, each_spelling, past_re
 ghost use Rattle.syn_image.specs.inner.Trees.{IsImageTree};
 ghost use Rattle.syn_model.specs.Spelling.{spelling_in};
 
-use crate::image::{Image, front};
+use crate::image::{ReplicaImage, front};
 use std::alloc::Global;
-use syn_history::{Parts, Token, Touch, Trail};
+use syn_history::{Token, Touch, Trail, TrailParts};
 use syn_tree::Tree;
 use syn_wire::{ReadError, Reader, Version, WireError};
 
@@ -31,11 +31,11 @@ const LONGEST_OLD_TREE: usize = 524_288;
 /// token of no session.
 ///
 /// Refused 11 where memory is refused.
-pub fn decode_image(
+pub fn decode_replica(
     alloc: Global,
     version: Version,
     bytes: &[u8],
-) -> Result<Option<(Image, &[u8])>, WireError>
+) -> Result<Option<(ReplicaImage, &[u8])>, WireError>
     ensures { IfOk result (λ read. IsReading (IsImage (version_of version))
         (spelled_image (version_of version)) bytes.now
         (option_map (λ found. (image_of found.0, found.1.now)) read)) }
@@ -45,7 +45,11 @@ pub fn decode_image(
     reader.front(image)
 }
 
-fn read_image(reader: &mut Reader<'_>, alloc: Global, version: Version) -> Result<Image, ReadError>
+fn read_image(
+    reader: &mut Reader<'_>,
+    alloc: Global,
+    version: Version,
+) -> Result<ReplicaImage, ReadError>
     ensures { Reads (IsImage (version_of version)) (spelled_image (version_of version)) image_of
         reader.old reader.new result }
 {
@@ -53,7 +57,7 @@ fn read_image(reader: &mut Reader<'_>, alloc: Global, version: Version) -> Resul
     let (pair, parts) = read_past(reader, alloc)?;
     let tree = read_tree(reader, alloc, version)?;
     let trail = trail_of(alloc, parts)?;
-    Ok(Image { pair, tree, trail })
+    Ok(ReplicaImage { pair, tree, trail })
 }
 
 /// The tree of an image of the version.
@@ -72,7 +76,7 @@ fn read_tree(reader: &mut Reader<'_>, alloc: Global, version: Version) -> Result
 }
 
 /// The trail of these parts. `Malformed` where they are not lawful.
-fn trail_of(alloc: Global, parts: Parts) -> Result<Trail, ReadError>
+fn trail_of(alloc: Global, parts: TrailParts) -> Result<Trail, ReadError>
     ensures parts { IfOk result (λ trail. trail ≡ past_from parts) }
     ensures lawful { IfOk result IsLawful }
     ensures malformed { IfErr result (λ e. e ≡ ReadError.Malformed
@@ -85,12 +89,12 @@ fn trail_of(alloc: Global, parts: Parts) -> Result<Trail, ReadError>
 }
 
 /// The pair, and what an image has of a trail.
-fn read_past(reader: &mut Reader<'_>, alloc: Global) -> Result<(u64, Parts), ReadError>
+fn read_past(reader: &mut Reader<'_>, alloc: Global) -> Result<(u64, TrailParts), ReadError>
     ensures { Reads IsPast past_spelling past_read reader.old reader.new result }
 {
     let ((pair, position), (floor, session), token) = read_fences(reader)?;
     let touches = read_touches(reader, alloc)?;
-    let parts = Parts {
+    let parts = TrailParts {
         position,
         floor,
         touches,

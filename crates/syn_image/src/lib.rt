@@ -6,15 +6,15 @@
 //!
 //! # What it promises
 //!
-//! - `encode_image` writes the image of a replica from its tree and its trail, and `decode_image`
-//!   reads exactly what an image may hold.
+//! - `encode_replica` writes the image of a replica from its tree and its trail, and
+//!   `decode_replica` reads exactly what an image may hold.
 //! - `encode_kept` with `encode_session`, `encode_record` and `encode_dir`, and `encode_archive`
 //!   write the spelling of what an archive keeps, and of an archive's image. `decode_kept` and
 //!   `decode_archive` read them, exactly as trees are read. The marks of an image have a directory
 //!   as their root.
 //! - `record_length` and `dir_length` are how many bytes spell a record, before it is spelled and
 //!   without memory. `Kept::copy` is equal, and so are `copied_marks`.
-//! - `is_old_image` and `is_old_archive` tell an image of the first version by how it begins, and
+//! - `is_old_replica` and `is_old_archive` tell an image of the first version by how it begins, and
 //!   `is_other_pair` one of another pair than is wanted.
 //! - In no version does a spelling of an image, a record or an archive's image begin that of
 //!   another (`image_laws`: `image`, `kept`, `archive`).
@@ -29,8 +29,8 @@ mod kept;
 mod kept_reading;
 mod pair;
 
-pub use image::{Image, encode_image, is_old_image};
-pub use image_reading::decode_image;
+pub use image::{ReplicaImage, encode_replica, is_old_replica};
+pub use image_reading::decode_replica;
 pub use kept::{
     ArchiveImage, ItemRecord, Kept, SESSION_LENGTH, copied_marks, dir_length, encode_archive,
     encode_dir, encode_kept, encode_record, encode_session, is_old_archive, record_length,

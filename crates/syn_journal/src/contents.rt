@@ -19,7 +19,7 @@ ghost use Rattle.syn_journal.specs.declared.layout.TheConstants.{RECORD_OVERHEAD
 use crate::JournalError;
 use crate::half::{HALF_SIZE, Half};
 use crate::layout::{
-    IMAGE_AT, IMAGE_LENGTH_AT, MAX_IMAGE, OPEN_GATE, RECORD_HEADER, RECORD_OVERHEAD,
+    IMAGE_AT, IMAGE_LENGTH_AT, LONGEST_IMAGE, OPEN_GATE, RECORD_HEADER, RECORD_OVERHEAD,
 };
 use crate::read::{read_bytes, read_u8, read_u32, read_u64};
 use std::alloc::Global;
@@ -145,7 +145,7 @@ fn read_image<D: Disk>(alloc: Global, disk: &mut D, half: Half) -> Result<Vec<u8
     ensures calls { ReadsAtLeast 0 result (D.arms disk.old) (D.arms disk.new) }
 {
     let size = read_u32(disk, half.start() + IMAGE_LENGTH_AT)? as usize;
-    if size > MAX_IMAGE {
+    if size > LONGEST_IMAGE {
         return Err(JournalError::Damaged);
     }
     read_bytes(alloc, disk, half.start() + IMAGE_AT, size)

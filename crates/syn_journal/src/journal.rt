@@ -35,10 +35,10 @@ ghost use Rattle.syn_journal.specs.declared.layout.TheConstants.{IMAGE_AT, RECOR
 use crate::JournalError;
 use crate::commit::commit;
 use crate::contents::read_contents;
+use crate::cursor::JournalCursor;
 use crate::half::{HALF_SIZE, Half};
-use crate::layout::{IMAGE_AT, MAX_IMAGE, RECORD_HEADER, RECORD_OVERHEAD};
+use crate::layout::{IMAGE_AT, LONGEST_IMAGE, RECORD_HEADER, RECORD_OVERHEAD};
 use crate::number::{write_u32, write_u64};
-use crate::place::Place;
 use std::alloc::{AllocError, Global};
 use syn_disk::{Arm, DeviceFailed, Disk, Limit};
 
@@ -82,7 +82,7 @@ pub struct Opened<D: Disk> {
 impl<D: Disk> Journal<D> {
     ghost use Rattle.syn_journal.specs.Journal.{disk_of, half_of, generation_of, gate_of, room_of};
     ghost use Rattle.syn_journal.specs.Journal.{value_of, IsTooLong, IsHalted, Stands};
-    ghost use Rattle.syn_journal.specs.Places.{Shows};
+    ghost use Rattle.syn_journal.specs.Cursors.{Shows};
     ghost use Rattle.syn_journal.specs.Refusals.{CountsFailures, MakesIfDevice, AfterReads};
     ghost use Rattle.syn_journal.specs.Refusals.{IsFormatRefusal, IsOpenRefusal, IsAppendRefusal};
 
@@ -90,8 +90,8 @@ impl<D: Disk> Journal<D> {
     /// comes back.
     ///
     /// A stop inside the call may leave what the disk stood for before, the image, or nothing:
-    /// format it again. It is refused `Full` where the image is longer than `MAX_IMAGE`, `Memory`,
-    /// or `Device`.
+    /// format it again. It is refused `Full` where the image is longer than `LONGEST_IMAGE`,
+    /// `Memory`, or `Device`.
     pub fn format(alloc: Global, mut disk: D, image: &[u8]) -> Result<Journal<D>, (JournalError, D)>
         ensures formatted { IfOk result (λ journal. Stands journal (image_alone image.now)) }
         ensures half { IfOk result (λ journal. half_of journal ≡ First) }
@@ -115,7 +115,7 @@ impl<D: Disk> Journal<D> {
             (λ journal. Makes 7 (D.arms disk) (D.arms (disk_of journal)))
             (λ refused. MakesIfDevice refused.0 7 (D.arms disk) (D.arms refused.1)) }
     {
-        if image.len() > MAX_IMAGE {
+        if image.len() > LONGEST_IMAGE {
             return Err((JournalError::Full, disk));
         }
         let Ok(body) = image_body(alloc, 1, image) else {
@@ -222,10 +222,10 @@ impl<D: Disk> Journal<D> {
     }
 
     /// What it shows of its disk, which a layer above keeps while it reopens the journal.
-    pub fn place(&self) -> Place
+    pub fn cursor(&self) -> JournalCursor
         ensures { Shows self.now result }
     {
-        Place {
+        JournalCursor {
             half: self.half,
             generation: self.generation,
             gate: self.gate,
@@ -233,17 +233,17 @@ impl<D: Disk> Journal<D> {
         }
     }
 
-    /// Halts the journal as `halt` does, and has it show again what it showed at the place. It
+    /// Halts the journal as `halt` does, and has it show again what it showed at the cursor. It
     /// serves a layer above whose journal was halted before a reopening that it could not take.
-    pub fn halt_at(&mut self, place: Place)
+    pub fn halt_at(&mut self, cursor: JournalCursor)
         ensures halted { IsHalted self.new }
         ensures disk { disk_of self.new ≡ disk_of self.old }
-        ensures shows { Shows self.new place }
+        ensures shows { Shows self.new cursor }
     {
-        self.half = place.half;
-        self.generation = place.generation;
-        self.gate = place.gate;
-        self.other_is_open = place.other_is_open;
+        self.half = cursor.half;
+        self.generation = cursor.generation;
+        self.gate = cursor.gate;
+        self.other_is_open = cursor.other_is_open;
         self.halted = true;
     }
 
@@ -259,9 +259,8 @@ impl<D: Disk> Journal<D> {
         self.halted = true;
     }
 
-    /// Adds a payload. At `Ok` it is durable: from then on each stop leaves it. A record needs
-    /// `RECORD_OVERHEAD` bytes more than its payload, the last of which is the gate of the record
-    /// that comes next.
+    /// Adds a payload. At `Ok` it is durable: from then on each stop leaves it. A record takes 6
+    /// bytes beside its payload, the last of which is the closed gate of the next record.
     ///
     /// It is refused `Halted`, `JournalFull` where the record does not fit in the current half,
     /// `Memory`, and `Device`, after which the journal is halted.

@@ -1,4 +1,4 @@
-//! A machine over a journal.
+//! A state in memory that a journal keeps on a disk.
 ghost use Rattle.std.specs.Prelude.{◌≡◌, ◌⊎◌, ◌↔◌, ◌<◌, ℕ, None, Some, length, true, IfOk, IfErr};
 ghost use Rattle.std.specs.Prelude.{MatchResult};
 ghost use Rattle.syn_disk.specs.Armed.{armed};
@@ -134,11 +134,16 @@ impl<D: Disk, S: State + Drop> Journaled<D, S> {
     {
         S::keeping_laws();
         layout_laws();
-        self.append(alloc, payload, update)
+        self.append_to_journal(alloc, payload, update)
     }
 
     /// The write, as its journal makes it.
-    fn append(&mut self, alloc: Global, payload: &[u8], update: S::Update) -> Result<(), S::Error>
+    fn append_to_journal(
+        &mut self,
+        alloc: Global,
+        payload: &[u8],
+        update: S::Update,
+    ) -> Result<(), S::Error>
         requires { S.ready (state_of self.old) update }
         ensures journal { Appends (journal_of self.old) (journal_of self.new) payload.now
             (ended S.why result) }
@@ -173,11 +178,11 @@ impl<D: Disk, S: State + Drop> Journaled<D, S> {
             → WritesImage (S.kept_as number) self.new machine (ended S.why result) }
     {
         S::keeping_laws();
-        self.compact(alloc)
+        self.checkpoint_journal(alloc)
     }
 
     /// The checkpoint, as its journal makes it.
-    fn compact(&mut self, alloc: Global) -> Result<(), S::Error>
+    fn checkpoint_journal(&mut self, alloc: Global) -> Result<(), S::Error>
         ensures journal { Compacts (journal_of self.old) (journal_of self.new)
             (S.spelling (state_of self.old)) (ended S.why result) }
         ensures answer { IfErr result (IsOfJournal S.of_journal S.why) }

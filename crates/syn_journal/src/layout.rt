@@ -18,4 +18,4 @@ pub const RECORD_OVERHEAD: usize = 6;
 
 /// The length of the longest image. With it the first gate of a record is the last byte of its
 /// half, and no record fits.
-pub const MAX_IMAGE: usize = HALF_SIZE - IMAGE_AT - 1;
+pub const LONGEST_IMAGE: usize = HALF_SIZE - IMAGE_AT - 1;

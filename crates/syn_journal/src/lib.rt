@@ -34,8 +34,8 @@
 //!   none. Otherwise they made none. An opening makes a sync and then reads. Of those before the
 //!   last, and after another answer than 9 of all, the disk was told to refuse none.
 //! - `halt` makes each later change refused 10, until the journal is reopened. It serves a layer
-//!   that could not take what `reopen` gave. `halt_at` also has it show what it showed at a `place`
-//!   from before (`shows`), where it was halted then.
+//!   that could not take what `reopen` gave. `halt_at` also has it show what it showed at a
+//!   `cursor` from before (`shows`), where it was halted then.
 //! - `left_of` is how many bytes are left for records, and `bytes_left` the same of a value; a
 //!   record takes `record_size` of them (`layout_laws`).
 //! - An opening leaves nothing armed at a disk at which nothing was (`opening_laws`).
@@ -85,6 +85,7 @@
 
 mod commit;
 mod contents;
+mod cursor;
 mod error;
 mod half;
 mod journal;
@@ -92,15 +93,14 @@ mod journaled;
 mod laws;
 mod layout;
 mod number;
-mod place;
 mod read;
 mod state;
 
+pub use cursor::JournalCursor;
 pub use error::JournalError;
 pub use half::HALF_SIZE;
 pub use journal::{Journal, Opened, Reopened};
 pub use journaled::Journaled;
 pub use laws::{layout_laws, opening_laws};
-pub use layout::{MAX_IMAGE, RECORD_HEADER};
-pub use place::Place;
+pub use layout::{LONGEST_IMAGE, RECORD_HEADER};
 pub use state::State;

@@ -95,7 +95,7 @@ fn push_below<C: EntryKind>(
     let Ok(path) = Path::from_names(names) else {
         unreachable!()
     };
-    let content = entry.standing().copy(alloc)?;
+    let content = entry.content().copy(alloc)?;
     copies.push(Placed::new(path, content))?;
     Ok(())
 }

@@ -32,5 +32,5 @@ pub(crate) fn is_entry(entry: &MarkEntry)
     ensures { IsMarkPair entry.now }
 {
     let _ = entry.path().names();
-    is_mark(*entry.standing());
+    is_mark(*entry.content());
 }

@@ -35,5 +35,5 @@ pub use change::MarkChange;
 pub use lawful::is_mark;
 pub use laws::replacement_laws;
 pub use mark::Mark;
-pub use marking::mark_of;
+pub use marking::{mark_found, mark_of};
 pub use tree::{MOST_NODES, MarkEntry, MarkTree};

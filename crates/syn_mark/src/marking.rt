@@ -68,7 +68,7 @@ fn marked(alloc: Global, pair: &Pair<'_>) -> Result<MarkEntry, AllocError>
 }
 
 /// The mark of what was found. It takes no memory.
-fn mark_found(found: &Found<'_>) -> Mark
+pub fn mark_found(found: &Found<'_>) -> Mark
     ensures { content_of result ≡ mark_of (found_content found.now) }
 {
     match found {

@@ -18,7 +18,7 @@ use crate::tree::{MarkEntry, MarkTree};
 use std::alloc::{AllocError, Global};
 use syn_path::{Name, Path};
 use syn_placed::EntryKind;
-use syn_placed::list::{entry_at, is_directory, parent_names};
+use syn_placed::by_path::{entry_at, is_directory, parent_names};
 use syn_tree::TreeError;
 
 /// It stands at the root.
@@ -49,7 +49,7 @@ pub(crate) fn stands_directory(list: &[MarkEntry], names: &[Name]) -> bool
     ensures { result ≡ is_directory_content (find path_cmp names.now list.now) }
 {
     match entry_at(list, names) {
-        Some(entry) => entry.standing().is_directory(),
+        Some(entry) => entry.content().is_directory(),
         None => false,
     }
 }

@@ -26,7 +26,7 @@ fn same_entry(left: &MarkEntry, right: &MarkEntry) -> bool
     ensures { IsTrue result ↔ (left.now ≡ right.now) }
 {
     let place = left.path().names().cmp(&right.path().names());
-    place == Ordering::Equal && same_mark(*left.standing(), *right.standing())
+    place == Ordering::Equal && same_mark(*left.content(), *right.content())
 }
 
 /// Both are directories, or files with one mode and equal digests.

@@ -23,7 +23,7 @@ use crate::same::same_entries;
 use std::alloc::{AllocError, Global};
 use std::marker::Model;
 use syn_path::{Path, is_path};
-use syn_placed::list::{
+use syn_placed::by_path::{
     are_rising, count_children_at, entry_at, part_at, part_below, replace_part,
 };
 use syn_placed::{EntryKind, Placed};
@@ -88,7 +88,7 @@ impl MarkTree {
         if below.is_empty() {
             return Some(MarkTree { list });
         }
-        if !first.standing().is_directory() {
+        if !first.content().is_directory() {
             return None;
         }
         if !are_rising(below) {
@@ -132,7 +132,7 @@ impl MarkTree {
         ensures { option_map (λ mark. content_of mark) result ≡ get self.now path.now }
     {
         match entry_at(&self.list, path.names()) {
-            Some(entry) => Some(*entry.standing()),
+            Some(entry) => Some(*entry.content()),
             None => None,
         }
     }
@@ -173,7 +173,7 @@ impl MarkTree {
         ensures { get self.now root ≡ Some (content_of result) }
     {
         match entry_at(&self.list, &[]) {
-            Some(entry) => *entry.standing(),
+            Some(entry) => *entry.content(),
             None => Mark::Dir,
         }
     }

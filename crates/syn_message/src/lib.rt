@@ -34,6 +34,7 @@ mod user_reading;
 mod user_reply;
 mod user_reply_reading;
 
+pub use listing::are_rising;
 pub use reply::{Reply, ReplyMessage, encode_reply};
 pub use reply_reading::decode_reply;
 pub use request::{Request, RequestMessage, encode_request};

@@ -11,13 +11,9 @@ use std::alloc::Global;
 use syn_mark::Mark;
 use syn_path::Name;
 use syn_tree::MOST_CHILDREN;
-use syn_wire::{ReadError, Reader, Version, WireError, spelling_laws, write_digest, write_u16};
-
-/// The kind of a file's mark.
-const FILE: u8 = 1;
-
-/// The kind of a directory's mark.
-const DIRECTORY: u8 = 2;
+use syn_wire::{
+    DIRECTORY, FILE, ReadError, Reader, Version, WireError, spelling_laws, write_digest, write_u16,
+};
 
 /// Adds how many entries there are, and each of them.
 pub(crate) fn write_entries(body: &mut Vec<u8>, entries: &[(Name, Mark)]) -> Result<(), WireError>
@@ -112,8 +108,8 @@ fn read_mark(reader: &mut Reader<'_>) -> Result<Mark, ReadError>
     }
 }
 
-/// Each name is below the next.
-fn are_rising(entries: &[(Name, Mark)]) -> bool
+/// Whether each name of a listing is below the next, in byte order.
+pub fn are_rising(entries: &[(Name, Mark)]) -> bool
     ensures { IsTrue result ↔ AreRising (entries_of entries.now) }
 {
     entries.is_sorted_by(|entry, next| entry.0 < next.0)

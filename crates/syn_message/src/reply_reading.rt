@@ -13,7 +13,7 @@ use crate::listing::read_entries;
 use crate::reply::{Reply, ReplyMessage};
 use std::alloc::Global;
 use syn_refusal::Refusal;
-use syn_wire::{LONGEST_PIECE, ReadError, Reader, WireError, found, spelling_laws};
+use syn_wire::{LONGEST_PIECE, ReadError, Reader, WireError, or_none, spelling_laws};
 
 /// The reply that the body spells; none where it spells no reply.
 ///
@@ -22,7 +22,7 @@ pub fn decode_reply(alloc: Global, body: &[u8]) -> Result<Option<ReplyMessage>, 
     ensures { IfOk result (λ read. IsWholeReading IsLawfulAnswering answering_spelling body.now
         (option_map answering_of read)) }
 {
-    found(read_reply(&mut Reader::new(body), alloc))
+    or_none(read_reply(&mut Reader::new(body), alloc))
 }
 
 fn read_reply(reader: &mut Reader<'_>, alloc: Global) -> Result<ReplyMessage, ReadError>

@@ -11,7 +11,7 @@ use crate::head::read_head;
 use crate::kind::{BEGIN, FETCH, LIST, REPLACE, STAGE};
 use crate::request::{Request, RequestMessage};
 use std::alloc::Global;
-use syn_wire::{LONGEST_PIECE, ReadError, Reader, WireError, found, spelling_laws};
+use syn_wire::{LONGEST_PIECE, ReadError, Reader, WireError, or_none, spelling_laws};
 
 /// The request that the body spells; none where it spells no request.
 ///
@@ -20,7 +20,7 @@ pub fn decode_request(alloc: Global, body: &[u8]) -> Result<Option<RequestMessag
     ensures { IfOk result (λ read. IsWholeReading IsLawfulAsking asking_spelling body.now
         (option_map asking_of read)) }
 {
-    found(read_request(&mut Reader::new(body), alloc))
+    or_none(read_request(&mut Reader::new(body), alloc))
 }
 
 fn read_request(reader: &mut Reader<'_>, alloc: Global) -> Result<RequestMessage, ReadError>

@@ -9,7 +9,7 @@ use crate::kind::{EDIT, GET};
 use crate::user::{UserRequest, UserRequestMessage};
 use std::alloc::Global;
 use syn_history::Event;
-use syn_wire::{ReadError, Reader, Version, WireError, found, spelling_laws};
+use syn_wire::{ReadError, Reader, Version, WireError, or_none, spelling_laws};
 
 /// The user's request that the body spells; none where it spells none.
 ///
@@ -21,7 +21,7 @@ pub fn decode_user_request(
     ensures { IfOk result (λ read. IsWholeReading IsLawfulWished wished_spelling body.now
         (option_map wished_of read)) }
 {
-    found(read_user_request(&mut Reader::new(body), alloc))
+    or_none(read_user_request(&mut Reader::new(body), alloc))
 }
 
 fn read_user_request(

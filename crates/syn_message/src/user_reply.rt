@@ -9,16 +9,7 @@ use crate::kind::{EDITED, GOT, REFUSED};
 use std::alloc::Global;
 use syn_refusal::Refusal;
 use syn_tree::Content;
-use syn_wire::{WireError, write_contents, write_u64};
-
-/// Nothing is there.
-pub(crate) const ABSENT: u8 = 0;
-
-/// A file is there.
-pub(crate) const FILE: u8 = 1;
-
-/// A directory is there.
-pub(crate) const DIRECTORY: u8 = 2;
+use syn_wire::{ABSENT, DIRECTORY, FILE, WireError, write_contents, write_u64};
 
 /// What is replied to a user.
 #[derive(Debug, Drop)]

@@ -10,10 +10,12 @@ ghost use Rattle.syn_tree.specs.Modes.{mode_of};
 use crate::head::read_user_head;
 use crate::kind::{EDITED, GOT, REFUSED};
 use crate::reply_reading::read_refusal;
-use crate::user_reply::{ABSENT, DIRECTORY, FILE, UserReply, UserReplyMessage};
+use crate::user_reply::{UserReply, UserReplyMessage};
 use std::alloc::Global;
 use syn_tree::{Content, LONGEST_FILE, Mode};
-use syn_wire::{ReadError, Reader, Version, WireError, found, spelling_laws};
+use syn_wire::{
+    ABSENT, DIRECTORY, FILE, ReadError, Reader, Version, WireError, or_none, spelling_laws,
+};
 
 /// The reply to a user that the body spells; none where it spells none.
 ///
@@ -22,7 +24,7 @@ pub fn decode_user_reply(alloc: Global, body: &[u8]) -> Result<Option<UserReplyM
     ensures { IfOk result (λ read. IsWholeReading IsLawfulTelling telling_spelling body.now
         (option_map telling_of read)) }
 {
-    found(read_user_reply(&mut Reader::new(body), alloc))
+    or_none(read_user_reply(&mut Reader::new(body), alloc))
 }
 
 fn read_user_reply(reader: &mut Reader<'_>, alloc: Global) -> Result<UserReplyMessage, ReadError>

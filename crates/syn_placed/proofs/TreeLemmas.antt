@@ -20,7 +20,7 @@ use Rattle.syn_placed.specs.Pairs.{under}
 use Rattle.syn_placed.proofs.OrderLemmas.{not_before}
 use Rattle.syn_placed.proofs.RisingLemmas.{Rising, After, rising_of, are_rising}
 use Rattle.syn_placed.proofs.RisingLemmas.{rising-replaced, rising-under, replaced}
-use Rattle.syn_model.proofs.BaseLemmas.{is_true, holds}
+use Rattle.syn_model.proofs.BaseLemmas.{is_true, holds, or_none}
 use Rattle.syn_model.proofs.SubtreeLemmas.{under_cmp}
 
 pub entries-with : (es : Pairs) → AreRising (rooted es) → entries (tree_with es) ≡ rooted es
@@ -53,10 +53,6 @@ find-append q (e ∷ es) fs =
 find-where : (p : Path → Bool) (q : Path) (es : Pairs) →
     find path_cmp q (filter (λ e. p e.0) es) ≡ cond (p q) (find path_cmp q es) None
 find-where p q es = find-where_key path_cmp p q (λ x e. ap p (sym (path_exact q x e))) es
-
-or_none : (o : Option Content) → option_or o None ≡ o
-or_none None = refl
-or_none (Some x) = refl
 
 find-replaced : (at q : Path) (es us : Pairs) → find path_cmp q (replaced at es us)
     ≡ option_map_or (λ r. find path_cmp r us) (strip_prefix at q) (find path_cmp q es)

@@ -59,7 +59,7 @@ impl<V: Drop, const ROOM: usize> KeyMap<V, ROOM> {
     pub fn within(&self, at: &Key) -> &[Slot<V>]
         ensures { result.now ≡ filter (stands_within at.now) (map.entries self.now) }
     {
-        let (_, others) = self.slots.split_at(place_of(&self.slots, at));
+        let (_, others) = self.slots.split_at(index_of(&self.slots, at));
         let (part, _) = others.split_at(others.partition_point(|slot| is_within(slot, at)));
         part
     }
@@ -91,7 +91,7 @@ fn find<V: Drop>(slots: &[Slot<V>], at: &Key) -> Result<usize, usize>
     ensures there { IfOk result (λ place. StandsAt at.now place slots.now) }
     ensures absent { IfErr result (λ place. WouldStandAt at.now place slots.now) }
 {
-    let place = place_of(slots, at);
+    let place = index_of(slots, at);
     let Some(slot) = slots.get(place) else {
         return Err(place);
     };
@@ -134,7 +134,7 @@ fn is_within<V: Drop>(slot: &Slot<V>, at: &Key) -> bool
 }
 
 /// How many slots stand before the key.
-fn place_of<V: Drop>(slots: &[Slot<V>], at: &Key) -> usize
+fn index_of<V: Drop>(slots: &[Slot<V>], at: &Key) -> usize
     requires { IsRising slots.now }
     ensures { result ≡ length (filter (comes_before at.now) slots.now) }
 {

@@ -47,7 +47,7 @@ impl<C: EntryKind> Keyed<C> {
     }
 
     /// What stands there.
-    pub fn standing(&self) -> &C
+    pub fn content(&self) -> &C
         ensures { C.content result.now ≡ self.now.1 }
     {
         self.slot.value()

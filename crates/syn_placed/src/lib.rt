@@ -4,9 +4,9 @@
 //!
 //! - An entry is a path with what stands there (`Placed`): a tree's content, a mark, or something
 //!   else that is a file or a directory (`EntryKind`). Contracts see it as the model's pair.
-//! - `syn_placed::list` looks up, cuts and joins lists of such entries in path order.
+//! - `syn_placed::by_path` looks up, cuts and joins lists of such entries in path order.
 //! - `Keyed` is an entry with a key in place of its path, in memory of its own.
-//!   `syn_placed::ranges` does with lists of these what `list` does with the others (`part_at`,
+//!   `syn_placed::by_key` does with lists of these what `by_path` does with the others (`part_at`,
 //!   `entry_at`, `replace_part`).
 //! - A `KeyMap` is a finite map from paths to values, with room for a fixed number. `get`, `insert`
 //!   and `remove` are those of the map that contracts see, and `within` gives its entries at and
@@ -14,11 +14,11 @@
 //!   is refused.
 #![tactic(auto)]
 
+pub mod by_key;
+pub mod by_path;
 mod key_map;
 mod keyed;
-pub mod list;
 mod placed;
-pub mod ranges;
 mod runs;
 mod slot;
 

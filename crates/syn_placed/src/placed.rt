@@ -52,7 +52,7 @@ impl<C: EntryKind> Placed<C> {
     }
 
     /// What stands there.
-    pub fn standing(&self) -> &C
+    pub fn content(&self) -> &C
         ensures { C.content result.now ≡ self.now.1 }
     {
         &self.content

@@ -143,7 +143,7 @@ fn pair_line(alloc: Global, pair: &Pair<'_>) -> Result<String, AllocError>
 fn mark_line(alloc: Global, entry: &MarkEntry) -> Result<String, AllocError>
     ensures { IfOk result (λ line. string_bytes line ≡ mark_line entry.now.0 entry.now.1) }
 {
-    match entry.standing() {
+    match entry.content() {
         Mark::File(mode, digest) => digest_line(alloc, entry.path(), *mode, digest),
         Mark::Dir => directory_line(alloc, entry.path()),
     }

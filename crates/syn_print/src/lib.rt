@@ -3,7 +3,7 @@
 //! # What it promises
 //!
 //! Each function that prints works over any writer. Where it answers, just the lines that its
-//! clause names were added. Else it is refused 9 or 11 (`PrintError`).
+//! clause names were added. Otherwise it is refused 9 or 11 (`PrintError`).
 //!
 //! - **An image**: `show_replica` and `show_archive`, over any disk, and `show_served`, of a
 //!   replica that is served (`replica_shown`, `archive_shown`, `served_shown`). A line says which

@@ -23,7 +23,7 @@ use Rattle.syn_headline.specs.Network.{Sent}
 use Rattle.syn_headline.specs.Planning.{Planned, Log, SessionPlan}
 use Rattle.syn_headline.specs.Report.{Report, Complete, Incomplete, is_kept, is_carrying}
 use Rattle.syn_headline.specs.Report.{is_marking, conflict_at}
-use Rattle.syn_headline.specs.Coordinator.{Running, report_of, plan_of, is_whole, is_unstable}
+use Rattle.syn_headline.specs.Coordinator.{Running, report_of, plan_of, is_whole, took_not_dir}
 use Rattle.syn_headline.specs.Reported.{IsReportOf, IsPlanned, EndsSo, IsSettledBy, through}
 use Rattle.syn_headline.specs.Reported.{with_answer, at_record, unanswered, out_of_memory}
 use Rattle.syn_headline.specs.Reported.{HasUnstable, IsRefusedFor}
@@ -106,11 +106,11 @@ module _ (sent : Sent) (log : Log) (kept : List Kept) (running : Running)
   report = report_of running ended
 
   whole : report.end ≡ Complete → (ended ≡ None) × (running.refused ≡ [])
-      × (is_unstable running ≡ true → ⊥)
+      × (took_not_dir running ≡ true → ⊥)
   whole complete =
       let parts = whole_parts running ended complete in
       let all = is_complete (is_whole running ended) complete in
-      (parts.0, parts.1, not_true (is_unstable running) (both _ _ all).1)
+      (parts.0, parts.1, not_true (took_not_dir running) (both _ _ all).1)
 
   ends_through : (end : Option Refusal) → EndsSo sent running end → end ≡ None →
       IsSome running.plan × All (IsSettledBy running.kept running.refused) (plan_of running)
@@ -197,7 +197,7 @@ module _ (sent : Sent) (log : Log) (kept : List Kept) (running : Running)
   incomplete None some running = absurd (some refl)
   incomplete (Some why) some running = refl
 
-  complete_where : (made : SessionPlan) → (is_unstable running ≡ true) ↔ HasUnstable made →
+  complete_where : (made : SessionPlan) → (took_not_dir running ≡ true) ↔ HasUnstable made →
       (report.end ≡ Complete) ↔ ((report.ended ≡ None) × (report.refused ≡ []) × IsStable made)
   complete_where made unstable = (
     λ complete. let all = whole complete in (
@@ -206,11 +206,11 @@ module _ (sent : Sent) (log : Log) (kept : List Kept) (running : Running)
       λ side. no_path (made.scan side).unstable
           (λ path at. all.2 (unstable.1 (side, path, at))),
     ),
-    λ all. by all.0 all.1 all.2 (is_unstable running) refl,
+    λ all. by all.0 all.1 all.2 (took_not_dir running) refl,
   )
     where
       by : ended ≡ None → running.refused ≡ [] → IsStable made → (b : Bool) →
-          is_unstable running ≡ b → report.end ≡ Complete
+          took_not_dir running ≡ b → report.end ≡ Complete
       by none nothing stable false is =
           ap (λ end. (report_of running end).end) none
           ∙ (ap (λ refused. (report_of (record running { refused = refused }) None).end) nothing

@@ -1,15 +1,15 @@
 -- What stands below a path in a list in path order falls into what stands at and below each name
 -- there.
-use Rattle.std.proofs.Common.{◌≡◌, Bool, true, false, cond, ◌||◌, List, [], ◌∷◌, ◌++◌, filter}
+use Rattle.std.proofs.Common.{◌≡◌, Bool, true, false, cond, List, [], ◌∷◌, ◌++◌, filter}
 use Rattle.std.proofs.Common.{flat_map, refl, sym, ap, ap₂, ◌∙◌, subst, Some, None, is_some, Less}
-use Rattle.std.proofs.Common.{is_lt, is_eq, true≢false, append-nil, append_assoc, inl, inr}
+use Rattle.std.proofs.Common.{is_lt, is_eq, true≢false, append_assoc, inl, inr}
 use Rattle.std.specs.List.{AllByRecursion, list_any}
 use Rattle.std.specs.Ordering.{eq_by_cmp, ordering_then, ordering_reverse}
 use Rattle.std.specs.FinMap.{find}
 use Rattle.std.specs.FinMap.Entries.{find-where_key}
 use Rattle.std.proofs.lemmas.Bool.{or_cases}
 use Rattle.std.proofs.lemmas.List.Elements.{filter-append}
-use Rattle.syn_model.specs.Path.{Path, Name, name_cmp, path_cmp, child, is_prefix, comparable}
+use Rattle.syn_model.specs.Path.{Path, Name, name_cmp, path_cmp, child, is_prefix}
 use Rattle.syn_model.specs.Tree.{Pair}
 use Rattle.syn_model.proofs.PathLemmas.{path_total, path_exact, same_name, same_path, prefix-append}
 use Rattle.syn_model.proofs.DirtyLemmas.{prefix_chain}

@@ -8,15 +8,18 @@ use syn_path::Path;
 /// What is to be done at a path.
 #[derive(Debug, Drop)]
 pub enum Item {
-    /// What the right has goes to the left: it changed on the right alone.
+    /// What the right has goes to the left: only the right changed, or both did and the right is
+    /// preferred.
     ToLeft(Path),
-    /// What the left has goes to the right: it changed on the left alone.
+    /// What the left has goes to the right: only the left changed, or both did and the left is
+    /// preferred.
     ToRight(Path),
     /// Both sides changed and have equal marks: the archive is to have them too.
     MarkSame(Path),
     /// Both sides have a directory and the archive has none: it is to have one too.
     MarkDir(Path),
-    /// Both sides changed, and nothing is done; or what is there was not seen as one thing.
+    /// Nothing is done: both sides changed it and none is preferred, or it was no directory any
+    /// more when its listing was asked for.
     Conflict(Path),
 }
 

@@ -11,7 +11,8 @@
 //!   is one of what the code gives. It synchronizes; a directory is recorded before what is below
 //!   it; and nothing dirty on its own side is carried over, but where the other side is preferred.
 //! - `compare` gives that plan of two trees in memory, with the marks that both last agreed on
-//!   (`items`), and what a scan would find of each tree (`left`, `right`).
+//!   (`items`), and what a scan would find of each tree (`left`, `right`). It is refused only 11,
+//!   too (`memory`): a tree keeps the limits of a replica, which are below those of a scan.
 #![tactic(auto)]
 
 mod decided;

@@ -1,7 +1,9 @@
 //! The plan of two trees and marks.
-ghost use Rattle.std.specs.Prelude.{◌≡◌, IfOk, option_map};
+ghost use Rattle.std.specs.Prelude.{◌≡◌, IfErr, IfOk, option_map};
 ghost use Rattle.syn_model.specs.Plan.{plan, scan_of as scan_of_tree};
+ghost use Rattle.syn_model.specs.Refusal.{Memory};
 ghost use Rattle.syn_path.specs.Sides.{which_of};
+ghost use Rattle.syn_refusal.specs.Refusals.{cause_of};
 ghost use Rattle.syn_recon.specs.Items.{items_of};
 ghost use Rattle.syn_scan.specs.Found.{scan_of};
 
@@ -25,8 +27,8 @@ pub struct Compared {
 
 /// The plan of two trees and of the marks that both agreed on, where a side is preferred or none.
 ///
-/// Refused 11 where memory is refused, and 22 where a tree has more than 4,096 nodes, as none has
-/// that keeps the limits of a replica.
+/// Refused 11 where memory is refused, and for no other cause: no tree has more nodes than a scan
+/// may have.
 pub fn compare(
     alloc: Global,
     left: &Tree,
@@ -39,6 +41,7 @@ pub fn compare(
         (scan_of_tree right.now) archive.now) }
     ensures left { IfOk result (λ compared. scan_of compared.left ≡ scan_of_tree left.now) }
     ensures right { IfOk result (λ compared. scan_of compared.right ≡ scan_of_tree right.now) }
+    ensures memory { IfErr result (λ why. cause_of why ≡ Memory) }
 {
     let left = match scan_tree(alloc, left) {
         Ok(scan) => scan,

@@ -1,7 +1,9 @@
 -- What comes of an item for which the replica is not written.
-use Rattle.std.proofs.Common.{◌≡◌, ◌∙◌, ℕ, List, Option, Some, None, Result, Ok, Err, ap}
+use Rattle.std.proofs.Common.{◌≡◌, ◌∙◌, ◌++◌, ◌∷◌, ℕ, List, Option, Some, None, Result, Ok, Err}
+use Rattle.std.proofs.Common.{ap, map}
 use Rattle.std.proofs.Common.{refl, subst, sym}
 use Rattle.std.specs.Prelude.{IfErr, IfNone, IfOk, MatchResult}
+use Rattle.std.proofs.lemmas.List.{map-append}
 use Rattle.std.proofs.lemmas.Result.{IfOk-at_ok, IfOk-weaker, MatchResult-at_err}
 use Rattle.std.proofs.lemmas.Result.{MatchResult-from_both, MatchResult-weaker}
 use Rattle.syn_archive.specs.Archive.{marks_shown}
@@ -11,16 +13,27 @@ use Rattle.syn_model.specs.Decision.{Item}
 use Rattle.syn_model.specs.History.{History}
 use Rattle.syn_model.specs.Plan.{Trees, after_item}
 use Rattle.syn_model.specs.Tree.{Tree}
+use Rattle.syn_recon.specs.Items.{item_of, items_of}
+use Rattle.syn_recon.specs.declared.item.Item.{Item as Planned}
 use Rattle.syn_refusal.specs.declared.refusal.Refusal.{Refusal}
 use Rattle.syn_replica.specs.Replica.{Stands, disk_of, pair_of, tree_shown}
 use Rattle.syn_replica.specs.declared.replica.Replica.{Replica}
 use Rattle.syn_replica.proofs.WithRoomLemmas.{Leaves}
 use Rattle.syn_reconcile.proofs.SettleLemmas.{has_now, leaves_still, left_now, stays}
 use Rattle.syn_reconcile.specs.Settlings.{GoesOn, IsCarried, IsCutOff, IsLeft, after_settled, here}
-use Rattle.syn_reconcile.specs.Settlings.{trees_of}
+use Rattle.syn_reconcile.specs.Settlings.{items_in, trees_of}
 use Rattle.syn_reconcile.specs.Settlings as settlings
 use Rattle.syn_reconcile.specs.Stops.{HasEitherTree, HasTree}
 use Rattle.syn_reconcile.specs.declared.error.ReconcileError.{ReconcileError}
+use Rattle.syn_reconcile.specs.declared.report.Settled.{Settled}
+
+-- the items of the plan: those that were settled, this one, and the others
+pub with_settled : (all made others : List Planned) (settled : List Settled) (item : Planned)
+    → all ≡ made ++ item ∷ others → items_in settled ≡ items_of made
+    → items_of all ≡ items_in settled ++ item_of item ∷ items_of others
+with_settled all made others settled item whole are =
+    ap items_of whole ∙ (map-append item_of made (item ∷ others)
+    ∙ ap (λ xs. xs ++ item_of item ∷ items_of others) (sym are))
 
 -- what is said of an item that is not refused
 pub if_none : (refused : Option Refusal) (P : Type 0) → P → IfNone refused P

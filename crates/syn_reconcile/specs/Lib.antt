@@ -1,6 +1,6 @@
 pub mod Checks
-pub mod Outcomes
 pub mod Refusals
+pub mod Settlements
 pub mod Settlings
 pub mod Shared
 pub mod Stops

@@ -15,7 +15,7 @@ use syn_tree::{Edit, Tree, TreeError};
 
 /// What is to be done at a path of a replica.
 #[derive(Drop)]
-pub(crate) struct Planned {
+pub(crate) struct PlannedEdits {
     pub edits: Vec<Edit>,
     /// The marks of what is there then.
     pub marks: Option<MarkTree>,
@@ -30,7 +30,7 @@ pub(crate) fn plan_part(
     folder: &Tree,
     replica: &Tree,
     path: &Path,
-) -> Result<Planned, TreeError>
+) -> Result<PlannedEdits, TreeError>
     ensures changes { IfOk result (λ planned. AreChanges replica.now
         (replace replica.now path.now (subtree folder.now path.now))
         (map edit_of planned.edits.items)) }
@@ -39,5 +39,5 @@ pub(crate) fn plan_part(
 {
     let MarkedPart { node, marks } = marked_part(alloc, folder, path)?;
     let edits = changes_with(alloc, replica, path, node)?;
-    Ok(Planned { edits, marks })
+    Ok(PlannedEdits { edits, marks })
 }

@@ -22,7 +22,7 @@ pub enum ReconcileError {
     TooMany,
     /// 20: the marks are of another pair than the replica. Nothing was changed.
     OtherPair,
-    /// 11 or 22: there is no plan. Nothing was changed.
+    /// There is no plan: 11, since memory was refused. Nothing was changed.
     Unplanned(Refusal),
     /// The replica refuses edits. What was carried out before stands.
     Replica(ReplicaError),

@@ -70,7 +70,7 @@ mod watch;
 
 pub use checks::WhenEmpty;
 pub use error::ReconcileError;
-pub use report::{Outcome, Report, Settled};
+pub use report::{Report, Settled, Settlement};
 pub use run::{plan, reconcile};
 pub use shared::reconcile_shared;
 pub use watch::ItemWatch;

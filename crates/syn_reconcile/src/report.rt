@@ -2,8 +2,8 @@
 ghost use Rattle.std.specs.Prelude.{◌≡◌};
 ghost use Rattle.syn_model.specs.Decision.{path_of};
 ghost use Rattle.syn_recon.specs.Items.{item_of};
-ghost use Rattle.syn_reconcile.specs.Outcomes.{count_ended, outcome_of};
-ghost use Rattle.syn_reconcile.specs.Outcomes.{is_conflict, is_done, is_marked, is_refused};
+ghost use Rattle.syn_reconcile.specs.Settlements.{count_ended, settlement_of};
+ghost use Rattle.syn_reconcile.specs.Settlements.{is_conflict, is_done, is_marked, is_refused};
 
 use syn_path::Path;
 use syn_recon::Item;
@@ -19,7 +19,7 @@ pub struct Settled {
 
 /// How an item ended.
 #[derive(Clone, Copy, Debug, PartialEq, Eq)]
-pub enum Outcome {
+pub enum Settlement {
     /// It went to the other side, and was recorded.
     Done,
     /// It was recorded, since both sides have it already.
@@ -32,15 +32,15 @@ pub enum Outcome {
 
 impl Settled {
     /// How it ended.
-    pub fn outcome(&self) -> Outcome
-        ensures { result ≡ outcome_of self.now.item self.now.refused }
+    pub fn settlement(&self) -> Settlement
+        ensures { result ≡ settlement_of self.now.item self.now.refused }
     {
         match self.refused {
-            Some(why) => Outcome::Refused(why),
+            Some(why) => Settlement::Refused(why),
             None => match &self.item {
-                Item::ToLeft(_) | Item::ToRight(_) => Outcome::Done,
-                Item::MarkSame(_) | Item::MarkDir(_) => Outcome::Marked,
-                Item::Conflict(_) => Outcome::Conflict,
+                Item::ToLeft(_) | Item::ToRight(_) => Settlement::Done,
+                Item::MarkSame(_) | Item::MarkDir(_) => Settlement::Marked,
+                Item::Conflict(_) => Settlement::Conflict,
             },
         }
     }
@@ -53,27 +53,27 @@ impl Settled {
     }
 
     fn is_done(&self) -> bool
-        ensures { result ≡ is_done (outcome_of self.now.item self.now.refused) }
+        ensures { result ≡ is_done (settlement_of self.now.item self.now.refused) }
     {
-        matches!(self.outcome(), Outcome::Done)
+        matches!(self.settlement(), Settlement::Done)
     }
 
     fn is_marked(&self) -> bool
-        ensures { result ≡ is_marked (outcome_of self.now.item self.now.refused) }
+        ensures { result ≡ is_marked (settlement_of self.now.item self.now.refused) }
     {
-        matches!(self.outcome(), Outcome::Marked)
+        matches!(self.settlement(), Settlement::Marked)
     }
 
     fn is_conflict(&self) -> bool
-        ensures { result ≡ is_conflict (outcome_of self.now.item self.now.refused) }
+        ensures { result ≡ is_conflict (settlement_of self.now.item self.now.refused) }
     {
-        matches!(self.outcome(), Outcome::Conflict)
+        matches!(self.settlement(), Settlement::Conflict)
     }
 
     fn is_refused(&self) -> bool
-        ensures { result ≡ is_refused (outcome_of self.now.item self.now.refused) }
+        ensures { result ≡ is_refused (settlement_of self.now.item self.now.refused) }
     {
-        matches!(self.outcome(), Outcome::Refused(_))
+        matches!(self.settlement(), Settlement::Refused(_))
     }
 }
 

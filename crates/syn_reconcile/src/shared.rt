@@ -38,6 +38,18 @@ use syn_refusal::Refusal;
 use syn_replica::Replica;
 use syn_shared::{SharedReplica, Snapshot};
 
+/// The side that others go on editing.
+#[derive(Drop)]
+struct SharedSide<'a, H, R: Disk> {
+    /// The handle by which its lock is waited for.
+    rt: &'a H,
+    shared: &'a SharedReplica<R>,
+    /// Whose edits the folder's changes are.
+    user: u32,
+    /// What the plan was made of.
+    seen: &'a Snapshot,
+}
+
 /// Makes the folder, which is the left side, and a replica that others go on editing, which is the
 /// right, the same, as far as both were not changed at one path. What is to be done is planned of
 /// what the replica has in one hold of its lock. What the folder changed is put into the replica in
@@ -82,58 +94,53 @@ pub fn reconcile_shared<H: Wait, F: EditedFolder, R: Disk, A: Disk>(
     let compared = plan_seen(
         alloc, folder, &seen.tree, seen.pair, archive, None, when_empty,
     )?;
-    let settled = carry_each(
+    let side = SharedSide {
         rt,
-        alloc,
-        folder,
         shared,
-        pass,
-        archive,
         user,
-        &seen,
-        compared.items,
-    )?;
+        seen: &seen,
+    };
+    let settled = carry_each(alloc, folder, &side, pass, archive, compared.items)?;
     Ok(Report { settled })
 }
 
 /// Carries out each of the items, which are the plan of what was seen, in turn, and answers what
 /// came of each.
 fn carry_each<H: Wait, F: EditedFolder, R: Disk, A: Disk>(
-    rt: &H,
     alloc: Global,
     folder: &mut F,
-    shared: &SharedReplica<R>,
+    side: &SharedSide<'_, H, R>,
     pass: &mut Pass<Replica<R>>,
     archive: &mut Archive<A>,
-    user: u32,
-    seen: &Snapshot,
     items: Vec<Item>,
 ) -> Result<Vec<Settled>, ReconcileError>
-    requires { IsFor shared.now pass.old }
-    ensures of { IsFor shared.now pass.new }
+    requires { IsFor side.now.shared.now pass.old }
+    ensures of { IsFor side.now.shared.now pass.new }
     ensures items { IfOk result (λ settled. items_in settled.items ≡ items_of items.items) }
     ensures stopped { (kept : Kept) → Keeps archive.old kept → IfErr result
-        (λ _. IsCutShort shared.now user seen.now.position (marks_pair archive.old)
-        (items_of items.items) (here (F.tree folder.old) seen.now.tree (marks_shown archive.old))
+        (λ _. IsCutShort side.now.shared.now side.now.user side.now.seen.now.position
+        (marks_pair archive.old) (items_of items.items)
+        (here (F.tree folder.old) side.now.seen.now.tree (marks_shown archive.old))
         pass.old pass.new (F.tree folder.new) archive.new) }
     ensures any_mark { (kept : Kept) → Keeps archive.old kept
         → LeavesOnly A.moment A.left_since (marks_disk archive.old) (marks_disk archive.new)
-        (HasSeenMarks shared.now user seen.now.position (marks_pair archive.old)
-        (items_of items.items) (here (F.tree folder.old) seen.now.tree (marks_shown archive.old))
+        (HasSeenMarks side.now.shared.now side.now.user side.now.seen.now.position
+        (marks_pair archive.old) (items_of items.items)
+        (here (F.tree folder.old) side.now.seen.now.tree (marks_shown archive.old))
         pass.old) }
     ensures carried { (kept : Kept) → Keeps archive.old kept → IfOk result
-        (λ settled. IsBeside (after_all_seen (here (F.tree folder.old) seen.now.tree
+        (λ settled. IsBeside (after_all_seen (here (F.tree folder.old) side.now.seen.now.tree
         (marks_shown archive.old)) settled.items) (F.tree folder.new) archive.new) }
     ensures holds { (kept : Kept) → Keeps archive.old kept → IfOk result
-        (λ settled. HoldInTurn shared.now user seen.now.position
-        (here (F.tree folder.old) seen.now.tree (marks_shown archive.old)) settled.items
+        (λ settled. HoldInTurn side.now.shared.now side.now.user side.now.seen.now.position
+        (here (F.tree folder.old) side.now.seen.now.tree (marks_shown archive.old)) settled.items
         pass.old pass.new) }
     ensures apart { IfOk result
-        (λ settled. LeaveAlone (F.strangers folder.old) seen.now.tree settled.items) }
+        (λ settled. LeaveAlone (F.strangers folder.old) side.now.seen.now.tree settled.items) }
 {
     let mut settled = Vec::new(alloc);
     for item in items {
-        let refused = carry_one(rt, alloc, folder, shared, pass, archive, user, seen, &item)?;
+        let refused = carry_one(alloc, folder, side, pass, archive, &item)?;
         note(&mut settled, Settled { item, refused })?;
     }
     Ok(settled)
@@ -142,48 +149,45 @@ fn carry_each<H: Wait, F: EditedFolder, R: Disk, A: Disk>(
 /// Carries out the item, and answers why it is refused, if it is. It is recorded in the archive
 /// once it is done.
 fn carry_one<H: Wait, F: EditedFolder, R: Disk, A: Disk>(
-    rt: &H,
     alloc: Global,
     folder: &mut F,
-    shared: &SharedReplica<R>,
+    side: &SharedSide<'_, H, R>,
     pass: &mut Pass<Replica<R>>,
     archive: &mut Archive<A>,
-    user: u32,
-    seen: &Snapshot,
     item: &Item,
 ) -> Result<Option<Refusal>, ReconcileError>
-    requires { IsFor shared.now pass.old }
-    ensures of { IsFor shared.now pass.new }
+    requires { IsFor side.now.shared.now pass.old }
+    ensures of { IsFor side.now.shared.now pass.new }
     ensures carried { (kept : Kept) → Keeps archive.old kept → IfOk result
-        (λ refused. IsCarried (item_of item.now) refused (here (F.tree folder.old) seen.now.tree
-        (marks_shown archive.old)) (F.tree folder.new) archive.new) }
-    ensures holds { IfOk result (λ refused. HoldsFor shared.now user seen.now.position
+        (λ refused. IsCarried (item_of item.now) refused
+        (here (F.tree folder.old) side.now.seen.now.tree (marks_shown archive.old))
+        (F.tree folder.new) archive.new) }
+    ensures holds { IfOk result (λ refused.
+        HoldsFor side.now.shared.now side.now.user side.now.seen.now.position
         (F.tree folder.old) (item_of item.now) refused pass.old pass.new) }
     ensures stopped { IfErr result (λ _. IsUnrecorded (item_of item.now)
-        (here (F.tree folder.old) seen.now.tree (marks_shown archive.old)) (F.tree folder.new)
-        archive.old archive.new (λ refused. HoldsFor shared.now user seen.now.position
+        (here (F.tree folder.old) side.now.seen.now.tree (marks_shown archive.old))
+        (F.tree folder.new) archive.old archive.new (λ refused.
+        HoldsFor side.now.shared.now side.now.user side.now.seen.now.position
         (F.tree folder.old) (item_of item.now) refused pass.old pass.new)) }
     ensures any_mark { (kept : Kept) → Keeps archive.old kept
         → LeavesOnly A.moment A.left_since (marks_disk archive.old) (marks_disk archive.new)
         (HasEitherHeld (marks_pair archive.old) (marks_shown archive.old)
-        (after_item (here (F.tree folder.old) seen.now.tree (marks_shown archive.old))
+        (after_item (here (F.tree folder.old) side.now.seen.now.tree (marks_shown archive.old))
         (item_of item.now)).archive
-        (HoldsFor shared.now user seen.now.position (F.tree folder.old) (item_of item.now) None
-        pass.old pass.new)) }
+        (HoldsFor side.now.shared.now side.now.user side.now.seen.now.position
+        (F.tree folder.old) (item_of item.now) None pass.old pass.new)) }
     ensures apart { IfOk result (λ refused. IfNone refused
-        (LeavesAlone (F.strangers folder.old) seen.now.tree (item_of item.now))) }
+        (LeavesAlone (F.strangers folder.old) side.now.seen.now.tree (item_of item.now))) }
     ensures strangers { F.strangers folder.new ≡ F.strangers folder.old }
     ensures marked { marks_pair archive.new ≡ marks_pair archive.old }
 {
-    if !leaves_alone(alloc, folder.strangers(), &seen.tree, item)? {
+    if !leaves_alone(alloc, folder.strangers(), &side.seen.tree, item)? {
         return Ok(Some(Refusal::Full));
     }
     match item {
-        Item::ToRight(path) => {
-            let since = seen.position;
-            to_shared(rt, alloc, folder, shared, pass, archive, user, since, path)
-        }
-        Item::ToLeft(path) => to_folder(alloc, folder, &seen.tree, archive, path),
+        Item::ToRight(path) => to_shared(alloc, folder, side, pass, archive, path),
+        Item::ToLeft(path) => to_folder(alloc, folder, &side.seen.tree, archive, path),
         Item::MarkSame(path) => mark_same(alloc, folder.tree(), archive, path),
         Item::MarkDir(path) => mark_dir(alloc, archive, path),
         Item::Conflict(_) => Ok(None),
@@ -191,45 +195,46 @@ fn carry_one<H: Wait, F: EditedFolder, R: Disk, A: Disk>(
 }
 
 /// Puts what the folder has at and below the path into the replica, unless somebody touched the
-/// path there since the position, and records it.
+/// path there since that was seen, and records it.
 ///
 /// An item is refused as the replica refuses it. Else, where the replica's device fails, the call
 /// itself is.
 fn to_shared<H: Wait, F: EditedFolder, R: Disk, A: Disk>(
-    rt: &H,
     alloc: Global,
     folder: &F,
-    shared: &SharedReplica<R>,
+    side: &SharedSide<'_, H, R>,
     pass: &mut Pass<Replica<R>>,
     archive: &mut Archive<A>,
-    user: u32,
-    since: u64,
     path: &Path,
 ) -> Result<Option<Refusal>, ReconcileError>
-    requires { IsFor shared.now pass.old }
-    ensures of { IsFor shared.now pass.new }
+    requires { IsFor side.now.shared.now pass.old }
+    ensures of { IsFor side.now.shared.now pass.new }
     ensures carried { (kept : Kept) (right : Pairs) → Keeps archive.old kept → IfOk result
         (λ refused. IsCarried (ToRight path.now) refused (here (F.tree folder.now) right
         (marks_shown archive.old)) (F.tree folder.now) archive.new) }
-    ensures holds { IfOk result (λ refused. HoldsFor shared.now user since (F.tree folder.now)
-        (ToRight path.now) refused pass.old pass.new) }
+    ensures holds { IfOk result (λ refused.
+        HoldsFor side.now.shared.now side.now.user side.now.seen.now.position
+        (F.tree folder.now) (ToRight path.now) refused pass.old pass.new) }
     ensures stopped { (right : Pairs) → IfErr result (λ _. IsUnrecorded (ToRight path.now)
         (here (F.tree folder.now) right (marks_shown archive.old)) (F.tree folder.now)
-        archive.old archive.new (λ refused. HoldsFor shared.now user since (F.tree folder.now)
-        (ToRight path.now) refused pass.old pass.new)) }
+        archive.old archive.new (λ refused.
+        HoldsFor side.now.shared.now side.now.user side.now.seen.now.position
+        (F.tree folder.now) (ToRight path.now) refused pass.old pass.new)) }
     ensures any_mark { (kept : Kept) → Keeps archive.old kept
         → LeavesOnly A.moment A.left_since (marks_disk archive.old) (marks_disk archive.new)
         (HasEitherHeld (marks_pair archive.old) (marks_shown archive.old)
         (replace (marks_shown archive.old) path.now (mark (subtree (F.tree folder.now) path.now)))
-        (HoldsFor shared.now user since (F.tree folder.now) (ToRight path.now) None pass.old
-        pass.new)) }
+        (HoldsFor side.now.shared.now side.now.user side.now.seen.now.position
+        (F.tree folder.now) (ToRight path.now) None pass.old pass.new)) }
     ensures marked { marks_pair archive.new ≡ marks_pair archive.old }
 {
     let MarkedPart { node, marks } = match marked_part(alloc, folder.tree(), path) {
         Ok(part) => part,
         Err(error) => return Ok(Some(error.refusal())),
     };
-    match shared.put_part(rt, alloc, pass, user, path, since, node) {
+    let shared = side.shared;
+    let since = side.seen.position;
+    match shared.put_part(side.rt, alloc, pass, side.user, path, since, node) {
         Ok(_) => {
             record(alloc, archive, path, marks)?;
             Ok(None)

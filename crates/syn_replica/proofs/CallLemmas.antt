@@ -3,8 +3,6 @@ use Rattle.std.proofs.Common.{◌≡◌, ◌≢◌, ◌⊎◌, ◌∙◌, Option
 use Rattle.std.proofs.Common.{Ok, Err, ap, inl, inr, refl, subst, sym}
 use Rattle.std.proofs.lemmas.Option.{none-some, same_Some}
 use Rattle.std.specs.Prelude.{◌↔◌, IfErr, IsErrAnd}
-use Rattle.syn_disk.specs.Arms.{Arms}
-use Rattle.syn_disk.specs.Calls.{Makes}
 use Rattle.syn_disk.specs.declared.disk.Disk.{Ghosts}
 use Rattle.syn_journal.specs.declared.error.JournalError.TheVariants as journal
 use Rattle.syn_journal.specs.Endings.{BreaksIf, Grows, ended}

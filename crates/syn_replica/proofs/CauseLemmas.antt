@@ -1,6 +1,6 @@
 -- What it says that an event has no cause to be refused.
 use Rattle.std.proofs.Common.{◌≡◌, ◌<◌, ◌≤◌, ◌^◌, ℕ, Bool, true, false, not, nat_le, ◌&&◌}
-use Rattle.std.proofs.Common.{List, [], ◌∷◌, ◌++◌, length, refl, sym, subst, Some, None, arith}
+use Rattle.std.proofs.Common.{[], ◌∷◌, ◌++◌, length, refl, sym, subst, None, arith}
 use Rattle.std.specs.FinMap.{len}
 use Rattle.std.proofs.lemmas.Bool.{and_parts}
 use Rattle.std.proofs.lemmas.Option.{none-some}
@@ -10,7 +10,7 @@ use Rattle.syn_model.specs.Limits.{fits_replica, fits_part, fits_paths, tree_spe
 use Rattle.syn_model.specs.Limits.{greatest_spelling}
 use Rattle.syn_model.specs.Event.{Put, MakeDir, Remove, Chmod, Edit, Event, Edited, Began}
 use Rattle.syn_model.specs.Event.{Replaced, after_edit}
-use Rattle.syn_model.specs.Refusal.{Refusal, Full, OldSession, Cause, first_cause}
+use Rattle.syn_model.specs.Refusal.{Full, OldSession, first_cause}
 use Rattle.syn_model.specs.Standing.{Standing, edit_causes, place_causes, full_causes}
 use Rattle.syn_model.specs.Standing.{full_position, is_old, refusal_at, IsAllowedIn}
 use Rattle.syn_model.specs.Version.{Version}

@@ -39,7 +39,7 @@ use Rattle.syn_replica.proofs.StandLemmas.{allowed_after, left_behind}
 
 module _ {D : Type 0} {disk : Ghosts D} (replica : Replica D disk) (pair : ℕ) (now : Journal) where
   pub as_machine : IsMachine replica pair now →
-      machine.IsMachine (kept_as pair) replica.machine now
+      machine.IsMachine (kept_as pair) replica.journaled now
   as_machine is = record {
     remembers = remembers now.status is.stands;
     stands = stands now.status refl is.stands;
@@ -49,7 +49,7 @@ module _ {D : Type 0} {disk : Ghosts D} (replica : Replica D disk) (pair : ℕ) 
   }
     where
       as_remembered : Remembers replica now.value →
-          RemembersAs pair replica.machine.state now.value
+          RemembersAs pair replica.journaled.state now.value
       as_remembered r = record {
         pair_is = is.pair_is;
         lawful = r.lawful;
@@ -57,15 +57,15 @@ module _ {D : Type 0} {disk : Ghosts D} (replica : Replica D disk) (pair : ℕ) 
       }
 
       remembers : (status : Status) → StandsAs status replica now.value →
-          RemembersAs pair replica.machine.state now.value
+          RemembersAs pair replica.journaled.state now.value
       remembers Up stands = as_remembered stands.remembers
       remembers Halted stands = as_remembered stands.1
       remembers Down none = absurd none
 
       stands : (status : Status) → now.status ≡ status → StandsAs status replica now.value →
-          machine.StandsAs (kept_as pair) replica.machine now now.status
+          machine.StandsAs (kept_as pair) replica.journaled now now.status
       stands Up up it =
-          subst (machine.StandsAs (kept_as pair) replica.machine now) (sym up) (record {
+          subst (machine.StandsAs (kept_as pair) replica.journaled now) (sym up) (record {
             value = it.value;
             runs = it.runs;
             means = record {
@@ -76,10 +76,10 @@ module _ {D : Type 0} {disk : Ghosts D} (replica : Replica D disk) (pair : ℕ) 
             };
           })
       stands Halted halted it =
-          subst (machine.StandsAs (kept_as pair) replica.machine now) (sym halted) it.0
+          subst (machine.StandsAs (kept_as pair) replica.journaled now) (sym halted) it.0
       stands Down down none = absurd none
 
-  pub of_machine : machine.IsMachine (kept_as pair) replica.machine now →
+  pub of_machine : machine.IsMachine (kept_as pair) replica.journaled now →
       IsMachine replica pair now
   of_machine is = record {
     pair_is = is.remembers.pair_is;
@@ -95,10 +95,10 @@ module _ {D : Type 0} {disk : Ghosts D} (replica : Replica D disk) (pair : ℕ) 
       remembers : Remembers replica now.value
       remembers = record { lawful = is.remembers.lawful; standing = is.remembers.standing }
 
-      runs : now.status ≡ Up → machine.Runs (kept_as pair) replica.machine now
-      runs up = subst (machine.StandsAs (kept_as pair) replica.machine now) up is.stands
+      runs : now.status ≡ Up → machine.Runs (kept_as pair) replica.journaled now
+      runs up = subst (machine.StandsAs (kept_as pair) replica.journaled now) up is.stands
 
-      stands : (status : Status) → machine.StandsAs (kept_as pair) replica.machine now status →
+      stands : (status : Status) → machine.StandsAs (kept_as pair) replica.journaled now status →
           StandsAs status replica now.value
       stands Up was = record {
         remembers = remembers;
@@ -111,7 +111,7 @@ module _ {D : Type 0} {disk : Ghosts D} (replica : Replica D disk) (pair : ℕ) 
       stands Halted halted = (halted, remembers)
       stands Down none = none
 
-  pub of_down : pair_of replica ≡ pair → machine.IsDown (kept_as pair) replica.machine now →
+  pub of_down : pair_of replica ≡ pair → machine.IsDown (kept_as pair) replica.journaled now →
       IsDown replica pair now
   of_down same is =
       record { pair_is = same; down = is.down; stopped = is.stopped; left = is.leaves }
@@ -141,7 +141,7 @@ module _ {D : Type 0} {disk : Ghosts D} (old : Replica D disk) (pair : ℕ) (now
   -- what is prepared may be added to the machine
   pub adds_to : AllowedGoesOn → StandingSteps → (payload spelled : Bytes) (update : Update) →
       (IsHalted old → ⊥) → Adds (standing_shown old) event spelled update → payload ≡ spelled →
-      machine.Adds (kept_as pair) now event payload (StepsBy old.machine.state update)
+      machine.Adds (kept_as pair) now event payload (StepsBy old.journaled.state update)
   adds_to goes_on steps payload spelled update running adds same =
       let remembers = (stands_up old pair now is running).remembers in
       let allowed : IsAllowed now.value event =
@@ -186,7 +186,7 @@ module _ {D : Type 0} {disk : Ghosts D} (old : Replica D disk) (pair : ℕ) (now
     pub writes_record : (ended : Option Refusal) → (ended ≡ None → (bytes : Bytes) →
         disk.may_leave (disk_of new) bytes →
         MayBeOf (kept_as pair).keeping (machine.writing now event Down unarmed 0) bytes) →
-        machine.WritesRecord (kept_as pair) new.machine now event ended →
+        machine.WritesRecord (kept_as pair) new.journaled now event ended →
         WritesRecord new pair now event ended
     writes_record ended left (machine.written arms meets it) =
         written arms up meets
@@ -223,7 +223,7 @@ module _ {D : Type 0} {disk : Ghosts D} (new : Replica D disk) (pair : ℕ) (now
     (same : pair_of new ≡ pair) where
   -- one that is halted writes none
   pub writes_image : (ended : Option Refusal) → ((ended ≡ Some why.Halted → ⊥) → now.status ≡ Up) →
-      machine.WritesImage (kept_as pair) new.machine now ended → WritesImage new pair now ended
+      machine.WritesImage (kept_as pair) new.journaled now ended → WritesImage new pair now ended
   writes_image ended up (machine.image_written arms meets is) =
       image_written arms (up (λ e. cc)) meets
       (of_machine new pair (with_image (side_layout pair) now arms) is)
@@ -240,7 +240,7 @@ module _ {D : Type 0} {disk : Ghosts D} (new : Replica D disk) (pair : ℕ) (now
       image_refused refusal other (of_machine new pair now is)
 
   pub reads_disk : (ended : Option Refusal) →
-      machine.ReadsDisk (kept_as pair) new.machine now ended → ReadsDisk new pair now ended
+      machine.ReadsDisk (kept_as pair) new.journaled now ended → ReadsDisk new pair now ended
   reads_disk ended (machine.read calls next events some opens opened is) =
       read calls next events some opens opened (of_machine new pair next is)
   reads_disk ended (machine.stopped_reading refusal calls meets is) =
@@ -252,7 +252,7 @@ module _ {D : Type 0} {disk : Ghosts D} (new : Replica D disk) (pair : ℕ) (now
       unread calls arms some meets (of_machine new pair (after_device now now.status arms 0) is)
 
 pub starts : {D : Type 0} {disk : Ghosts D} (new : Replica D disk) (pair : ℕ) (now : Journal) →
-    machine.Starts (kept_as pair) new.machine now → Starts new pair now
+    machine.Starts (kept_as pair) new.journaled now → Starts new pair now
 starts new pair now it = record {
   calls = it.calls;
   next = it.next;

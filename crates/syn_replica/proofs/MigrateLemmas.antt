@@ -163,7 +163,7 @@ module _ (stands : ImageStands) (fit : ImagesFit) where
 
   module _ {D : Type 0} {disk : Ghosts D} where
     module _ (replica : Replica D disk) (bytes : List ℕ)
-        (m : Migrated (λ m. m.pair) GivesOld image_of bytes replica.machine) where
+        (m : Migrated (λ m. m.pair) GivesOld image_of bytes replica.journaled) where
       -- its disk gives what it shows, by its image alone
       pub migrated_gives : DiskGives (pair_of replica) (disk.seen (disk_of replica))
           (standing_shown replica)

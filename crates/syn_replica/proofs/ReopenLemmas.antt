@@ -106,16 +106,16 @@ unopened_outside one memory bytes history d early e (inr h) =
 module _ {D : Type 0} {disk : Ghosts D} where
   pub kept_outside : OneIsGiven → (old : Replica D disk) (history : History) →
       KeepsUp old history → (e : ReplicaError) →
-      NotOpened (λ by. Journal by) (IsUnreadAgain e (state_of old.machine)) e
+      NotOpened (λ by. Journal by) (IsUnreadAgain e (state_of old.journaled)) e
       (disk.seen (disk_of old)) → IsOneOf outside_refusals e
   kept_outside one old history k e h =
       let here : position_shown old ≡ length history =
       ap (λ (s : Standing). s.position) (remembered old history k).standing in
       elim (disk_keeps old history k) as (λ _. IsOneOf outside_refusals e) [
-        | inl d ↦ unopened_outside one (state_of old.machine) (disk.seen (disk_of old)) history d
+        | inl d ↦ unopened_outside one (state_of old.journaled) (disk.seen (disk_of old)) history d
             (omega (arith, here)) e h
         | inr d ↦ let more = length-append history (d.0 ∷ []) in
-            unopened_outside one (state_of old.machine) (disk.seen (disk_of old))
+            unopened_outside one (state_of old.journaled) (disk.seen (disk_of old))
             (history ++ d.0 ∷ []) d.2 (omega (arith, here, more)) e h
       ]
 

@@ -105,7 +105,7 @@ remembers_more goes_on steps old new history event r allowed makes = record {
 
 -- a replica that has what its disk gives stands for each history that the disk stands for
 pub opened_each : {D : Type 0} {disk : Ghosts D} (replica : Replica D disk) (bytes : List ℕ)
-    (number : ℕ) (history : History) → Opened (λ m. m.pair) Given bytes replica.machine →
+    (number : ℕ) (history : History) → Opened (λ m. m.pair) Given bytes replica.journaled →
     number < 2 ^ 64 → DiskStands number bytes history →
     (number ≡ pair_of replica) × Stands replica history
 opened_each replica bytes number history opened fits d =

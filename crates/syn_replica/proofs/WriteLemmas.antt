@@ -43,7 +43,7 @@ module _ {D : Type 0} {disk : Ghosts D} (old new : Replica D disk) (payload : By
         (left_behind old stands.value stands.runs)) (appends.any_moment stands.value stands.runs)
 
     pub written_stands : AllowedGoesOn → StandingSteps → PayloadGoesOn → (update : Update) →
-        ended ≡ None → StepsBy (state_of old.machine) update (state_of new.machine) →
+        ended ≡ None → StepsBy (state_of old.journaled) update (state_of new.journaled) →
         IsOf (standing_shown old) event update → (history : History) → Stands old history →
         IsAllowed history event → Stands new (history ++ event ∷ [])
     written_stands allows steps goes_on update none makes of history stands allowed = record {
@@ -86,7 +86,7 @@ module _ {D : Type 0} {disk : Ghosts D} (old new : Replica D disk) (payload : By
   -- the machine refused it
   pub refused_call : (refusal : Refusal) →
       Appends (journal_of old) (journal_of new) payload (Some refusal) →
-      state_of new.machine ≡ state_of old.machine → Tries old new (Some event) (Some refusal) →
+      state_of new.journaled ≡ state_of old.journaled → Tries old new (Some event) (Some refusal) →
       Writes old new (Some event) (Some refusal)
   refused_call refusal appends same tries = record {
     written = tt;

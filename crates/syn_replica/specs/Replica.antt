@@ -4,7 +4,7 @@ use Rattle.syn_disk.specs.declared.disk.Disk.{Ghosts}
 use Rattle.syn_journal.specs.Journal as journal
 use Rattle.syn_journal.specs.declared.journal.Journal.{Journal}
 use Rattle.syn_journal.specs.Layout.{Value, HasJournal, bytes_left}
-use Rattle.syn_journal.specs.Journaled as machine
+use Rattle.syn_journal.specs.Journaled as journaled
 use Rattle.syn_model.specs.Tree.{Tree}
 use Rattle.syn_model.specs.Standing.{Standing}
 use Rattle.syn_model.specs.History.{History, IsHistory, standing_of}
@@ -16,11 +16,11 @@ use Rattle.syn_replica.specs.declared.replica.Replica.{Replica}
 
 module _ {D : Type 0} {disk : Ghosts D} (replica : Replica D disk) where
   abbrev pub pair_of : ℕ
-  pair_of = (machine.state_of replica.machine).pair
+  pair_of = (journaled.state_of replica.journaled).pair
 
   -- what it has in memory: the tree, the position, the touches with their floor, and the fences
   abbrev pub standing_shown : Standing
-  standing_shown = (machine.state_of replica.machine).standing
+  standing_shown = (journaled.state_of replica.journaled).standing
 
   abbrev pub tree_shown : Tree
   tree_shown = standing_shown.tree
@@ -29,7 +29,7 @@ module _ {D : Type 0} {disk : Ghosts D} (replica : Replica D disk) where
   position_shown = standing_shown.position
 
   abbrev pub journal_of : Journal D disk
-  journal_of = machine.journal_of replica.machine
+  journal_of = journaled.journal_of replica.journaled
 
   abbrev pub disk_of : D
   disk_of = journal.disk_of journal_of

@@ -26,7 +26,7 @@ const MOST_FILES: usize = 1024;
 /// becomes of the tree, and two files with the same bytes have one.
 #[derive(Drop)]
 pub(crate) struct Digests {
-    kept: BTreeMap<Vec<u8>, [u8; 32]>,
+    by_bytes: BTreeMap<Vec<u8>, [u8; 32]>,
     /// No fewer bytes than these files have in all.
     size: usize,
     /// How often the root was listed, which each session does once.
@@ -53,7 +53,7 @@ impl Digests {
         ensures { result ≡ [] }
     {
         Digests {
-            kept: BTreeMap::new(alloc),
+            by_bytes: BTreeMap::new(alloc),
             size: 0,
             rounds: 0,
         }
@@ -116,8 +116,9 @@ impl Digests {
         }
     }
 
-    /// The digest of the bytes. Where none is kept, it is made. It is kept if memory is there, but
-    /// not as long as the root was listed once alone: `run` lists all once, and would gain nothing.
+    /// The digest of the bytes: the one that is kept, or a new one. A new one is kept from the
+    /// second listing of the root on, if there is memory. The first round keeps none, since a
+    /// session that runs once lists each directory once and would gain nothing.
     fn digest(&mut self, alloc: Global, bytes: &[u8]) -> [u8; 32]
         ensures { result ≡ sha256 bytes.now }
     {
@@ -137,7 +138,7 @@ impl Digests {
         ensures beside { result ≡ digest_beside bytes.now self.now }
         ensures right { IfSome result (λ digest. digest ≡ sha256 bytes.now) }
     {
-        self.kept.get(bytes).copied()
+        self.by_bytes.get(bytes).copied()
     }
 
     /// Keeps the digest of the bytes. Where they do not fit in beside the others, all go, and
@@ -148,12 +149,12 @@ impl Digests {
             ⊎ (digest_beside bytes.now self.new ≡ Some digest)) }
         ensures unchanged { OnErr result (self.new ≡ self.old) }
     {
-        if self.kept.len() >= MOST_FILES || bytes.len() > LONGEST_SPELLING - self.size {
+        if self.by_bytes.len() >= MOST_FILES || bytes.len() > LONGEST_SPELLING - self.size {
             *self = self.emptied(alloc);
             return Ok(());
         }
         let copy = Vec::from_slice(alloc, bytes)?;
-        self.kept.insert(copy, digest)?;
+        self.by_bytes.insert(copy, digest)?;
         self.size += bytes.len();
         Ok(())
     }
@@ -163,7 +164,7 @@ impl Digests {
         ensures { result ≡ [] }
     {
         Digests {
-            kept: BTreeMap::new(alloc),
+            by_bytes: BTreeMap::new(alloc),
             size: 0,
             rounds: self.rounds,
         }

@@ -43,9 +43,9 @@
 //!   stands for in either (`given`, `migrated`). At any moment the disk stands for the history in
 //!   one of them (`any_moment`: `KeepsOrMigrates`).
 //! - `reopen` does the same with the replica's own disk, also where it is halted. A disk that gives
-//!   fewer events than the replica remembers is refused 19: so no reopening goes back. Of a replica
-//!   that keeps up with a history that never comes. A reopening then gives that history, or it
-//!   with the event that was tried last (`keeps_up`).
+//!   fewer events than the replica remembers is refused 19, so no reopening goes back. A replica
+//!   that keeps up with a history is never refused so: its reopening gives that history, or that
+//!   history and the event that was tried last (`keeps_up`).
 //! - A replica only grows (`IsGrown`): each history that it keeps up with goes on, by events that
 //!   are allowed in turn. Each changing call says so whatever it answers, and without any premise
 //!   (`grown`). So a replica may lie under the lock (`Grows`).

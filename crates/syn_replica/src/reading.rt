@@ -22,7 +22,7 @@ use crate::laws::opening_laws;
 use crate::standing::Standing;
 use std::alloc::Global;
 use syn_history::Event;
-use syn_image::{Image, decode_image, image_laws, is_other_pair};
+use syn_image::{ReplicaImage, decode_replica, image_laws, is_other_pair};
 use syn_refusal::Refusal;
 use syn_wire::{Version, WireError, decode_event, spelling_laws};
 
@@ -57,7 +57,7 @@ pub fn read_replica(
         → IsErrAnd result (λ e. (e ≡ ReplicaError.Memory) ⊎ (e ≡ ReplicaError.WrongPair)) }
 {
     opening_laws();
-    let Image { pair, tree, trail } = read_image(alloc, version, image)?;
+    let ReplicaImage { pair, tree, trail } = read_image(alloc, version, image)?;
     let first = Standing::of(tree, trail);
     let standing = replayed(alloc, version, first, payloads)?;
     is_whole(&standing);
@@ -78,7 +78,11 @@ fn is_whole(standing: &Standing)
 /// The image that the bytes are.
 ///
 /// Refused 19 where they are none, and 11 where memory is refused.
-pub fn read_image(alloc: Global, version: Version, bytes: &[u8]) -> Result<Image, ReplicaError>
+pub fn read_image(
+    alloc: Global,
+    version: Version,
+    bytes: &[u8],
+) -> Result<ReplicaImage, ReplicaError>
     ensures read { IfOk result (λ image. IsImageOf (version_of version) bytes.now
         (image_of image).0 (image_of image).1) }
     ensures refusals { IfErr result IsOfPayload }
@@ -87,7 +91,7 @@ pub fn read_image(alloc: Global, version: Version, bytes: &[u8]) -> Result<Image
         → ¬ IsImageOf (version_of version) bytes.now pair standing) }
 {
     image_laws();
-    let Some((image, rest)) = decode_image(alloc, version, bytes)? else {
+    let Some((image, rest)) = decode_replica(alloc, version, bytes)? else {
         return Err(ReplicaError::Damaged);
     };
     if !rest.is_empty() {

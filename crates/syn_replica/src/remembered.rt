@@ -11,9 +11,9 @@ ghost use Rattle.syn_replica.specs.inner.Memories.{IsUnreadAgain, MayFollow, Ste
 
 use crate::{ReplicaError, Standing, Update, opening_laws, read_replica};
 use std::alloc::Global;
-use syn_image::{encode_image, is_old_image};
+use syn_image::{encode_replica, is_old_replica};
 use syn_journal::{JournalError, State};
-use syn_model::history_laws;
+use syn_model::{history_laws, is_long};
 use syn_refusal::Refusal;
 use syn_wire::Version;
 
@@ -76,7 +76,7 @@ impl State for Remembered {
 
     fn image(&self, alloc: Global) -> Option<Vec<u8>> {
         let standing = &self.standing;
-        encode_image(alloc, self.pair, standing.tree(), standing.trail()).ok()
+        encode_replica(alloc, self.pair, standing.tree(), standing.trail()).ok()
     }
 
     fn read(
@@ -85,7 +85,7 @@ impl State for Remembered {
         payloads: &[Vec<u8>],
         wanted: Option<u64>,
     ) -> Result<Remembered, ReplicaError> {
-        if is_old_image(image) {
+        if is_old_replica(image) {
             return Err(ReplicaError::OldVersion);
         }
         let (pair, standing) = read_replica(alloc, Version::Two, image, wanted, payloads)?;
@@ -110,7 +110,7 @@ impl State for Remembered {
         payloads: &[Vec<u8>],
     ) -> Result<Remembered, ReplicaError> {
         opening_laws();
-        has_64_bits(self.pair);
+        is_long(self.pair);
         let (pair, standing) = read_replica(alloc, Version::Two, image, None, payloads)?;
         if pair != self.pair {
             return Err(ReplicaError::Damaged);
@@ -124,11 +124,4 @@ impl State for Remembered {
     fn make(&mut self, update: Update) {
         self.standing.make(update);
     }
-}
-
-/// What its type says of a number.
-fn has_64_bits(number: u64)
-    ensures { number < 2 ^ 64 }
-{
-    let _ = number;
 }

@@ -57,7 +57,7 @@ pub use with_room::ROOM_FOR_EDITS;
 /// its machine.
 #[derive(Drop)]
 pub struct Replica<D: Disk> {
-    machine: Journaled<D, Remembered>,
+    journaled: Journaled<D, Remembered>,
     /// How the event is spelled that was last sent to the disk.
     tried: Option<Vec<u8>>,
     /// The digests of files that were listed, once any were. A listing alone looks into the cell.
@@ -100,9 +100,9 @@ impl<D: Disk> Replica<D> {
             Ok(standing) => standing,
             Err(error) => return Err((error, disk)),
         };
-        let machine = Journaled::format(alloc, disk, Remembered { pair, standing })?;
+        let journaled = Journaled::format(alloc, disk, Remembered { pair, standing })?;
         Ok(Replica {
-            machine,
+            journaled,
             tried: None,
             digests: Cell::new(None),
         })
@@ -144,9 +144,9 @@ impl<D: Disk> Replica<D> {
             (refusal_of refused.0)) }
     {
         opening_laws();
-        let machine = Journaled::open(alloc, disk, pair)?;
+        let journaled = Journaled::open(alloc, disk, pair)?;
         Ok(Replica {
-            machine,
+            journaled,
             tried: None,
             digests: Cell::new(None),
         })
@@ -156,49 +156,49 @@ impl<D: Disk> Replica<D> {
     pub fn position(&self) -> u64
         ensures { result ≡ position_shown self.now }
     {
-        self.kept().trail().position()
+        self.current_standing().trail().position()
     }
 
     /// The position from which on it is told what was touched.
     pub fn floor(&self) -> u64
         ensures { result ≡ (standing_shown self.now).floor }
     {
-        self.kept().trail().floor()
+        self.current_standing().trail().floor()
     }
 
     /// The session begun last, and 0 while there is none.
     pub fn last_session(&self) -> u64
         ensures { result ≡ (standing_shown self.now).session }
     {
-        self.kept().trail().last_session()
+        self.current_standing().trail().last_session()
     }
 
     /// The tree, as it stands in memory.
     pub fn tree(&self) -> &Tree
         ensures { result.now ≡ tree_shown self.now }
     {
-        self.kept().tree()
+        self.current_standing().tree()
     }
 
     /// The number of the pair.
     pub fn pair(&self) -> u64
         ensures { result ≡ pair_of self.now }
     {
-        self.machine.state().pair
+        self.journaled.state().pair
     }
 
     /// The length of the longest payload that still fits in the journal, or 0 where none does.
     pub fn room(&self) -> usize
         ensures { result ≡ room_shown self.now }
     {
-        self.machine.room()
+        self.journaled.room()
     }
 
     /// The generation of the current image: 1 after `format`.
     pub fn generation(&self) -> u64
         ensures { result ≡ generation_shown self.now }
     {
-        self.machine.generation()
+        self.journaled.generation()
     }
 
     /// Whether each change is refused 10: a device call failed, or a reopening gave no state that
@@ -206,14 +206,14 @@ impl<D: Disk> Replica<D> {
     pub fn is_halted(&self) -> bool
         ensures { (result ≡ true) ↔ IsHalted self.now }
     {
-        self.machine.is_halted()
+        self.journaled.is_halted()
     }
 
     /// Whether its machine has stopped, so that no device call is made any more.
     pub fn is_cut(&self) -> bool
         ensures { result ≡ is_stopped (D.Disk.arms (disk_of self.now)) }
     {
-        self.machine.is_cut()
+        self.journaled.is_cut()
     }
 
     /// How the event is spelled that was last sent to the disk since the replica was formatted,
@@ -231,7 +231,7 @@ impl<D: Disk> Replica<D> {
     pub fn into_disk(self) -> D
         ensures { result ≡ disk_of self }
     {
-        self.machine.into_disk()
+        self.journaled.into_disk()
     }
 
     /// What stands at the path.
@@ -367,7 +367,7 @@ impl<D: Disk> Replica<D> {
     {
         history_laws();
         layout_laws();
-        if let Err(error) = self.machine.write(alloc, &payload, update) {
+        if let Err(error) = self.journaled.write(alloc, &payload, update) {
             // A device call failed, so that the event may be on the disk.
             if self.is_halted() {
                 self.tried = Some(payload);

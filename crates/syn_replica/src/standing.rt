@@ -18,7 +18,7 @@ ghost use Rattle.syn_replica.specs.Updates.{early_causes, tree_after, IsReady, I
 use crate::error::ReplicaError;
 use std::alloc::Global;
 use std::marker::Model;
-use syn_history::{Event, HistoryError, Step, Token, Trail, trail_laws};
+use syn_history::{Event, HistoryError, Token, Trail, TrailStep, trail_laws};
 use syn_path::Path;
 use syn_tree::{Change, Tree};
 
@@ -49,7 +49,7 @@ pub struct Update {
     /// What it changes of the tree; the begin of a session changes nothing.
     pub change: Option<Change>,
     /// What it adds to the trail.
-    pub step: Step,
+    pub step: TrailStep,
 }
 
 impl Standing {
@@ -96,8 +96,8 @@ impl Standing {
         &self.trail
     }
 
-    /// Why the event is refused, as far as that is seen without memory: of a replacement the token
-    /// alone, and of each other event every cause.
+    /// Why the event is refused, by the causes that are found without memory. For a replacement
+    /// these are the causes of its token; for any other event they are all causes.
     pub fn check(&self, event: &Event) -> Result<(), ReplicaError>
         ensures { refusal_in result ≡ first_cause (early_causes self.now (event_of event.now)) }
     {
@@ -197,8 +197,8 @@ impl Standing {
         Ok(Update { change, step })
     }
 
-    /// What the event changes of the tree. Of a replacement alone the position is looked at here:
-    /// of each other event `check` did.
+    /// What the event changes of the tree. `check` has looked at the position for every event but
+    /// a replacement, so a replacement's is checked here.
     fn change_by(&self, alloc: Global, event: Event) -> Result<Option<Change>, ReplicaError>
         requires { first_cause (early_causes self.now (event_of event)) ≡ None }
         ensures ready { IfOk result (λ change. IfSome change (IsPreparedFor self.now.tree)) }

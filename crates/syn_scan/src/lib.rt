@@ -11,7 +11,7 @@
 //!   out once.
 //! - `take` puts the listing of a path that is out into what was found (`found`), and the path is
 //!   out no more (`out`). What was listed is what had been, and this (`listed`, `only`). It is
-//!   refused 22 only where the scan would have more than 4,096 nodes (`too_large`). Else it is
+//!   refused 22 only where the scan would have more than 4,096 nodes (`too_large`). Otherwise it is
 //!   refused 23 only where the path is not out, the names do not rise or a path would pass the
 //!   limits (`bad`). Or it is refused 11. A listing that is taken has none of these causes
 //!   (`belongs`, `small`), and a refusal changes nothing (`same`).
@@ -24,7 +24,7 @@
 //!   make (`scan`: the model's `IsScanBy`), and takes no memory.
 //! - Of a `Scan`, `tree` gives all marks (`marks`, `found`), and `marks` those at and below a path.
 //!   `since` is the position of the parent's listing, and `position` that of the answer for the
-//!   parent, 0 where none is known. A `Scanner` shows its scan so far (`found`). `unstable` tells
+//!   parent, 0 where none is known. A `Scanner` shows its scan so far (`scan`). `unstable` tells
 //!   whether an answer of no directory is at or below the path, and `is_unstable` whether one is at
 //!   the path itself.
 #![tactic(auto)]

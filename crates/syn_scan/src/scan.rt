@@ -21,7 +21,7 @@ use std::marker::Model;
 use syn_mark::{Mark, MarkEntry, MarkTree};
 use syn_path::Path;
 use syn_placed::EntryKind;
-use syn_placed::list::{count_before, parent_names};
+use syn_placed::by_path::{count_before, parent_names};
 
 /// What a side showed in a session: the marks of its tree, each listed directory with the position
 /// of its listing, and each path that was answered as no directory. Contracts see it as that.
@@ -115,8 +115,8 @@ impl Scan {
         self.not_dirs.get(path.names()).is_some()
     }
 
-    /// How many entries stand in front of the first that is open and not among these, in path
-    /// order, where so many are known not to be; all, where none is.
+    /// The index of the first directory, from `passed` on, that was neither answered nor handed
+    /// out; the number of entries where there is none.
     pub(crate) fn first_open(&self, out: &[Path], passed: usize) -> usize
         requires { NoneNext self.now out.now (entries self.now.marks) passed }
         ensures none { NoneNext self.now out.now (entries self.now.marks) result }
@@ -142,7 +142,7 @@ impl Scan {
     }
 
     /// How many entries stand before the path. It takes no memory.
-    pub(crate) fn place_of(&self, path: &Path) -> usize
+    pub(crate) fn index_of(&self, path: &Path) -> usize
         ensures { result ≡ length (before path.now (entries self.now.marks)) }
     {
         count_before(self.marks.as_slice(), path.names())
@@ -153,7 +153,7 @@ impl Scan {
         ensures { result ≡ is_open_entry self.now entry.now }
     {
         let names = entry.path().names();
-        entry.standing().is_directory()
+        entry.content().is_directory()
             && self.listed.get(names).is_none()
             && self.not_dirs.get(names).is_none()
     }

@@ -132,7 +132,7 @@ impl Scanner {
             return Err(ScanError::BadMessage);
         }
         let listing = directory_of(alloc, entries)?;
-        let place = self.scan.place_of(path);
+        let place = self.scan.index_of(path);
         self.scan.take(alloc, path, position, listing)?;
         take_back(&mut self.out, path);
         // What it shows stands right after it, and is still to be handed out.
@@ -166,7 +166,7 @@ impl Scanner {
     }
 
     /// What was found so far: the scan, once `next_request` gives nothing more.
-    pub fn found(&self) -> &Scan
+    pub fn scan(&self) -> &Scan
         ensures found { result.now ≡ self.now.found }
         ensures scan { IsWhole self.now.found → IsScanBy (WasListedIn self.now.found)
             (WasNoDirectoryIn self.now.found) (scan_of result.now) (position_of result.now) }

@@ -6,18 +6,13 @@ use Rattle.syn_link.specs.Frames.{AppendsSome, Bytes, IsBody, frame_of}
 use Rattle.syn_link.specs.Streams.{Comes, ComesAtFault}
 use Rattle.syn_link.specs.declared.error.LinkError.{LinkError}
 use Rattle.syn_link.specs.declared.error.LinkError.TheVariants as link
-use Rattle.syn_lock.specs.History.{end_of}
-use Rattle.syn_lock.specs.Locks.{origin_of}
-use Rattle.syn_lock.specs.Passes.{view_of}
 use Rattle.syn_lock.specs.declared.own.Pass.{Pass}
-use Rattle.syn_replica.specs.Growing.{grown_twice, itself}
 use Rattle.syn_replica.specs.declared.replica.Replica.{Replica}
 use Rattle.syn_serve.specs.Exchanges.{IsAnswered, moment}
 use Rattle.syn_serve.specs.Holds.{Responds}
 use Rattle.syn_serve.specs.Lines.{BreaksOff, ClosesFor, IsSilent, Line}
 use Rattle.syn_serve.specs.Messages.{Message, Response, message_spelling}
 use Rattle.syn_serve.specs.inner.Parts.{ReceivesMessage, of_link}
-use Rattle.syn_shared.specs.Shared.{IsLater, own_of}
 use Rattle.syn_shared.specs.declared.shared.SharedReplica.{SharedReplica}
 
 -- a frame that is refused broke off in its writing
@@ -41,18 +36,6 @@ closes_for link.Device old new fault = fault
 closes_for link.Memory old new fault = inl fault
 
 module _ {D : Type 0} {disk : Ghosts D} (shared : SharedReplica D disk) where
-  pub later_same : (pass : Pass (Replica D disk)) → IsLater shared pass pass
-  later_same pass =
-      record { grown = itself (end_of (origin_of (own_of shared)) (view_of pass).seen) }
-
-  pub later_twice : (a b c : Pass (Replica D disk)) → IsLater shared a b → IsLater shared b c
-      → IsLater shared a c
-  later_twice a b c first second =
-      let origin = origin_of (own_of shared) in record {
-        grown = grown_twice (end_of origin (view_of a).seen) (end_of origin (view_of b).seen)
-            (end_of origin (view_of c).seen) first.grown second.grown;
-      }
-
   -- what came was answered by a hold, and then at most the reply was written
   pub answered_so : (old came new : Line) (after : Agent) (first last : Pass (Replica D disk))
       (message : Message) (response : Response) → ReceivesMessage old came message

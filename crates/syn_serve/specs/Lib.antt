@@ -5,5 +5,4 @@ pub mod Lines
 pub mod Exchanges
 pub mod Runs
 pub mod Servings
-pub mod Upkeep
 pub mod inner

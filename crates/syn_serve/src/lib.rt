@@ -35,12 +35,6 @@
 //!   No clause speaks of it.
 //! - `Serving` is the `Work` of one worker. With its pass it serves its connection to the end, and
 //!   keeps how that ended (`does`: `WasServed`).
-//! - `look_at` is one hold that shows room and halt, and changes nothing (`held`: `Shows`).
-//!   `keep_up` is a checkpointer's step (`keeps`: `KeepsUp`).
-//!   - It looks. A halted replica it opens again, and where there is less room than the caller
-//!     wants it makes a checkpoint, in a hold of its own. Else it rests.
-//!   - Where the lock is taken nothing was looked at; where it is taken between the two holds, the
-//!     second is refused 12.
 #![tactic(auto)]
 
 mod answering;
@@ -49,11 +43,9 @@ mod error;
 mod gate;
 mod message;
 mod serving;
-mod upkeep;
 
 pub use connection::{Exchanged, ServerConnection};
 pub use error::ServeError;
 pub use gate::{Gate, Point};
 pub use message::{AnyReply, AnyRequest, decode_any_request, encode_any_reply};
 pub use serving::Serving;
-pub use upkeep::{Look, ROOM_IN_SHORT_JOURNAL, UpkeepStep, keep_up, look_at};

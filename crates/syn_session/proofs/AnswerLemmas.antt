@@ -8,7 +8,7 @@ use Rattle.std.proofs.lemmas.List.Elements.{All-filter, Contains-push_cases}
 use Rattle.std.proofs.lemmas.List.Folds.{list_any-append}
 use Rattle.std.proofs.lemmas.List.Sums.{sum_by-append}
 use Rattle.syn_headline.specs.Coordinator.{AreRising, MayWait, Running, outstanding}
-use Rattle.syn_headline.specs.Coordinator.{asked_in, hearing, is_not_dir, is_unstable, without}
+use Rattle.syn_headline.specs.Coordinator.{asked_in, hearing, is_not_dir, took_not_dir, without}
 use Rattle.syn_headline.specs.Network.{Which, Left, Right, other, is_side}
 use Rattle.syn_headline.specs.Session.{Exchange, WasAsked}
 use Rattle.syn_headline.specs.Side.{Request}
@@ -164,8 +164,8 @@ module _ (kept : archive.Archive) (old new : Session) (running : Running) (numbe
   }
 
   pub unstable_then : (side : Which) →
-      is_unstable (hearing running (exchange_of side number request reply))
-      ≡ (old.is_unstable || is_not_dir reply)
+      took_not_dir (hearing running (exchange_of side number request reply))
+      ≡ (old.has_unstable_path || is_not_dir reply)
   unstable_then side =
       list_any-append (λ one. is_not_dir one.reply) running.taken
       (exchange_of side number request reply ∷ [])

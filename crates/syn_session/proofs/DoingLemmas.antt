@@ -25,7 +25,6 @@ use Rattle.syn_session.specs.Doings.{IsDoing}
 use Rattle.syn_session.specs.Plans.{planned_by}
 use Rattle.syn_session.specs.Stages.{IsCarriageOf, IsPlanProgress, Reached, plan_in}
 use Rattle.syn_image.specs.Archives.{kept_for}
-use Rattle.syn_session.specs.declared.error.SessionError.{SessionError}
 use Rattle.syn_session.proofs.PlanLemmas.{same_marks}
 
 module _ (progress : PlanProgress) (left right : Found) (reached : Reached)
@@ -141,10 +140,10 @@ module _ (progress : PlanProgress) (left right : Found) (reached : Reached)
     )
 
 -- whatever is answered
-pub if_doing : (progress : PlanProgress) (left right : Found) (reached : Reached) →
+pub if_doing : {E : Type 0} (progress : PlanProgress) (left right : Found) (reached : Reached) →
     IsPlanProgress progress left right reached → PlanIsDecided → (item : model.Item) →
     slice_get (items_of progress.items.items) progress.cursor ≡ Some item → (number : ℕ) →
-    number ≡ progress.cursor → (result : Result Doing SessionError) →
+    number ≡ progress.cursor → (result : Result Doing E) →
     IfOk result (IsDoingFor item number left right) → IfOk result (IsDoing progress left right)
 if_doing progress left right reached is decided item there number same_number (Ok doing) so =
     doing_so progress left right reached is decided item there doing

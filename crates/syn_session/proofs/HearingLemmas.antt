@@ -86,7 +86,7 @@ module _ (kept : archive.Archive) (before now : Session) (running : Running) (si
 
   -- what it told before
   pub tells_before : (session : Session) → session.number ≡ now.number →
-      session.is_unstable ≡ now.is_unstable → session.progress ≡ now.progress →
+      session.has_unstable_path ≡ now.has_unstable_path → session.progress ≡ now.progress →
       Tells session running
   tells_before session n u c =
       tells_nothing session running (is.number ∙ sym (n ∙ answers.number_is))
@@ -135,8 +135,8 @@ module _ (kept : archive.Archive) (before now : Session) (running : Running) (si
       heard_is = heard_so kept before now running number request reply is side answers;
       unstable =
           unstable_then kept before now running number request reply is side
-          ∙ (ap (λ r. before.is_unstable || is_not_dir r) said
-          ∙ (or_false before.is_unstable ∙ sym answers.unstable));
+          ∙ (ap (λ r. before.has_unstable_path || is_not_dir r) said
+          ∙ (or_false before.has_unstable_path ∙ sym answers.unstable));
       scans = still_scans;
       reached = scanning.nothing;
       of_scan = of_scan_then (subst IsOfScan (sym begin) tt);
@@ -332,8 +332,8 @@ module _ (kept : archive.Archive) (before now : Session) (running : Running) (si
         (scanning.found side)
 
     module _ (taken after : Session) (keeps : KeepsRequests now taken side)
-        (unstable : taken.is_unstable ≡ now.is_unstable)
-        (counted : after.is_unstable ≡ (taken.is_unstable || is_not_dir reply))
+        (unstable : taken.has_unstable_path ≡ now.has_unstable_path)
+        (counted : after.has_unstable_path ≡ (taken.has_unstable_path || is_not_dir reply))
         (left : after.left ≡ taken.left) (right : after.right ≡ taken.right)
         (numbered_so : after.number ≡ taken.number)
         (preferred_so : after.preference ≡ taken.preference) (progress : after.progress ≡

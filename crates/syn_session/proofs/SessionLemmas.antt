@@ -90,7 +90,7 @@ only_begin preference number pair Right n a (inr (resent, has)) = by
 module _ (archive : model.Archive) (session : Session) (preference : Option Which) (number pair : ℕ)
     (numbered : session.number ≡ number)
     (preferred : option_map which_of session.preference ≡ preference) (lawful : number < 2 ^ 64)
-    (stable : session.is_unstable ≡ false) (scans : session.progress ≡ None)
+    (stable : session.has_unstable_path ≡ false) (scans : session.progress ≡ None)
     (waits : (side : Which) → waiting_of (peer_of session side) ≡ begin_of pair)
     (of : (side : Which) → AreOfSession number (peer_of session side))
     (asked : (side : Which) → (peer_of session side).asked ≡ 1)
@@ -205,7 +205,8 @@ was_once waiting n a k has =
 module _ (archive : model.Archive) (old new : Session) (running : Running)
     (is : IsSession archive old running) (number : new.number ≡ old.number)
     (preferred : new.preference ≡ old.preference)
-    (unstable : new.is_unstable ≡ old.is_unstable) (progress : new.progress ≡ old.progress)
+    (unstable : new.has_unstable_path ≡ old.has_unstable_path)
+    (progress : new.progress ≡ old.progress)
     (again : (side : Which) → SentAgain (peer_of old side) (peer_of new side)) where
   waits_again : (side : Which) →
       outstanding (resent_once running) side ≡ waiting_of (peer_of new side)

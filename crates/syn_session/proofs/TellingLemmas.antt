@@ -1,9 +1,9 @@
 -- What a session without a plan tells, and which answers are not the last to an item.
-use Rattle.std.proofs.Common.{◌≡◌, ℕ, Bool, true, false, ◌||◌, if◌then◌else◌, List}
+use Rattle.std.proofs.Common.{◌≡◌, ℕ, Bool, true, false, if◌then◌else◌, List}
 use Rattle.std.proofs.Common.{None, refl, sym, ap, subst}
 use Rattle.std.proofs.lemmas.Bool.{false≢true}
 use Rattle.std.proofs.lemmas.Option.{none-some}
-use Rattle.syn_headline.specs.Coordinator.{Exchange, Running, is_last, is_unstable}
+use Rattle.syn_headline.specs.Coordinator.{Exchange, Running, is_last, took_not_dir}
 use Rattle.syn_headline.specs.Network.{Left, Right, Which, is_side, other}
 use Rattle.syn_headline.specs.Session.{fault_of}
 use Rattle.syn_headline.specs.Side.{Begin, Begun, Fetch, ListAt, Replace, Request, Stage}
@@ -13,8 +13,6 @@ use Rattle.syn_session.specs.declared.session.Session.{Session}
 use Rattle.syn_session.specs.Hearing.{HasHeard}
 use Rattle.syn_session.specs.Sessions.{Tells, TellsOf}
 use Rattle.syn_session.specs.Stages.{IsOfScan, nothing_reached, reached_by}
-use Rattle.syn_model.proofs.BaseLemmas.{or_false}
-use Rattle.syn_headline.proofs.StagedLemmas.{on_both}
 
 pub list_not_begin : (path : Path) (pair : ℕ) → ListAt path ≡ Begin pair → ⊥
 list_not_begin path pair e = cc
@@ -33,7 +31,7 @@ other_side Right e = false≢true (sym (ap (is_side Right) e))
 
 -- what a session tells that has no plan
 pub tells_nothing : (session : Session) (running : Running) → running.session ≡ session.number →
-    is_unstable running ≡ session.is_unstable → session.progress ≡ None →
+    took_not_dir running ≡ session.has_unstable_path → session.progress ≡ None →
     reached_by running ≡ nothing_reached → Tells session running
 tells_nothing session running number unstable scans nothing =
     record {

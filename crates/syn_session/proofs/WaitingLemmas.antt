@@ -33,8 +33,7 @@ use Rattle.syn_session.specs.Answering.{IsAskedOn}
 use Rattle.syn_session.specs.Sendings.{message_waiting}
 use Rattle.syn_session.specs.Stages.{outstanding_of, waiting_of}
 use Rattle.syn_session.specs.declared.peer.PeerState.{PeerState}
-use Rattle.syn_session.specs.declared.requests.Waiting.{Waiting}
-use Rattle.syn_model.proofs.BaseLemmas.{contains_one, from_map}
+use Rattle.syn_session.specs.declared.requests.UnansweredRequest.{UnansweredRequest}
 
 -- Lists
 
@@ -161,10 +160,11 @@ alone_is (one ∷ next ∷ more) number request few is = absurd (omega (arith, f
 
 -- The code's list
 
-abbrev pub has_number : ℕ → Waiting → Bool
+abbrev pub has_number : ℕ → UnansweredRequest → Bool
 has_number number one = one.asked.value.number == number
 
-pub asks_at : (waiting : List Waiting) (i number : ℕ) (d : Waiting) → i < length waiting →
+pub asks_at : (waiting : List UnansweredRequest) (i number : ℕ) (d : UnansweredRequest) →
+    i < length waiting →
     has_number number (get_or waiting i d) ≡ true →
     ((k : ℕ) → k < i → has_number number (get_or waiting k d) ≡ false) →
     asked_in (map outstanding_of waiting) number
@@ -179,7 +179,8 @@ asks_at (one ∷ more) (suc i) number d less same before =
     ∙ asks_at more i number d (omega (arith, less)) same
     (λ k l. before (suc k) (omega (arith, l)))
 
-pub removed_at : (waiting : List Waiting) (i number : ℕ) (d : Waiting) → i < length waiting →
+pub removed_at : (waiting : List UnansweredRequest) (i number : ℕ) (d : UnansweredRequest) →
+    i < length waiting →
     has_number number (get_or waiting i d) ≡ true →
     ((k : ℕ) → k < i → has_number number (get_or waiting k d) ≡ false) →
     AreRising (map outstanding_of waiting) →
@@ -200,7 +201,7 @@ removed_at (one ∷ more) (suc i) number d less same before rising =
     (outstanding_of one ∷ without number (map outstanding_of more))
     (without number (map outstanding_of more))) (before 0 (omega arith)))
 
-pub none_has : (waiting : List Waiting) (number : ℕ) →
+pub none_has : (waiting : List UnansweredRequest) (number : ℕ) →
     nat_lt (position_or_len (has_number number) waiting) (length waiting) ≡ false →
     asked_in (map outstanding_of waiting) number ≡ None
 none_has [] number e = refl
@@ -319,7 +320,7 @@ none_wait (one ∷ more) e = absurd (never (length more) e)
 
 -- What was sent again
 
-pub worn_same : (waiting : List Waiting) →
+pub worn_same : (waiting : List UnansweredRequest) →
     list_any (λ one. nat_le most_resends one.resent) (map outstanding_of waiting)
     ≡ list_any (λ one. nat_le most_resends one.resent) waiting
 worn_same [] = refl
@@ -340,7 +341,8 @@ none_passes {X} p (x ∷ xs) e (suc k) d less =
     rest false b e = e
     rest true b e = absurd (true≢false e)
 
-pub resent_all : (was now : List Waiting) → length now ≡ length was → ((k : ℕ) (d : Waiting) →
+pub resent_all : (was now : List UnansweredRequest) → length now ≡ length was → ((k : ℕ)
+    (d : UnansweredRequest) →
     k < length was → get_or now k d ≡ sent_again (get_or was k d)) → now ≡ map sent_again was
 resent_all [] [] long each = refl
 resent_all [] (one ∷ now) long each = absurd (omega (arith, long))
@@ -350,19 +352,20 @@ resent_all (one ∷ was) (two ∷ now) long each =
     (resent_all was now (omega (arith, long))
     (λ k d less. each (suc k) d (omega (arith, less))))
 
-pub resent_waits : (waiting : List Waiting) →
+pub resent_waits : (waiting : List UnansweredRequest) →
     map outstanding_of (map sent_again waiting) ≡ once_more (map outstanding_of waiting)
 resent_waits [] = refl
 resent_waits (one ∷ more) =
     ap (λ l. once_later (outstanding_of one) ∷ l) (resent_waits more)
 
-pub resent_of : (session : ℕ) (waiting : List Waiting) →
+pub resent_of : (session : ℕ) (waiting : List UnansweredRequest) →
     All (λ one. one.asked.value.session ≡ session) waiting →
     All (λ one. one.asked.value.session ≡ session) (map sent_again waiting)
 resent_of session waiting all =
     All-map (λ one. one.asked.value.session ≡ session) sent_again waiting all
 
-pub written_back : (n : ℕ) (now was : List Waiting) → length now ≡ length was → n ≡ length was →
+pub written_back : (n : ℕ) (now was : List UnansweredRequest) → length now ≡ length was →
+    n ≡ length was →
     take n (now ++ drop (length now) was) ≡ now
 written_back n now was long whole =
     take-append-le n now (drop (length now) was) (omega (arith, long, whole))
@@ -421,7 +424,7 @@ sent_more session to count first second =
 -- What is sent of what waits
 
 -- a request that is taken out leaves those of the session
-pub taken_of : (session : ℕ) (waiting : List Waiting) (i : ℕ) → i < length waiting →
+pub taken_of : (session : ℕ) (waiting : List UnansweredRequest) (i : ℕ) → i < length waiting →
     All (λ one. one.asked.value.session ≡ session) waiting →
     All (λ one. one.asked.value.session ≡ session) (remove waiting i)
 taken_of session [] i less all k d within = absurd (omega (arith, less))
@@ -432,7 +435,7 @@ taken_of session (one ∷ more) (suc i) less all (suc k) d within =
     taken_of session more i (omega (arith, less)) (λ n e l. all (suc n) e (omega (arith, l))) k d
     (omega (arith, within))
 
-pub sent_of : (session : ℕ) (side : Which) (waiting : List Waiting) →
+pub sent_of : (session : ℕ) (side : Which) (waiting : List UnansweredRequest) →
     All (λ one. one.asked.value.session ≡ session) waiting →
     map (message_waiting side) waiting ≡ messages_to session side (map outstanding_of waiting)
 sent_of session side [] all = refl

@@ -1,7 +1,7 @@
 -- What a session that scans comes to with an answer.
 use Rattle.std.specs.Prelude.{◌≡◌, ◌⊎◌, ◌≤◌, ◌+◌, ◌++◌, ℕ, length, [], Option, Some, None, Contains}
 use Rattle.std.specs.Prelude.{AllPairs, Result, Ok, Err}
-use Rattle.syn_headline.specs.Coordinator.{Exchange, MayWait, Running, hearing, is_unstable}
+use Rattle.syn_headline.specs.Coordinator.{Exchange, MayWait, Running, hearing, took_not_dir}
 use Rattle.syn_headline.specs.Coordinator.{numbered}
 use Rattle.syn_headline.specs.Network.{Which, IsRepeat}
 use Rattle.syn_headline.specs.Session.{BothBegun, MayAsk, WasAsked, fault_of}
@@ -59,7 +59,7 @@ ScansOn session heard (Some asks) = (archive : model.Archive)
 
 pub record HasHeard (session : Session) (heard : Running) : Type 0 where
   pub heard_is : IsHeard session heard
-  pub unstable : is_unstable heard ≡ session.is_unstable
+  pub unstable : took_not_dir heard ≡ session.has_unstable_path
   pub scans : session.progress ≡ None
   pub reached : reached_by heard ≡ nothing_reached
   pub of_scan : AreOfScan heard.taken

@@ -1,4 +1,3 @@
-pub mod Refusals
 pub mod Reports
 pub mod Sendings
 pub mod Scanning

@@ -5,7 +5,7 @@ use Rattle.syn_message.specs.Requests.{request_of}
 use Rattle.syn_message.specs.declared.request.RequestMessage.{RequestMessage}
 use Rattle.syn_path.specs.Sides.{which_of}
 use Rattle.syn_session.specs.declared.peer.PeerState.{PeerState}
-use Rattle.syn_session.specs.declared.requests.Waiting.{Waiting}
+use Rattle.syn_session.specs.declared.requests.UnansweredRequest.{UnansweredRequest}
 use Rattle.syn_session.specs.declared.sending.Sending.{Sending}
 
 abbrev pub message_to : Which → RequestMessage → Message
@@ -18,7 +18,7 @@ abbrev pub messages_of : List Sending → List Message
 messages_of sends = map message_of sends
 
 -- what is sent of the requests that wait on a side
-abbrev pub message_waiting : Which → Waiting → Message
+abbrev pub message_waiting : Which → UnansweredRequest → Message
 message_waiting side one = message_to side one.asked.value
 
 abbrev pub messages_waiting : Which → PeerState → List Message

@@ -4,7 +4,7 @@ use Rattle.std.specs.Prelude.{◌≡◌, ◌<◌, ◌≤◌, ◌^◌, ℕ, suc, 
 use Rattle.std.specs.Prelude.{All, is_some, not, ◌&&◌, ◌||◌, if◌then◌else◌, Option, Some, None}
 use Rattle.syn_headline.specs.Coordinator.{Outstanding, Running, begins, asking, new_session}
 use Rattle.syn_headline.specs.Coordinator.{messages_to, once_more, outstanding, asked_count}
-use Rattle.syn_headline.specs.Coordinator.{AreRising, AsksOnce, Exchange, MayWait, is_unstable}
+use Rattle.syn_headline.specs.Coordinator.{AreRising, AsksOnce, Exchange, MayWait, took_not_dir}
 use Rattle.syn_headline.specs.Coordinator.{most_resends}
 use Rattle.syn_headline.specs.Network.{Which, Left, Right, Message}
 use Rattle.syn_headline.specs.Report.{End, Complete, Incomplete}
@@ -17,7 +17,7 @@ use Rattle.syn_session.specs.Stages.{AreOfSession, IsCarrying, IsPlanProgress, I
 use Rattle.syn_session.specs.Stages.{Reached, nothing_reached, peer_of, reached_by, waiting_of}
 use Rattle.syn_session.specs.declared.plan_progress.PlanProgress.{PlanProgress}
 use Rattle.syn_session.specs.declared.peer.PeerState.{PeerState}
-use Rattle.syn_session.specs.declared.requests.Waiting.{Waiting}
+use Rattle.syn_session.specs.declared.requests.UnansweredRequest.{UnansweredRequest}
 use Rattle.syn_session.specs.declared.session.Session.{Session}
 use Rattle.std.specs.Prelude.{option_map}
 use Rattle.syn_path.specs.Sides.{which_of}
@@ -32,7 +32,7 @@ abbrev pub once_later : Outstanding → Outstanding
 once_later one = record one { resent = suc one.resent }
 
 -- a request that was sent once more, as it was
-abbrev pub sent_again : Waiting → Waiting
+abbrev pub sent_again : UnansweredRequest → UnansweredRequest
 sent_again one = record one { resent = suc one.resent }
 
 abbrev pub is_worn_out : List Outstanding → Bool
@@ -63,7 +63,7 @@ pub record IsSession (archive : model.Archive) (session : Session) (running : Ru
   pub lawful : session.number < 2 ^ 64
   pub peer : (side : Which) → IsPeer (peer_of session side) running side
   pub once : AsksOnce running
-  pub unstable : is_unstable running ≡ session.is_unstable
+  pub unstable : took_not_dir running ≡ session.has_unstable_path
   pub stage : IsStage archive session session.progress running.taken (reached_by running)
 
 -- both run no session, or the same one
@@ -80,7 +80,7 @@ TellsOf (Some progress) reached =
 
 pub record Tells (session : Session) (running : Running) : Type 0 where
   pub number : running.session ≡ session.number
-  pub unstable : is_unstable running ≡ session.is_unstable
+  pub unstable : took_not_dir running ≡ session.has_unstable_path
   pub told : TellsOf session.progress (reached_by running)
 
 -- how a session ends, by what ended it early, how many items were refused, and whether a path was

@@ -27,11 +27,11 @@ use Rattle.syn_session.specs.Scanning.{IsFoundIn, WaitsFor, found_of}
 use Rattle.syn_session.specs.declared.plan_progress.Carried.{Carried}
 use Rattle.syn_session.specs.declared.plan_progress.PlanProgress.{PlanProgress}
 use Rattle.syn_session.specs.declared.peer.PeerState.{PeerState}
-use Rattle.syn_session.specs.declared.requests.Waiting.{Waiting}
+use Rattle.syn_session.specs.declared.requests.UnansweredRequest.{UnansweredRequest}
 use Rattle.syn_session.specs.declared.session.Session.{Session}
 use Rattle.syn_image.specs.Archives.{kept_for}
 
-abbrev pub outstanding_of : Waiting → Outstanding
+abbrev pub outstanding_of : UnansweredRequest → Outstanding
 outstanding_of waiting = record {
   number = waiting.asked.value.number;
   request = request_of waiting.asked.value.request;

@@ -1,5 +1,5 @@
 //! What is carried for an item of the plan.
-ghost use Rattle.std.specs.Prelude.{◌≡◌, IfErr, IfOk};
+ghost use Rattle.std.specs.Prelude.{◌≡◌, IfOk};
 ghost use Rattle.syn_model.specs.Archive.{Recorded};
 ghost use Rattle.syn_model.specs.Path.{parent};
 ghost use Rattle.syn_model.specs.Tree.{subtree};
@@ -7,9 +7,8 @@ ghost use Rattle.syn_propagate.specs.Transfers.{IsReady, spec_of};
 ghost use Rattle.syn_scan.specs.Found.{position_of};
 ghost use Rattle.syn_image.specs.Archives.{kept_for};
 
-use crate::error::SessionError;
 use crate::plan_progress::Carried;
-use std::alloc::Global;
+use std::alloc::{AllocError, Global};
 use syn_image::ItemRecord;
 use syn_path::{Path, Side};
 use syn_propagate::{Transfer, TransferSpec};
@@ -25,7 +24,7 @@ impl Carried {
         path: &Path,
         from: &Scan,
         to: &Scan,
-    ) -> Result<Carried, SessionError>
+    ) -> Result<Carried, AllocError>
         ensures item { IfOk result (λ carried. (spec_of carried.transfer).item ≡ item) }
         ensures source { IfOk result (λ carried. (spec_of carried.transfer).source ≡ source) }
         ensures path { IfOk result (λ carried. (spec_of carried.transfer).path ≡ path.now) }
@@ -36,7 +35,6 @@ impl Carried {
         ensures record { IfOk result (λ carried. kept_for carried.kept
             ≡ Recorded path.now (subtree from.now.marks path.now)) }
         ensures ready { IfOk result (λ carried. IsReady carried.transfer) }
-        ensures memory { IfErr result (λ e. e ≡ SessionError.Memory) }
     {
         let marks = from.tree().copy_at(alloc, path)?;
         let spec = TransferSpec {

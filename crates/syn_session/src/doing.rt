@@ -1,12 +1,11 @@
 //! What is to be done for an item of the plan.
-ghost use Rattle.std.specs.Prelude.{◌≡◌, IfErr, IfOk};
+ghost use Rattle.std.specs.Prelude.{◌≡◌, IfOk};
 ghost use Rattle.syn_recon.specs.Items.{item_of};
 ghost use Rattle.syn_session.specs.Doings.{BeginsAnew};
 ghost use Rattle.syn_session.specs.inner.Items.{IsDoingFor, IsMarked};
 
-use crate::error::SessionError;
 use crate::plan_progress::{Carried, PlanProgress};
-use std::alloc::Global;
+use std::alloc::{AllocError, Global};
 use syn_image::ItemRecord;
 use syn_model::plan_laws;
 use syn_path::{Path, Side};
@@ -31,11 +30,10 @@ impl PlanProgress {
     ghost use Rattle.syn_session.specs.Stages.{IsPlanProgress, Reached};
 
     /// What is to be done for the item at the cursor. Refused 11 where memory is refused.
-    pub fn doing(&self, alloc: Global, left: &Scan, right: &Scan) -> Result<Doing, SessionError>
+    pub fn doing(&self, alloc: Global, left: &Scan, right: &Scan) -> Result<Doing, AllocError>
         ensures ok { (reached : Reached) → IsPlanProgress self.now left.now right.now reached
             → IfOk result (IsDoing self.now left.now right.now) }
         ensures ready { IfOk result BeginsAnew }
-        ensures memory { IfErr result (λ e. e ≡ SessionError.Memory) }
     {
         plan_laws();
         let Some(item) = self.items.get(self.cursor as usize) else {
@@ -52,10 +50,9 @@ pub(crate) fn doing_for(
     number: u32,
     left: &Scan,
     right: &Scan,
-) -> Result<Doing, SessionError>
+) -> Result<Doing, AllocError>
     ensures ok { IfOk result (IsDoingFor (item_of item.now) number left.now right.now) }
     ensures ready { IfOk result BeginsAnew }
-    ensures memory { IfErr result (λ e. e ≡ SessionError.Memory) }
 {
     match item {
         Item::Conflict(path) => Ok(Doing::Conflict(path.copy(alloc)?)),
@@ -73,10 +70,9 @@ pub(crate) fn doing_for(
 }
 
 /// The archive is to have what both sides have at the path. Refused 11 where memory is refused.
-fn mark(alloc: Global, path: &Path, left: &Scan) -> Result<Doing, SessionError>
+fn mark(alloc: Global, path: &Path, left: &Scan) -> Result<Doing, AllocError>
     ensures ok { IfOk result (IsMarked path.now left.now) }
     ensures ready { IfOk result BeginsAnew }
-    ensures memory { IfErr result (λ e. e ≡ SessionError.Memory) }
 {
     let marks = left.tree().copy_at(alloc, path)?;
     Ok(Doing::Mark(ItemRecord::Record(path.copy(alloc)?, marks)))

@@ -1,5 +1,5 @@
 //! What a session that scans comes to with an answer.
-ghost use Rattle.std.specs.Prelude.{◌≡◌, ℕ, None, Some, IfErr, IfNone, IfOk, IfSome, MatchResult};
+ghost use Rattle.std.specs.Prelude.{◌≡◌, ℕ, None, Some, IfNone, IfOk, IfSome, MatchResult};
 ghost use Rattle.std.specs.Prelude.{◌&&◌, length, nat_lt};
 ghost use Rattle.syn_headline.specs.Coordinator.{Running};
 ghost use Rattle.syn_headline.specs.Network.{Which, other};
@@ -13,10 +13,9 @@ ghost use Rattle.syn_refusal.specs.Refusals.{cause_of};
 ghost use Rattle.syn_session.specs.Scanning.{Exchanges};
 ghost use Rattle.syn_session.specs.inner.Listing.{is_silent};
 
-use crate::error::SessionError;
 use crate::peer::PeerState;
 use crate::session::{Asks, Session, is_no_directory};
-use std::alloc::Global;
+use std::alloc::{AllocError, Global};
 use syn_message::{Reply, Request};
 use syn_path::{Path, Side};
 use syn_refusal::Refusal;
@@ -31,11 +30,10 @@ impl Session {
 
     /// What is listed next; none where nothing waits and each directory was answered. Refused 11
     /// where memory is refused.
-    fn scan_on(&mut self, alloc: Global) -> Result<Option<Asks>, SessionError>
+    fn scan_on(&mut self, alloc: Global) -> Result<Option<Asks>, AllocError>
         ensures some { IfOk result (λ next. IfSome next (ListsOn self.old self.new)) }
         ensures none { IfOk result (λ next. IfNone next (IsListed self.old self.new)) }
         ensures same { KeepsFound self.old self.new }
-        ensures memory { IfErr result (λ e. e ≡ SessionError.Memory) }
     {
         let left = self.left.next_listings(alloc)?;
         let right = self.right.next_listings(alloc)?;

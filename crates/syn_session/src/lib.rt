@@ -37,15 +37,14 @@
 //!   - `next` gives the root or a directory that a listing shows (`shown`), of which nothing was
 //!     answered yet (`new`) and whose listing does not wait (`unasked`); none where there is no
 //!     such directory (`none`).
-//!   - `take` keeps that with one answer more, or is refused with just what ends the session, or 11
-//!     (`step`), for a path whose listing waits, and that waits no more (`out`). Of any other path
-//!     nothing is said. `found` shows the scan so far (`scan`).
+//!   - `take` adds an answer to the scan (`step`). It needs a path whose listing waits, and that
+//!     waits no more afterwards (`out`). It is refused with what ends the session, or 11. `scan`
+//!     shows the scan so far.
 #![tactic(auto)]
 
 mod answering;
 mod carried;
 mod doing;
-mod error;
 mod hearing;
 mod passing;
 mod peer;
@@ -58,11 +57,10 @@ mod side_scan;
 
 pub use answering::ItemProgress;
 pub use doing::Doing;
-pub use error::SessionError;
 pub use peer::PeerState;
 pub use plan_progress::{Carried, PlanProgress};
 pub use report::{End, Report};
-pub use requests::Waiting;
+pub use requests::{MOST_RESENDS, UnansweredRequest};
 pub use sending::Sending;
 pub use session::{Asks, Session};
 pub use side_scan::SideScan;

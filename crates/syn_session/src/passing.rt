@@ -1,5 +1,5 @@
 //! How a session goes past the items of its plan.
-ghost use Rattle.std.specs.Prelude.{◌≡◌, ◌+◌, ◌<◌, ◌^◌, Some, IfErr, OnErr, OnOk, false, slice_get};
+ghost use Rattle.std.specs.Prelude.{◌≡◌, ◌+◌, ◌<◌, ◌^◌, Some, OnErr, OnOk, false, slice_get};
 ghost use Rattle.std.specs.Prelude.{IsOk, true};
 ghost use Rattle.syn_headline.specs.Planning.{Planned};
 ghost use Rattle.syn_headline.specs.Report.{conflict_at, is_carrying};
@@ -10,9 +10,8 @@ ghost use Rattle.syn_recon.specs.Items.{item_of};
 ghost use Rattle.syn_refusal.specs.Refusals.{cause_of};
 ghost use Rattle.syn_scan.specs.Found.{Found};
 
-use crate::error::SessionError;
 use crate::plan_progress::PlanProgress;
-use std::alloc::Global;
+use std::alloc::{AllocError, Global};
 use syn_model::plan_laws;
 use syn_path::Path;
 use syn_recon::Item;
@@ -24,7 +23,7 @@ impl PlanProgress {
     ghost use Rattle.syn_session.specs.Stages.{IsPlanProgress, Reached, plan_in};
 
     /// Past an item that is a conflict. Refused 11 where memory is refused.
-    pub fn pass_conflict(&mut self, path: Path) -> Result<(), SessionError>
+    pub fn pass_conflict(&mut self, path: Path) -> Result<(), AllocError>
         ensures passes { (left right : Found) (reached : Reached) (planned : Planned)
             → IsPlanProgress self.old left right reached
             → slice_get (plan_in self.old left right) self.old.cursor ≡ Some planned
@@ -33,7 +32,6 @@ impl PlanProgress {
         ensures stays { (left right : Found) (reached : Reached)
             → IsPlanProgress self.old left right reached
             → OnErr result (IsPlanProgress self.new left right reached) }
-        ensures memory { IfErr result (λ e. e ≡ SessionError.Memory) }
     {
         self.conflicts.push(path)?;
         self.cursor = one_more(self.cursor);
@@ -41,7 +39,7 @@ impl PlanProgress {
     }
 
     /// Past an item that is refused so. Refused 11 where memory is refused.
-    pub(crate) fn pass_refused(&mut self, why: Refusal, path: Path) -> Result<(), SessionError>
+    pub(crate) fn pass_refused(&mut self, why: Refusal, path: Path) -> Result<(), AllocError>
         ensures passes { (left right : Found) (reached : Reached) (planned : Planned)
             → IsPlanProgress self.old left right reached
             → slice_get (plan_in self.old left right) self.old.cursor ≡ Some planned
@@ -51,7 +49,6 @@ impl PlanProgress {
         ensures stays { (left right : Found) (reached : Reached)
             → IsPlanProgress self.old left right reached
             → OnErr result (IsPlanProgress self.new left right reached) }
-        ensures memory { IfErr result (λ e. e ≡ SessionError.Memory) }
     {
         self.refused.push((why, path))?;
         self.cursor = one_more(self.cursor);
@@ -60,7 +57,7 @@ impl PlanProgress {
 
     /// Past the item that it has come to, if any is left, which is refused so. Refused 11 where
     /// memory is refused.
-    pub fn refuse(&mut self, alloc: Global, why: Refusal) -> Result<(), SessionError>
+    pub fn refuse(&mut self, alloc: Global, why: Refusal) -> Result<(), AllocError>
         ensures passes { (left right : Found) (reached : Reached) (planned : Planned)
             → IsPlanProgress self.old left right reached
             → slice_get (plan_in self.old left right) self.old.cursor ≡ Some planned
@@ -69,7 +66,6 @@ impl PlanProgress {
         ensures stays { (left right : Found) (reached : Reached)
             → IsPlanProgress self.old left right reached
             → OnErr result (IsPlanProgress self.new left right reached) }
-        ensures memory { IfErr result (λ e. e ≡ SessionError.Memory) }
         ensures none { (left right : Found)
             → slice_get (plan_in self.old left right) self.old.cursor ≡ None
             → IsOk result × (self.new ≡ self.old) }

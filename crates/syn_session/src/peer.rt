@@ -1,6 +1,6 @@
 //! What a session asks of one side.
 ghost use Rattle.std.specs.Prelude.{◌≡◌, ◌+◌, [], ◌∷◌, ◌++◌, None, false, nat_lt, option_map};
-ghost use Rattle.std.specs.Prelude.{ℕ, length, map, IfOk, IfErr, IfSome, OnOk};
+ghost use Rattle.std.specs.Prelude.{ℕ, length, map, IfOk, IfSome, OnOk};
 ghost use Rattle.syn_headline.specs.Coordinator.{asked_in, messages_to, numbered, once_more};
 ghost use Rattle.syn_headline.specs.Network.{Which};
 ghost use Rattle.syn_headline.specs.Side.{ListAt};
@@ -9,8 +9,7 @@ ghost use Rattle.syn_path.specs.Sides.{which_of};
 ghost use Rattle.syn_session.specs.Scanning.{IsFoundIn, found_of, out_of};
 ghost use Rattle.syn_session.specs.Sendings.{messages_of, messages_waiting};
 
-use crate::error::SessionError;
-use crate::requests::{Waiting, count_resends, is_any_worn, place_of};
+use crate::requests::{UnansweredRequest, count_resends, index_of, is_any_worn};
 use crate::sending::Sending;
 use crate::side_scan::SideScan;
 use std::alloc::{AllocError, Global};
@@ -29,7 +28,7 @@ const MOST_LISTINGS: usize = 8;
 #[derive(Debug, Drop)]
 pub struct PeerState {
     /// In rising number.
-    pub waiting: Vec<Waiting>,
+    pub waiting: Vec<UnansweredRequest>,
     /// How many requests were sent there, resends aside.
     pub(crate) asked: u64,
     pub scan: SideScan,
@@ -52,7 +51,7 @@ impl PeerState {
         ensures out { IfOk result (λ peer. out_of peer.scan ≡ []) }
     {
         let mut waiting = Vec::with_capacity(alloc, MOST_LISTINGS)?;
-        waiting.push(Waiting::new(alloc, session, 0, Request::Begin { pair })?)?;
+        waiting.push(UnansweredRequest::new(alloc, session, 0, Request::Begin { pair })?)?;
         let scan = SideScan::new(alloc)?;
         Ok(PeerState {
             waiting,
@@ -70,7 +69,7 @@ impl PeerState {
         ensures asked { self.new.asked ≡ self.old.asked }
         ensures scan { self.new.scan ≡ self.old.scan }
     {
-        match place_of(&self.waiting, number) {
+        match index_of(&self.waiting, number) {
             Some(at) => Some(self.waiting.remove(at).asked),
             None => None,
         }
@@ -112,18 +111,17 @@ impl PeerState {
         to: Side,
         session: u64,
         request: Request,
-    ) -> Result<(), SessionError>
+    ) -> Result<(), AllocError>
         ensures asked { OnOk result (IsAskedOn session self.old self.new
             (request_of request ∷ [])) }
         ensures ok { OnOk result (messages_of sends.new.items ≡ messages_of sends.old.items
             ++ messages_to session (which_of to)
             (numbered self.old.asked (request_of request ∷ []))) }
-        ensures memory { IfErr result (λ e. e ≡ SessionError.Memory) }
     {
         if self.asked >= MOST_REQUESTS {
-            return Err(SessionError::Memory);
+            return Err(AllocError);
         }
-        let one = Waiting::new(alloc, session, self.asked as u32, request)?;
+        let one = UnansweredRequest::new(alloc, session, self.asked as u32, request)?;
         let sending = one.sending(to)?;
         self.waiting.push(one)?;
         self.asked += 1;
@@ -140,13 +138,12 @@ impl PeerState {
         to: Side,
         session: u64,
         paths: Vec<Path>,
-    ) -> Result<(), SessionError>
+    ) -> Result<(), AllocError>
         ensures asked { OnOk result (IsAskedOn session self.old self.new
             (map ListAt paths.items)) }
         ensures ok { OnOk result (messages_of sends.new.items ≡ messages_of sends.old.items
             ++ messages_to session (which_of to)
             (numbered self.old.asked (map ListAt paths.items))) }
-        ensures memory { IfErr result (λ e. e ≡ SessionError.Memory) }
     {
         for path in paths {
             self.ask(alloc, sends, to, session, Request::List { path })?;

@@ -1,12 +1,11 @@
 //! How a session goes through its plan.
-ghost use Rattle.std.specs.Prelude.{◌≡◌, IfErr, IfOk, option_map};
+ghost use Rattle.std.specs.Prelude.{◌≡◌, IfOk, option_map};
 ghost use Rattle.syn_path.specs.Sides.{which_of};
 ghost use Rattle.syn_model.specs.Plan.{plan};
 ghost use Rattle.syn_recon.specs.Items.{items_of};
 ghost use Rattle.syn_scan.specs.Found.{scan_of};
 
-use crate::error::SessionError;
-use std::alloc::Global;
+use std::alloc::{AllocError, Global};
 use syn_image::ItemRecord;
 use syn_mark::MarkTree;
 use syn_path::{Path, Side};
@@ -53,18 +52,19 @@ impl PlanProgress {
         right: &Scan,
         archive: &MarkTree,
         preference: Option<Side>,
-    ) -> Result<PlanProgress, SessionError>
+    ) -> Result<PlanProgress, AllocError>
         ensures begun { IfOk result (λ progress. IsPlanProgress progress left.now right.now
             (first_reached (plan_in progress left.now right.now))) }
         ensures items { IfOk result (λ progress. items_of progress.items.items
             ≡ plan (option_map which_of preference) (scan_of left.now) (scan_of right.now)
             archive.now) }
         ensures cursor { IfOk result (λ progress. progress.cursor ≡ 0) }
-        ensures memory { IfErr result (λ e. e ≡ SessionError.Memory) }
     {
-        let items = plan(alloc, left, right, archive, preference)?;
+        let Ok(items) = plan(alloc, left, right, archive, preference) else {
+            return Err(AllocError);
+        };
         if items.len() > MAX_ITEMS {
-            return Err(SessionError::Memory);
+            return Err(AllocError);
         }
         Ok(PlanProgress {
             items,

@@ -13,18 +13,18 @@ use syn_message::{Request, RequestMessage};
 use syn_path::Side;
 
 /// How often a request is sent again at most.
-const MOST_RESENDS: u8 = 8;
+pub const MOST_RESENDS: u8 = 8;
 
 /// A request that waits for its answer.
 #[derive(Debug, Drop)]
-pub struct Waiting {
+pub struct UnansweredRequest {
     /// It was sent so, and is sent again as it is.
     pub(crate) asked: Rc<RequestMessage>,
     /// How often it was sent again.
     pub(crate) resent: u8,
 }
 
-impl Waiting {
+impl UnansweredRequest {
     ghost use Rattle.syn_session.specs.Sendings.{message_of, message_waiting};
     ghost use Rattle.syn_session.specs.Sessions.{asks};
     ghost use Rattle.syn_session.specs.Stages.{outstanding_of};
@@ -36,7 +36,7 @@ impl Waiting {
         session: u64,
         number: u32,
         request: Request,
-    ) -> Result<Waiting, AllocError>
+    ) -> Result<UnansweredRequest, AllocError>
         ensures asks { IfOk result (λ one. outstanding_of one ≡ asks number (request_of request)) }
         ensures session { IfOk result (λ one. one.asked.value.session ≡ session) }
     {
@@ -45,7 +45,7 @@ impl Waiting {
             number,
             request,
         };
-        Ok(Waiting {
+        Ok(UnansweredRequest {
             asked: Rc::new(alloc, message)?,
             resent: 0,
         })
@@ -79,21 +79,21 @@ impl Waiting {
 }
 
 /// Where the request of that number stands among these; none where none has it.
-pub(crate) fn place_of(waiting: &[Waiting], number: u32) -> Option<usize>
+pub(crate) fn index_of(waiting: &[UnansweredRequest], number: u32) -> Option<usize>
     ensures { result ≡ position (λ one. one.asked.value.number == number) waiting.now }
 {
     waiting.iter().position(|one| one.asked.number == number)
 }
 
 /// Whether one of these was sent again as often as it may be.
-pub(crate) fn is_any_worn(waiting: &[Waiting]) -> bool
+pub(crate) fn is_any_worn(waiting: &[UnansweredRequest]) -> bool
     ensures { result ≡ list_any (λ one. nat_le most_resends one.resent) waiting.now }
 {
     waiting.iter().any(|one| one.is_worn())
 }
 
 /// Each of these was sent once more.
-pub(crate) fn count_resends(waiting: &mut Vec<Waiting>)
+pub(crate) fn count_resends(waiting: &mut Vec<UnansweredRequest>)
     requires { list_any (λ one. nat_le most_resends one.resent) waiting.old.items ≡ false }
     ensures { waiting.new.items ≡ map sent_again waiting.old.items }
 {

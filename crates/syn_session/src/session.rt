@@ -1,6 +1,6 @@
 //! A session that runs.
 ghost use Rattle.std.specs.Prelude.{◌≡◌, ◌<◌, ◌^◌, ◌⊎◌, ◌||◌, ◌++◌, ◌∷◌, [], ℕ, None, Some, false};
-ghost use Rattle.std.specs.Prelude.{IfOk, IfErr, IfSome, MatchResult, OnOk, length, map, nat_lt};
+ghost use Rattle.std.specs.Prelude.{IfOk, IfSome, MatchResult, OnOk, length, map, nat_lt};
 ghost use Rattle.std.specs.Prelude.{option_map};
 ghost use Rattle.syn_headline.specs.Coordinator.{Running, asked_in, is_not_dir, messages_to};
 ghost use Rattle.syn_headline.specs.Coordinator.{numbered, report_of};
@@ -18,12 +18,11 @@ ghost use Rattle.syn_session.specs.Reports.{end_of, report_model};
 ghost use Rattle.syn_session.specs.Sendings.{messages_of};
 ghost use Rattle.syn_session.specs.Sessions.{end_by};
 
-use crate::error::SessionError;
 use crate::peer::PeerState;
 use crate::plan_progress::PlanProgress;
 use crate::report::{End, Report};
 use crate::sending::Sending;
-use std::alloc::Global;
+use std::alloc::{AllocError, Global};
 use std::rc::Rc;
 use syn_message::{Reply, Request, RequestMessage};
 use syn_path::{Path, Side};
@@ -39,7 +38,7 @@ pub struct Session {
     pub left: PeerState,
     pub right: PeerState,
     /// A path changed its kind under the scan: it was answered as no directory.
-    pub is_unstable: bool,
+    pub has_unstable_path: bool,
     /// Its plan, once both scans are whole.
     pub progress: Option<PlanProgress>,
 }
@@ -70,7 +69,7 @@ impl Session {
         number: u64,
         pair: u64,
         preference: Option<Side>,
-    ) -> Result<Session, SessionError>
+    ) -> Result<Session, AllocError>
         ensures begun { (archive : Keeping)
             → IfOk result (λ session. IsSession archive session
             (begun (option_map which_of preference) number pair)) }
@@ -78,7 +77,6 @@ impl Session {
         ensures number { IfOk result (λ session. session.number ≡ number) }
         ensures fits { pair < 2 ^ 64 }
         ensures lawful { number < 2 ^ 64 }
-        ensures memory { IfErr result (λ e. e ≡ SessionError.Memory) }
     {
         let left = PeerState::new(alloc, number, pair)?;
         let right = PeerState::new(alloc, number, pair)?;
@@ -87,7 +85,7 @@ impl Session {
             preference,
             left,
             right,
-            is_unstable: false,
+            has_unstable_path: false,
             progress: None,
         })
     }
@@ -102,13 +100,12 @@ impl Session {
 
     /// The requests that wait, for the left and then for the right. Refused 11 where memory is
     /// refused.
-    pub fn waiting(&self, alloc: Global) -> Result<Vec<Sending>, SessionError>
+    pub fn waiting(&self, alloc: Global) -> Result<Vec<Sending>, AllocError>
         ensures ok { IfOk result (λ sends. messages_of sends.items ≡ messages_now self.now) }
         ensures resends { (archive : Keeping) (running : Running)
             → IsSession archive self.now running → IfOk result (λ sends. messages_of sends.items
             ≡ messages_to running.session Left running.left
             ++ messages_to running.session Right running.right) }
-        ensures memory { IfErr result (λ e. e ≡ SessionError.Memory) }
     {
         let mut sends = Vec::new(alloc);
         self.left.send(&mut sends, Side::Left)?;
@@ -176,7 +173,7 @@ impl Session {
         ensures out { OnOk result (out_of (peer_of self.new (which_of from)).scan
             ≡ without (out_of (peer_of self.old (which_of from)).scan) path.now) }
         ensures keeps { KeepsRequests self.old self.new (which_of from) }
-        ensures unstable { self.new.is_unstable ≡ self.old.is_unstable }
+        ensures unstable { self.new.has_unstable_path ≡ self.old.has_unstable_path }
     {
         match from {
             Side::Left => self.left.scan.take(alloc, path, reply),
@@ -186,14 +183,15 @@ impl Session {
 
     /// Notes whether a path that was listed is no directory any more.
     pub(crate) fn note_unstable(&mut self, is_no_directory: bool)
-        ensures unstable { self.new.is_unstable ≡ (self.old.is_unstable || is_no_directory) }
+        ensures unstable { self.new.has_unstable_path ≡
+            (self.old.has_unstable_path || is_no_directory) }
         ensures left { self.new.left ≡ self.old.left }
         ensures right { self.new.right ≡ self.old.right }
         ensures number { self.new.number ≡ self.old.number }
         ensures preference { self.new.preference ≡ self.old.preference }
         ensures progress { self.new.progress ≡ self.old.progress }
     {
-        self.is_unstable = self.is_unstable || is_no_directory;
+        self.has_unstable_path = self.has_unstable_path || is_no_directory;
     }
 
     /// Whether a request waits on the side.
@@ -208,18 +206,17 @@ impl Session {
 
     /// Asks the sides for what comes next, and gives what is to be sent. Refused 11 where memory
     /// is refused, or where a number would need more than four bytes.
-    pub fn ask(&mut self, alloc: Global, asks: Asks) -> Result<Vec<Sending>, SessionError>
+    pub fn ask(&mut self, alloc: Global, asks: Asks) -> Result<Vec<Sending>, AllocError>
         ensures left { OnOk result (IsAskedOn self.old.number self.old.left self.new.left
             (asks_of asks Left)) }
         ensures right { OnOk result (IsAskedOn self.old.number self.old.right self.new.right
             (asks_of asks Right)) }
         ensures number { self.new.number ≡ self.old.number }
         ensures preference { self.new.preference ≡ self.old.preference }
-        ensures unstable { self.new.is_unstable ≡ self.old.is_unstable }
+        ensures unstable { self.new.has_unstable_path ≡ self.old.has_unstable_path }
         ensures progress { self.new.progress ≡ self.old.progress }
         ensures sends { IfOk result (λ sends. messages_of sends.items
             ≡ messages_asked self.old asks) }
-        ensures memory { IfErr result (λ e. e ≡ SessionError.Memory) }
     {
         match asks {
             Asks::Listings { left, right } => self.ask_listings(alloc, left, right),
@@ -233,21 +230,20 @@ impl Session {
         alloc: Global,
         left: Vec<Path>,
         right: Vec<Path>,
-    ) -> Result<Vec<Sending>, SessionError>
+    ) -> Result<Vec<Sending>, AllocError>
         ensures left { OnOk result (IsAskedOn self.old.number self.old.left self.new.left
             (map ListAt left.items)) }
         ensures right { OnOk result (IsAskedOn self.old.number self.old.right self.new.right
             (map ListAt right.items)) }
         ensures number { self.new.number ≡ self.old.number }
         ensures preference { self.new.preference ≡ self.old.preference }
-        ensures unstable { self.new.is_unstable ≡ self.old.is_unstable }
+        ensures unstable { self.new.has_unstable_path ≡ self.old.has_unstable_path }
         ensures progress { self.new.progress ≡ self.old.progress }
         ensures sends { IfOk result (λ sends. messages_of sends.items
             ≡ messages_to self.old.number Left
             (numbered self.old.left.asked (map ListAt left.items))
             ++ messages_to self.old.number Right
             (numbered self.old.right.asked (map ListAt right.items))) }
-        ensures memory { IfErr result (λ e. e ≡ SessionError.Memory) }
     {
         let mut sends = Vec::new(alloc);
         self.left
@@ -263,19 +259,18 @@ impl Session {
         alloc: Global,
         side: Side,
         request: Request,
-    ) -> Result<Vec<Sending>, SessionError>
+    ) -> Result<Vec<Sending>, AllocError>
         ensures peer { OnOk result (IsAskedOn self.old.number (peer_of self.old (which_of side))
             (peer_of self.new (which_of side)) (request_of request ∷ [])) }
         ensures across { peer_of self.new (other (which_of side))
             ≡ peer_of self.old (other (which_of side)) }
         ensures number { self.new.number ≡ self.old.number }
         ensures preference { self.new.preference ≡ self.old.preference }
-        ensures unstable { self.new.is_unstable ≡ self.old.is_unstable }
+        ensures unstable { self.new.has_unstable_path ≡ self.old.has_unstable_path }
         ensures progress { self.new.progress ≡ self.old.progress }
         ensures sends { IfOk result (λ sends. messages_of sends.items
             ≡ messages_to self.old.number (which_of side)
             (numbered (peer_of self.old (which_of side)).asked (request_of request ∷ []))) }
-        ensures memory { IfErr result (λ e. e ≡ SessionError.Memory) }
     {
         let mut sends = Vec::new(alloc);
         match side {
@@ -300,10 +295,10 @@ impl Session {
         drop(self.left);
         drop(self.right);
         match progress {
-            Some(progress) => planned_report(self.number, self.is_unstable, progress, ended),
+            Some(progress) => planned_report(self.number, self.has_unstable_path, progress, ended),
             None => Report {
                 session: self.number,
-                end: end_for(ended, 0, self.is_unstable),
+                end: end_for(ended, 0, self.has_unstable_path),
                 ended,
                 done: 0,
                 marked: 0,
@@ -317,13 +312,13 @@ impl Session {
 /// What a session reports that came so far through its plan.
 fn planned_report(
     number: u64,
-    is_unstable: bool,
+    has_unstable_path: bool,
     progress: PlanProgress,
     ended: Option<Refusal>,
 ) -> Report
     ensures session { result.session ≡ number }
     ensures end { end_of result.end
-        ≡ end_by (option_map cause_of ended) (length progress.refused.items) is_unstable }
+        ≡ end_by (option_map cause_of ended) (length progress.refused.items) has_unstable_path }
     ensures ended { result.ended ≡ ended }
     ensures done { result.done ≡ progress.done }
     ensures marked { result.marked ≡ progress.marked }
@@ -334,7 +329,7 @@ fn planned_report(
     drop(progress.carried);
     Report {
         session: number,
-        end: end_for(ended, progress.refused.len(), is_unstable),
+        end: end_for(ended, progress.refused.len(), has_unstable_path),
         ended,
         done: progress.done,
         marked: progress.marked,
@@ -352,10 +347,10 @@ pub(crate) fn is_no_directory(reply: &Reply) -> bool
 
 /// How a session ends, by what ended it early, how many items were refused, and whether a path was
 /// unstable.
-fn end_for(ended: Option<Refusal>, refused: usize, is_unstable: bool) -> End
-    ensures { end_of result ≡ end_by (option_map cause_of ended) refused is_unstable }
+fn end_for(ended: Option<Refusal>, refused: usize, has_unstable_path: bool) -> End
+    ensures { end_of result ≡ end_by (option_map cause_of ended) refused has_unstable_path }
 {
-    if ended.is_none() && refused == 0 && !is_unstable {
+    if ended.is_none() && refused == 0 && !has_unstable_path {
         End::Complete
     } else {
         End::Incomplete

@@ -1,5 +1,5 @@
 //! The scan of one side in a session.
-ghost use Rattle.std.specs.Prelude.{◌≡◌, ◌⊎◌, ℕ, [], IfOk, IfErr, IfSome, IfNone, MatchResult};
+ghost use Rattle.std.specs.Prelude.{◌≡◌, ◌⊎◌, ℕ, [], IfOk, IfSome, IfNone, MatchResult};
 ghost use Rattle.std.specs.Prelude.{None, OnOk, Some};
 ghost use Rattle.syn_scan.specs.Asked.{AreAllOut, handed_out, without};
 ghost use Rattle.syn_headline.specs.Network.{Which};
@@ -93,7 +93,7 @@ impl SideScan {
     }
 
     /// What the side showed so far: its scan, once each directory was answered.
-    pub fn found(&self) -> &Scan
+    pub fn scan(&self) -> &Scan
         ensures found { result.now ≡ found_of self.now }
 
         // It is then the scan by what the side answered.
@@ -102,6 +102,6 @@ impl SideScan {
             → IsScanBy (WasListedAt taken side) (WasNoDirectoryAt taken side) (scan_of result.now)
             (position_of result.now) }
     {
-        self.scanner.found()
+        self.scanner.scan()
     }
 }

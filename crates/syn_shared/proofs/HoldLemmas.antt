@@ -99,3 +99,18 @@ module _ {D : Type 0} {disk : Ghosts D} where
         grown = subst (λ (k : View (Replica D disk)). IsGrown (end_of o (view_of old).seen)
             (end_of o k.seen)) (sym e) (itself (end_of o (view_of old).seen));
       }
+
+module _ {D : Type 0} {disk : Ghosts D} (shared : SharedReplica D disk) where
+  -- nothing was done
+  pub later_same : (pass : Pass (Replica D disk)) → IsLater shared pass pass
+  later_same pass =
+      record { grown = itself (end_of (origin_of (own_of shared)) (view_of pass).seen) }
+
+  -- one call, and another after it
+  pub later_twice : (a b c : Pass (Replica D disk)) → IsLater shared a b → IsLater shared b c
+      → IsLater shared a c
+  later_twice a b c first second =
+      let origin = origin_of (own_of shared) in record {
+        grown = grown_twice (end_of origin (view_of a).seen) (end_of origin (view_of b).seen)
+            (end_of origin (view_of c).seen) first.grown second.grown;
+      }

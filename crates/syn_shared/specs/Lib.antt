@@ -7,4 +7,5 @@ pub mod Edits
 pub mod Parts
 pub mod Replacements
 pub mod Upkeep
+pub mod Checkpointer
 pub mod Workers

@@ -18,7 +18,7 @@ impl<D: Disk> SharedReplica<D> {
 
     /// Makes the edit if the lock is free, and answers the new position.
     ///
-    /// Refused 12 where the lock was taken: nothing was looked at or changed. Else refused as
+    /// Refused 12 where the lock was taken: nothing was looked at or changed. Otherwise refused as
     /// `Replica::edit` is, with what that leaves.
     pub fn try_edit(
         &self,

@@ -35,6 +35,12 @@
 //!   - A checkpoint is the world's (`CompactsSide`: `Compacts`), with its causes. Another opening
 //!     gives what the disk may mean (`ReopensSide`: `Opens`), also of a halted machine; else it is
 //!     refused 9 and 11 alone.
+//! - `journal_health` is one hold that shows room and halt, and changes nothing (`held`:
+//!   `ShowsHealth`). `keep_up` is a checkpointer's step (`keeps`: `KeepsUp`).
+//!   - It looks. A halted replica it opens again, and where there is less room than the caller
+//!     wants it makes a checkpoint, in a hold of its own. Else it rests.
+//!   - Where the lock is taken nothing was looked at; where it is taken between the two holds, the
+//!     second is refused 12.
 //! - `edit`, `get`, `snapshot` and `put_part` wait for the lock, and say the same after any number
 //!   of exchanges that found it taken (`HeldAfterWait`). No other call of a shared replica may
 //!   wait.
@@ -60,6 +66,7 @@
 //!   done (`IsNotDone`).
 #![tactic(auto)]
 
+mod checkpointer;
 mod edits;
 mod error;
 mod laws;
@@ -70,6 +77,7 @@ mod shared;
 mod upkeep;
 mod workers;
 
+pub use checkpointer::{JournalHealth, ROOM_IN_SHORT_JOURNAL, UpkeepStep, journal_health, keep_up};
 pub use error::SharedError;
 pub use parts::Snapshot;
 pub use shared::SharedReplica;

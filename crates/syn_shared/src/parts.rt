@@ -64,11 +64,11 @@ impl<D: Disk> SharedReplica<D> {
     /// edits of the user, or takes it out; and answers the position. What is looked at and what is
     /// written are in one hold: no other event comes between.
     ///
-    /// Refused 13 where an event touched the path since the position `since`, and 15 where that is
-    /// below the floor or above the position: then nothing was changed. So it is where it is
-    /// refused 10 while the replica is halted, 2 where the parent is no directory, 6 at the root,
-    /// 7 where the result would pass a limit, or 11 where memory is refused before the first edit.
-    /// Else it is refused as `Replica::edit` refuses one of the edits, and those before it stand.
+    /// Refused 10 while the replica is halted, 13 where an event touched the path since the
+    /// position `since`, 15 where that is below the floor or above the position, 2 where the parent
+    /// is no directory, 6 at the root, 7 where the result would pass a limit, and 11 where memory
+    /// is refused before the first edit: nothing was changed then. Otherwise it is refused as
+    /// `Replica::edit` refuses one of the edits, and those before it stand.
     pub fn put_part<R: Wait>(
         &self,
         rt: &R,

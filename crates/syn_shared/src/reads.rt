@@ -19,8 +19,8 @@ impl<D: Disk> SharedReplica<D> {
 
     /// What stands at the path, if the lock is free.
     ///
-    /// Refused 12 where the lock was taken. Else refused 10 while the replica is halted, 5 where
-    /// nothing is there, and 11 where memory is refused.
+    /// Refused 12 where the lock was taken. Otherwise refused 10 while the replica is halted, 5
+    /// where nothing is there, and 11 where memory is refused.
     pub fn try_get(
         &self,
         alloc: Global,
@@ -45,8 +45,8 @@ impl<D: Disk> SharedReplica<D> {
 
     /// The names of the directory in byte order, with true for a directory, if the lock is free.
     ///
-    /// Refused 12 where the lock was taken. Else refused 10 while the replica is halted, 5 where no
-    /// directory is there, and 11 where memory is refused.
+    /// Refused 12 where the lock was taken. Otherwise refused 10 while the replica is halted, 5
+    /// where no directory is there, and 11 where memory is refused.
     pub fn try_list(
         &self,
         alloc: Global,
@@ -70,8 +70,8 @@ impl<D: Disk> SharedReplica<D> {
 
     /// The marks of what stands in the directory, with the position, if the lock is free.
     ///
-    /// Refused 12 where the lock was taken. Else refused 10 while the replica is halted, 5 where no
-    /// directory is there, and 11 where memory is refused.
+    /// Refused 12 where the lock was taken. Otherwise refused 10 while the replica is halted, 5
+    /// where no directory is there, and 11 where memory is refused.
     pub fn try_listing(
         &self,
         alloc: Global,

@@ -22,7 +22,7 @@ impl<D: Disk> SharedReplica<D> {
     /// the lock is free, and answers the position. What is checked and what is written are in one
     /// hold: no event comes between.
     ///
-    /// Refused 12 where the lock was taken: nothing was looked at or changed. Else refused as
+    /// Refused 12 where the lock was taken: nothing was looked at or changed. Otherwise refused as
     /// `Replica::replace` is, with what that leaves.
     pub fn try_replace(
         &self,

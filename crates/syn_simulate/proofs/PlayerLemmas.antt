@@ -8,7 +8,7 @@ use Rattle.syn_simulate.specs.Lines.{Begins, Plays, Said, Says}
 use Rattle.syn_simulate.specs.Players.{AreFlags, HasBegun, HasPlayed, IsPlayer}
 use Rattle.syn_simulate.specs.States.{Moves, State, noted}
 use Rattle.syn_simulate.specs.declared.player.Player.{Player}
-use Rattle.syn_simulate.specs.declared.turn.Turn.{Turn}
+use Rattle.syn_simulate.specs.declared.turn.PlayedStep.{PlayedStep}
 use Rattle.syn_simulate.proofs.LineLemmas.{begins_moves, plays_moves}
 use Rattle.syn_simulate.proofs.MoveLemmas.{moves_run, stays_noted}
 use Rattle.syn_world.specs.Failures.{Counts}
@@ -67,7 +67,7 @@ module _ {D : Type 0} {disk : Ghosts D} where
 
     -- the world after a step, and what is then delivered
     pub step_made : (before : Counts) (step : Step) (player : Player D disk) (world : World D disk)
-        (flags : Vec Bool) (turns : Vec Turn) → IsPlayer player old
+        (flags : Vec Bool) (turns : Vec PlayedStep) → IsPlayer player old
         → HasMade old.world before step world → AreFlags flags (noted old step)
         → HasPlayed (Says (step ∷ [])) old (record {
           world = world;

@@ -5,7 +5,7 @@ use Rattle.syn_headline.specs.Acknowledged.{Stores}
 use Rattle.syn_headline.specs.Headline.{formatted}
 use Rattle.syn_headline.specs.Runs.{stores_of}
 use Rattle.syn_headline.specs.World.{World as ModelWorld, Runs, Step}
-use Rattle.syn_recovery.specs.Headline.{Disks as Shown, IsOpenedFrom}
+use Rattle.syn_world.specs.CrashSafety.{DiskBytes, IsOpenedFrom}
 use Rattle.syn_simulate.specs.Players.{HasPlayedAll, world_of}
 use Rattle.syn_simulate.specs.States.{fresh}
 use Rattle.syn_simulate.specs.declared.player.Player.{Player}
@@ -26,7 +26,7 @@ use Rattle.syn_world.specs.declared.world.World.{World}
 
 -- the world keeps the promise of each run that led to it
 abbrev pub AsPromised : {D : Type 0} → {disk : Ghosts D} → World D disk → Type 0
-AsPromised world = (pair : ℕ) (before : Stores) (bytes : Shown) (old new : ModelWorld)
+AsPromised world = (pair : ℕ) (before : Stores) (bytes : DiskBytes) (old new : ModelWorld)
     (steps : List Step) → IsOpenedFrom pair bytes old → stores_of old ≡ before
     → Runs old steps new → IsWorld world new → KeepsPromise pair before steps world
 

@@ -21,7 +21,7 @@ use Rattle.syn_model.specs.ArchiveImage.{ArchiveStandsFor}
 use Rattle.syn_model.specs.Image.{StandsFor}
 use Rattle.syn_model.specs.Refusal.{Refusal, Device, Memory, number}
 use Rattle.syn_journal.specs.Calls.{armed_at}
-use Rattle.syn_recovery.specs.Headline.{disk_of}
+use Rattle.syn_world.specs.CrashSafety.{disk_of}
 use Rattle.syn_archive.specs.Keepings.{of_archive}
 use Rattle.syn_replica.specs.Keepings.{of_side}
 use Rattle.syn_journal.specs.Meaning.{IsDiskOf}

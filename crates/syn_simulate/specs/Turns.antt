@@ -6,7 +6,7 @@ use Rattle.syn_world.specs.declared.machine.Machine.{Machine}
 use Rattle.syn_world.specs.declared.machine.Machine.TheVariants as place
 use Rattle.syn_simulate.specs.declared.player.Player.{Player}
 use Rattle.syn_simulate.specs.declared.turn.Moment.{Moment}
-use Rattle.syn_simulate.specs.declared.turn.Turn.{Turn}
+use Rattle.syn_simulate.specs.declared.turn.PlayedStep.{PlayedStep}
 use Rattle.syn_world.specs.Worlds.{acknowledged_in, archive_in, refusals_in, replica_in}
 use Rattle.syn_world.specs.Worlds.{reports_in, sent_in}
 use Rattle.syn_world.specs.declared.step.Step.{Step}
@@ -37,9 +37,9 @@ delivery_of (Deliver number) = Some number
 delivery_of step = None
 
 -- the turn in which the step is made of the world
-abbrev pub turn_of : {D : Type 0} → {disk : Ghosts D} → World D disk → Step → Turn
+abbrev pub turn_of : {D : Type 0} → {disk : Ghosts D} → World D disk → Step → PlayedStep
 turn_of world step = record { before = moment_of world; delivered = delivery_of step }
 
 -- the steps that were played, in order
-abbrev pub turns_of : {D : Type 0} → {disk : Ghosts D} → Player D disk → List Turn
+abbrev pub turns_of : {D : Type 0} → {disk : Ghosts D} → Player D disk → List PlayedStep
 turns_of player = player.turns.items

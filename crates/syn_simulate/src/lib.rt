@@ -18,7 +18,8 @@
 //!
 //! - `Script::parse` answers the steps that the lines of a text say, in their order (`ok`). A line
 //!   is a step by `Say`, a table of its words.
-//! - Else it answers the number of the first line that is none, from 1 (`bad`), or 11 (`memory`).
+//! - Otherwise it answers the number of the first line that is none, from 1 (`bad`), or 11
+//!   (`memory`).
 //!
 //! # What it promises
 //!
@@ -88,4 +89,4 @@ pub use runs::{play, simulate};
 pub use script::Script;
 pub use show::show_world;
 pub use start::formatted_world;
-pub use turn::{Moment, Turn};
+pub use turn::{Moment, PlayedStep};

@@ -11,7 +11,7 @@ ghost use Rattle.syn_world.specs.Worlds.{IsWorld, sent_in};
 
 use crate::Line;
 use crate::notes::{lowest_unset, note_step};
-use crate::turn::{Turn, add_turn};
+use crate::turn::{PlayedStep, add_turn};
 use std::alloc::Global;
 use syn_disk::Disk;
 use syn_world::{Disks, SimulatedDisk, Step, World};
@@ -32,7 +32,7 @@ pub struct Player<D: Disk> {
     /// Each message with a lower number was delivered.
     lowest: usize,
     /// The steps that were played, in order.
-    turns: Vec<Turn>,
+    turns: Vec<PlayedStep>,
 }
 
 impl<D: SimulatedDisk> Player<D> {
@@ -66,7 +66,7 @@ impl<D: SimulatedDisk> Player<D> {
     }
 
     /// The steps that were played, in order, each with what the world had heard before it.
-    pub fn turns(&self) -> &[Turn]
+    pub fn turns(&self) -> &[PlayedStep]
         ensures { result.now ≡ turns_of self.now }
     {
         &self.turns
@@ -85,7 +85,7 @@ impl<D: SimulatedDisk> Player<D> {
             lowest,
             turns,
         } = self;
-        let Some(turns) = add_turn(turns, Turn::of(&world, &step)) else {
+        let Some(turns) = add_turn(turns, PlayedStep::of(&world, &step)) else {
             return Err(world.into_disks());
         };
         let Some(delivered) = note_step(world.sent().len(), delivered, &step) else {

@@ -53,19 +53,19 @@ impl Moment {
 
 /// A step that was played.
 #[derive(Clone, Copy, Debug, PartialEq, Eq)]
-pub struct Turn {
+pub struct PlayedStep {
     /// The world before the step.
     pub before: Moment,
     /// The number of the message that the step delivers, if it is a delivery.
     pub delivered: Option<usize>,
 }
 
-impl Turn {
+impl PlayedStep {
     /// The turn in which the step is made of the world.
-    pub(crate) fn of<D: Disk>(world: &World<D>, step: &Step) -> Turn
+    pub(crate) fn of<D: Disk>(world: &World<D>, step: &Step) -> PlayedStep
         ensures { result ≡ turn_of world.now step.now }
     {
-        Turn {
+        PlayedStep {
             before: Moment::of(world),
             delivered: delivery_of(step),
         }
@@ -83,7 +83,7 @@ fn delivery_of(step: &Step) -> Option<usize>
 }
 
 /// The turns with one more. None where memory for it is refused.
-pub(crate) fn add_turn(turns: Vec<Turn>, turn: Turn) -> Option<Vec<Turn>>
+pub(crate) fn add_turn(turns: Vec<PlayedStep>, turn: PlayedStep) -> Option<Vec<PlayedStep>>
     ensures { IfSome result (λ more. more.items ≡ turns.items ++ turn ∷ []) }
 {
     let mut more = turns;

@@ -16,15 +16,15 @@ use Rattle.syn_model.specs.Refusal.{first_cause}
 use Rattle.syn_refusal.specs.Refusals.{cause_of}
 use Rattle.syn_refusal.specs.declared.refusal.Refusal.{Refusal}
 use Rattle.syn_coordinator.specs.Coordinators.{all_causes, checkpoint_causes, device_of}
-use Rattle.syn_session.specs.Refusals.{CountsFailures, refusal_of}
+use Rattle.syn_coordinator.specs.Refusals.{CountsFailures, refusal_of}
 use Rattle.syn_coordinator.specs.declared.coordinator.Coordinator.{Coordinator}
-use Rattle.syn_session.specs.declared.error.SessionError.{SessionError}
-use Rattle.syn_session.specs.declared.error.SessionError.TheVariants as session
+use Rattle.syn_coordinator.specs.declared.error.StartError.{StartError}
+use Rattle.syn_coordinator.specs.declared.error.StartError.TheVariants as session
 use Rattle.syn_sync.specs.Refusals.{Refuses, fails, no_room, no_start, no_start_after, stopped}
 use Rattle.syn_sync.specs.Refusals.{unanswered}
 use Rattle.syn_sync.specs.inner.Calling.{IsUnended}
 
-pub is_start_device : (e : SessionError) → (e ≡ session.Device) ⊎ (e ≢ session.Device)
+pub is_start_device : (e : StartError) → (e ≡ session.Device) ⊎ (e ≢ session.Device)
 is_start_device session.Full = inr (λ is. cc)
 is_start_device session.JournalFull = inr (λ is. cc)
 is_start_device session.Device = inl refl
@@ -38,7 +38,7 @@ on_ok P (Ok x) holds = holds
 on_ok P (Err e) holds = tt
 
 -- the count of failed device calls grew, where an error is the device's
-counted : (e : SessionError) (a b : ℕ) → e ≡ session.Device → CountsFailures e a b → a < b
+counted : (e : StartError) (a b : ℕ) → e ≡ session.Device → CountsFailures e a b → a < b
 counted session.Device a b is counts = counts
 counted session.Full a b is counts = cc
 counted session.JournalFull a b is counts = cc
@@ -52,7 +52,7 @@ module _ {D : Type 0} {disk : Ghosts D} where
   failures_of coordinator = disk.failures (device_of coordinator)
 
   start_refused_at : (old new : Coordinator D disk) (pair : ℕ) (machine : CoordinatorMachine)
-      (e : SessionError) → (e ≡ session.Device) ⊎ (e ≢ session.Device)
+      (e : StartError) → (e ≡ session.Device) ⊎ (e ≢ session.Device)
       → CountsFailures e (failures_of old) (failures_of new)
       → (e ≢ session.Device → first_cause (all_causes pair machine) ≡ Some (refusal_of e))
       → Refuses old new pair machine (refusal_of e)
@@ -63,14 +63,14 @@ module _ {D : Type 0} {disk : Ghosts D} where
       no_start (refusal_of e) (refused is)
 
   pub start_refused : (old new : Coordinator D disk) (pair : ℕ) (machine : CoordinatorMachine)
-      (e : SessionError) → CountsFailures e (failures_of old) (failures_of new)
+      (e : StartError) → CountsFailures e (failures_of old) (failures_of new)
       → (e ≢ session.Device → first_cause (all_causes pair machine) ≡ Some (refusal_of e))
       → Refuses old new pair machine (refusal_of e)
   start_refused old new pair machine e counts refused =
       start_refused_at old new pair machine e (is_start_device e) counts refused
 
   after_refused_at : (old middle new : Coordinator D disk) (pair : ℕ)
-      (machine between : CoordinatorMachine) (call : Call) (e : SessionError)
+      (machine between : CoordinatorMachine) (call : Call) (e : StartError)
       → (e ≡ session.Device) ⊎ (e ≢ session.Device)
       → first_cause (all_causes pair machine) ≡ Some why.JournalFull
       → Checkpoints (coordinator_kind pair) machine between call
@@ -87,7 +87,7 @@ module _ {D : Type 0} {disk : Ghosts D} where
       refused = no_start_after (refusal_of e) between call full made (refused is)
 
   pub after_refused : (old middle new : Coordinator D disk) (pair : ℕ)
-      (machine between : CoordinatorMachine) (call : Call) (e : SessionError)
+      (machine between : CoordinatorMachine) (call : Call) (e : StartError)
       → first_cause (all_causes pair machine) ≡ Some why.JournalFull
       → Checkpoints (coordinator_kind pair) machine between call
       → failures_of middle ≡ failures_of old

@@ -5,7 +5,7 @@ use Rattle.syn_link.specs.Frames.{Bytes}
 use Rattle.syn_sync.specs.Lines.{Line, line_of}
 use Rattle.syn_sync.specs.Outlets.{Outlet, outlet_of}
 use Rattle.syn_sync.specs.declared.driver.Driver.{Driver}
-use Rattle.syn_sync.specs.declared.link.Link.{Link}
+use Rattle.syn_sync.specs.declared.session_connection.SessionConnection.{SessionConnection}
 
 abbrev pub Lines : Type 0
 Lines = Which → Line
@@ -14,7 +14,7 @@ abbrev pub Outlets : Type 0
 Outlets = Which → Outlet
 
 module _ {R W : Type 0} where
-  abbrev pub link_at : Driver R W → Which → Link R W
+  abbrev pub link_at : Driver R W → Which → SessionConnection R W
   link_at driver Left = driver.left
   link_at driver Right = driver.right
 

@@ -3,5 +3,4 @@ pub mod Outlets
 pub mod Drivers
 pub mod Runs
 pub mod Refusals
-pub mod Progresses
 pub mod inner

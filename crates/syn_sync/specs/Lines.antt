@@ -4,7 +4,7 @@ use Rattle.syn_link.specs.Connections as link
 use Rattle.syn_link.specs.Frames.{Bytes}
 use Rattle.syn_link.specs.Streams.{Comes}
 use Rattle.syn_message.specs.Replies.{Answering, IsLawfulAnswering, answering_spelling}
-use Rattle.syn_sync.specs.declared.link.Link.{Link}
+use Rattle.syn_sync.specs.declared.session_connection.SessionConnection.{SessionConnection}
 
 -- what the reader is to give, and what came and was not handed out
 pub record Line : Type 0 where
@@ -12,21 +12,21 @@ pub record Line : Type 0 where
   pub held : Bytes
 
 module _ {R W : Type 0} where
-  abbrev pub reader_of : Link R W → R
+  abbrev pub reader_of : SessionConnection R W → R
   reader_of side = link.reader_of side.connection
 
-  abbrev pub writer_of : Link R W → W
+  abbrev pub writer_of : SessionConnection R W → W
   writer_of side = link.writer_of side.connection
 
   -- what came and was not handed out
-  abbrev pub held_by : Link R W → Bytes
+  abbrev pub held_by : SessionConnection R W → Bytes
   held_by side = link.held_by side.connection
 
   -- it goes on
-  abbrev pub is_open : Link R W → Bool
+  abbrev pub is_open : SessionConnection R W → Bool
   is_open side = side.open
 
-  abbrev pub line_of : (R → Option Bytes) → Link R W → Line
+  abbrev pub line_of : (R → Option Bytes) → SessionConnection R W → Line
   line_of remaining side = record { given = remaining (reader_of side); held = held_by side }
 
 -- the reply came in the first frame

@@ -3,14 +3,14 @@ use Rattle.std.specs.Prelude.{◌≡◌, Bool, true, false, Option}
 use Rattle.std.specs.Io.KnownBytes.{Appends}
 use Rattle.syn_link.specs.Frames.{AppendsSome, Bytes}
 use Rattle.syn_sync.specs.Lines.{writer_of}
-use Rattle.syn_sync.specs.declared.link.Link.{Link}
+use Rattle.syn_sync.specs.declared.session_connection.SessionConnection.{SessionConnection}
 
 -- what was written, and whether the connection goes on
 pub record Outlet : Type 0 where
   pub written : Option Bytes
   pub goes : Bool
 
-abbrev pub outlet_of : {R W : Type 0} → (W → Option Bytes) → Link R W → Outlet
+abbrev pub outlet_of : {R W : Type 0} → (W → Option Bytes) → SessionConnection R W → Outlet
 outlet_of contents side = record { written = contents (writer_of side); goes = side.open }
 
 -- all of the bytes were written, or a beginning of them

@@ -1,3 +1,2 @@
 -- Definitions that no public clause reaches.
 pub mod Calling
-pub mod Told

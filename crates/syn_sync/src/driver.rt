@@ -19,32 +19,32 @@ ghost use Rattle.syn_sync.specs.Runs.{Begins, Drives, Takes, answer_in, frame_to
 ghost use Rattle.syn_sync.specs.Runs.{step_of};
 ghost use Rattle.syn_sync.specs.inner.Calling.{Calls, IsUnended, Starting};
 
-use crate::link::Link;
 use crate::readiness::Readiness;
+use crate::session_connection::SessionConnection;
 use crate::watch::SessionWatch;
 use std::alloc::Global;
 use std::io::{Read, Write};
-use syn_coordinator::Coordinator;
+use syn_coordinator::{Coordinator, StartError};
 use syn_disk::Disk;
 use syn_message::ReplyMessage;
 use syn_path::Side;
 use syn_refusal::Refusal;
-use syn_session::{Sending, SessionError};
+use syn_session::{MOST_RESENDS, Sending};
 
-/// After so many ticks without an answer a session has ended: each request was sent again eight
-/// times.
-const MOST_TICKS: u32 = 9;
+/// After so many ticks without an answer a session has ended: the last one finds a request that was
+/// sent again as often as it may be.
+const MOST_TICKS: u8 = MOST_RESENDS + 1;
 
 /// What runs sessions over two links, one for each side.
 #[derive(Drop)]
 pub struct Driver<R, W> {
-    left: Link<R, W>,
-    right: Link<R, W>,
+    left: SessionConnection<R, W>,
+    right: SessionConnection<R, W>,
 }
 
 impl<R: Read, W: Write> Driver<R, W> {
     /// A driver over these links. It takes no memory.
-    pub fn new(left: Link<R, W>, right: Link<R, W>) -> Driver<R, W>
+    pub fn new(left: SessionConnection<R, W>, right: SessionConnection<R, W>) -> Driver<R, W>
         ensures left { link_at result Left ≡ left }
         ensures right { link_at result Right ≡ right }
     {
@@ -52,7 +52,7 @@ impl<R: Read, W: Write> Driver<R, W> {
     }
 
     /// The links, left first.
-    pub fn into_parts(self) -> (Link<R, W>, Link<R, W>)
+    pub fn into_parts(self) -> (SessionConnection<R, W>, SessionConnection<R, W>)
         ensures { result ≡ (link_at self Left, link_at self Right) }
     {
         (self.left, self.right)
@@ -274,7 +274,7 @@ fn start<D: Disk>(
 {
     match coordinator.start(alloc, preference) {
         Ok(sends) => Ok(sends),
-        Err(SessionError::JournalFull) => start_after(alloc, coordinator, preference),
+        Err(StartError::JournalFull) => start_after(alloc, coordinator, preference),
         Err(error) => Err(error.refusal()),
     }
 }

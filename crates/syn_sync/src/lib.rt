@@ -3,7 +3,7 @@
 //! A `Driver` runs a session of a coordinator: it sends each request as a frame to its side, reads
 //! the side's replies out of frames, and hands each to the coordinator. The readers and the writers
 //! may be any, and a `Readiness` tells which side has a reply.
-//! A `SessionWatch` is told how the session goes; `Progress` is one that writes lines.
+//! A `SessionWatch` is told how the session goes, and how it ended.
 //!
 //! # What it promises
 //!
@@ -46,14 +46,11 @@
 
 mod driver;
 mod lawful;
-mod link;
-mod progress;
 mod readiness;
-mod told;
+mod session_connection;
 mod watch;
 
 pub use driver::Driver;
-pub use link::Link;
-pub use progress::Progress;
 pub use readiness::Readiness;
+pub use session_connection::SessionConnection;
 pub use watch::{SessionWatch, Unwatched, tell_unreached};

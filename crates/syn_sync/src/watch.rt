@@ -4,7 +4,7 @@ use std::io::{self, Write};
 use syn_image::Kept;
 use syn_message::ReplyMessage;
 use syn_path::Side;
-use syn_session::Sending;
+use syn_session::{Report, Sending};
 
 /// Is told what happens in a session, as it happens. It sees the session, and changes nothing of
 /// it. No clause says what it is told.
@@ -24,6 +24,10 @@ pub trait SessionWatch {
 
     /// The coordinator took the reply, and this is what it wrote into its archive then, in order.
     fn kept(&mut self, kept: &[Kept]);
+
+    /// The session ended with this report. A `Driver` leaves this call to whoever has it run the
+    /// session.
+    fn ended(&mut self, report: &Report);
 }
 
 /// Tells in a line that the server of a side cannot be reached. What cannot be written is left out.
@@ -49,4 +53,6 @@ impl SessionWatch for Unwatched {
     fn planned(&mut self, _items: usize) {}
 
     fn kept(&mut self, _kept: &[Kept]) {}
+
+    fn ended(&mut self, _report: &Report) {}
 }

@@ -4,14 +4,14 @@ use Rattle.std.proofs.Common.{◌∷◌, ◌++◌, length, slice_index_or, refl,
 use Rattle.std.specs.Fmt.{decimal}
 use Rattle.std.proofs.lemmas.Fmt.{decimal_digit}
 use Rattle.syn_tree.specs.Modes.{access_of, bit_of, mode_digits, mode_of}
-use Rattle.syn_tree.specs.declared.mode.Access.{Access}
+use Rattle.syn_tree.specs.declared.mode.AccessRights.{AccessRights}
 use Rattle.syn_tree.specs.declared.mode.Mode.{Mode}
 
 one_bit : (set : Bool) → bit_of set ≤ 1
 one_bit true = omega arith
 one_bit false = omega arith
 
-three_bits : (access : Access) → access_of access < 8
+three_bits : (access : AccessRights) → access_of access < 8
 three_bits access =
     omega (arith, one_bit access.read, one_bit access.write, one_bit access.execute)
 

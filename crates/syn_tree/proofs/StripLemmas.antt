@@ -102,55 +102,6 @@ rest_lawful p q h = record {
   not_long = omega (arith, h.not_long, spelling_after p q);
 }
 
-shorter : (m n : ℕ) → m ≤ n → nat_le n 16 ≡ true → nat_le m 16 ≡ true
-shorter m n h k = grind (arith, nat_tests)
-
-smaller : (m n : ℕ) → m ≤ n → nat_le n 255 ≡ true → nat_le m 255 ≡ true
-smaller m n h k = grind (arith, nat_tests)
-
-fewer : (m n : ℕ) → m ≤ n → nat_le n 256 ≡ true → nat_le m 256 ≡ true
-fewer m n h k = grind (arith, nat_tests)
-
-paths_under : (at : Path) (us : Pairs) → list_all (λ pair. fits_path pair.0) (under at us) ≡ true →
-    list_all (λ pair. fits_path pair.0) us ≡ true
-paths_under at [] h = refl
-paths_under at (x ∷ us) h =
-    let both = and_parts (fits_path (at ++ x.0))
-    (list_all (λ pair. fits_path pair.0) (under at us)) h in
-    ap₂ (λ a b. a && b) (fits_later at x.0 both.0) (paths_under at us both.1)
-
--- what passes in the whole passes in the part at a path
-part_passes : (f : Pair → Bool) (t : Tree) (at : Path) → list_all f (entries t) ≡ true →
-    list_all f (under at (taken at (entries t))) ≡ true
-part_passes f t at h =
-    let es = entries t in
-    let first = and_parts (list_all f (before at es)) (list_all f (within at es ++ beyond at es))
-    (sym (list_all-append f (before at es) (within at es ++ beyond at es))
-    ∙ (ap (list_all f) (sym (three_parts at es (rising-entries t))) ∙ h)) in
-    ap (list_all f) (sym (within-taken at es))
-    ∙ (and_parts (list_all f (within at es)) (list_all f (beyond at es))
-    (sym (list_all-append f (within at es) (beyond at es)) ∙ first.1)).0
-
-kids_in_part : (t : Tree) (at q : Path) → kids q (taken at (entries t)) ≤ kids (at ++ q) (entries t)
-kids_in_part t at q =
-    let es = entries t in
-    let whole = ap (kids (at ++ q)) (three_parts at es (rising-entries t)) in
-    let parts = kids-append (at ++ q) (before at es) (within at es ++ beyond at es) in
-    let inner = kids-append (at ++ q) (within at es) (beyond at es) in
-    let same = ap (kids (at ++ q)) (within-taken at es) ∙ kids-under at q (taken at es) in
-    omega (arith, whole, parts, inner, same)
-
-fits_under : (t : Tree) (at : Path) (us : Pairs) →
-    list_all (pair_fits (entries t)) (under at us) ≡ true →
-    list_all (pair_fits (taken at (entries t))) us ≡ true
-fits_under t at [] h = refl
-fits_under t at (x ∷ us) h =
-    let both = and_parts (pair_fits (entries t) (at ++ x.0, x.1))
-    (list_all (pair_fits (entries t)) (under at us)) h in
-    let one = and_parts (fits_content x.1) (nat_le (kids (at ++ x.0) (entries t)) 256) both.0 in
-    ap₂ (λ a b. a && b) (ap₂ (λ a b. a && b) one.0 (fewer (kids x.0 (taken at (entries t)))
-    (kids (at ++ x.0) (entries t)) (kids_in_part t at x.0) one.1)) (fits_under t at us both.1)
-
 subtree_tree : (t : Tree) (at : Path) → IsTree t → get t at ≡ Some Directory → IsTree (subtree t at)
 subtree_tree t at tree dir = record {
   rooted = get-subtree t at root ∙ (ap (get t) (append-nil at) ∙ dir);

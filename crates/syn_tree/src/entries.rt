@@ -19,7 +19,7 @@ use std::alloc::{AllocError, Global};
 use std::marker::Model;
 use syn_path::{Key, Path};
 use syn_placed::EntryKind;
-use syn_placed::ranges::{are_rising, count_children, count_children_at, is_directory};
+use syn_placed::by_key::{are_rising, count_children, count_children_at, is_directory};
 
 /// What stands below a directory, in path order: 256 entries a directory, 16,384 bytes a file, and
 /// each path, taken from the directory, within the limits of a path. The number of nodes and their
@@ -136,7 +136,7 @@ fn copies(alloc: Global, list: &[Entry]) -> Result<Vec<Entry>, AllocError>
 {
     let mut copies = Vec::with_capacity(alloc, list.len())?;
     for entry in list {
-        let content = entry.standing().copy(alloc)?;
+        let content = entry.content().copy(alloc)?;
         copies.push(Entry::new(alloc, entry.key(), content)?)?;
     }
     Ok(copies)

@@ -31,7 +31,7 @@ impl EntryKind for Content {
 pub(crate) fn found_at(entry: &Entry) -> Found<'_>
     ensures { found_content result ≡ entry.now.1 }
 {
-    match entry.standing() {
+    match entry.content() {
         Content::File(mode, bytes) => Found::File(*mode, bytes),
         Content::Dir => Found::Dir,
     }

@@ -9,7 +9,7 @@ use crate::measures::{found_spelled, name_spelled};
 use crate::{Content, Found};
 use std::alloc::{AllocError, Global};
 use syn_path::Name;
-use syn_placed::list::entry_at;
+use syn_placed::by_path::entry_at;
 use syn_placed::{EntryKind, Placed};
 
 /// An entry of a plain tree: a path with a file or a directory.
@@ -22,7 +22,7 @@ pub(crate) fn with_paths(alloc: Global, list: Vec<crate::Entry>) -> Result<Vec<E
     let mut entries = Vec::with_capacity(alloc, list.len())?;
     for entry in list {
         let path = entry.key().to_path(alloc)?;
-        let content = entry.standing().copy(alloc)?;
+        let content = entry.content().copy(alloc)?;
         entries.push(Entry::new(path, content))?;
     }
     Ok(entries)
@@ -34,7 +34,7 @@ pub(crate) fn with_keys(alloc: Global, list: &[Entry]) -> Result<Vec<crate::Entr
 {
     let mut entries = Vec::with_capacity(alloc, list.len())?;
     for entry in list {
-        let content = entry.standing().copy(alloc)?;
+        let content = entry.content().copy(alloc)?;
         entries.push(crate::Entry::new(alloc, &entry.path().key(), content)?)?;
     }
     Ok(entries)
@@ -44,7 +44,7 @@ pub(crate) fn with_keys(alloc: Global, list: &[Entry]) -> Result<Vec<crate::Entr
 fn found_at(entry: &Entry) -> Found<'_>
     ensures { found_content result ≡ entry.now.1 }
 {
-    match entry.standing() {
+    match entry.content() {
         Content::File(mode, bytes) => Found::File(*mode, bytes),
         Content::Dir => Found::Dir,
     }

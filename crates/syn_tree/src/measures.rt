@@ -11,7 +11,7 @@ use crate::content::Found;
 use crate::entry::{Entry, found_at};
 use crate::lawful::is_path;
 use syn_path::Key;
-use syn_placed::ranges::entry_at;
+use syn_placed::by_key::entry_at;
 
 /// The most bytes of the spelling of a replica's tree.
 pub const LONGEST_SPELLING: usize = 526_336;

@@ -7,7 +7,7 @@ use std::fmt;
 
 /// What some users may do with a file.
 #[derive(Clone, Copy, Debug, PartialEq, Eq)]
-pub struct Access {
+pub struct AccessRights {
     /// They may read it.
     pub read: bool,
     /// They may write it.
@@ -16,12 +16,12 @@ pub struct Access {
     pub execute: bool,
 }
 
-impl Access {
+impl AccessRights {
     /// What the lowest three bits say: 4 for reading, 2 for writing and 1 for executing.
-    fn of(bits: u16) -> Access
+    fn of(bits: u16) -> AccessRights
         ensures { access_of result ≡ bits % 8 }
     {
-        Access {
+        AccessRights {
             read: bits % 8 >= 4,
             write: bits % 4 >= 2,
             execute: bits % 2 == 1,
@@ -29,12 +29,12 @@ impl Access {
     }
 
     /// What an octal digit says; none where it is none.
-    fn parse(digit: u8) -> Option<Access>
+    fn parse(digit: u8) -> Option<AccessRights>
         ensures some { IfSome result (λ access. digit ≡ 48 + access_of access) }
-        ensures none { IfNone result ((access : Access) → digit ≢ 48 + access_of access) }
+        ensures none { IfNone result ((access : AccessRights) → digit ≢ 48 + access_of access) }
     {
         match digit {
-            b'0'..=b'7' => Some(Access::of((digit - b'0') as u16)),
+            b'0'..=b'7' => Some(AccessRights::of((digit - b'0') as u16)),
             _ => None,
         }
     }
@@ -52,27 +52,27 @@ impl Access {
 #[derive(Clone, Copy, Debug, PartialEq, Eq)]
 pub struct Mode {
     /// What its owner may do.
-    pub owner: Access,
+    pub owner: AccessRights,
     /// What the members of its group may do.
-    pub group: Access,
+    pub group: AccessRights,
     /// What all others may do.
-    pub others: Access,
+    pub others: AccessRights,
 }
 
 impl Mode {
     /// That of a new file, octal 644: its owner reads and writes it, and all others read it.
     pub const NEW_FILE: Mode = Mode {
-        owner: Access {
+        owner: AccessRights {
             read: true,
             write: true,
             execute: false,
         },
-        group: Access {
+        group: AccessRights {
             read: true,
             write: false,
             execute: false,
         },
-        others: Access {
+        others: AccessRights {
             read: true,
             write: false,
             execute: false,
@@ -89,9 +89,9 @@ impl Mode {
             return None;
         }
         Some(Mode {
-            owner: Access::of(bits / 64),
-            group: Access::of(bits / 8),
-            others: Access::of(bits),
+            owner: AccessRights::of(bits / 64),
+            group: AccessRights::of(bits / 8),
+            others: AccessRights::of(bits),
         })
     }
 
@@ -105,9 +105,9 @@ impl Mode {
             return None;
         };
         Some(Mode {
-            owner: Access::parse(*owner)?,
-            group: Access::parse(*group)?,
-            others: Access::parse(*others)?,
+            owner: AccessRights::parse(*owner)?,
+            group: AccessRights::parse(*group)?,
+            others: AccessRights::parse(*others)?,
         })
     }
 

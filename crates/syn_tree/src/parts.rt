@@ -68,7 +68,7 @@ fn push_below(
     if key.is_root() {
         return Ok(());
     }
-    let content = entry.standing().copy(alloc)?;
+    let content = entry.content().copy(alloc)?;
     copies.push(Entry::new(alloc, &key, content)?)?;
     Ok(())
 }

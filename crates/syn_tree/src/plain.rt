@@ -26,7 +26,7 @@ use crate::{Edit, Entries, Found, Node, TreeError};
 use std::alloc::{AllocError, Global};
 use std::marker::Model;
 use syn_path::{Name, Path};
-use syn_placed::list::{count_children, is_directory, parent_names, part_at, replace_part};
+use syn_placed::by_path::{count_children, is_directory, parent_names, part_at, replace_part};
 
 /// A tree as a list of paths in path order, each with what stands there. It keeps the limits that
 /// the tree of a replica keeps, and answers each call as that one does. Contracts see it as the set

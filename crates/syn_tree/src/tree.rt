@@ -36,7 +36,7 @@ use crate::placing::placed;
 use std::alloc::{AllocError, Global};
 use std::marker::Model;
 use syn_path::{Key, Name, Path};
-use syn_placed::ranges::{count_children, is_directory, part_at, replace_part};
+use syn_placed::by_key::{count_children, is_directory, part_at, replace_part};
 
 mod reading;
 

@@ -19,6 +19,7 @@ use std::alloc::Global;
 use std::io::{Read, Write};
 use syn_link::Connection;
 use syn_message::{Reply, Request, RequestMessage, decode_reply, encode_request, message_laws};
+use syn_model::{is_long, is_short};
 use syn_path::Path;
 use syn_refusal::Refusal;
 use syn_tree::Tree;
@@ -163,7 +164,8 @@ impl<R: Read, W: Write> SideConnection<R, W> {
             (NoPiece position offset (side_line R.remaining W.contents self.old)
             (side_line R.remaining W.contents self.new)) }
     {
-        is_lawful_fetch(position, offset);
+        is_long(position);
+        is_short(offset);
         let request = Request::Fetch {
             path: root(alloc),
             since: position,
@@ -208,7 +210,7 @@ impl<R: Read, W: Write> SideConnection<R, W> {
     {
         message_laws();
         let number = self.next;
-        is_lawful_number(number);
+        is_short(number);
         self.next = number_after(number);
         let Some(body) = self.connection.receive(alloc)? else {
             return Err(UserError::Device);
@@ -248,20 +250,4 @@ fn root(alloc: Global) -> Path
     let root = Path::root(alloc);
     let _ = root.names();
     root
-}
-
-/// Eight bytes spell a position, and four an offset.
-fn is_lawful_fetch(position: u64, offset: u32)
-    ensures position { position < 2 ^ 64 }
-    ensures offset { offset < 2 ^ 32 }
-{
-    let _ = position;
-    let _ = offset;
-}
-
-/// Four bytes spell the number of a request.
-fn is_lawful_number(number: u32)
-    ensures { number < 2 ^ 32 }
-{
-    let _ = number;
 }

@@ -37,12 +37,6 @@ use Rattle.syn_model.proofs.LengthLemmas.{found_each}
 
 -- ---- the names in a directory
 
-still_some : (n : Name) (x : Name × Content) (xs : List (Name × Content)) →
-    is_some (find name_cmp n xs) ≡ true → is_some (find name_cmp n (x ∷ xs)) ≡ true
-still_some n x xs h =
-    elim (eq_by_cmp name_cmp n x.0)
-    as (λ b. is_some (cond b (Some x.1) (find name_cmp n xs)) ≡ true) [ true ↦ refl | false ↦ h ]
-
 -- something stands at each name in a directory
 pub children_present : (t : Tree) →
     AllByRecursion (λ x. is_present (subtree t (x.0 ∷ [])) root ≡ true) (children t root)

@@ -37,6 +37,15 @@ const REPLACED: u8 = 5;
 
 const CHMOD: u8 = 6;
 
+/// How many bytes an event of an edit begins with: its kind and its user.
+const KIND_AND_USER: usize = 5;
+
+/// How many bytes spell the length of a file.
+const LENGTH: usize = 4;
+
+/// How many bytes spell a mode.
+const MODE: usize = 2;
+
 /// The spelling of the event: its kind, and what it has.
 ///
 /// Refused 11 where memory is refused.
@@ -83,20 +92,20 @@ pub fn encode_edit(alloc: Global, user: u32, edit: &Edit) -> Result<Vec<u8>, Wir
     match edit {
         Edit::Put(path, bytes) => {
             out.push(PUT)?;
-            write_place(&mut out, user, path)?;
+            write_user_and_path(&mut out, user, path)?;
             write_file(&mut out, bytes)?;
         }
         Edit::MakeDir(path) => {
             out.push(MAKE_DIR)?;
-            write_place(&mut out, user, path)?;
+            write_user_and_path(&mut out, user, path)?;
         }
         Edit::Remove(path) => {
             out.push(REMOVE)?;
-            write_place(&mut out, user, path)?;
+            write_user_and_path(&mut out, user, path)?;
         }
         Edit::Chmod(path, mode) => {
             out.push(CHMOD)?;
-            write_place(&mut out, user, path)?;
+            write_user_and_path(&mut out, user, path)?;
             write_mode(&mut out, *mode)?;
         }
     }
@@ -108,10 +117,10 @@ pub fn edit_length(edit: &Edit) -> usize
     ensures { (user : ℕ) → result ≡ length (event_spelling (Edited user (edit_of edit.now))) }
 {
     match edit {
-        Edit::Put(path, bytes) => 9 + path_length(path) + bytes.len(),
-        Edit::MakeDir(path) => 5 + path_length(path),
-        Edit::Remove(path) => 5 + path_length(path),
-        Edit::Chmod(path, _) => 7 + path_length(path),
+        Edit::Put(path, bytes) => KIND_AND_USER + path_length(path) + LENGTH + bytes.len(),
+        Edit::MakeDir(path) => KIND_AND_USER + path_length(path),
+        Edit::Remove(path) => KIND_AND_USER + path_length(path),
+        Edit::Chmod(path, _) => KIND_AND_USER + path_length(path) + MODE,
     }
 }
 
@@ -154,7 +163,7 @@ impl<'a> Reader<'a> {
     fn put(&mut self, alloc: Global) -> Result<Event, ReadError>
         ensures { ReadsEventInEach (PUT ∷ self.old) self.new result }
     {
-        let (user, path) = self.place(alloc)?;
+        let (user, path) = self.user_and_path(alloc)?;
         let bytes = self.file()?;
         Ok(Event::Edited {
             user,
@@ -165,7 +174,7 @@ impl<'a> Reader<'a> {
     fn make_dir(&mut self, alloc: Global) -> Result<Event, ReadError>
         ensures { ReadsEventInEach (MAKE_DIR ∷ self.old) self.new result }
     {
-        let (user, path) = self.place(alloc)?;
+        let (user, path) = self.user_and_path(alloc)?;
         Ok(Event::Edited {
             user,
             edit: Edit::MakeDir(path),
@@ -175,7 +184,7 @@ impl<'a> Reader<'a> {
     fn remove(&mut self, alloc: Global) -> Result<Event, ReadError>
         ensures { ReadsEventInEach (REMOVE ∷ self.old) self.new result }
     {
-        let (user, path) = self.place(alloc)?;
+        let (user, path) = self.user_and_path(alloc)?;
         Ok(Event::Edited {
             user,
             edit: Edit::Remove(path),
@@ -194,7 +203,7 @@ impl<'a> Reader<'a> {
             (event_spelling_in (version_of version)) event_of (REPLACED ∷ self.old) self.new
             result }
     {
-        let (token, path, since) = self.since(alloc)?;
+        let (token, path, since) = self.token_path_and_since(alloc)?;
         let new = self.node(alloc, version)?;
         Ok(Event::Replaced {
             token,
@@ -212,7 +221,7 @@ impl<'a> Reader<'a> {
         if version == Version::One {
             return Err(ReadError::Malformed);
         }
-        let (user, path) = self.place(alloc)?;
+        let (user, path) = self.user_and_path(alloc)?;
         let mode = self.mode()?;
         Ok(Event::Edited {
             user,
@@ -221,7 +230,7 @@ impl<'a> Reader<'a> {
     }
 
     // A user and a path.
-    fn place(&mut self, alloc: Global) -> Result<(u32, Path), ReadError>
+    fn user_and_path(&mut self, alloc: Global) -> Result<(u32, Path), ReadError>
         ensures { Reads (Both IsNumber32 IsPath) (both_spelling number_spelling path_spelling)
             (λ found. found) self.old self.new result }
     {
@@ -232,18 +241,18 @@ impl<'a> Reader<'a> {
     }
 
     // A token, a path and a position.
-    fn since(&mut self, alloc: Global) -> Result<(Token, Path, u64), ReadError>
+    fn token_path_and_since(&mut self, alloc: Global) -> Result<(Token, Path, u64), ReadError>
         ensures { Reads (Both (Both IsLawfulToken IsPath) IsNumber64)
             (both_spelling (both_spelling token_spelling path_spelling) number64_spelling)
             (λ found. ((token_of found.0, found.1), found.2)) self.old self.new result }
     {
-        let (token, path) = self.item(alloc)?;
+        let (token, path) = self.token_and_path(alloc)?;
         let since = self.u64()?;
         Ok((token, path, since))
     }
 
     // A token and a path.
-    fn item(&mut self, alloc: Global) -> Result<(Token, Path), ReadError>
+    fn token_and_path(&mut self, alloc: Global) -> Result<(Token, Path), ReadError>
         ensures { Reads (Both IsLawfulToken IsPath) (both_spelling token_spelling path_spelling)
             (λ found. (token_of found.0, found.1)) self.old self.new result }
     {
@@ -276,7 +285,7 @@ pub fn write_token(out: &mut Vec<u8>, token: &Token) -> Result<(), WireError>
 }
 
 // Adds a user and a path.
-fn write_place(out: &mut Vec<u8>, user: u32, path: &Path) -> Result<(), WireError>
+fn write_user_and_path(out: &mut Vec<u8>, user: u32, path: &Path) -> Result<(), WireError>
     ensures added { OnOk result (out.new.items ≡ out.old.items
         ++ both_spelling number_spelling path_spelling (user, path.now)) }
     ensures lawful { OnOk result (IsPath path.now) }

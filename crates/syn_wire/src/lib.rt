@@ -68,8 +68,8 @@ pub use marks::{encode_marks, optional_marks_length, write_marks, write_optional
 pub use number::{write_u16, write_u32, write_u64};
 pub use path::{encode_path, path_length, write_path};
 pub use piece::{encode_piece, part_length};
-pub use reader::{Reader, found, read_u32};
-pub use tree::{encode_node, encode_tree, write_node, write_tree};
+pub use reader::{Reader, or_none, read_u32};
+pub use tree::{ABSENT, DIRECTORY, FILE, encode_node, encode_tree, write_node, write_tree};
 pub use tree_reading::{decode_node, decode_tree};
 pub use version::Version;
 

@@ -85,7 +85,7 @@ fn entry_length(entry: &MarkEntry) -> usize
         (last_name_spelling entry.now.0 ++ standing_by digest_spelling count entry.now.1) }
     ensures brief { result ≤ 100 }
 {
-    let mark = match entry.standing() {
+    let mark = match entry.content() {
         Mark::File(_, digest) => 3 + digest_length(*digest),
         Mark::Dir => 3,
     };
@@ -106,7 +106,7 @@ fn count_in_marks(marks: &MarkTree, entry: &MarkEntry) -> usize
         ≡ standing_by digest_spelling (length (children marks.now entry.now.0)) entry.now.1 }
     ensures few { result ≤ length (children marks.now entry.now.0) }
 {
-    match entry.standing() {
+    match entry.content() {
         Mark::File(..) => 0,
         Mark::Dir => marks.child_count(entry.path()),
     }
@@ -120,7 +120,7 @@ fn write_mark(out: &mut Vec<u8>, entry: &MarkEntry, count: usize) -> Result<(), 
     ensures kept { IsBeginning out.old.items out.new.items }
 {
     write_last_name(out, entry.path())?;
-    match entry.standing() {
+    match entry.content() {
         Mark::File(mode, digest) => {
             out.push(FILE)?;
             write_digest(out, *mode, digest)

@@ -158,7 +158,7 @@ impl<'a> Reader<'a> {
             (λ front. (read ≡ Ok front.0) × (front.1.now ≡ self.now)))
             (λ _. read ≡ Err Memory) }
     {
-        match found(read)? {
+        match or_none(read)? {
             Some(value) => Ok(Some((value, self.rest))),
             None => Ok(None),
         }
@@ -191,7 +191,7 @@ fn split(bytes: &[u8], count: usize) -> Option<(&[u8], &[u8])>
 }
 
 /// What was read; none where nothing stands there. Refused 11 where memory was refused.
-pub fn found<T>(read: Result<T, ReadError>) -> Result<Option<T>, WireError>
+pub fn or_none<T>(read: Result<T, ReadError>) -> Result<Option<T>, WireError>
     ensures { MatchResult result
         (λ found. MatchOption found (read ≡ Err Malformed) (λ value. read ≡ Ok value))
         (λ _. read ≡ Err Memory) }

@@ -17,11 +17,14 @@ use std::alloc::Global;
 use syn_path::Path;
 use syn_tree::{Entries, Found, Node, Pair, Tree};
 
-pub(crate) const ABSENT: u8 = 0;
+/// The first byte of what stands at a path: nothing does.
+pub const ABSENT: u8 = 0;
 
-pub(crate) const FILE: u8 = 1;
+/// The first byte of what stands at a path: a file.
+pub const FILE: u8 = 1;
 
-pub(crate) const DIRECTORY: u8 = 2;
+/// The first byte of what stands at a path: a directory.
+pub const DIRECTORY: u8 = 2;
 
 /// The spelling of the tree, entry by entry in path order.
 ///

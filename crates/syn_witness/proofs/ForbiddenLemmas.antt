@@ -11,7 +11,7 @@ use Rattle.syn_model.specs.Archive.{Kept}
 use Rattle.syn_headline.specs.Report.{Report, Complete, Incomplete}
 use Rattle.syn_headline.specs.Machine.{Status}
 use Rattle.syn_headline.specs.Coordinator.{CoordinatorMachine, Running, Exchange, Call, Walk}
-use Rattle.syn_headline.specs.Coordinator.{EndsFor, CoordinatorTicks, is_resent, is_unstable}
+use Rattle.syn_headline.specs.Coordinator.{EndsFor, CoordinatorTicks, is_resent, took_not_dir}
 use Rattle.syn_headline.specs.Coordinator.{is_whole, report_of, Takes, after_taking, fault_of}
 use Rattle.syn_headline.specs.Coordinator.{GoesThrough}
 use Rattle.syn_headline.specs.Planning.{Planned}
@@ -144,11 +144,11 @@ faults_alone pair old running taken new call takes none =
     (λ plan walk kept why advances ends. ends_belong pair _ taken _ walk why ends) new call takes
 
 -- what has an unstable path is not whole
-not_whole : (running : Running) (ended : Option Refusal) → is_unstable running ≡ true →
+not_whole : (running : Running) (ended : Option Refusal) → took_not_dir running ≡ true →
     (report_of running ended).end ≢ Complete
 not_whole running ended unstable =
     by (is_whole running ended) (whole_is (not (is_some ended)
-    && not (nat_lt 0 (length running.refused))) (is_unstable running) unstable)
+    && not (nat_lt 0 (length running.refused))) (took_not_dir running) unstable)
   where
     whole_is : (a b : Bool) → b ≡ true → (a && not b) ≡ false
     whole_is true true e = refl

@@ -10,7 +10,7 @@ use Rattle.syn_headline.specs.Network.{Which, Asks}
 use Rattle.syn_headline.specs.Report.{Complete}
 use Rattle.syn_headline.specs.Coordinator.{CoordinatorMachine, Running, Exchange, Call, Takes}
 use Rattle.syn_headline.specs.Coordinator.{CoordinatorStarts, CoordinatorTicks, fault_of}
-use Rattle.syn_headline.specs.Coordinator.{is_unstable, hearing, Walk, IsToKeep, Advances}
+use Rattle.syn_headline.specs.Coordinator.{took_not_dir, hearing, Walk, IsToKeep, Advances}
 use Rattle.syn_headline.specs.Coordinator.{BothBegun, IsDue, HasNoRoom}
 use Rattle.syn_headline.specs.Planning.{Planned}
 use Rattle.syn_model.specs.Archive.{Kept}
@@ -65,7 +65,7 @@ FaultsAlone = (pair : ℕ) (old : CoordinatorMachine) (running : Running) (taken
 abbrev pub UnstableIsIncomplete : Type 0
 UnstableIsIncomplete = (pair : ℕ) (old : CoordinatorMachine) (running : Running) (taken : Exchange)
     (new : CoordinatorMachine) (call : Call) →
-    Takes pair old running taken new call → is_unstable (hearing running taken) ≡ true →
+    Takes pair old running taken new call → took_not_dir (hearing running taken) ≡ true →
     All (λ report. report.end ≢ Complete) call.reports
 
 -- no side is asked for a listing before both have answered that they have begun

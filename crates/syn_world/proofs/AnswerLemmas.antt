@@ -16,7 +16,7 @@ use Rattle.syn_headline.specs.SideMachine.{staging_after, with_journal}
 use Rattle.syn_world.specs.Outcomes.{Acknowledges, refused_in}
 use Rattle.syn_world.specs.SideSteps.{Answers, Journal, takes}
 use Rattle.syn_world.specs.Sides.{AnswerIsStep, RunsAs, Settles, SettlesAdded}
-use Rattle.syn_world.specs.declared.outcome.Outcome.TheVariants.{Nothing}
+use Rattle.syn_world.specs.declared.outcome.SideOutcome.TheVariants.{Nothing}
 use Rattle.syn_world.specs.declared.side.SideCall.{SideCall}
 use Rattle.syn_message.specs.Replies.{IsLawfulReply, reply_of}
 use Rattle.syn_message.specs.declared.reply.Reply.{Reply as Said}

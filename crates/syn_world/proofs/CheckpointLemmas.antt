@@ -25,8 +25,8 @@ use Rattle.syn_replica.specs.declared.replica.Replica.{Replica}
 use Rattle.syn_world.specs.Outcomes.{Acknowledges, refused_in}
 use Rattle.syn_world.specs.SideSteps.{Journal, SideStep}
 use Rattle.syn_world.specs.Sides.{CallIsStep, IsHost, IsRefused, RunsAs, Settles}
-use Rattle.syn_world.specs.declared.outcome.Outcome.{Outcome}
-use Rattle.syn_world.specs.declared.outcome.Outcome.TheVariants.{Nothing}
+use Rattle.syn_world.specs.declared.outcome.SideOutcome.{SideOutcome}
+use Rattle.syn_world.specs.declared.outcome.SideOutcome.TheVariants.{Nothing}
 use Rattle.syn_world.specs.declared.side.SideCall.{SideCall}
 use Rattle.syn_world.specs.declared.side.UpSide.{UpSide}
 use Rattle.syn_world.proofs.MovedLemmas.{goes_so, keeps_on, nothing_tried, other, stops_so}
@@ -76,7 +76,7 @@ module _ {D : Type 0} {disk : Ghosts D} (pair : ℕ) (old new : Replica D disk) 
       (step_of next (not_compacted Down unarmed 0 (inr refl) meets)) (omega (arith, same))
 
   -- it is not
-  pub compact_not : (outcome : Outcome) → Settles (side_of new agent) position outcome call →
+  pub compact_not : (outcome : SideOutcome) → Settles (side_of new agent) position outcome call →
       (reason : Refusal) → refused_in outcome ≡ reason ∷ [] → Acknowledges outcome [] →
       CountsFailures (Some reason) (failed_by old) (failed_by new) →
       tried_shown new ≡ tried_shown old → (reason ≢ why.Device → first_cause

@@ -29,9 +29,9 @@ use Rattle.syn_coordinator.specs.Machines.{Journal}
 use Rattle.syn_coordinator.proofs.DueLemmas.{when_halted}
 use Rattle.syn_model.specs.Archive.{Kept}
 use Rattle.syn_journal.specs.Calls.{CountsNoMore}
-use Rattle.syn_session.specs.Refusals.{CountsFailures}
-use Rattle.syn_session.specs.declared.error.SessionError.{SessionError}
-use Rattle.syn_session.specs.declared.error.SessionError.TheVariants as session_error
+use Rattle.syn_coordinator.specs.Refusals.{CountsFailures}
+use Rattle.syn_coordinator.specs.declared.error.StartError.{StartError}
+use Rattle.syn_coordinator.specs.declared.error.StartError.TheVariants as session_error
 
 -- at most one call failed, and the machine is halted where one did
 abbrev pub FailsOnce : Journal → Journal → Type 0
@@ -207,7 +207,7 @@ reply_grew {D} {disk} old new breaks = by breaks
     by (inr off) = counted_grew off.counted
 
 -- nor does one that starts a session
-pub start_grew : (e : SessionError) (old new : ℕ) → CountsFailures e old new → old ≤ new
+pub start_grew : (e : StartError) (old new : ℕ) → CountsFailures e old new → old ≤ new
 start_grew session_error.Device old new less = omega (arith, less)
 start_grew session_error.Full old new same = omega (arith, same)
 start_grew session_error.JournalFull old new same = omega (arith, same)

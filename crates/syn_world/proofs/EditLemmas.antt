@@ -26,7 +26,7 @@ use Rattle.syn_replica.specs.declared.replica.Replica.{Replica}
 use Rattle.syn_world.specs.Outcomes.{Acknowledges, refused_in}
 use Rattle.syn_world.specs.SideSteps.{Journal}
 use Rattle.syn_world.specs.Sides.{CallIsStep, IsHost, IsRefused, RunsAs, Settles, SettlesAdded}
-use Rattle.syn_world.specs.declared.outcome.Outcome.{Outcome}
+use Rattle.syn_world.specs.declared.outcome.SideOutcome.{SideOutcome}
 use Rattle.syn_world.specs.declared.side.SideCall.{SideCall}
 use Rattle.syn_world.specs.declared.side.UpSide.{UpSide}
 use Rattle.syn_world.proofs.MovedLemmas.{goes_so, keeps_on, nothing_tried, other, stops_so}
@@ -96,7 +96,7 @@ module _ {D : Type 0} {disk : Ghosts D} (pair : ℕ) (old new : Replica D disk) 
       (omega (arith, same))
 
   -- it is not
-  pub edit_not : (outcome : Outcome) → Settles (side_of new agent) position outcome call →
+  pub edit_not : (outcome : SideOutcome) → Settles (side_of new agent) position outcome call →
       (reason : Refusal) → refused_in outcome ≡ reason ∷ [] → Acknowledges outcome [] →
       CountsFailures (Some reason) (failed_by old) (failed_by new) →
       Tries old new (Some event) (Some reason) → (reason ≡ why.Device →

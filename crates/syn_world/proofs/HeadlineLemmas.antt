@@ -21,8 +21,8 @@ use Rattle.syn_world.specs.declared.side.SideHost.TheVariants as host
 use Rattle.syn_model.specs.Path.{Bytes}
 use Rattle.syn_model.specs.Refusal as why
 use Rattle.syn_refusal.specs.Refusals.{cause_of}
-use Rattle.syn_recovery.specs.Headline.{Disks as Shown, DisksStand, Headline, IsCrashSafe}
-use Rattle.syn_recovery.specs.Headline.{IsOpenedFrom, MayBeLeft, disk_of}
+use Rattle.syn_world.specs.CrashSafety.{DiskBytes, DisksStand, IsCrashSafe, IsOpenedFrom}
+use Rattle.syn_world.specs.CrashSafety.{MayBeLeft, RunsAreCrashSafe, disk_of}
 use Rattle.syn_archive.specs.Keepings.{of_archive}
 use Rattle.syn_replica.specs.Keepings.{of_side}
 use Rattle.syn_journal.specs.Meaning.{MayBeOf}
@@ -73,7 +73,7 @@ left_on_disks may_leave old new model back are = record {
 }
 
 module _ {D : Type 0} (may_leave : D → Bytes → Type 0) (disks : Disks D) (model : ModelWorld)
-    (left : AreLeft may_leave disks model) (shown : Shown)
+    (left : AreLeft may_leave disks model) (shown : DiskBytes)
     (holds : MayHold may_leave disks shown) where
   side_may_be : (which : Which) → MayBeOf (of_side model.pair)
       (side_of model which).journal (disk_of shown which)
@@ -88,13 +88,13 @@ module _ {D : Type 0} (may_leave : D → Bytes → Type 0) (disks : Disks D) (mo
 
 -- a run of the model's from what the disks showed is safe
 pub safe_run : {D : Type 0} (disk : Ghosts D) (pair : ℕ) (disks later : Disks D)
-    (stores : Stores) (steps : List Step) (old new : ModelWorld) → Headline
+    (stores : Stores) (steps : List Step) (old new : ModelWorld) → RunsAreCrashSafe
     → IsOpenedFrom pair (shown_on disk.seen disks) old → stores_of old ≡ stores
     → Runs old steps new
     → FailWithDisks old new (failures_on disk.failures disks) (failures_on disk.failures later)
     → AreLeft disk.may_leave later new
     → IsSafeRun disk pair disks later stores steps new
-safe_run disk pair disks later stores steps old new headline opened same runs counts left = record {
+safe_run disk pair disks later stores steps old new law opened same runs counts left = record {
   old = old;
   opened = opened;
   stores_are = same;
@@ -102,7 +102,7 @@ safe_run disk pair disks later stores steps old new headline opened same runs co
   counts = counts;
   pair_is = run_keeps_pair old steps new runs ∙ opened.pair_is;
   safe = λ shown holds. subst (λ s. IsCrashSafe s steps new.refusals (picture_of new) shown) same
-      (headline pair (shown_on disk.seen disks) shown old new steps opened runs
+      (law pair (shown_on disk.seen disks) shown old new steps opened runs
       (may_be_left disk.may_leave later new left shown holds));
 }
 
@@ -132,7 +132,7 @@ module _ {D : Type 0} (disk : Ghosts D) (disks stopped : Disks D)
     (run : ModelWorld) (fits : run.pair < 2 ^ 64)
     (safe : AreSafe disk.may_leave before steps disks run)
     (stays : (one : D) → disk.may_leave one (disk.seen one)) where
-  abbrev pub shown : Shown
+  abbrev pub shown : DiskBytes
   shown = shown_on disk.seen stopped
 
   abbrev holds : MayHold disk.may_leave disks shown
@@ -174,7 +174,7 @@ if_err (Err error) was goes = goes error was
 
 -- what a stop may leave on disks whose machines were stopped it might have left before
 pub holds_before : {D : Type 0} (may_leave : D → Bytes → Type 0) (old new : Disks D)
-    → ComeBack may_leave old new → (shown : Shown) → MayHold may_leave new shown
+    → ComeBack may_leave old new → (shown : DiskBytes) → MayHold may_leave new shown
     → MayHold may_leave old shown
 holds_before may_leave old new back shown holds = record {
   left = back.left shown.left holds.left;

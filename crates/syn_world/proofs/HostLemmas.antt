@@ -7,7 +7,7 @@ use Rattle.syn_headline.specs.SideMachine.{SideMachine, side_kind}
 use Rattle.syn_world.specs.Outcomes.{Acknowledges, refused_in}
 use Rattle.syn_world.specs.SideSteps.{SideStep}
 use Rattle.syn_world.specs.Sides.{CallIsStep, IsHost, IsStep, side_disk}
-use Rattle.syn_world.specs.declared.outcome.Outcome.TheVariants.{Nothing}
+use Rattle.syn_world.specs.declared.outcome.SideOutcome.TheVariants.{Nothing}
 use Rattle.syn_world.specs.declared.side.DownSide.{DownSide}
 use Rattle.syn_world.specs.declared.side.SideCall.{SideCall}
 use Rattle.syn_world.specs.declared.side.SideHost.{SideHost}

@@ -4,11 +4,11 @@ mod WorldLemmas
 mod CoordinatorLemmas
 mod SessionLemmas
 mod ListLemmas
-mod ListingLemmas
 mod RunLemmas
 mod OpeningLemmas
 mod WorldOpenLemmas
 mod PairLemmas
+mod CrashSafetyLemmas
 mod HeadlineLemmas
 mod PromiseLemmas
 mod CauseLemmas

@@ -12,7 +12,7 @@ use Rattle.syn_headline.specs.Report.{Report}
 use Rattle.syn_headline.specs.World.{World as ModelWorld, says}
 use Rattle.syn_world.specs.Outcomes.{Acknowledges, Tells, refused_in}
 use Rattle.syn_world.specs.declared.outcome.CoordinatorOutcome.{CoordinatorOutcome}
-use Rattle.syn_world.specs.declared.outcome.Outcome.{Outcome}
+use Rattle.syn_world.specs.declared.outcome.SideOutcome.{SideOutcome}
 use Rattle.syn_message.specs.Replies.{IsLawfulReply, reply_of}
 use Rattle.syn_path.specs.Sides.{which_of}
 use Rattle.syn_message.specs.declared.reply.Reply.{Reply}
@@ -99,7 +99,7 @@ module _ (side : Side) (session number : ℕ) (reply : Option Reply) (events : L
   abbrev happened : List Ack
   happened = map (λ event. Happened (which_of side) event) events
 
-  pub is_heard : (old heard new : Lists) (was now : ModelWorld) (outcome : Outcome)
+  pub is_heard : (old heard new : Lists) (was now : ModelWorld) (outcome : SideOutcome)
       → Hears old heard side session number reply → Notes heard new side outcome
       → IsListed old was → Acknowledges outcome events → refused_in outcome ≡ []
       → IfSome reply (λ one. IsLawfulReply (reply_of one))

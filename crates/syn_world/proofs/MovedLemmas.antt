@@ -21,7 +21,7 @@ use Rattle.syn_replica.specs.declared.replica.Replica.{Replica}
 use Rattle.syn_world.specs.Outcomes.{Acknowledges, refused_in}
 use Rattle.syn_world.specs.SideSteps.{Journal, SideStep}
 use Rattle.syn_world.specs.Sides.{CallIsStep, HasCounted, RunsAs, Settles, Stops}
-use Rattle.syn_world.specs.declared.outcome.Outcome.{Outcome}
+use Rattle.syn_world.specs.declared.outcome.SideOutcome.{SideOutcome}
 use Rattle.syn_world.specs.declared.side.SideCall.{SideCall}
 use Rattle.syn_world.proofs.SideLemmas.{failed_by, none_not_some, not_down, side_of}
 
@@ -58,7 +58,7 @@ module _ {D : Type 0} {disk : Ghosts D} (pair : ℕ) (old new : Replica D disk) 
 
   module _ (call : SideCall D disk) (position : ℕ) (Step : SideStep) where
     -- it goes on, and acknowledges nothing
-    pub goes_so : (outcome : Outcome) → Settles (side_of new agent) position outcome call →
+    pub goes_so : (outcome : SideOutcome) → Settles (side_of new agent) position outcome call →
         (next : SideMachine) → RunsAs pair (side_of new agent) next →
         Step next [] (refused_in outcome) → Acknowledges outcome [] →
         CountsNoMore (failed_by old) (failed_by new) machine.journal next.journal →

@@ -12,8 +12,8 @@ use Rattle.syn_headline.specs.SideMachine.{SideMachine, side_kind, side_layout, 
 use Rattle.syn_world.specs.Outcomes.{Acknowledges}
 use Rattle.syn_world.specs.SideSteps.{Journal}
 use Rattle.syn_world.specs.Sides.{CallIsStep, Gains, RestsAs, TriesWriting}
-use Rattle.syn_world.specs.declared.outcome.Outcome.{Outcome}
-use Rattle.syn_world.specs.declared.outcome.Outcome.TheVariants.{Refused}
+use Rattle.syn_world.specs.declared.outcome.SideOutcome.{SideOutcome}
+use Rattle.syn_world.specs.declared.outcome.SideOutcome.TheVariants.{Refused}
 use Rattle.syn_world.specs.declared.side.DownSide.{DownSide}
 use Rattle.syn_world.specs.declared.side.SideHost.TheVariants as host
 use Rattle.syn_journal.specs.Layout.{HasJournal, Value, bytes_left}
@@ -56,7 +56,7 @@ opens_counts layout CanKeep machine calls _ _ (recovered arms kept meets writing
 
 -- and what is acknowledged of them
 pub gained_so : (pair : ℕ) (machine : Journal) (calls : ℕ) (new : Journal) (events : List Event)
-    (outcome : Outcome) (before now : ℕ) (tried : Option Bytes) → Gains outcome before now tried
+    (outcome : SideOutcome) (before now : ℕ) (tried : Option Bytes) → Gains outcome before now tried
     → ((event : Event) → machine.writing ≡ Some event → tried ≡ Some (event_spelling event))
     → before ≡ length machine.value → now ≡ length new.value
     → Opens (side_layout pair) IsAllowed machine calls new events → Acknowledges outcome events
@@ -89,7 +89,7 @@ knows {D} {disk} pair replica bytes value generation new same has means stands =
 module _ {D : Type 0} (disk : Ghosts D) (pair : ℕ) (side : DownSide D) (machine : SideMachine)
     (rests : RestsAs disk.arms disk.may_leave pair side machine) where
   -- it is opened
-  pub open_ok : (replica : Replica D disk) (agent : Agent) (outcome : Outcome)
+  pub open_ok : (replica : Replica D disk) (agent : Agent) (outcome : SideOutcome)
       (tried : Option Bytes) → TriesWriting machine tried → Starts replica pair machine.journal →
       staging_of agent ≡ None → Gains outcome side.position (position_shown replica) tried →
       failed_by replica ≡ disk.failures side.disk →

@@ -24,8 +24,8 @@ use Rattle.syn_path.specs.declared.side.Side.{Side}
 use Rattle.syn_path.specs.declared.side.Side.TheVariants as side
 use Rattle.syn_promise.specs.Laws.{MayStand, RunsKeepPromise, told_by}
 use Rattle.syn_promise.specs.Promise.{Promised}
-use Rattle.syn_recovery.specs.Headline.{Disks as Shown, DisksStand, Headline, IsCrashSafe}
-use Rattle.syn_recovery.specs.Headline.{IsOpenedFrom}
+use Rattle.syn_world.specs.CrashSafety.{DiskBytes, DisksStand, IsCrashSafe, IsOpenedFrom}
+use Rattle.syn_world.specs.CrashSafety.{RunsAreCrashSafe}
 use Rattle.syn_replica.specs.Replica.{tree_shown}
 use Rattle.syn_world.specs.Failures.{disks_in}
 use Rattle.syn_world.specs.Headlines.{IsSafeRun, MayHold, Recovers}
@@ -42,7 +42,7 @@ use Rattle.syn_world.proofs.PairLemmas.{run_keeps_pair}
 
 -- a run that is crash safe with these bytes keeps its promise with them
 promised_of : RunsKeepPromise → (before : Stores) (old new : ModelWorld) (steps : List Step)
-    (pair : ℕ) (bytes later : Shown) → IsOpenedFrom pair bytes old → stores_of old ≡ before
+    (pair : ℕ) (bytes later : DiskBytes) → IsOpenedFrom pair bytes old → stores_of old ≡ before
     → Runs old steps new
     → (safe : IsCrashSafe before steps new.refusals (picture_of new) later)
     → Promised before steps (told_by new) safe.now
@@ -63,18 +63,18 @@ shows_told world new is = record {
   reports = ap (λ o. map report_in (reports_by o)) is.there ∙ is.is.lists.reports;
 }
 
-module _ {D : Type 0} {disk : Ghosts D} (headline : Headline) (law : RunsKeepPromise) (pair : ℕ)
-    (before : Stores) (bytes : Shown) (old new : ModelWorld) (steps : List Step)
+module _ {D : Type 0} {disk : Ghosts D} (crash_safe : RunsAreCrashSafe) (law : RunsKeepPromise)
+    (pair : ℕ) (before : Stores) (bytes : DiskBytes) (old new : ModelWorld) (steps : List Step)
     (world : World D disk) (opened : IsOpenedFrom pair bytes old) (same : stores_of old ≡ before)
     (runs : Runs old steps new) (is : IsWorld world new) where
-  left_so : (disks : Disks D) → disks_in is.running ≡ disks → (later : Shown)
+  left_so : (disks : Disks D) → disks_in is.running ≡ disks → (later : DiskBytes)
       → MayHold disk.may_leave disks later
       → StandAsPromised pair before steps (told_by new) later
   left_so disks are later holds =
       let left = subst (λ d. worlds.AreLeft disk.may_leave d new) are
       (world_left is.running new is.is.machines) in
       let safe = subst (λ b. IsCrashSafe b steps new.refusals (picture_of new) later) same
-      (headline pair bytes later old new steps opened runs
+      (crash_safe pair bytes later old new steps opened runs
       (may_be_left disk.may_leave disks new left later holds)) in
       record {
         now = safe.now;
@@ -112,7 +112,7 @@ up_archive pair (machine.Up coordinator) model stands up = stands.journal.rememb
 up_archive pair (machine.Down rest) model rests up =
     absurd (let apart : Up ≡ Down = sym up ∙ rests.rests.down in cc)
 
-opened_holds : {D : Type 0} {disk : Ghosts D} (pair : ℕ) (bytes : Shown) (now : Stores)
+opened_holds : {D : Type 0} {disk : Ghosts D} (pair : ℕ) (bytes : DiskBytes) (now : Stores)
     (world : World D disk) → OpensFrom pair bytes now world → Holds world now
 opened_holds {D} {disk} pair bytes now world opens =
     subst (Holds world) opens.stores_are (record {

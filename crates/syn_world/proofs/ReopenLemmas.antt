@@ -23,7 +23,7 @@ use Rattle.syn_world.specs.Outcomes.{Acknowledges, refused_in}
 use Rattle.syn_world.specs.SideSteps.{SideStep}
 use Rattle.syn_world.specs.Sides.{CallIsStep, IsHost, IsRefused, RunsAs, Settles, SettlesOpened}
 use Rattle.syn_world.specs.Sides.{TriesWriting}
-use Rattle.syn_world.specs.declared.outcome.Outcome.{Outcome}
+use Rattle.syn_world.specs.declared.outcome.SideOutcome.{SideOutcome}
 use Rattle.syn_world.specs.declared.side.SideCall.{SideCall}
 use Rattle.syn_world.proofs.ArmLemmas.{still_runs}
 use Rattle.syn_world.proofs.MovedLemmas.{counts_on, goes_so, keeps_on, other, stops_so}
@@ -77,7 +77,7 @@ module _ {D : Type 0} {disk : Ghosts D} (pair : ℕ) (old new : Replica D disk) 
       (reopen_is_cut calls unarmed 0 meets)) (omega (arith, same))
 
   -- it is not
-  pub reopen_not : (outcome : Outcome) → Settles (side_of new agent) position outcome call →
+  pub reopen_not : (outcome : SideOutcome) → Settles (side_of new agent) position outcome call →
       (reason : Refusal) → refused_in outcome ≡ reason ∷ [] → Acknowledges outcome [] →
       CountsFailures (Some reason) (failed_by old) (failed_by new) →
       tried_shown new ≡ tried_shown old → ReadsDisk new pair machine.journal (Some reason) →

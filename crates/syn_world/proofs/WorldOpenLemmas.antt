@@ -15,7 +15,7 @@ use Rattle.syn_world.specs.declared.side.UpSide.{UpSide}
 use Rattle.syn_model.specs.Archive.{Archive}
 use Rattle.syn_model.specs.History.{History}
 use Rattle.syn_refusal.specs.Refusals.{cause_of}
-use Rattle.syn_recovery.specs.Headline.{disk_of}
+use Rattle.syn_world.specs.CrashSafety.{disk_of}
 use Rattle.syn_archive.specs.Keepings.{of_archive}
 use Rattle.syn_replica.specs.Keepings.{of_side}
 use Rattle.syn_journal.specs.Meaning.{IsOf}

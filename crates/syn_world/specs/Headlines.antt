@@ -8,7 +8,7 @@ use Rattle.syn_headline.specs.World.{World as ModelWorld, Step, Runs}
 use Rattle.syn_world.specs.Starts.{CountsFailure, IsFromOutside}
 use Rattle.syn_model.specs.Path.{Bytes}
 use Rattle.syn_model.specs.Refusal as why
-use Rattle.syn_recovery.specs.Headline.{Disks as Shown, IsCrashSafe, IsOpenedFrom}
+use Rattle.syn_world.specs.CrashSafety.{DiskBytes, IsCrashSafe, IsOpenedFrom}
 use Rattle.syn_refusal.specs.Refusals.{cause_of}
 use Rattle.syn_refusal.specs.declared.refusal.Refusal.{Refusal}
 use Rattle.syn_world.specs.Openings.{AreOfPair, ComeBack, HoldsDisks, OpensFrom, RefusesDisks}
@@ -20,7 +20,7 @@ use Rattle.syn_world.specs.declared.world.World.{World}
 
 -- a stop may now leave these bytes on the disks
 pub record MayHold {D : Type 0} (may_leave : D → Bytes → Type 0) (disks : Disks D)
-    (shown : Shown) : Type 0 where
+    (shown : DiskBytes) : Type 0 where
   pub left : may_leave disks.left shown.left
   pub right : may_leave disks.right shown.right
   pub archive : may_leave disks.archive shown.archive
@@ -29,7 +29,7 @@ pub record MayHold {D : Type 0} (may_leave : D → Bytes → Type 0) (disks : Di
 abbrev pub AreSafe : {D : Type 0} → (D → Bytes → Type 0) → Stores → List Step → Disks D →
     ModelWorld → Type 0
 AreSafe may_leave before steps disks world =
-    (shown : Shown) → MayHold may_leave disks shown →
+    (shown : DiskBytes) → MayHold may_leave disks shown →
     IsCrashSafe before steps world.refusals (picture_of world) shown
 
 -- A world that was opened from the disks went by these steps to this one, and no machine counts
@@ -95,14 +95,14 @@ RunsSafely {D} {disk} pair disks stores steps (Err refused) =
 -- What was opened after a stop: a stop might have left disks of one pair
 pub record FindsPair {D : Type 0} (may_leave : D → Bytes → Type 0) (disks : Disks D)
     (pair : ℕ) : Type 0 where
-  pub shown : Shown
+  pub shown : DiskBytes
   pub might_hold : MayHold may_leave disks shown
   pub holds : AreOfPair shown pair
 
 -- And why it was not: a stop might have left disks that are refused so
 pub record FindsCause {D : Type 0} (may_leave : D → Bytes → Type 0) (disks : Disks D)
     (refusal : Refusal) : Type 0 where
-  pub shown : Shown
+  pub shown : DiskBytes
   pub might_hold : MayHold may_leave disks shown
   pub refuses : RefusesDisks shown refusal
 
@@ -110,7 +110,7 @@ pub record FindsCause {D : Type 0} (may_leave : D → Bytes → Type 0) (disks :
 -- stands for what the run acknowledged, with at most the change that each machine was making
 pub record Recovers {D : Type 0} {disk : Ghosts D} (disks : Disks D) (before : Stores)
     (steps : List Step) (run : ModelWorld) (world : World D disk) : Type 0 where
-  pub shown : Shown
+  pub shown : DiskBytes
   pub might_hold : MayHold disk.may_leave disks shown
   pub safe : IsCrashSafe before steps run.refusals (picture_of run) shown
   pub opens : OpensFrom run.pair shown safe.now world

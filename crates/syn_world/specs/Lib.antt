@@ -2,6 +2,7 @@ pub mod Failures
 pub mod Worlds
 pub mod Steps
 pub mod Runs
+pub mod CrashSafety
 pub mod Openings
 pub mod Headlines
 pub mod Promises

@@ -9,7 +9,7 @@ use Rattle.syn_headline.specs.World.{World as ModelWorld}
 use Rattle.syn_world.specs.Starts.{HoldsArchive, HoldsReplica, RefusesArchive, RefusesSide}
 use Rattle.syn_journal.specs.Calls.{IsFree}
 use Rattle.syn_model.specs.Path.{Bytes}
-use Rattle.syn_recovery.specs.Headline.{Disks as Shown, DisksStand, IsOpenedFrom}
+use Rattle.syn_world.specs.CrashSafety.{DiskBytes, DisksStand, IsOpenedFrom}
 use Rattle.syn_refusal.specs.declared.refusal.Refusal.{Refusal}
 use Rattle.syn_world.specs.Failures.{CountAlike, disks_in, failures_in, failures_on}
 use Rattle.syn_world.specs.Worlds.{IsWorld, running_in}
@@ -18,7 +18,7 @@ use Rattle.syn_world.specs.declared.world.Disks.{Disks}
 use Rattle.syn_world.specs.declared.world.World.{World}
 
 -- what the disks show
-abbrev pub shown_on : {D : Type 0} → (D → Bytes) → Disks D → Shown
+abbrev pub shown_on : {D : Type 0} → (D → Bytes) → Disks D → DiskBytes
 shown_on seen disks = record {
   left = seen disks.left;
   right = seen disks.right;
@@ -37,7 +37,7 @@ pub record StandFor {D : Type 0} (seen : D → Bytes) (arms : D → Arms) (pair 
 
 -- The world is one of the model that was just opened from what the disks showed, and stands for the
 -- same
-pub record OpensFrom {D : Type 0} {disk : Ghosts D} (pair : ℕ) (shown : Shown) (stores : Stores)
+pub record OpensFrom {D : Type 0} {disk : Ghosts D} (pair : ℕ) (shown : DiskBytes) (stores : Stores)
     (world : World D disk) : Type 0 where
   pub model : ModelWorld
   pub is : IsWorld world model
@@ -45,14 +45,14 @@ pub record OpensFrom {D : Type 0} {disk : Ghosts D} (pair : ℕ) (shown : Shown)
   pub stores_are : stores_of model ≡ stores
 
 -- the three disks hold two replicas and an archive, all of one pair
-pub record AreOfPair (shown : Shown) (pair : ℕ) : Type 0 where
+pub record AreOfPair (shown : DiskBytes) (pair : ℕ) : Type 0 where
   pub left : HoldsReplica pair shown.left
   pub right : HoldsReplica pair shown.right
   pub archive : HoldsArchive pair shown.archive
 
 -- Why they are not opened: the first of left, right and archive that is refused has the cause, and
 -- those before it hold what they should
-pub data RefusesDisks (shown : Shown) (refusal : Refusal) : Type 0 where
+pub data RefusesDisks (shown : DiskBytes) (refusal : Refusal) : Type 0 where
   refuses_left : RefusesSide None shown.left refusal → RefusesDisks shown refusal
   refuses_right : (pair : ℕ) → HoldsReplica pair shown.left →
       RefusesSide (Some pair) shown.right refusal → RefusesDisks shown refusal

@@ -3,8 +3,8 @@ use Rattle.std.specs.Global.{Vec}
 use Rattle.std.specs.Prelude.{◌≡◌, List, [], ◌∷◌, Option, Some, None, IfSome, map, option_map}
 use Rattle.syn_headline.specs.Coordinator.{Call}
 use Rattle.syn_world.specs.declared.outcome.CoordinatorOutcome.{CoordinatorOutcome}
-use Rattle.syn_world.specs.declared.outcome.Outcome.{Outcome}
-use Rattle.syn_world.specs.declared.outcome.Outcome.TheVariants.{Nothing, Acknowledged, Refused}
+use Rattle.syn_world.specs.declared.outcome.SideOutcome.{SideOutcome}
+use Rattle.syn_world.specs.declared.outcome.SideOutcome.TheVariants.{Nothing, Acknowledged, Refused}
 use Rattle.syn_model.specs.Event.{Event}
 use Rattle.syn_model.specs.Refusal as model
 use Rattle.syn_model.specs.Spelling.{event_spelling}
@@ -17,13 +17,13 @@ use Rattle.syn_image.specs.Archives.{kept_of}
 use Rattle.syn_image.specs.declared.kept.Kept.{Kept}
 
 -- what a user was refused
-abbrev pub refused_in : Outcome → List model.Refusal
+abbrev pub refused_in : SideOutcome → List model.Refusal
 refused_in Nothing = []
 refused_in (Acknowledged spelled) = []
 refused_in (Refused why) = cause_of why ∷ []
 
 -- these events were acknowledged
-abbrev pub Acknowledges : Outcome → List Event → Type 0
+abbrev pub Acknowledges : SideOutcome → List Event → Type 0
 Acknowledges Nothing events = events ≡ []
 Acknowledges (Acknowledged spelled) events = (event : Event) × (events ≡ event ∷ [])
     × (spelled.items ≡ event_spelling event)

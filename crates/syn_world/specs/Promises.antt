@@ -8,7 +8,7 @@ use Rattle.syn_model.specs.History.{tree_of}
 use Rattle.syn_path.specs.Sides.{which_of}
 use Rattle.syn_path.specs.declared.side.Side.{Side}
 use Rattle.syn_promise.specs.Promise.{Promised, Told}
-use Rattle.syn_recovery.specs.Headline.{Disks as Shown, DisksStand}
+use Rattle.syn_world.specs.CrashSafety.{DiskBytes, DisksStand}
 use Rattle.syn_refusal.specs.Refusals.{cause_of}
 use Rattle.syn_replica.specs.Replica.{tree_shown}
 use Rattle.syn_world.specs.Headlines.{MayHold}
@@ -26,7 +26,7 @@ pub record Shows {D : Type 0} {disk : Ghosts D} (world : World D disk) (told : T
 
 -- these bytes stand for a pair, and for what is promised of the run
 pub record StandAsPromised (pair : ℕ) (before : Stores) (steps : List Step) (told : Told)
-    (bytes : Shown) : Type 0 where
+    (bytes : DiskBytes) : Type 0 where
   pub now : Stores
   pub stand : DisksStand pair bytes now
   pub promised : Promised before steps told now
@@ -37,7 +37,7 @@ pub record KeepsPromise {D : Type 0} {disk : Ghosts D} (pair : ℕ) (before : St
     (steps : List Step) (world : World D disk) : Type 0 where
   pub told : Told
   pub shows : Shows world told
-  pub left : (disks : Disks D) → HoldsDisks world disks → (bytes : Shown) →
+  pub left : (disks : Disks D) → HoldsDisks world disks → (bytes : DiskBytes) →
       MayHold disk.may_leave disks bytes → StandAsPromised pair before steps told bytes
 
 -- All machines of the world are up, its replicas have these trees, and its archive is this one

@@ -9,8 +9,8 @@ use Rattle.syn_headline.specs.Side.{Request}
 use Rattle.syn_headline.specs.SideMachine.{SideMachine}
 use Rattle.syn_world.specs.Outcomes.{Acknowledges, refused_in}
 use Rattle.syn_world.specs.SideSteps.{Answers, SideStep}
-use Rattle.syn_world.specs.declared.outcome.Outcome.{Outcome}
-use Rattle.syn_world.specs.declared.outcome.Outcome.TheVariants.{Nothing, Refused}
+use Rattle.syn_world.specs.declared.outcome.SideOutcome.{SideOutcome}
+use Rattle.syn_world.specs.declared.outcome.SideOutcome.TheVariants.{Nothing, Refused}
 use Rattle.syn_world.specs.declared.side.DownSide.{DownSide}
 use Rattle.syn_world.specs.declared.side.SideAnswer.{SideAnswer}
 use Rattle.syn_world.specs.declared.side.SideCall.{SideCall}
@@ -100,7 +100,7 @@ HasCounted {D} {disk} side call =
 
 -- a call goes on with the outcome, or its machine stopped
 pub record Settles {D : Type 0} {disk : Ghosts D} (side : UpSide D disk) (position : ℕ)
-    (outcome : Outcome) (call : SideCall D disk) : Type 0 where
+    (outcome : SideOutcome) (call : SideCall D disk) : Type 0 where
   pub goes_on : HasStopped side ≡ false → (call.outcome ≡ outcome)
       × ((pair : ℕ) (machine : SideMachine) → RunsAs pair side machine →
       IsHost pair call.side machine)
@@ -120,7 +120,7 @@ pub record SettlesAdded {D : Type 0} {disk : Ghosts D} (side : UpSide D disk) (p
 
 -- What an opening gave of the event that was being written: it is there where there are more
 -- events than before
-pub record Gains (outcome : Outcome) (before now : ℕ) (tried : Option Bytes) : Type 0 where
+pub record Gains (outcome : SideOutcome) (before now : ℕ) (tried : Option Bytes) : Type 0 where
   pub more : (event : Event) → before < now → tried ≡ Some (event_spelling event) →
       Acknowledges outcome (event ∷ [])
   pub none : now ≤ before → Acknowledges outcome []
@@ -150,7 +150,7 @@ CountsFrom {D} {disk} before side machine next =
 -- A call that leaves the side so is such a step of its machine, and the outcome tells what it
 -- acknowledged and refused
 pub record IsStep {D : Type 0} {disk : Ghosts D} (pair : ℕ) (machine : SideMachine) (before : ℕ)
-    (Step : SideStep) (side : SideHost D disk) (outcome : Outcome) : Type 0 where
+    (Step : SideStep) (side : SideHost D disk) (outcome : SideOutcome) : Type 0 where
   pub next : SideMachine
   pub events : List Event
   pub step : Step next events (refused_in outcome)

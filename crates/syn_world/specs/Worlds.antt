@@ -15,7 +15,7 @@ use Rattle.syn_world.specs.Sides.{IsHost, replica_of}
 use Rattle.syn_world.specs.declared.coordinator.CoordinatorHost.{CoordinatorHost}
 use Rattle.syn_world.specs.declared.coordinator.CoordinatorHost.TheVariants as host
 use Rattle.syn_world.specs.declared.outcome.CoordinatorOutcome.{CoordinatorOutcome}
-use Rattle.syn_world.specs.declared.outcome.Outcome.{Outcome}
+use Rattle.syn_world.specs.declared.outcome.SideOutcome.{SideOutcome}
 use Rattle.syn_message.specs.Replies.{IsLawfulReply, reply_of}
 use Rattle.syn_path.specs.Sides.{which_of}
 use Rattle.syn_message.specs.declared.reply.Reply.{Reply}
@@ -221,7 +221,7 @@ pub record GoesSo {D : Type 0} {disk : Ghosts D} (old : ModelWorld) (before : Co
   pub counts : FailWithDisks old new before (failures_in (last_of result))
 
 -- what came of a side's step is in the lists
-pub record Notes (old new : Lists) (side : Side) (outcome : Outcome) : Type 0 where
+pub record Notes (old new : Lists) (side : Side) (outcome : SideOutcome) : Type 0 where
   pub sent : new.sent ≡ old.sent
   pub reports : new.reports ≡ old.reports
   pub acknowledged : (events : List Event) → Acknowledges outcome events →
@@ -232,7 +232,7 @@ pub record Notes (old new : Lists) (side : Side) (outcome : Outcome) : Type 0 wh
 
 -- the lists of a world after a side's step that sent nothing
 pub record Grows (old new : ModelWorld) (side : Which) (events : List Event)
-    (outcome : Outcome) : Type 0 where
+    (outcome : SideOutcome) : Type 0 where
   pub sent : new.sent ≡ old.sent
   pub reports : new.reports ≡ old.reports
   pub acknowledged : new.acknowledged

@@ -15,10 +15,10 @@ ghost use Rattle.syn_world.specs.Steps.{step_of};
 ghost use Rattle.syn_world.specs.Worlds.{pair_in};
 
 use crate::SimulatedDisk;
+use crate::laws::crash_safety_laws;
 use crate::step::Step;
 use crate::world::{Disks, World};
 use std::alloc::Global;
-use syn_recovery::headline;
 use syn_refusal::Refusal;
 
 /// Opens the world of a pair from its three disks, and goes by these steps, one after another.
@@ -56,7 +56,7 @@ pub fn run<D: SimulatedDisk>(
     ensures opened { IfErr result (λ refused. cause_of refused.0 ≢ why.Memory
         → ComeBack D.Limit.may_leave disks refused.1) }
 {
-    headline();
+    crash_safety_laws();
     syn_promise::promise();
     match World::open(alloc, disks) {
         Ok(mut world) => match world.go_by(alloc, steps) {

@@ -35,9 +35,15 @@
 //!   world that was opened holds (`HoldsAsPromised`). `World::promise` says it of a world that went
 //!   by steps of its caller. The clauses that follow say more of the run, and are what is composed.
 //! - `run` opens such a world and goes by the steps (`RunsSafely`): whatever a stop may leave on
-//!   the disks after them is crash safe (`AreSafe`), by the sentences of `syn_recovery`. The disks
-//!   come back where nothing was opened (`IsNotOpened`), or after a first part of the steps where
-//!   memory was refused (`IsCutShort`). Of any disks: those of no pair come back (`back`).
+//!   the disks after them is crash safe (`AreSafe`). The disks come back where nothing was opened
+//!   (`IsNotOpened`), or after a first part of the steps where memory was refused (`IsCutShort`).
+//!   Of any disks: those of no pair come back (`back`).
+//! - What makes a run crash safe is said of the bytes of three disks (`CrashSafety.antt`). Those of
+//!   a pair are a start of a run (`DisksAreStart`), and a run from them is crash safe
+//!   (`RunsAreCrashSafe`). What the code owes for that beside its steps is one invariant,
+//!   `MayBeLeft`: whatever a stop may leave on the three disks may be of their machines then. It
+//!   rests on what a replica and an archive say of any moment of a call: what is kept, the bytes
+//!   that are left and the generation.
 //! - `recover` opens the disks of a safe run, as a stop might have left them (`Recovers`). Of any
 //!   disks it says `pair`, `cause` and `failures`, as `World::open` does.
 //! - `run_and_recover` runs, stops all machines and opens what their disks hold
@@ -57,8 +63,9 @@
 //!   how many events were acknowledged, and what was sent to the disk last.
 //! - `IsHost`, `IsCoordinator`: a side or a coordinator, up or down, is the machine.
 //! - `SideHost` has the steps of a side: `edit`, `answer`, `checkpoint`, `open`, `reopen`, `fail`,
-//!   `stop`. Each is a step of any machine that the side is, and says what came of it (`Outcome`,
-//!   `IsStep`). The step is one of the model's machine (`UserEdits`, `Does`, `Answers`).
+//!   `stop`. Each is a step of any machine that the side is, and says what came of it
+//!   (`SideOutcome`, `IsStep`). The step is one of the model's machine (`UserEdits`, `Does`,
+//!   `Answers`).
 //! - `CoordinatorHost` has those of the coordinator: `start`, `hear`, `tick`, `checkpoint`, `open`,
 //!   `reopen`, `fail`, `stop` (`CallIsStep`, `OpeningIsStep`). `CoordinatorOutcome` has what came
 //!   of a call: what was kept, what was sent, the report of a session that ended in it, and a
@@ -81,6 +88,7 @@ mod coordinator;
 mod copies;
 mod disk;
 mod headline;
+mod laws;
 mod lists;
 mod machine;
 mod opening;
@@ -99,7 +107,7 @@ pub use disk::SimulatedDisk;
 pub use headline::{recover, run, run_and_recover};
 pub use lists::{Ack, Message};
 pub use machine::Machine;
-pub use outcome::{CoordinatorOutcome, Outcome};
+pub use outcome::{CoordinatorOutcome, SideOutcome};
 pub use side::{DownSide, SideAnswer, SideCall, SideHost, UpSide, start_side};
 pub use step::Step;
 pub use world::{Disks, World};

@@ -7,7 +7,7 @@ ghost use Rattle.syn_session.specs.Reports.{report_model};
 ghost use Rattle.syn_session.specs.Sendings.{messages_of};
 ghost use Rattle.syn_world.specs.Worlds.{message_of, report_in, told_in, told_kept};
 
-use crate::{CoordinatorOutcome, Outcome};
+use crate::{CoordinatorOutcome, SideOutcome};
 use syn_image::Kept;
 use syn_message::{Reply, ReplyMessage};
 use syn_path::Side;
@@ -47,15 +47,15 @@ impl Lists {
     ghost use Rattle.syn_world.specs.Worlds.{Hears, Notes, Takes};
 
     /// Keeps what came of a side's step. Whether memory was there for it.
-    pub(crate) fn note(&mut self, side: Side, outcome: Outcome) -> bool
+    pub(crate) fn note(&mut self, side: Side, outcome: SideOutcome) -> bool
         ensures { result ≡ true → Notes self.old self.new side outcome }
     {
         match outcome {
-            Outcome::Nothing => true,
-            Outcome::Acknowledged(spelled) => {
+            SideOutcome::Nothing => true,
+            SideOutcome::Acknowledged(spelled) => {
                 self.acknowledged.push(Ack::Event(side, spelled)).is_ok()
             }
-            Outcome::Refused(why) => self.refusals.push(why).is_ok(),
+            SideOutcome::Refused(why) => self.refusals.push(why).is_ok(),
         }
     }
 

@@ -11,7 +11,7 @@ use syn_session::{Report, Sending};
 
 /// What came of a step of a side.
 #[derive(Debug, Drop)]
-pub enum Outcome {
+pub enum SideOutcome {
     /// Nothing was acknowledged, and nothing refused.
     Nothing,
     /// This event was acknowledged, as it is spelled. It was added; or an opening gave it, and it

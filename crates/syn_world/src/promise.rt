@@ -3,9 +3,10 @@ ghost use Rattle.std.specs.Prelude.{◌≡◌, ℕ, List};
 ghost use Rattle.syn_headline.specs.Acknowledged.{Stores};
 ghost use Rattle.syn_headline.specs.Runs.{stores_of};
 ghost use Rattle.syn_headline.specs.World.{World as ModelWorld, Runs, Step as ModelStep};
-ghost use Rattle.syn_recovery.specs.Headline.{Disks as Shown, IsOpenedFrom};
+ghost use Rattle.syn_world.specs.CrashSafety.{DiskBytes, IsOpenedFrom};
 
 use crate::SimulatedDisk;
+use crate::laws::crash_safety_laws;
 use crate::world::World;
 
 impl<D: SimulatedDisk> World<D> {
@@ -15,11 +16,11 @@ impl<D: SimulatedDisk> World<D> {
     /// Does nothing. A world that was opened from the disks of a pair, and went by these steps
     /// since, keeps the promise of the run.
     pub fn promise(&self)
-        ensures kept { (pair : ℕ) (before : Stores) (bytes : Shown) (old new : ModelWorld)
+        ensures kept { (pair : ℕ) (before : Stores) (bytes : DiskBytes) (old new : ModelWorld)
             (steps : List ModelStep) → IsOpenedFrom pair bytes old → stores_of old ≡ before
             → Runs old steps new → IsWorld self.now new → KeepsPromise pair before steps self.now }
     {
-        syn_recovery::headline();
+        crash_safety_laws();
         syn_promise::promise();
     }
 }

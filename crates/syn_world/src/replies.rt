@@ -1,11 +1,11 @@
 //! Which replies of a side can be sent.
 ghost use Rattle.std.specs.Prelude.{◌↔◌, All, IsTrue};
 ghost use Rattle.syn_mark.specs.Marks.{content_of};
-ghost use Rattle.syn_message.specs.Listings.{AreRising, IsEntry, IsListing, entries_of, entry_of};
+ghost use Rattle.syn_message.specs.Listings.{IsEntry, IsListing, entries_of, entry_of};
 ghost use Rattle.syn_message.specs.Replies.{IsFetchedBytes, IsLawfulReply, reply_of};
 
 use syn_mark::{Mark, is_mark};
-use syn_message::{LONGEST_PIECE, Reply};
+use syn_message::{LONGEST_PIECE, Reply, are_rising};
 use syn_model::{is_long, is_short};
 use syn_path::Name;
 use syn_tree::MOST_CHILDREN;
@@ -68,11 +68,4 @@ fn is_entry(name: &Name, mark: Mark)
 {
     let _ = name.as_str();
     is_mark(mark);
-}
-
-/// Each name is below the next.
-fn are_rising(entries: &[(Name, Mark)]) -> bool
-    ensures { IsTrue result ↔ AreRising (entries_of entries.now) }
-{
-    entries.is_sorted_by(|entry, next| entry.0 < next.0)
 }

@@ -8,7 +8,7 @@ ghost use Rattle.syn_model.specs.Event.{Event};
 ghost use Rattle.syn_model.specs.Refusal.{Refusal as Cause};
 
 use crate::lists::Lists;
-use crate::{CoordinatorHost, CoordinatorOutcome, Outcome, SideHost, SimulatedDisk};
+use crate::{CoordinatorHost, CoordinatorOutcome, SideHost, SideOutcome, SimulatedDisk};
 use syn_disk::Disk;
 use syn_message::Reply;
 use syn_path::Side;
@@ -40,7 +40,7 @@ impl<D: SimulatedDisk> Running<D> {
     ghost use Rattle.syn_world.specs.Worlds.{RunsMachines};
 
     /// What came of a side's step is in the lists. The machines stay as they are.
-    fn noted(self, side: Side, outcome: Outcome) -> Result<Running<D>, Running<D>>
+    fn noted(self, side: Side, outcome: SideOutcome) -> Result<Running<D>, Running<D>>
         ensures ends { (old new : ModelWorld) (events : List Event) → RunsMachines self new
             → IsListed self.lists old → Acknowledges outcome events
             → Grows old new (which_of side) events outcome → EndsSo result new }
@@ -62,7 +62,7 @@ impl<D: SimulatedDisk> Running<D> {
         session: u64,
         number: u32,
         reply: Option<Reply>,
-        outcome: Outcome,
+        outcome: SideOutcome,
     ) -> Result<Running<D>, Running<D>>
         ensures ends { (old new : ModelWorld) (events : List Event) → RunsMachines self new
             → IsListed self.lists old → Acknowledges outcome events → refused_in outcome ≡ []

@@ -1,6 +1,6 @@
 //! A side of a world, whose machine is up or down.
 
-use crate::outcome::Outcome;
+use crate::outcome::SideOutcome;
 use syn_agent::Agent;
 use syn_disk::Disk;
 use syn_message::Reply;
@@ -42,7 +42,7 @@ pub enum SideHost<D: Disk> {
 #[derive(Drop)]
 pub struct SideCall<D: Disk> {
     pub side: SideHost<D>,
-    pub outcome: Outcome,
+    pub outcome: SideOutcome,
 }
 
 /// A side after a request, with its reply. There is none where its machine is down.

@@ -48,6 +48,6 @@ impl<D: Disk> Archive<D> {
             → CompactsImage self.new number machine (ended refusal_of result) }
     {
         archive_laws();
-        self.machine.checkpoint(alloc)
+        self.journaled.checkpoint(alloc)
     }
 }

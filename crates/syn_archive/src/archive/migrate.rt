@@ -104,7 +104,7 @@ impl<D: Disk> Archive<D> {
         };
         match error {
             ArchiveError::OldVersion => match Journaled::migrate(alloc, disk) {
-                Ok(machine) => Ok(Archive { machine }),
+                Ok(journaled) => Ok(Archive { journaled }),
                 Err(refused) => Err(refused),
             },
             _ => Err((error, disk)),

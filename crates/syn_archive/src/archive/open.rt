@@ -65,8 +65,8 @@ impl<D: Disk> Archive<D> {
             (refusal_of refused.0)) }
     {
         opening_laws();
-        let machine = Journaled::open(alloc, disk, pair)?;
-        Ok(Archive { machine })
+        let journaled = Journaled::open(alloc, disk, pair)?;
+        Ok(Archive { journaled })
     }
 
     /// Opens the archive's own disk again. An archive that was halted runs again.
@@ -103,6 +103,6 @@ impl<D: Disk> Archive<D> {
             → ReadsDisk self.new number machine (ended refusal_of result) }
     {
         opening_laws();
-        self.machine.reopen(alloc)
+        self.journaled.reopen(alloc)
     }
 }

@@ -1,16 +1,14 @@
 -- How far the scan of a side has come.
 use Rattle.std.specs.Prelude.{◌≡◌, []}
 use Rattle.syn_headline.specs.Network.{Which}
-use Rattle.syn_headline.specs.Side.{Reply}
-use Rattle.syn_model.specs.Path.{Path}
 use Rattle.syn_command.specs.Listings.{GaveReplies, Replies, exchanges_of}
 use Rattle.syn_session.specs.Scanning.{IsFoundIn, found_of, out_of}
 use Rattle.syn_session.specs.declared.side_scan.SideScan.{SideScan}
+use Rattle.syn_user.specs.Sides.{SideLine}
 
 -- each reply was taken, and none is waited for
-pub record IsAsked {S : Type 0} (lists : S → Path → Reply → S → Type 0) (old : S)
-    (scan : SideScan) (now : S) : Type 0 where
+pub record IsAsked (old : SideLine) (scan : SideScan) (now : SideLine) : Type 0 where
   pub replies : Replies
-  pub gave : GaveReplies lists old replies now
+  pub gave : GaveReplies old replies now
   pub found : (side : Which) → IsFoundIn (found_of scan) side (exchanges_of side replies)
   pub none_out : out_of scan ≡ []

@@ -5,8 +5,9 @@ use Rattle.syn_archive.specs.Archive.{disk_of}
 use Rattle.syn_archive.specs.declared.archive.Archive.{Archive}
 use Rattle.syn_coordinator.specs.Recorders.{BreaksNothing, BreaksOff, BreaksUnsent}
 use Rattle.syn_coordinator.specs.declared.recorder.Recorder.{Recorder}
-use Rattle.syn_coordinator.specs.declared.ended.Ended.{Ended}
-use Rattle.syn_coordinator.specs.declared.ended.Ended.TheVariants.{Early, Failed, Settled}
+use Rattle.syn_coordinator.specs.declared.session_end.SessionEnd.{SessionEnd}
+use Rattle.syn_coordinator.specs.declared.session_end.SessionEnd.TheVariants.{Early, Failed}
+use Rattle.syn_coordinator.specs.declared.session_end.SessionEnd.TheVariants.{PlanDone}
 use Rattle.syn_disk.specs.Arms.{is_stopped}
 use Rattle.syn_disk.specs.declared.disk.Disk.{Ghosts}
 use Rattle.syn_headline.specs.Coordinator.{Advances, EndsFor, Exchange, Running, Walk, past}
@@ -26,13 +27,13 @@ use Rattle.syn_refusal.specs.Refusals.{cause_of}
 use Rattle.syn_refusal.specs.declared.refusal.Refusal.{Refusal}
 
 -- What ended a session early, if anything did
-abbrev pub ended_by : Ended → Option Why
-ended_by Settled = None
+abbrev pub ended_by : SessionEnd → Option Why
+ended_by PlanDone = None
 ended_by (Early why) = Some (cause_of why)
 ended_by Failed = Some Device
 
 -- it ends so where what was due ends so
-abbrev pub EndsAs : RecordOutcome → Ended → Type 0
+abbrev pub EndsAs : RecordOutcome → SessionEnd → Type 0
 EndsAs (Ends why) how = how ≡ Early why
 EndsAs Unsent how = how ≡ Failed
 EndsAs due.Unconfirmed how = how ≡ Failed
@@ -41,7 +42,7 @@ EndsAs _ how = ⊥
 -- it remembers what was sent and not kept; and where it was up before and is halted, its session
 -- ended for that
 pub record Remembers (before : Status) (tried : Option Unconfirmed) (journal : Journal)
-    (how : Ended)
+    (how : SessionEnd)
     : Type 0 where
   pub tries : Tries tried journal
   pub fails : before ≡ Up → journal.status ≡ Halted → how ≡ Failed
@@ -63,13 +64,13 @@ BreaksBy old new _ = BreaksNothing old new
 
 -- and so does a session that ends
 abbrev pub BreaksAs : {D : Type 0} → {disk : Ghosts D} → Recorder D disk → Recorder D disk →
-    Ended → Type 0
+    SessionEnd → Type 0
 BreaksAs old new Failed = BreaksUnsent old new ⊎ BreaksOff old new
 BreaksAs old new _ = BreaksNothing old new
 
 -- a call goes through the plan of its session: as long as it goes on nothing breaks
 abbrev pub Breaks : {D : Type 0} → {disk : Ghosts D} → {A : Type 0} → Recorder D disk →
-    Recorder D disk → Result A Ended → Type 0
+    Recorder D disk → Result A SessionEnd → Type 0
 Breaks old new result = MatchResult result (λ _. BreaksNothing old new) (BreaksAs old new)
 
 -- It goes past the item, whose record is kept or refused; or the session ends at it; or the machine
@@ -84,7 +85,7 @@ pub data Advanced {D : Type 0} {disk : Ghosts D} (new : Archive D disk) (tried :
       Advances pair plan taken walk [] (refusing walk (cause_of why) planned) →
       IsMachine new pair walk.journal →
       Advanced new tried pair plan taken walk planned what (Refused why)
-  ended : (due : RecordOutcome) (how : Ended) (later : Walk) → EndsAs due how →
+  ended : (due : RecordOutcome) (how : SessionEnd) (later : Walk) → EndsAs due how →
       Advances pair plan taken walk [] later →
       later.cursor ≡ walk.cursor → later.refused ≡ walk.refused →
       ((running : Running) → plan_of running ≡ plan →

@@ -3,8 +3,8 @@ use Rattle.std.specs.Prelude.{◌≡◌, ◌⊎◌, ◌≤◌, ◌≢◌, ℕ, s
 use Rattle.std.specs.Prelude.{MatchResult, Result}
 use Rattle.syn_coordinator.specs.Recorders.{written}
 use Rattle.syn_coordinator.specs.declared.recorder.Recorder.{Recorder}
-use Rattle.syn_coordinator.specs.declared.ended.Ended.{Ended}
-use Rattle.syn_coordinator.specs.declared.ended.Ended.TheVariants.{Early}
+use Rattle.syn_coordinator.specs.declared.session_end.SessionEnd.{SessionEnd}
+use Rattle.syn_coordinator.specs.declared.session_end.SessionEnd.TheVariants.{Early}
 use Rattle.syn_coordinator.specs.inner.Settling.{AsksSo, EndsSo, IsQuiet}
 use Rattle.syn_disk.specs.declared.disk.Disk.{Ghosts}
 use Rattle.syn_headline.specs.Coordinator.{Exchange, fault_of, is_last}
@@ -35,19 +35,19 @@ module _ {D : Type 0} {disk : Ghosts D} (old new : Recorder D disk) (pair : ℕ)
     pub last : is_last taken.reply ≡ true → asks_so.2.after.cursor ≢ before.cursor
 
   -- the session ends with the answer at once, or after it
-  pub data EndsCarrying : Ended → Type 0 where
+  pub data EndsCarrying : SessionEnd → Type 0 where
     at_once : (why : Refusal) →
         (fault_of all taken.side taken.request taken.reply ≡ Some (cause_of why))
         ⊎ (cause_of why ≡ Memory) →
         written new ≡ written old → IsMachine new.archive pair journal →
         IsQuiet new journal → IsPlanProgress progress left right before → EndsCarrying (Early why)
-    afterwards : (ended : Ended) → fault_of all taken.side taken.request taken.reply ≡ None →
+    afterwards : (ended : SessionEnd) → fault_of all taken.side taken.request taken.reply ≡ None →
         EndsSo old new pair taken journal before progress left right ended → EndsCarrying ended
 
 -- The item that is carried is left for this cause: it asks for a later one, or the session ends
 abbrev pub LeavesItem : {D : Type 0} → {disk : Ghosts D} → Recorder D disk → Recorder D disk →
     PlanProgress → PlanProgress → Found → Found → (Planned → Exchange → Type 0) →
-    Result Asks Ended → Type 0
+    Result Asks SessionEnd → Type 0
 LeavesItem old new was progress left right Because result = (pair : ℕ) (journal : Journal)
     (taken : Exchange) (all : List Exchange) (before : Reached) (planned : Planned)
     → IsMachine old.archive pair journal → IsQuiet old journal

@@ -2,7 +2,7 @@
 use Rattle.std.specs.Prelude.{◌≡◌, ◌≤◌, ◌++◌, ℕ, suc, List, None}
 use Rattle.syn_coordinator.specs.Recorders.{written}
 use Rattle.syn_coordinator.specs.declared.recorder.Recorder.{Recorder}
-use Rattle.syn_coordinator.specs.declared.ended.Ended.{Ended}
+use Rattle.syn_coordinator.specs.declared.session_end.SessionEnd.{SessionEnd}
 use Rattle.syn_coordinator.specs.inner.Walking.{Comes, ComesToAsk, Ends}
 use Rattle.syn_disk.specs.declared.disk.Disk.{Ghosts}
 use Rattle.syn_headline.specs.Coordinator.{Exchange}
@@ -28,7 +28,7 @@ module _ {D : Type 0} {disk : Ghosts D} (old new : Recorder D disk) (pair : ℕ)
       × (new.tried ≡ None)
 
   -- the session ends so
-  abbrev pub EndsSo : Ended → Type 0
+  abbrev pub EndsSo : SessionEnd → Type 0
   EndsSo ended = (kept : List Kept) × (written new ≡ written old ++ kept)
       × Ends new.archive new.tried pair taken journal before kept progress left right
       ended

@@ -4,8 +4,8 @@ use Rattle.std.specs.Prelude.{◌≡◌, ◌≢◌, ◌⊎◌, ℕ, true, List, 
 use Rattle.std.specs.Prelude.{Ok, Err}
 use Rattle.syn_archive.specs.Archive.{disk_of}
 use Rattle.syn_archive.specs.declared.archive.Archive.{Archive}
-use Rattle.syn_coordinator.specs.declared.ended.Ended.{Ended}
-use Rattle.syn_coordinator.specs.declared.ended.Ended.TheVariants.{Early}
+use Rattle.syn_coordinator.specs.declared.session_end.SessionEnd.{SessionEnd}
+use Rattle.syn_coordinator.specs.declared.session_end.SessionEnd.TheVariants.{Early}
 use Rattle.syn_coordinator.specs.inner.Advancing.{Remembers}
 use Rattle.syn_coordinator.specs.inner.Walking.{ended_by, walk_at}
 use Rattle.syn_disk.specs.Arms.{is_stopped}
@@ -66,28 +66,28 @@ pub record TakesOn {D : Type 0} {disk : Ghosts D} (new : Archive D disk) (pair :
 -- not be kept
 pub data TakesEnd {D : Type 0} {disk : Ghosts D} (new : Archive D disk) (tried : Option Unconfirmed)
     (pair : ℕ) (journal : Journal) (running : Running) (taken : Exchange) (session : Session)
-    (kept : List Kept) : Ended → Type 0 where
+    (kept : List Kept) : SessionEnd → Type 0 where
   at_once : (why : Refusal) →
       (fault_of running.taken taken.side taken.request taken.reply ≡ Some (cause_of why))
       ⊎ (cause_of why ≡ Memory) →
       Tells session running → IsMachine new pair journal → kept ≡ [] →
       Tries tried journal →
       TakesEnd new tried pair journal running taken session kept (Early why)
-  ends : (ended : Ended) (walk : Walk) (after : Reached) →
+  ends : (ended : SessionEnd) (walk : Walk) (after : Reached) →
       Walks pair journal running taken after kept walk →
       walk.cursor ≡ after.cursor → walk.refused ≡ after.refused →
       EndsFor pair (reaching running taken after) taken journal.status walk (ended_by ended) →
       IsMachine new pair walk.journal → Tells session (reaching running taken after) →
       Remembers journal.status tried walk.journal ended →
       TakesEnd new tried pair journal running taken session kept ended
-  goes_down : (ended : Ended) (walk : Walk) (after : Reached) →
+  goes_down : (ended : SessionEnd) (walk : Walk) (after : Reached) →
       Walks pair journal running taken after kept walk →
       is_stopped (disk.arms (disk_of new)) ≡ true → walk.journal.status ≡ Down →
       LeavesMachine disk (disk_of new) pair walk.journal → Tries tried walk.journal →
       TakesEnd new tried pair journal running taken session kept ended
 
 abbrev pub TakesSo : {D : Type 0} → {disk : Ghosts D} → Archive D disk → Option Unconfirmed → ℕ →
-    Journal → Running → Exchange → Session → List Kept → Result Asks Ended → Type 0
+    Journal → Running → Exchange → Session → List Kept → Result Asks SessionEnd → Type 0
 TakesSo new tried pair journal running taken session kept (Ok asks) =
     TakesOn new pair journal running taken session kept asks × (tried ≡ None)
 TakesSo new tried pair journal running taken session kept (Err ended) =

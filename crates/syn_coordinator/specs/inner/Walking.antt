@@ -3,7 +3,7 @@ use Rattle.std.specs.Option.{option_map_or}
 use Rattle.std.specs.Prelude.{◌≡◌, ◌≤◌, ℕ, true, false, List, [], ◌++◌, Option, None}
 use Rattle.syn_archive.specs.Archive.{disk_of}
 use Rattle.syn_archive.specs.declared.archive.Archive.{Archive}
-use Rattle.syn_coordinator.specs.declared.ended.Ended.{Ended}
+use Rattle.syn_coordinator.specs.declared.session_end.SessionEnd.{SessionEnd}
 use Rattle.syn_coordinator.specs.inner.Advancing.{Remembers}
 pub use Rattle.syn_coordinator.specs.inner.Advancing.{ended_by}
 use Rattle.syn_disk.specs.Arms.{is_stopped}
@@ -61,7 +61,7 @@ pub record Comes {D : Type 0} {disk : Ghosts D} (new : Archive D disk) (pair : �
 -- The session ends so; or the machine is down. It remembers what could not be kept
 pub data Ends {D : Type 0} {disk : Ghosts D} (new : Archive D disk) (tried : Option Unconfirmed)
     (pair : ℕ) (taken : Exchange) (old : Journal) (before : Reached) (kept : List Kept)
-    (progress : PlanProgress) (left right : Found) (ended : Ended) : Type 0 where
+    (progress : PlanProgress) (left right : Found) (ended : SessionEnd) : Type 0 where
   ends : (walk : Walk) (after : Reached) →
       Advances pair (plan_at before) taken (walk_at old before) kept walk →
       walk.cursor ≡ after.cursor → walk.refused ≡ after.refused → HasKept before after kept →

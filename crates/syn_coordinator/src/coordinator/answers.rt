@@ -6,7 +6,7 @@ ghost use Rattle.syn_path.specs.Sides.{which_of};
 ghost use Rattle.syn_session.specs.Sendings.{messages_of};
 
 use super::Coordinator;
-use crate::ended::Ended;
+use crate::session_end::SessionEnd;
 use std::alloc::Global;
 use syn_disk::Disk;
 use syn_message::Reply;
@@ -67,7 +67,7 @@ impl<D: Disk> Coordinator<D> {
         match taken {
             Ok(asks) => match running.ask(alloc, asks) {
                 Ok(sends) => sends,
-                Err(_) => self.end(alloc, Ended::Early(Refusal::Memory)),
+                Err(_) => self.end(alloc, SessionEnd::Early(Refusal::Memory)),
             },
             Err(ended) => self.end(alloc, ended),
         }

@@ -9,7 +9,7 @@ ghost use Rattle.syn_coordinator.specs.Tries.{listed};
 ghost use Rattle.syn_image.specs.Archives.{kept_of};
 
 use super::Coordinator;
-use crate::{Unconfirmed, found};
+use crate::{Unconfirmed, recovered_record};
 use std::alloc::Global;
 use syn_archive::{Archive, ArchiveError};
 use syn_disk::Disk;
@@ -43,7 +43,7 @@ impl<D: Disk> Coordinator<D> {
     {
         match Archive::open(alloc, disk, Some(pair)) {
             Ok(archive) => {
-                let kept = found(tried, &archive);
+                let kept = recovered_record(tried, &archive);
                 let coordinator = Coordinator::new(alloc, archive);
                 Ok((coordinator, kept))
             }

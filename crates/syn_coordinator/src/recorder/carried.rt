@@ -12,7 +12,7 @@ ghost use Rattle.syn_session.specs.Stages.{Carries, Reached};
 ghost use Rattle.syn_image.specs.Archives.{kept_for};
 
 use super::Recorder;
-use crate::ended::Ended;
+use crate::session_end::SessionEnd;
 use std::alloc::Global;
 use syn_disk::Disk;
 use syn_image::ItemRecord;
@@ -38,7 +38,7 @@ impl<D: Disk> Recorder<D> {
         left: &Scan,
         right: &Scan,
         reply: Reply,
-    ) -> Result<Asks, Ended>
+    ) -> Result<Asks, SessionEnd>
         ensures step { (pair : ℕ) (journal : Journal) (all : List Exchange) (before : Reached)
             (to : Which) (number : ℕ) (request : Asked)
             → IsMachine self.old.archive pair journal → IsQuiet self.old journal
@@ -67,12 +67,12 @@ impl<D: Disk> Recorder<D> {
         left: &Scan,
         right: &Scan,
         kept: ItemRecord,
-    ) -> Result<Asks, Ended>
+    ) -> Result<Asks, SessionEnd>
         ensures step { LeavesItem self.old self.new progress.old progress.new left.now right.now
             (λ planned taken. IsDue progress.old.cursor planned taken (kept_for kept)) result }
         ensures breaks { Breaks self.old self.new result }
     {
-        self.settle(alloc, progress, kept)?;
+        self.record_item(alloc, progress, kept)?;
         self.walk(alloc, progress, left, right)
     }
 
@@ -84,7 +84,7 @@ impl<D: Disk> Recorder<D> {
         left: &Scan,
         right: &Scan,
         why: Refusal,
-    ) -> Result<Asks, Ended>
+    ) -> Result<Asks, SessionEnd>
         ensures step { LeavesItem self.old self.new progress.old progress.new left.now right.now
             (λ planned taken. (taken.reply ≡ Refused (cause_of why))
             × IsFor progress.old.cursor planned taken.request) result }

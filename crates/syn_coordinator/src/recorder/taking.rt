@@ -13,7 +13,7 @@ ghost use Rattle.syn_session.specs.Sessions.{IsSession};
 ghost use Rattle.syn_session.specs.declared.session.Session.{Session as Ran};
 
 use super::Recorder;
-use crate::ended::Ended;
+use crate::session_end::SessionEnd;
 use std::alloc::Global;
 use syn_disk::Disk;
 use syn_message::{Reply, Request};
@@ -34,7 +34,7 @@ impl<D: Disk> Recorder<D> {
         from: Side,
         request: &Request,
         reply: Reply,
-    ) -> Result<Asks, Ended>
+    ) -> Result<Asks, SessionEnd>
         requires lawful { IsLawfulReply (reply_of reply) }
         ensures step { (pair number : ℕ) (journal : Journal) (before : Ran) (running : Running)
             → IsMachine self.old.archive pair journal → IsQuiet self.old journal
@@ -53,13 +53,13 @@ impl<D: Disk> Recorder<D> {
             };
         };
         transfer_laws();
-        let left = session.left.scan.found();
-        let right = session.right.scan.found();
+        let left = session.left.scan.scan();
+        let right = session.right.scan.scan();
         self.on_carried(alloc, progress, left, right, reply)
     }
 
     /// Makes the plan of the session, both sides of which are scanned, and goes through it.
-    fn begin_plan(&mut self, alloc: Global, session: &mut Session) -> Result<Asks, Ended>
+    fn begin_plan(&mut self, alloc: Global, session: &mut Session) -> Result<Asks, SessionEnd>
         ensures step { (pair : ℕ) (journal : Journal) (running : Running) (taken : Exchange)
             → IsMachine self.old.archive pair journal → IsQuiet self.old journal
             → fault_of running.taken taken.side taken.request taken.reply ≡ None
@@ -69,8 +69,8 @@ impl<D: Disk> Recorder<D> {
             journal running taken session.new (written self.new) result }
         ensures breaks { Breaks self.old self.new result }
     {
-        let left = session.left.scan.found();
-        let right = session.right.scan.found();
+        let left = session.left.scan.scan();
+        let right = session.right.scan.scan();
         let archive = self.archive.tree();
         let preference = session.preference;
         let mut progress = PlanProgress::new(alloc, left, right, archive, preference)?;

@@ -19,7 +19,7 @@ ghost use Rattle.syn_session.specs.Stages.{IsPlanProgress, Reached, plan_in};
 ghost use Rattle.syn_image.specs.Archives.{kept_for};
 
 use super::Recorder;
-use crate::ended::Ended;
+use crate::session_end::SessionEnd;
 use crate::{RecordOutcome, refusal_for};
 use std::alloc::Global;
 use syn_disk::Disk;
@@ -38,12 +38,12 @@ impl<D: Disk> Recorder<D> {
 
     /// Keeps in the archive what is due for the item that the session has come to, and goes past
     /// the item. The session ends as its record does, and 11 where memory is refused.
-    pub(super) fn settle(
+    pub(super) fn record_item(
         &mut self,
         alloc: Global,
         progress: &mut PlanProgress,
         kept: ItemRecord,
-    ) -> Result<(), Ended>
+    ) -> Result<(), SessionEnd>
         ensures step { (pair : ℕ) (journal : Journal) (left right : Found) (taken : Exchange)
             (before : Reached) (planned : Planned) → IsMachine self.old.archive pair journal
             → IsQuiet self.old journal → IsPlanProgress progress.old left right before
@@ -56,7 +56,7 @@ impl<D: Disk> Recorder<D> {
     {
         let due = self.keep(alloc, kept);
         if self.archive.is_cut() {
-            return Err(Ended::Failed);
+            return Err(SessionEnd::Failed);
         }
         match due {
             RecordOutcome::Recorded => {
@@ -64,15 +64,15 @@ impl<D: Disk> Recorder<D> {
                 Ok(())
             }
             RecordOutcome::Refused(why) => Ok(progress.refuse(alloc, why)?),
-            RecordOutcome::Ends(why) => Err(Ended::Early(why)),
-            RecordOutcome::Unsent => Err(Ended::Failed),
-            RecordOutcome::Unconfirmed => Err(Ended::Failed),
+            RecordOutcome::Ends(why) => Err(SessionEnd::Early(why)),
+            RecordOutcome::Unsent => Err(SessionEnd::Failed),
+            RecordOutcome::Unconfirmed => Err(SessionEnd::Failed),
         }
     }
 
     /// Goes past the item that the session has come to, which is a conflict. The session ends 11
     /// where memory is refused.
-    fn pass_conflict(&self, progress: &mut PlanProgress, path: Path) -> Result<(), Ended>
+    fn pass_conflict(&self, progress: &mut PlanProgress, path: Path) -> Result<(), SessionEnd>
         ensures step { (pair : ℕ) (journal : Journal) (left right : Found) (taken : Exchange)
             (before : Reached) (planned : Planned) → IsMachine self.now.archive pair journal
             → IsQuiet self.now journal → IsPlanProgress progress.old left right before
@@ -81,7 +81,7 @@ impl<D: Disk> Recorder<D> {
             → MatchResult result
             (λ _. IsPast self.now self.now pair taken journal before progress.new left right)
             (EndsSo self.now self.now pair taken journal before progress.new left right) }
-        ensures memory { IfErr result (λ ended. ended ≡ Ended.Early Refusal.Memory) }
+        ensures memory { IfErr result (λ ended. ended ≡ SessionEnd.Early Refusal.Memory) }
     {
         Ok(progress.pass_conflict(path)?)
     }
@@ -93,7 +93,7 @@ impl<D: Disk> Recorder<D> {
         alloc: Global,
         progress: &mut PlanProgress,
         why: Refusal,
-    ) -> Result<(), Ended>
+    ) -> Result<(), SessionEnd>
         ensures step { (pair : ℕ) (journal : Journal) (left right : Found) (taken : Exchange)
             (before : Reached) (planned : Planned) → IsMachine self.now.archive pair journal
             → IsQuiet self.now journal → IsPlanProgress progress.old left right before
@@ -103,7 +103,7 @@ impl<D: Disk> Recorder<D> {
             → MatchResult result
             (λ _. IsPast self.now self.now pair taken journal before progress.new left right)
             (EndsSo self.now self.now pair taken journal before progress.new left right) }
-        ensures memory { IfErr result (λ ended. ended ≡ Ended.Early Refusal.Memory) }
+        ensures memory { IfErr result (λ ended. ended ≡ SessionEnd.Early Refusal.Memory) }
     {
         Ok(progress.refuse(alloc, why)?)
     }
@@ -116,7 +116,7 @@ impl<D: Disk> Recorder<D> {
         alloc: Global,
         progress: &mut PlanProgress,
         carried: Carried,
-    ) -> Result<Option<Asks>, Ended>
+    ) -> Result<Option<Asks>, SessionEnd>
         requires { IsReady carried.transfer }
         ensures step { (pair : ℕ) (journal : Journal) (left right : Found) (taken : Exchange)
             (all : List Exchange) (before : Reached) (planned : Planned)
@@ -129,7 +129,7 @@ impl<D: Disk> Recorder<D> {
             (IsPast self.now self.now pair taken journal before progress.new left right)
             (AsksSo self.now self.now pair taken journal before progress.new left right all))
             (EndsSo self.now self.now pair taken journal before progress.new left right) }
-        ensures memory { IfErr result (λ ended. ended ≡ Ended.Early Refusal.Memory) }
+        ensures memory { IfErr result (λ ended. ended ≡ SessionEnd.Early Refusal.Memory) }
     {
         if let Some(why) = refusal_for(&self.archive, &carried.kept) {
             self.give_up(alloc, progress, why)?;
@@ -138,16 +138,16 @@ impl<D: Disk> Recorder<D> {
         Ok(Some(ask_first(alloc, progress, carried)?))
     }
 
-    /// Goes on through the plan, until it asks for the first piece of an item, or the session ends.
-    /// It ends without a refusal where no item is left, and else as an item ends it. The loop is
-    /// bounded by more items than a plan can have; past them the session would end 11.
+    /// Handles one item after another until a side has to be asked, or the session ends. The
+    /// session ends without a refusal after the last item, and otherwise as an item ends it. The
+    /// loop is bounded by more items than a plan can have; past them the session would end 11.
     pub(super) fn walk(
         &mut self,
         alloc: Global,
         progress: &mut PlanProgress,
         left: &Scan,
         right: &Scan,
-    ) -> Result<Asks, Ended>
+    ) -> Result<Asks, SessionEnd>
         ensures step { (pair : ℕ) (journal : Journal) (taken : Exchange) (all : List Exchange)
             (before : Reached) → IsMachine self.old.archive pair journal
             → IsQuiet self.old journal → IsAtItem progress.old left.now right.now all before
@@ -161,7 +161,7 @@ impl<D: Disk> Recorder<D> {
                 return Ok(asks);
             }
         }
-        Err(Ended::Early(Refusal::Memory))
+        Err(SessionEnd::Early(Refusal::Memory))
     }
 
     /// Goes past the item that the session has come to, or asks for its first piece. The session
@@ -173,7 +173,7 @@ impl<D: Disk> Recorder<D> {
         progress: &mut PlanProgress,
         left: &Scan,
         right: &Scan,
-    ) -> Result<Option<Asks>, Ended>
+    ) -> Result<Option<Asks>, SessionEnd>
         ensures step { (pair : ℕ) (journal : Journal) (taken : Exchange) (all : List Exchange)
             (before : Reached) → IsMachine self.old.archive pair journal
             → IsQuiet self.old journal → IsAtItem progress.old left.now right.now all before
@@ -186,13 +186,13 @@ impl<D: Disk> Recorder<D> {
         ensures breaks { Breaks self.old self.new result }
     {
         match progress.doing(alloc, left, right)? {
-            Doing::Nothing => Err(Ended::Settled),
+            Doing::Nothing => Err(SessionEnd::PlanDone),
             Doing::Conflict(path) => {
                 self.pass_conflict(progress, path)?;
                 Ok(None)
             }
             Doing::Mark(kept) => {
-                self.settle(alloc, progress, kept)?;
+                self.record_item(alloc, progress, kept)?;
                 Ok(None)
             }
             Doing::Carry(carried) => self.carry(alloc, progress, carried),
@@ -202,7 +202,11 @@ impl<D: Disk> Recorder<D> {
 
 /// Asks for the first piece of the item that the session has come to, which is carried. The session
 /// ends 11 where memory is refused.
-fn ask_first(alloc: Global, progress: &mut PlanProgress, carried: Carried) -> Result<Asks, Ended>
+fn ask_first(
+    alloc: Global,
+    progress: &mut PlanProgress,
+    carried: Carried,
+) -> Result<Asks, SessionEnd>
     requires { IsReady carried.transfer }
     ensures step { (archive : Keeping) (left right : Found) (all : List Exchange)
         (before : Reached) (planned : Planned) → IsPlanProgress progress.old left right before
@@ -211,7 +215,7 @@ fn ask_first(alloc: Global, progress: &mut PlanProgress, carried: Carried) -> Re
         → AreAskedBefore (plan_in progress.old left right) progress.old.cursor all
         → IfOk result (λ asks. Carries archive progress.new left right all before
         (λ transfer. AsksOne transfer all asks)) }
-    ensures memory { IfErr result (λ ended. ended ≡ Ended.Early Refusal.Memory) }
+    ensures memory { IfErr result (λ ended. ended ≡ SessionEnd.Early Refusal.Memory) }
     ensures stays { OnErr result (progress.new ≡ progress.old) }
 {
     plan_laws();
@@ -224,7 +228,7 @@ fn ask_first(alloc: Global, progress: &mut PlanProgress, carried: Carried) -> Re
         Ok(_) => unreachable!(),
         Err(error) => {
             drop(carried);
-            Err(Ended::Early(error.refusal()))
+            Err(SessionEnd::Early(error.refusal()))
         }
     }
 }

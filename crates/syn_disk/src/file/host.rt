@@ -30,7 +30,7 @@ pub trait OsFile: FileExt + OpenFile + Drop {
 
     /// Where the next bytes that the file keeps begin and end, from `from` on; none where it keeps
     /// no more. What it does not keep reads as zeros.
-    fn next_kept(&self, from: u64) -> io::Result<Option<Range<u64>>>;
+    fn next_data(&self, from: u64) -> io::Result<Option<Range<u64>>>;
 
     /// Lets the system forget what it has in memory of the file and takes for synced. After a sync
     /// that failed in an earlier process that may be other than what the device has.
@@ -71,7 +71,7 @@ impl OsFile for File {
         }
     }
 
-    fn next_kept(&self, from: u64) -> io::Result<Option<Range<u64>>> {
+    fn next_data(&self, from: u64) -> io::Result<Option<Range<u64>>> {
         let Some(start) = seek(self, from, SEEK_DATA)? else {
             return Ok(None);
         };

@@ -80,7 +80,7 @@ impl<H: OsFile> LockedDisk for LockedFile<H> {
     fn into_disk(self, alloc: Global) -> Result<FileDisk<MirroredFile<H>>, OpenError>
         ensures held { (access : Access) → IsLockedFile H.is_held self access
             → IfOk result (λ disk. H.is_held (host_of (file_of disk)) access) }
-        ensures settled { IfOk result
+        ensures durable { IfOk result
             (λ disk. Only (seen_of (file_of disk)) (MayBeLeft (file_of disk))) }
         ensures failures { IfOk result (λ disk. failures_of disk ≡ 0) }
     {

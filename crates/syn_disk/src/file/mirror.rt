@@ -6,8 +6,8 @@ ghost use Rattle.syn_disk.specs.MomentLaws.{now_counts, only_now};
 
 use crate::error::OpenError;
 use crate::file::DiskFile;
+use crate::file::disk_bytes::DiskBytes;
 use crate::file::host::{Access, OsFile, take_lock};
-use crate::file::image::Image;
 use crate::{DISK_SIZE, DeviceFailed, History};
 use std::alloc::Global;
 use std::io;
@@ -20,10 +20,10 @@ use std::io;
 #[derive(Drop)]
 pub struct MirroredFile<H> {
     file: H,
-    image: Image,
+    bytes: DiskBytes,
     /// The ranges that were written since the last sync.
     unsynced: History<usize, usize>,
-    history: History<Image, History<usize, usize>>,
+    history: History<DiskBytes, History<usize, usize>>,
     /// Nothing was written since the last sync, so that another one has nothing to do.
     is_synced: bool,
     /// A write or a sync failed, so that the file need not hold what is in memory.
@@ -50,13 +50,13 @@ impl<H: OsFile> MirroredFile<H> {
         if access == Access::Write {
             file.forget();
         }
-        let mut image = Image::new(alloc)?;
-        load(&file, &mut image)?;
+        let mut bytes = DiskBytes::new(alloc)?;
+        load(&file, &mut bytes)?;
         let mut unsynced = History::new();
         unsynced.note(&0, &DISK_SIZE);
         Ok(MirroredFile {
             file,
-            image,
+            bytes,
             unsynced,
             history: History::new(),
             is_synced: false,
@@ -65,19 +65,19 @@ impl<H: OsFile> MirroredFile<H> {
     }
 }
 
-// Reads what the file keeps into an image of zeros, each stretch of it at once.
-fn load<H: OsFile>(file: &H, image: &mut Image) -> io::Result<()> {
+// Reads what the file has into bytes that are all zero, each stretch of it at once.
+fn load<H: OsFile>(file: &H, bytes: &mut DiskBytes) -> io::Result<()> {
     let mut at = 0;
     for _ in 0..DISK_SIZE {
-        let Some(kept) = file.next_kept(at as u64)? else {
+        let Some(data) = file.next_data(at as u64)? else {
             return Ok(());
         };
-        let from = within(kept.start).max(at);
-        let to = within(kept.end);
+        let from = within(data.start).max(at);
+        let to = within(data.end);
         if to <= from {
             return Ok(());
         }
-        image.load(file, from, to)?;
+        bytes.load(file, from, to)?;
         at = to;
     }
     Ok(())
@@ -91,38 +91,38 @@ fn within(place: u64) -> usize
 }
 
 impl<H: OsFile> DiskFile for MirroredFile<H> {
-    ghost seen = { λ f. bytes_of f.image };
+    ghost seen = { λ f. bytes_of f.bytes };
 
-    ghost may_leave = { λ f. FileMayLeave (f.image, f.unsynced) };
+    ghost may_leave = { λ f. FileMayLeave (f.bytes, f.unsynced) };
 
     ghost moment = { λ f. length f.history };
 
-    ghost left_since = { λ f. LeftSince FileMayLeave f.history (f.image, f.unsynced) };
+    ghost left_since = { λ f. LeftSince FileMayLeave f.history (f.bytes, f.unsynced) };
 
     ghost is_sound = { λ f. not f.has_failed };
 
     ghost is_held = { λ f. H.is_held f.file };
 
     ghost counts_now = { λ f t c le left.
-        now_counts FileMayLeave f.history (f.image, f.unsynced) c t le left };
+        now_counts FileMayLeave f.history (f.bytes, f.unsynced) c t le left };
 
-    ghost only_now = { λ f c left. only_now FileMayLeave f.history (f.image, f.unsynced) c left };
+    ghost only_now = { λ f c left. only_now FileMayLeave f.history (f.bytes, f.unsynced) c left };
 
-    ghost seen_may_stay = { λ f. record { whole = length-bytes f.image; kept = λ i none. refl } };
+    ghost seen_may_stay = { λ f. record { whole = length-bytes f.bytes; kept = λ i none. refl } };
 
     ghost whole = { λ f t c left. left.2.whole };
 
     fn read(&mut self, at: usize, into: &mut [u8]) -> Result<(), DeviceFailed> {
-        self.history.note(&self.image, &self.unsynced);
-        self.image.read(at, into);
+        self.history.note(&self.bytes, &self.unsynced);
+        self.bytes.read(at, into);
         Ok(())
     }
 
     fn write(&mut self, at: usize, bytes: &[u8]) -> Result<(), DeviceFailed> {
-        self.history.note(&self.image, &self.unsynced);
+        self.history.note(&self.bytes, &self.unsynced);
         self.is_synced = false;
         self.unsynced.note(&at, &bytes.len());
-        self.image.write(at, bytes);
+        self.bytes.write(at, bytes);
         match self.file.write_all_at(bytes, at as u64) {
             Ok(()) => Ok(()),
             Err(_) => {
@@ -133,7 +133,7 @@ impl<H: OsFile> DiskFile for MirroredFile<H> {
     }
 
     fn sync(&mut self) -> Result<(), DeviceFailed> {
-        self.history.note(&self.image, &self.unsynced);
+        self.history.note(&self.bytes, &self.unsynced);
         if self.is_synced {
             return Ok(());
         }

@@ -210,7 +210,7 @@ impl<D: Restart> Restart for Cut<D> {
     /// What was armed is forgotten.
     fn restart(self) -> Self
         ensures left { D.Disk.may_leave (disk_of self) (D.Disk.seen (disk_of result)) }
-        ensures settled { Only (D.Disk.seen (disk_of result)) (D.Disk.may_leave (disk_of result)) }
+        ensures durable { Only (D.Disk.seen (disk_of result)) (D.Disk.may_leave (disk_of result)) }
         ensures time { let old = disk_of self in let new = disk_of result in
             Elapses (D.Disk.moment old) (D.Disk.moment new) (D.Disk.left_since old)
             (D.Disk.left_since new) (D.Disk.may_leave new) }

@@ -16,7 +16,7 @@ use std::alloc::{AllocError, Global};
 /// Room for all bytes is taken at once. After those that are kept all are zero, synced and not
 /// written.
 #[derive(Drop)]
-pub struct Half {
+pub struct SimulatedHalf {
     content: Vec<u8>,
     synced: Vec<u8>,
     written: Written,
@@ -25,11 +25,11 @@ pub struct Half {
     ghost synced_room: { HALF_SIZE ≤ vec_capacity synced },
 }
 
-impl Half {
-    ghost use Rattle.syn_disk.specs.Half.{content_of, synced_of, written_of, IsClean};
+impl SimulatedHalf {
+    ghost use Rattle.syn_disk.specs.SimulatedHalf.{content_of, synced_of, written_of, IsClean};
 
     /// A half of zeros, all synced. Refused where memory is refused.
-    pub fn new(alloc: Global) -> Result<Half, AllocError>
+    pub fn new(alloc: Global) -> Result<SimulatedHalf, AllocError>
         ensures zeros { IfOk result (λ half. (i : ℕ) → slice_index (content_of half) i ≡ 0) }
         ensures synced { IfOk result (λ half. synced_of half ≡ content_of half) }
         ensures clean { IfOk result (λ half. IsClean half) }
@@ -37,7 +37,7 @@ impl Half {
         let content = Vec::with_capacity(alloc, HALF_SIZE)?;
         let synced = Vec::with_capacity(alloc, HALF_SIZE)?;
         let written = Written::new(alloc)?;
-        Ok(Half {
+        Ok(SimulatedHalf {
             content,
             synced,
             written,

@@ -8,7 +8,7 @@ ghost use Rattle.syn_disk.specs.Moments.{LeftSince};
 ghost use Rattle.syn_disk.specs.MomentLaws.{now_counts, only_now};
 ghost use Rattle.syn_disk.specs.Stop.{Left};
 
-use super::half::Half;
+use super::half::SimulatedHalf;
 use super::leaves::Leaves;
 use super::restart::Restart;
 use crate::disk::HALF_SIZE;
@@ -19,25 +19,25 @@ use std::alloc::{AllocError, Global};
 /// A disk whose calls do not fail. It takes all its memory when it is made.
 #[derive(Drop)]
 pub struct MemDisk {
-    low: Half,
-    high: Half,
+    low: SimulatedHalf,
+    high: SimulatedHalf,
     leaves: Vec<Leaves>,
     restarts: usize,
-    history: History<Half, Half>,
+    history: History<SimulatedHalf, SimulatedHalf>,
 }
 
 impl MemDisk {
-    ghost use Rattle.syn_disk.specs.MemDisk.{bytes_of, synced_of, written_of, leaves_of, IsSettled};
+    ghost use Rattle.syn_disk.specs.MemDisk.{bytes_of, synced_of, written_of, leaves_of, IsSynced};
 
     /// A disk of zeros. Its i-th restart leaves what the i-th of `leaves` says, and after these
     /// `Lose`. It is refused for lack of memory only.
     pub fn new(alloc: Global, leaves: Vec<Leaves>) -> Result<MemDisk, AllocError>
         ensures zeros { IfOk result (λ disk. (i : ℕ) → slice_index (bytes_of disk) i ≡ 0) }
-        ensures settled { IfOk result (λ disk. IsSettled disk) }
+        ensures synced { IfOk result (λ disk. IsSynced disk) }
         ensures leaves { IfOk result (λ disk. leaves_of disk ≡ leaves.items) }
     {
-        let low = Half::new(alloc)?;
-        let high = Half::new(alloc)?;
+        let low = SimulatedHalf::new(alloc)?;
+        let high = SimulatedHalf::new(alloc)?;
         Ok(MemDisk {
             low,
             high,
@@ -52,7 +52,7 @@ impl MemDisk {
         ensures each { Left (slice_index_or (leaves_of self.old) 0 Leaves.Lose)
             (bytes_of self.old) (synced_of self.old) (written_of self.old) (bytes_of self.new) }
         ensures leaves { leaves_of self.new ≡ drop 1 (leaves_of self.old) }
-        ensures settled { IsSettled self.new }
+        ensures synced { IsSynced self.new }
         ensures past { self.new.history ≡ self.old.history ++ (self.old.low, self.old.high) ∷ [] }
     {
         self.history.note(&self.low, &self.high);
@@ -78,7 +78,7 @@ fn next_leaves(leaves: &Vec<Leaves>, restarts: &mut usize) -> Leaves
 }
 
 impl Disk for MemDisk {
-    ghost use Rattle.syn_disk.specs.MemDisk.{bytes_of, synced_of, written_of, leaves_of, IsSettled};
+    ghost use Rattle.syn_disk.specs.MemDisk.{bytes_of, synced_of, written_of, leaves_of, IsSynced};
     ghost use Rattle.syn_disk.specs.MemDisk.{IsLeft, GoesOn};
     ghost use Rattle.syn_disk.specs.declared.disk.TheConstants.{DISK_SIZE};
 
@@ -145,7 +145,7 @@ impl Disk for MemDisk {
     fn sync(&mut self) -> Result<(), DeviceFailed>
         ensures ok { IsOk result }
         ensures same { bytes_of self.new ≡ bytes_of self.old }
-        ensures settled { IsSettled self.new }
+        ensures synced { IsSynced self.new }
         ensures leaves { leaves_of self.new ≡ leaves_of self.old }
         ensures durable { Only (bytes_of self.old) (IsLeft self.new) }
         ensures stop { NothingNew (IsLeft self.old) (IsLeft self.new) }
@@ -163,19 +163,19 @@ impl Disk for MemDisk {
 }
 
 impl Restart for MemDisk {
-    ghost use Rattle.syn_disk.specs.MemDisk.{bytes_of, synced_of, written_of, leaves_of, IsSettled};
+    ghost use Rattle.syn_disk.specs.MemDisk.{bytes_of, synced_of, written_of, leaves_of, IsSynced};
     ghost use Rattle.syn_disk.specs.MemDisk.{IsLeft, GoesOn};
 
     /// What the list of leaves says next becomes of each byte that was not synced.
     fn restart(mut self) -> Self
         ensures left { IsLeft self (bytes_of result) }
-        ensures settled { Only (bytes_of result) (IsLeft result) }
+        ensures durable { Only (bytes_of result) (IsLeft result) }
         ensures time { GoesOn self result }
 
         // Each byte that was not synced, as the list says.
         ensures each { Left (slice_index_or (leaves_of self) 0 Leaves.Lose)
             (bytes_of self) (synced_of self) (written_of self) (bytes_of result) }
-        ensures synced { IsSettled result }
+        ensures synced { IsSynced result }
         ensures leaves { leaves_of result ≡ drop 1 (leaves_of self) }
     {
         self.stop();

@@ -10,7 +10,7 @@ pub trait Restart: Disk {
     /// Reads give what the stop left, and a further stop leaves the same.
     fn restart(self) -> Self
         ensures left { Self.Disk.may_leave self (Self.Disk.seen result) }
-        ensures settled { Only (Self.Disk.seen result) (Self.Disk.may_leave result) }
+        ensures durable { Only (Self.Disk.seen result) (Self.Disk.may_leave result) }
         ensures time { Elapses (Self.Disk.moment self) (Self.Disk.moment result)
             (Self.Disk.left_since self) (Self.Disk.left_since result) (Self.Disk.may_leave result) }
         ensures count { Self.Disk.failures result ≡ Self.Disk.failures self }

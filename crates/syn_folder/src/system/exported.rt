@@ -17,7 +17,7 @@ use std::thread::Threads;
 use syn_tree::{Edit, Tree};
 
 /// A folder of the system that an export writes. New files are written beside their places, and get
-/// them once all is made (`settle`).
+/// them once all is made (`put_in_place`).
 #[derive(Drop)]
 pub struct ExportedFolder<'a, F> {
     folder: SystemFolder<'a, F>,
@@ -40,7 +40,11 @@ impl<'a, F: Files> ExportedFolder<'a, F> {
     ///
     /// Refused 9, or 11 for lack of memory, where a call of the system fails. Then some of them may
     /// have their places, and the others are removed.
-    pub fn settle<H: Threads + Sync>(&mut self, rt: &H, alloc: Global) -> Result<(), FolderError>
+    pub fn put_in_place<H: Threads + Sync>(
+        &mut self,
+        rt: &H,
+        alloc: Global,
+    ) -> Result<(), FolderError>
     where
         F::File: Sync,
         ensures tree { self.new.folder.tree ≡ self.old.folder.tree }
@@ -48,12 +52,12 @@ impl<'a, F: Files> ExportedFolder<'a, F> {
         ensures system { IfErr result IsOfSystem }
     {
         let (files, root) = (self.folder.files, self.folder.root);
-        let settled = writing::settle(rt, alloc, files, root, &self.parts);
-        if settled.is_err() {
+        let put = writing::put_in_place(rt, alloc, files, root, &self.parts);
+        if put.is_err() {
             self.give_up();
         }
         self.parts.clear();
-        Ok(settled?)
+        Ok(put?)
     }
 
     /// Removes what was written beside its place.

@@ -67,29 +67,29 @@ pub fn take_glimpse<F: Files>(
         Err(error) => return Err(FolderError::System(error)),
     }
     for _looked in 0..MOST_LOOKED {
-        let Some(mut place) = pending.pop() else {
+        let Some(mut system_path) = pending.pop() else {
             break;
         };
         // After the slash the system follows a symbolic link, which only the folder itself may be.
-        place.push('/')?;
+        system_path.push('/')?;
         if seen.looks.len() <= MOST_LOOKED {
-            seen.look_into(alloc, files, place.as_str(), &mut pending)?;
+            seen.look_into(alloc, files, system_path.as_str(), &mut pending)?;
         }
     }
     Ok(seen)
 }
 
 impl Glimpse {
-    /// Notes what the directory at the place lists, and how each of that looks. The directories in
-    /// it are to be looked into next.
+    /// Notes what the directory at the system's path lists, and how each of that looks. The
+    /// directories in it are to be looked into next.
     fn look_into<F: Files>(
         &mut self,
         alloc: Global,
         files: &F,
-        place: &str,
+        system_path: &str,
         pending: &mut Vec<String>,
     ) -> Result<(), FolderError> {
-        let listing = match read_names(alloc, files, place) {
+        let listing = match read_names(alloc, files, system_path) {
             Ok(listing) => listing,
             Err(error) if is_hidden(&error) => return Ok(()),
             Err(error) => return Err(FolderError::System(error)),
@@ -97,14 +97,14 @@ impl Glimpse {
         self.names.extend_from_slice(&listing)?;
         for name in listing.split(|byte| *byte == 0) {
             if is_listed(name) {
-                self.look_at(alloc, files, place, name, pending)?;
+                self.look_at(alloc, files, system_path, name, pending)?;
             }
         }
         Ok(())
     }
 
-    /// Notes how what has the name in the directory at the place looks. A name that is no text has
-    /// no look of its own.
+    /// Notes how what has the name in the directory at the system's path looks. A name that is no
+    /// text has no look of its own.
     fn look_at<F: Files>(
         &mut self,
         alloc: Global,
@@ -116,13 +116,13 @@ impl Glimpse {
         let Ok(name) = str::from_utf8(name) else {
             return Ok(());
         };
-        let mut place = String::from_str(alloc, directory)?;
-        place.push_str(name)?;
-        match files.symlink_metadata(place.as_str()) {
+        let mut system_path = String::from_str(alloc, directory)?;
+        system_path.push_str(name)?;
+        match files.symlink_metadata(system_path.as_str()) {
             Ok(there) => {
                 self.looks.push(Look::of(&there))?;
                 if there.is_dir() {
-                    pending.push(place)?;
+                    pending.push(system_path)?;
                 }
                 Ok(())
             }

@@ -4,7 +4,7 @@ ghost use Rattle.std.specs.Prelude.{◌≡◌, ◌≤◌, ◌↔◌, count_by, f
 ghost use Rattle.std.specs.Prelude.{IsTrue, Some, None};
 ghost use Rattle.syn_folder.specs.Looks.{IsListedAs, IsOfDirectory, IsReadAs, IsShownAs};
 ghost use Rattle.syn_folder.specs.Looks.{IsWhyStrange};
-ghost use Rattle.syn_folder.specs.Looks.{is_listed, pieces, place_of, shown_of};
+ghost use Rattle.syn_folder.specs.Looks.{is_listed, pieces, system_path_of, shown_of};
 
 use crate::error::FolderError;
 use crate::stranger::Strangeness;
@@ -28,9 +28,9 @@ pub(super) fn look_at_folder<F: Files>(
 {
     let there = files.metadata(root)?;
     // After the slash the system follows a symbolic link, which only the folder itself may be.
-    let mut place = String::from_str(alloc, root)?;
-    place.push('/')?;
-    let listing = read_names(alloc, files, place.as_str())?;
+    let mut system_path = String::from_str(alloc, root)?;
+    system_path.push('/')?;
+    let listing = read_names(alloc, files, system_path.as_str())?;
     list(alloc, files, root, &there, listing)
 }
 
@@ -46,18 +46,18 @@ pub(super) fn look_at<F: Files>(
     path: &Path,
     are_enough: bool,
 ) -> Result<Shown, FolderError> {
-    let place = place_of(alloc, root, path.names())?;
-    match files.symlink_metadata(place.as_str()) {
-        Ok(there) => show(alloc, files, place.as_str(), &there, are_enough),
+    let system_path = system_path_of(alloc, root, path.names())?;
+    match files.symlink_metadata(system_path.as_str()) {
+        Ok(there) => show(alloc, files, system_path.as_str(), &there, are_enough),
         Err(error) => unseen(error),
     }
 }
 
-/// Looks closer at what stands at the place, and looked so.
+/// Looks closer at what stands at the system's path, and looked so.
 fn show<F: Files>(
     alloc: Global,
     files: &F,
-    place: &str,
+    system_path: &str,
     there: &Metadata,
     are_enough: bool,
 ) -> Result<Shown, FolderError>
@@ -67,28 +67,28 @@ fn show<F: Files>(
         return Ok(Shown::Strange(why));
     }
     if there.is_dir() {
-        match read_names(alloc, files, place) {
-            Ok(listing) => list(alloc, files, place, there, listing),
+        match read_names(alloc, files, system_path) {
+            Ok(listing) => list(alloc, files, system_path, there, listing),
             Err(error) => unseen(error),
         }
     } else if are_enough {
         Ok(Shown::Unread)
     } else {
-        read(alloc, files, place, there)
+        read(alloc, files, system_path, there)
     }
 }
 
-/// Reads the file at the place, which looked so.
+/// Reads the file at the system's path, which looked so.
 fn read<F: Files>(
     alloc: Global,
     files: &F,
-    place: &str,
+    system_path: &str,
     there: &Metadata,
 ) -> Result<Shown, FolderError>
     ensures { IfOk result (IsReadAs there.now) }
 {
     let mut options = OpenOptions::new();
-    let file = match options.read(true).open(files, place) {
+    let file = match options.read(true).open(files, system_path) {
         Ok(file) => file,
         Err(error) => return unseen(error),
     };
@@ -99,29 +99,29 @@ fn read<F: Files>(
     Ok(Shown::File(look, first_bytes(alloc, file)?))
 }
 
-/// The directory at the place, which looked so, with these names.
+/// The directory at the system's path, which looked so, with these names.
 fn list<F: Files>(
     alloc: Global,
     files: &F,
-    place: &str,
+    system_path: &str,
     there: &Metadata,
     listing: Vec<u8>,
 ) -> Result<Shown, FolderError>
     ensures { IfOk result (IsListedAs there.now listing.items) }
 {
-    if is_crowded(alloc, files, place, &listing)? {
+    if is_crowded(alloc, files, system_path, &listing)? {
         Ok(Shown::Crowded(listing))
     } else {
         Ok(Shown::Directory(Look::of(there), listing))
     }
 }
 
-/// The directory at the place has more files and directories that a replica can have than one of a
-/// replica may have. Where there are few names they are not looked at.
+/// The directory at the system's path has more files and directories that a replica can have than
+/// one of a replica may have. Where there are few names they are not looked at.
 fn is_crowded<F: Files>(
     alloc: Global,
     files: &F,
-    place: &str,
+    system_path: &str,
     listing: &[u8],
 ) -> Result<bool, FolderError>
     ensures { IfOk result (λ crowded. count_by is_listed (pieces listing.now) ≤ MOST_CHILDREN
@@ -132,19 +132,19 @@ fn is_crowded<F: Files>(
     }
     let mut count: usize = 0;
     for name in listing.split(|byte| *byte == 0) {
-        if is_listed(name) && is_known(alloc, files, place, name)? {
+        if is_listed(name) && is_known(alloc, files, system_path, name)? {
             count = count.saturating_add(1);
         }
     }
     Ok(count > MOST_CHILDREN)
 }
 
-/// What has the name in the directory at the place is a file or a directory that a replica can
-/// have.
+/// What has the name in the directory at the system's path is a file or a directory that a replica
+/// can have.
 fn is_known<F: Files>(
     alloc: Global,
     files: &F,
-    place: &str,
+    system_path: &str,
     name: &[u8],
 ) -> Result<bool, FolderError> {
     let name = match Name::from_bytes(alloc, name) {
@@ -152,10 +152,10 @@ fn is_known<F: Files>(
         Err(PathError::BadPath) => return Ok(false),
         Err(error) => return Err(FolderError::from(error)),
     };
-    let mut place = String::from_str(alloc, place)?;
-    place.push('/')?;
-    place.push_str(name.as_str())?;
-    match files.symlink_metadata(place.as_str()) {
+    let mut system_path = String::from_str(alloc, system_path)?;
+    system_path.push('/')?;
+    system_path.push_str(name.as_str())?;
+    match files.symlink_metadata(system_path.as_str()) {
         Ok(there) => Ok(strangeness_of(&there).is_none()),
         Err(_) => Ok(false),
     }
@@ -200,19 +200,28 @@ pub(super) fn is_gone(error: &io::Error) -> bool
     )
 }
 
-/// The names in the directory at the place, each with a zero byte after it.
-pub(super) fn read_names<F: Files>(alloc: Global, files: &F, place: &str) -> io::Result<Vec<u8>> {
-    all_names(alloc, files.open_dir(place)?)
+/// The names in the directory at the system's path, each with a zero byte after it.
+pub(super) fn read_names<F: Files>(
+    alloc: Global,
+    files: &F,
+    system_path: &str,
+) -> io::Result<Vec<u8>> {
+    all_names(alloc, files.open_dir(system_path)?)
 }
 
 /// The path of the system to what has these names in the folder.
-pub(super) fn place_of(alloc: Global, root: &str, names: &[Name]) -> Result<String, AllocError>
-    ensures { IfOk result (λ place. string_bytes place ≡ place_of root.now names.now) }
+pub(super) fn system_path_of(
+    alloc: Global,
+    root: &str,
+    names: &[Name],
+) -> Result<String, AllocError>
+    ensures { IfOk result (λ system_path. string_bytes system_path ≡ system_path_of root.now
+        names.now) }
 {
-    let mut place = String::from_str(alloc, root)?;
+    let mut system_path = String::from_str(alloc, root)?;
     for name in names {
-        place.push('/')?;
-        place.push_str(name.as_str())?;
+        system_path.push('/')?;
+        system_path.push_str(name.as_str())?;
     }
-    Ok(place)
+    Ok(system_path)
 }

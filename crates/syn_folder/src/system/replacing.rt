@@ -3,7 +3,7 @@ ghost use Rattle.std.specs.Prelude.{◌≡◌, ◌++◌, ◌∷◌, [], IfOk};
 
 use crate::error::FolderError;
 use crate::system::listing::{PART, count_listed};
-use crate::system::looking::{is_gone, place_of, read_names};
+use crate::system::looking::{is_gone, read_names, system_path_of};
 use crate::system::looks::{Look, Looked};
 use crate::system::writing::{above, check_above, write_new};
 use std::alloc::Global;
@@ -73,12 +73,12 @@ impl<F: Files> Replacing<'_, F> {
 
     /// Refuses 13 where what is at the path is not what was read.
     fn check(&self, alloc: Global, path: &Path) -> Result<(), FolderError> {
-        let place = place_of(alloc, self.root, path.names())?;
+        let system_path = system_path_of(alloc, self.root, path.names())?;
         let is_same = match self.tree.get(path) {
-            None => self.is_missing(place.as_str())?,
-            Some(Found::Dir) => self.has_only_known_names(alloc, path, place.as_str())?,
+            None => self.is_missing(system_path.as_str())?,
+            Some(Found::Dir) => self.has_only_known_names(alloc, path, system_path.as_str())?,
             Some(Found::File(mode, bytes)) => {
-                self.is_same_file(alloc, path, place.as_str(), mode, bytes)?
+                self.is_same_file(alloc, path, system_path.as_str(), mode, bytes)?
             }
         };
         if is_same {
@@ -89,8 +89,8 @@ impl<F: Files> Replacing<'_, F> {
     }
 
     /// Nothing is there.
-    fn is_missing(&self, place: &str) -> io::Result<bool> {
-        match self.files.symlink_metadata(place) {
+    fn is_missing(&self, system_path: &str) -> io::Result<bool> {
+        match self.files.symlink_metadata(system_path) {
             Ok(_) => Ok(false),
             Err(error) if is_gone(&error) => Ok(true),
             Err(error) => Err(error),
@@ -99,14 +99,19 @@ impl<F: Files> Replacing<'_, F> {
 
     /// A directory is there, with as many names as were read. Whether each of those is there is
     /// looked at by itself.
-    fn has_only_known_names(&self, alloc: Global, path: &Path, place: &str) -> io::Result<bool> {
-        match self.files.symlink_metadata(place) {
+    fn has_only_known_names(
+        &self,
+        alloc: Global,
+        path: &Path,
+        system_path: &str,
+    ) -> io::Result<bool> {
+        match self.files.symlink_metadata(system_path) {
             Ok(there) if there.is_dir() => {}
             Ok(_) => return Ok(false),
             Err(error) if is_gone(&error) => return Ok(false),
             Err(error) => return Err(error),
         }
-        let listing = read_names(alloc, self.files, place)?;
+        let listing = read_names(alloc, self.files, system_path)?;
         Ok(count_listed(&listing) == self.tree.child_count(path))
     }
 
@@ -115,7 +120,7 @@ impl<F: Files> Replacing<'_, F> {
         &self,
         alloc: Global,
         path: &Path,
-        place: &str,
+        system_path: &str,
         mode: Mode,
         bytes: &[u8],
     ) -> io::Result<bool> {
@@ -123,7 +128,7 @@ impl<F: Files> Replacing<'_, F> {
             return Ok(false);
         };
         let mut options = OpenOptions::new();
-        match options.read(true).open(self.files, place) {
+        match options.read(true).open(self.files, system_path) {
             Ok(file) => {
                 if Look::of(&file.metadata()?) != look {
                     return Ok(false);
@@ -137,7 +142,7 @@ impl<F: Files> Replacing<'_, F> {
             Err(error) if is_gone(&error) => return Ok(false),
             Err(error) => return Err(error),
         }
-        match self.files.symlink_metadata(place) {
+        match self.files.symlink_metadata(system_path) {
             Ok(there) => Ok(Look::of(&there) == look && look.file_mode().is_same(mode)),
             Err(error) if is_gone(&error) => Ok(false),
             Err(error) => Err(error),
@@ -168,13 +173,13 @@ impl<F: Files> Replacing<'_, F> {
     /// Removes a file that is what was read, or a directory that is empty.
     fn remove(&self, alloc: Global, path: &Path, is_directory: bool) -> Result<(), FolderError> {
         self.check_directories_above(alloc, path)?;
-        let place = place_of(alloc, self.root, path.names())?;
+        let system_path = system_path_of(alloc, self.root, path.names())?;
         if !is_directory {
             self.check(alloc, path)?;
-            self.files.remove_file(place.as_str())?;
+            self.files.remove_file(system_path.as_str())?;
             return Ok(());
         }
-        match self.files.remove_dir(place.as_str()) {
+        match self.files.remove_dir(system_path.as_str()) {
             Err(error) if is_taken(&error) => Err(changed(alloc, path)),
             removed => Ok(removed?),
         }
@@ -200,8 +205,8 @@ impl<F: Files> Replacing<'_, F> {
     /// Makes a directory where nothing is.
     fn make_dir(&self, alloc: Global, path: &Path) -> Result<(), FolderError> {
         self.check_directories_above(alloc, path)?;
-        let place = place_of(alloc, self.root, path.names())?;
-        match self.files.create_dir(place.as_str()) {
+        let system_path = system_path_of(alloc, self.root, path.names())?;
+        match self.files.create_dir(system_path.as_str()) {
             Err(error) if is_taken(&error) => return Err(changed(alloc, path)),
             made => made?,
         }
@@ -224,10 +229,10 @@ impl<F: Files> Replacing<'_, F> {
 
     /// Gives the file that lies beside the path its name, once the one there was looked at.
     fn move_over(&self, alloc: Global, path: &Path, part: &str) -> Result<(), FolderError> {
-        let place = place_of(alloc, self.root, path.names())?;
+        let system_path = system_path_of(alloc, self.root, path.names())?;
         self.check_directories_above(alloc, path)?;
         self.check(alloc, path)?;
-        Ok(self.files.rename(part, place.as_str())?)
+        Ok(self.files.rename(part, system_path.as_str())?)
     }
 
     /// Puts the file where nothing is.
@@ -249,15 +254,15 @@ impl<F: Files> Replacing<'_, F> {
     /// Gives the file that lies beside the path its name, which nothing has. Where the system has
     /// no second names, it is looked at first.
     fn link(&self, alloc: Global, path: &Path, part: &str) -> Result<(), FolderError> {
-        let place = place_of(alloc, self.root, path.names())?;
-        match self.files.hard_link(part, place.as_str()) {
+        let system_path = system_path_of(alloc, self.root, path.names())?;
+        match self.files.hard_link(part, system_path.as_str()) {
             Ok(()) => Ok(()),
             Err(error) if is_taken(&error) => Err(changed(alloc, path)),
             Err(_) => {
-                if !self.is_missing(place.as_str())? {
+                if !self.is_missing(system_path.as_str())? {
                     return Err(changed(alloc, path));
                 }
-                Ok(self.files.rename(part, place.as_str())?)
+                Ok(self.files.rename(part, system_path.as_str())?)
             }
         }
     }
@@ -270,7 +275,7 @@ impl<F: Files> Replacing<'_, F> {
         mode: Mode,
         bytes: &[u8],
     ) -> Result<String, FolderError> {
-        let mut part = place_of(alloc, self.root, above(path))?;
+        let mut part = system_path_of(alloc, self.root, above(path))?;
         part.push('/')?;
         part.push_str(PART)?;
         // A part that was cut off goes. It is no file of anybody's: see its name.
@@ -284,9 +289,9 @@ impl<F: Files> Replacing<'_, F> {
 
     /// Syncs the names of the directory that the path is in.
     fn sync_above(&self, alloc: Global, path: &Path) -> Result<(), FolderError> {
-        let place = place_of(alloc, self.root, above(path))?;
+        let system_path = system_path_of(alloc, self.root, above(path))?;
         let mut options = OpenOptions::new();
-        let directory = options.read(true).open(self.files, place.as_str())?;
+        let directory = options.read(true).open(self.files, system_path.as_str())?;
         Ok(directory.sync_all()?)
     }
 }

@@ -3,7 +3,7 @@ ghost use Rattle.std.specs.Prelude.{◌≡◌};
 ghost use Rattle.syn_model.specs.Path.{parent};
 
 use crate::system::listing::PART;
-use crate::system::looking::place_of;
+use crate::system::looking::system_path_of;
 use std::alloc::Global;
 use std::fs::{Files, OpenFile, OpenOptions, Permissions};
 use std::io::{self, Write};
@@ -45,7 +45,7 @@ pub(super) fn make<F: Files>(
         }
         Edit::MakeDir(path) => {
             check_above(alloc, files, root, path)?;
-            files.create_dir(place_of(alloc, root, path.names())?.as_str())
+            files.create_dir(system_path_of(alloc, root, path.names())?.as_str())
         }
         Edit::Remove(path) => {
             for pair in tree.below(path).rev() {
@@ -102,7 +102,7 @@ fn put<F: Files>(
 
 /// Where the part that is for the path lies: beside it, with its name behind that of a part.
 fn place_beside(alloc: Global, root: &str, path: &Path) -> io::Result<String> {
-    let mut beside = place_of(alloc, root, above(path))?;
+    let mut beside = system_path_of(alloc, root, above(path))?;
     beside.push('/')?;
     beside.push_str(PART)?;
     if let Some(name) = path.names().last() {
@@ -115,7 +115,7 @@ fn place_beside(alloc: Global, root: &str, path: &Path) -> io::Result<String> {
 /// Syncs the parts, many at a time side by side, and gives each its place then. So a file is there
 /// whole, with its mode whatever the process masks, or is what it was, and no symbolic link is
 /// followed.
-pub(super) fn settle<H: Threads + Sync, F: Files>(
+pub(super) fn put_in_place<H: Threads + Sync, F: Files>(
     rt: &H,
     alloc: Global,
     files: &F,
@@ -129,8 +129,8 @@ where
         sync(rt, alloc, &opened(alloc, files, some)?)?;
         for part in some {
             check_above(alloc, files, root, &part.path)?;
-            let place = place_of(alloc, root, part.path.names())?;
-            files.rename(part.beside.as_str(), place.as_str())?;
+            let system_path = system_path_of(alloc, root, part.path.names())?;
+            files.rename(part.beside.as_str(), system_path.as_str())?;
         }
     }
     Ok(())
@@ -187,7 +187,7 @@ pub(super) fn check_above<F: Files>(
 ) -> io::Result<()> {
     let names = path.names();
     for count in 1..names.len() {
-        let above = place_of(alloc, root, &names[..count])?;
+        let above = system_path_of(alloc, root, &names[..count])?;
         if !files.symlink_metadata(above.as_str())?.is_dir() {
             return Err(io::Error::from(io::ErrorKind::NotADirectory));
         }
@@ -209,21 +209,21 @@ pub(super) fn above(path: &Path) -> &[Name]
 /// it.
 pub(super) fn write_new<F: Files>(
     files: &F,
-    place: &str,
+    system_path: &str,
     mode: Mode,
     bytes: &[u8],
 ) -> io::Result<()> {
-    let file = new_file(files, place, bytes)?;
+    let file = new_file(files, system_path, bytes)?;
     file.set_permissions(Permissions::from_mode(mode.bits() as u32))?;
     file.sync_data()
 }
 
 /// A new file with the bytes, so that no symbolic link is followed.
-fn new_file<F: Files>(files: &F, place: &str, bytes: &[u8]) -> io::Result<F::File> {
+fn new_file<F: Files>(files: &F, system_path: &str, bytes: &[u8]) -> io::Result<F::File> {
     let mut file = OpenOptions::new()
         .write(true)
         .create_new(true)
-        .open(files, place)?;
+        .open(files, system_path)?;
     file.write_all(bytes)?;
     Ok(file)
 }
@@ -237,10 +237,10 @@ fn remove<F: Files>(
     is_directory: bool,
 ) -> io::Result<()> {
     check_above(alloc, files, root, path)?;
-    let place = place_of(alloc, root, path.names())?;
+    let system_path = system_path_of(alloc, root, path.names())?;
     if is_directory {
-        files.remove_dir(place.as_str())
+        files.remove_dir(system_path.as_str())
     } else {
-        files.remove_file(place.as_str())
+        files.remove_file(system_path.as_str())
     }
 }

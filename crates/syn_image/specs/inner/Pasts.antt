@@ -6,7 +6,7 @@ use Rattle.syn_model.specs.Standing.{Touch}
 use Rattle.syn_model.specs.Image.{last_token_spelling, touch_spelling}
 use Rattle.std.specs.Option.{option_map}
 use Rattle.syn_history.specs.Events.{token_of}
-use Rattle.syn_history.specs.declared.trail.Parts.{Parts}
+use Rattle.syn_history.specs.declared.trail.TrailParts.{TrailParts}
 use Rattle.syn_wire.specs.Events.{Both, both_spelling, IsNumber64, number64_spelling}
 use Rattle.syn_wire.specs.Reads.{AreSoMany}
 use Rattle.syn_image.specs.Images.{IsLastToken, IsTouch, AreTouches, touches_spelling}
@@ -39,7 +39,7 @@ abbrev pub past_spelling : ((Two × Two) × Option Token) × List Touch → Byte
 past_spelling = both_spelling fences_spelling touches_spelling
 
 -- what was read of a pair and a trail
-abbrev pub past_read : ℕ × Parts → ((Two × Two) × Option Token) × List Touch
+abbrev pub past_read : ℕ × TrailParts → ((Two × Two) × Option Token) × List Touch
 past_read found = (
   (
     ((found.0, found.1.position), (found.1.floor, found.1.session)),

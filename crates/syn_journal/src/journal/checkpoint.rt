@@ -14,7 +14,7 @@ use super::{Journal, image_body};
 use crate::JournalError;
 use crate::commit::commit;
 use crate::half::Half;
-use crate::layout::{IMAGE_AT, MAX_IMAGE};
+use crate::layout::{IMAGE_AT, LONGEST_IMAGE};
 use std::alloc::Global;
 use syn_disk::{DeviceFailed, Disk};
 
@@ -28,9 +28,9 @@ impl<D: Disk> Journal<D> {
     /// is durable: from then on each stop leaves it. It is written into the half that is not
     /// current, with the next generation.
     ///
-    /// It is refused `Halted`, `Full` where the image is longer than `MAX_IMAGE` or the generation
-    /// is the greatest that can be written, `Memory`, and `Device`, after which the journal is
-    /// halted.
+    /// It is refused `Halted`, `Full` where the image is longer than `LONGEST_IMAGE` or the
+    /// generation is the greatest that can be written, `Memory`, and `Device`, after which the
+    /// journal is halted.
     pub fn checkpoint(&mut self, alloc: Global, image: &[u8]) -> Result<(), JournalError>
         ensures acknowledged { OnOk result (Stands self.new (image_alone image.now)) }
 
@@ -72,7 +72,7 @@ impl<D: Disk> Journal<D> {
         if self.halted {
             return Err(JournalError::Halted);
         }
-        if image.len() > MAX_IMAGE || self.generation == u64::MAX {
+        if image.len() > LONGEST_IMAGE || self.generation == u64::MAX {
             return Err(JournalError::Full);
         }
         let generation = self.generation + 1;

@@ -5,14 +5,14 @@ ghost use Rattle.std.specs.Prelude.{OnOk, MatchResult};
 ghost use Rattle.syn_headline.specs.Machine as model;
 ghost use Rattle.syn_journal.specs.Journal as journal;
 ghost use Rattle.syn_journal.specs.Layout.{Value};
-ghost use Rattle.syn_journal.specs.Places.{Shows};
+ghost use Rattle.syn_journal.specs.Cursors.{Shows};
 ghost use Rattle.syn_journal.specs.Endings.{Reads, ended};
 ghost use Rattle.syn_journal.specs.Openings.{NotOpened};
 ghost use Rattle.syn_model.specs.Refusal.{Device, Memory};
 
 use super::Journaled;
 use crate::state::State;
-use crate::{Journal, Opened, Place};
+use crate::{Journal, JournalCursor, Opened};
 use std::alloc::Global;
 use syn_disk::Disk;
 use syn_refusal::Refusal;
@@ -99,11 +99,11 @@ impl<D: Disk, S: State + Drop> Journaled<D, S> {
             → ReadsDisk (S.kept_as number) self.new machine (ended S.why result) }
     {
         S::keeping_laws();
-        self.open_again(alloc)
+        self.reopen_journal(alloc)
     }
 
     /// The reopening, as its journal makes it.
-    fn open_again(&mut self, alloc: Global) -> Result<(), S::Error>
+    fn reopen_journal(&mut self, alloc: Global) -> Result<(), S::Error>
         ensures opened { OnOk result
             (IsOpened S.pair S.gives (D.seen (disk_of self.old)) self.new) }
         ensures follows { OnOk result (S.follows (state_of self.old) (state_of self.new)) }
@@ -128,7 +128,7 @@ impl<D: Disk, S: State + Drop> Journaled<D, S> {
             (disk_of self.new) }
     {
         let was_halted = self.journal.is_halted();
-        let place = self.journal.place();
+        let cursor = self.journal.cursor();
         let found = match self.journal.reopen(alloc) {
             Ok(found) => found,
             Err(error) => return Err(S::refused(error)),
@@ -139,25 +139,26 @@ impl<D: Disk, S: State + Drop> Journaled<D, S> {
                 Ok(())
             }
             Err(error) => {
-                self.settle(was_halted, place, &error);
+                self.halt_after_refusal(was_halted, cursor, &error);
                 Err(error)
             }
         }
     }
 
-    /// Halts the machine where it was halted, as it was at the place, or where its disk gives no
-    /// state that may follow. Where memory was refused, one that ran goes on.
-    fn settle(&mut self, was_halted: bool, place: Place, error: &S::Error)
+    /// Undoes a reopening whose state was not taken. A machine that was halted before is halted
+    /// again at the cursor. One that ran goes on where memory was refused, and halts after any
+    /// other refusal.
+    fn halt_after_refusal(&mut self, was_halted: bool, cursor: JournalCursor, error: &S::Error)
         ensures halted { was_halted ≡ true → IsHalted self.new }
         ensures halts { S.why error.now ≢ Memory → IsHalted self.new }
         ensures goes_on { was_halted ≡ false → S.why error.now ≡ Memory → self.new ≡ self.old }
         ensures disk { disk_of self.new ≡ disk_of self.old }
         ensures state { state_of self.new ≡ state_of self.old }
-        ensures shows { was_halted ≡ true → Shows (journal_of self.new) place }
+        ensures shows { was_halted ≡ true → Shows (journal_of self.new) cursor }
         ensures readings { was_halted ≡ false → KeepsReadings self.old self.new }
     {
         if was_halted {
-            self.journal.halt_at(place);
+            self.journal.halt_at(cursor);
             return;
         }
         match S::refusal(error) {

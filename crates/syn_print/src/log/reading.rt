@@ -10,7 +10,7 @@ use crate::log::{Logged, What};
 use std::alloc::Global;
 use syn_disk::Disk;
 use syn_history::Touch;
-use syn_image::is_old_image;
+use syn_image::is_old_replica;
 use syn_journal::Journal;
 use syn_replica::{ReplicaError, opening_laws, read_event, read_image};
 use syn_wire::Version;
@@ -30,7 +30,7 @@ pub fn read_log<D: Disk + Drop>(alloc: Global, disk: D) -> Result<Vec<Logged>, R
         Ok(opened) => opened,
         Err((error, _)) => return Err(ReplicaError::Journal(error)),
     };
-    if is_old_image(&opened.image) {
+    if is_old_replica(&opened.image) {
         return Err(ReplicaError::OldVersion);
     }
     let image = read_image(alloc, Version::Two, &opened.image)?;

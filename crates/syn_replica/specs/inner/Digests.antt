@@ -22,11 +22,11 @@ abbrev pub size_of : List Hashed → ℕ
 size_of files = sum_by (λ file. length file.0) files
 
 abbrev pub files_in : Inside → List Hashed
-files_in digests = map (λ entry. (entry.0.items, entry.1)) digests.kept.entries
+files_in digests = map (λ entry. (entry.0.items, entry.1)) digests.by_bytes.entries
 
 -- each digest is that of its file, and no more files are kept than a tree may hold
 pub record AreDigests (digests : Inside) : Type 0 where
   pub right : AllByRecursion IsRight (files_in digests)
   pub size : size_of (files_in digests) ≤ digests.size
   pub bytes : digests.size ≤ 526336
-  pub files : length digests.kept.entries ≤ 1024
+  pub files : length digests.by_bytes.entries ≤ 1024

@@ -32,11 +32,11 @@ impl<D: Disk> Replica<D> {
     /// Makes the edits of the user, in their order, all of them or none. What the disk has then is
     /// what an `edit` of each would leave.
     ///
-    /// Refused 10 while the replica is halted. Else refused as the first edit is that is refused,
-    /// each after those before it. Refused 11 where memory is refused, and 9 where a device call
-    /// fails. The disk comes back, and only after 9 may it have been written: opened again, it has
-    /// the events before the call, or those and all of these. So it does wherever the machine
-    /// stops.
+    /// Refused 10 while the replica is halted. Otherwise the edits are checked in order, each on
+    /// what those before it leave, and the first refusal is the answer. Refused 11 where memory is
+    /// refused, and 9 where a device call fails. The disk comes back. After 9, and after a stop at
+    /// any moment, it has either none of the edits or all of them; after any other refusal it was
+    /// not written.
     pub fn edit_all(
         self,
         alloc: Global,
@@ -85,16 +85,16 @@ impl<D: Disk> Replica<D> {
             return Err((halted, self.into_disk()));
         }
         let room = self.room();
-        let (journal, memory) = self.machine.into_parts();
+        let (journal, memory) = self.journaled.into_parts();
         let Remembered { pair, standing } = memory;
         let (payloads, standing) = match add_all(alloc, standing, room, user, edits) {
             Ok(added) => added,
             Err(error) => return Err((error, journal.into_disk())),
         };
         let memory = Remembered { pair, standing };
-        let machine = Journaled::append_all(alloc, journal, &payloads, memory)?;
+        let journaled = Journaled::append_all(alloc, journal, &payloads, memory)?;
         Ok(Replica {
-            machine,
+            journaled,
             tried: None,
             digests: self.digests,
         })

@@ -54,6 +54,6 @@ impl<D: Disk> Replica<D> {
     {
         opening_laws();
         history_laws();
-        self.machine.checkpoint(alloc)
+        self.journaled.checkpoint(alloc)
     }
 }

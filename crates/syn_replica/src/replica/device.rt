@@ -31,6 +31,6 @@ impl<D: Limit> Replica<D> {
         ensures tried { tried_shown self.new ≡ tried_shown self.old }
         ensures readings { SameReadings (journal_of self.old) (journal_of self.new) }
     {
-        self.machine.arm(arm);
+        self.journaled.arm(arm);
     }
 }

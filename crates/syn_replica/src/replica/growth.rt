@@ -13,7 +13,7 @@ impl<D: Disk> Grows for Replica<D> {
     ghost grows = { λ old new. IsGrown old new };
 
     fn position(&self) -> u64 {
-        self.kept().trail().position()
+        self.current_standing().trail().position()
     }
 
     ghost reflexive = { λ replica. itself replica };

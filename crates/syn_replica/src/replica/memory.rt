@@ -22,11 +22,11 @@ use syn_wire::encode_event;
 impl<D: Disk> Replica<D> {
     ghost use Rattle.syn_replica.specs.Replica.{standing_shown};
 
-    /// What it keeps of its history.
-    pub(super) fn kept(&self) -> &Standing
+    /// What its history leaves, as it is kept.
+    pub(super) fn current_standing(&self) -> &Standing
         ensures { result.now ≡ standing_shown self.now }
     {
-        &self.machine.state().standing
+        &self.journaled.state().standing
     }
 
     /// Why the event is not added, as far as that is seen without memory.
@@ -34,14 +34,14 @@ impl<D: Disk> Replica<D> {
         ensures { refusal_in result
             ≡ first_cause (early_causes (standing_shown self.now) (event_of event.now)) }
     {
-        self.kept().check(event)
+        self.current_standing().check(event)
     }
 
     /// Whether the token is that of the last replacement.
     pub(super) fn is_done(&self, token: &Token) -> bool
         ensures { result ≡ is_done_at (standing_shown self.now) (token_of token.now) }
     {
-        self.kept().is_done(token)
+        self.current_standing().is_done(token)
     }
 
     /// Whether the token is not of the session begun last, or not above the last token.
@@ -49,7 +49,7 @@ impl<D: Disk> Replica<D> {
         ensures { result ≡ is_old (standing_shown self.now).session
             (standing_shown self.now).token (token_of token.now) }
     {
-        self.kept().is_old(token)
+        self.current_standing().is_old(token)
     }
 
     /// Why what was listed at the position `since` may be another now. It takes no memory.
@@ -59,7 +59,7 @@ impl<D: Disk> Replica<D> {
         ensures refusals { IfErr result (λ e. (e ≡ ReplicaError.Touched)
             ⊎ (e ≡ ReplicaError.History HistoryError.BelowFloor)) }
     {
-        self.kept().check_untouched(path, since)
+        self.current_standing().check_untouched(path, since)
     }
 
     /// The payload of an event that `check` does not refuse, and its update, with all memory for
@@ -79,7 +79,7 @@ impl<D: Disk> Replica<D> {
             ⊎ (refusal_at (standing_shown self.now) (event_of event) ≡ Some (refusal_of e))) }
     {
         let payload = encode_event(alloc, &event)?;
-        let update = self.kept().prepare(alloc, event)?;
+        let update = self.current_standing().prepare(alloc, event)?;
         Ok((payload, update))
     }
 }

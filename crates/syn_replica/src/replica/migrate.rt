@@ -107,8 +107,8 @@ impl<D: Disk> Replica<D> {
         };
         match error {
             ReplicaError::OldVersion => match Journaled::migrate(alloc, disk) {
-                Ok(machine) => Ok(Replica {
-                    machine,
+                Ok(journaled) => Ok(Replica {
+                    journaled,
                     tried: None,
                     digests: Cell::new(None),
                 }),

@@ -13,7 +13,7 @@ impl<D: Disk> Replica<D> {
         ensures disk { result.0 ≡ disk_of self }
         ensures tried { option_map (λ spelled. spelled.items) result.1 ≡ tried_shown self }
     {
-        (self.machine.into_disk(), self.tried)
+        (self.journaled.into_disk(), self.tried)
     }
 
     /// Hands out how the event is spelled that was last sent to the disk, and keeps it no longer.

@@ -67,7 +67,7 @@ impl<D: Disk> Replica<D> {
             → ReadsDisk self.new number machine (ended refusal_of result) }
     {
         opening_laws();
-        match self.machine.reopen(alloc) {
+        match self.journaled.reopen(alloc) {
             Ok(()) => {
                 self.tried = None;
                 Ok(())

@@ -31,7 +31,7 @@ use syn_path::Path;
 use syn_tree::Node;
 use syn_wire::{encode_piece, part_length};
 
-/// How many bytes spell the record of a session that begins.
+/// How many bytes spell the event of a session that begins: its kind and its number.
 const BEGAN_LENGTH: usize = 9;
 
 /// A part of what is fetched.

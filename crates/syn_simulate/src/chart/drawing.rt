@@ -8,7 +8,7 @@ use crate::chart::messages::{came_text, ends_of, is_late, sent_text};
 use crate::chart::rows::{Row, rows_of};
 use crate::error::SimulateError;
 use crate::player::Player;
-use crate::turn::{Moment, Turn};
+use crate::turn::{Moment, PlayedStep};
 use crate::{Line, Script};
 use std::alloc::{AllocError, Global};
 use std::mem;
@@ -48,7 +48,7 @@ pub fn draw_chart<D: SimulatedDisk>(
 fn draw(
     alloc: Global,
     lines: &[Line],
-    turns: &[Turn],
+    turns: &[PlayedStep],
     heard: Heard,
     last: &Moment,
 ) -> Result<String, AllocError> {

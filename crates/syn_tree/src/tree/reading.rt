@@ -13,7 +13,7 @@ use crate::cursor::Cursor;
 use crate::measures::{find, found_spelled, spelled};
 use crate::pair::Pair;
 use syn_path::Path;
-use syn_placed::ranges::{count_children_at, part_below};
+use syn_placed::by_key::{count_children_at, part_below};
 
 impl Tree {
     /// What stands at the path; none where nothing does.

@@ -14,10 +14,10 @@ use super::{CoordinatorCall, CoordinatorHost};
 use crate::disk::SimulatedDisk;
 use crate::outcome::CoordinatorOutcome;
 use std::alloc::Global;
-use syn_coordinator::Coordinator;
+use syn_coordinator::{Coordinator, StartError};
 use syn_message::Reply;
 use syn_path::Side;
-use syn_session::{Sending, SessionError};
+use syn_session::Sending;
 
 impl<D: SimulatedDisk> CoordinatorHost<D> {
     ghost use Rattle.syn_world.specs.Coordinators.{IsCoordinator, archive_disk};
@@ -102,11 +102,11 @@ fn begin<D: SimulatedDisk>(
 }
 
 /// Whether a device call failed.
-fn is_device(error: SessionError) -> bool
-    ensures device { result ≡ true → error ≡ SessionError.Device }
-    ensures other { result ≡ false → error ≢ SessionError.Device }
+fn is_device(error: StartError) -> bool
+    ensures device { result ≡ true → error ≡ StartError.Device }
+    ensures other { result ≡ false → error ≢ StartError.Device }
 {
-    error == SessionError::Device
+    error == StartError::Device
 }
 
 /// The coordinator after a start that was made, and sent this. Where its device failed, it is

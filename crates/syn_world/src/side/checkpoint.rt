@@ -6,7 +6,7 @@ ghost use Rattle.syn_replica.specs.Replica.{IsHalted, disk_of, generation_shown}
 
 use super::{SideCall, SideHost, UpSide};
 use crate::disk::SimulatedDisk;
-use crate::outcome::Outcome;
+use crate::outcome::SideOutcome;
 use std::alloc::Global;
 use syn_refusal::Refusal;
 
@@ -42,8 +42,8 @@ impl<D: SimulatedDisk> UpSide<D> {
         let mut side = self;
         let position = side.replica.position();
         match side.replica.checkpoint(alloc) {
-            Ok(()) => side.settle(position, Outcome::Nothing),
-            Err(error) => side.settle(position, Outcome::Refused(error.refusal())),
+            Ok(()) => side.settle(position, SideOutcome::Nothing),
+            Err(error) => side.settle(position, SideOutcome::Refused(error.refusal())),
         }
     }
 
@@ -53,7 +53,7 @@ impl<D: SimulatedDisk> UpSide<D> {
     {
         SideCall {
             side: SideHost::Up(self),
-            outcome: Outcome::Refused(refusal),
+            outcome: SideOutcome::Refused(refusal),
         }
     }
 }

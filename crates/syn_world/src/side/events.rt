@@ -1,7 +1,7 @@
 //! A side takes a user's edit, or a request of a session: either may add an event.
 ghost use Rattle.std.specs.Prelude.{◌≡◌, ◌≢◌, ℕ};
 ghost use Rattle.syn_headline.specs.SideMachine.{SideMachine, UserEdits};
-ghost use Rattle.syn_world.specs.declared.outcome.Outcome.TheVariants as outcomes;
+ghost use Rattle.syn_world.specs.declared.outcome.SideOutcome.TheVariants as outcomes;
 ghost use Rattle.syn_message.specs.Requests.{request_of};
 ghost use Rattle.syn_model.specs.Event.{IsLawfulEvent};
 ghost use Rattle.syn_replica.specs.Edits.{event_by};
@@ -9,7 +9,7 @@ ghost use Rattle.syn_replica.specs.Replica.{IsHalted, disk_of, position_shown};
 
 use super::{SideAnswer, SideCall, UpSide};
 use crate::disk::SimulatedDisk;
-use crate::outcome::Outcome;
+use crate::outcome::SideOutcome;
 use std::alloc::Global;
 use syn_message::Request;
 use syn_model::are_bytes;
@@ -46,7 +46,7 @@ impl<D: SimulatedDisk> UpSide<D> {
         let position = side.replica.position();
         match side.replica.edit(alloc, user, edit) {
             Ok(_) => side.settle_added(position),
-            Err(error) => side.settle(position, Outcome::Refused(error.refusal())),
+            Err(error) => side.settle(position, SideOutcome::Refused(error.refusal())),
         }
     }
 
@@ -63,7 +63,7 @@ impl<D: SimulatedDisk> UpSide<D> {
             .answer(alloc, &mut side.replica, session, request);
         if side.replica.is_cut() {
             return SideAnswer {
-                call: side.settle(position, Outcome::Nothing),
+                call: side.settle(position, SideOutcome::Nothing),
                 reply: None,
             };
         }
@@ -81,7 +81,7 @@ impl<D: SimulatedDisk> UpSide<D> {
             → SettlesAdded self position result }
     {
         if position == self.replica.position() {
-            self.settle(position, Outcome::Nothing)
+            self.settle(position, SideOutcome::Nothing)
         } else {
             self.settle_added(position)
         }

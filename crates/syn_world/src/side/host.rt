@@ -2,7 +2,7 @@
 ghost use Rattle.std.specs.Prelude.{◌≡◌, ℕ, List};
 ghost use Rattle.syn_headline.specs.MachineSteps.{Checkpoint, Does, Fail, Open, Reopen, Stop};
 ghost use Rattle.syn_headline.specs.SideMachine.{SideMachine, UserEdits, side_kind};
-ghost use Rattle.syn_world.specs.declared.outcome.Outcome.TheVariants as outcomes;
+ghost use Rattle.syn_world.specs.declared.outcome.SideOutcome.TheVariants as outcomes;
 ghost use Rattle.syn_message.specs.Requests.{request_of};
 ghost use Rattle.syn_replica.specs.Keepings.{of_side};
 ghost use Rattle.syn_journal.specs.Meaning.{MayBeOf};
@@ -10,7 +10,7 @@ ghost use Rattle.syn_replica.specs.Edits.{event_by};
 
 use super::{SideAnswer, SideCall, SideHost};
 use crate::disk::SimulatedDisk;
-use crate::outcome::Outcome;
+use crate::outcome::SideOutcome;
 use std::alloc::Global;
 use syn_message::Request;
 use syn_tree::Edit;
@@ -132,7 +132,7 @@ impl<D: SimulatedDisk> SideHost<D> {
     {
         SideCall {
             side: self,
-            outcome: Outcome::Nothing,
+            outcome: SideOutcome::Nothing,
         }
     }
 }

@@ -7,7 +7,7 @@ ghost use Rattle.syn_replica.specs.Replica.{disk_of, tried_shown};
 
 use super::{DownSide, SideCall, SideHost, UpSide};
 use crate::disk::SimulatedDisk;
-use crate::outcome::Outcome;
+use crate::outcome::SideOutcome;
 use std::alloc::{AllocError, Global};
 use syn_agent::Agent;
 use syn_refusal::Refusal;
@@ -45,7 +45,7 @@ impl<D: SimulatedDisk> DownSide<D> {
                     position,
                     tried,
                 }),
-                outcome: Outcome::Refused(error.refusal()),
+                outcome: SideOutcome::Refused(error.refusal()),
             },
         }
     }
@@ -91,7 +91,7 @@ impl<D: SimulatedDisk> UpSide<D> {
         let position = side.replica.position();
         match side.replica.reopen(alloc) {
             Ok(()) => side.settle_opened(position, tried),
-            Err(error) => side.settle(position, Outcome::Refused(error.refusal())),
+            Err(error) => side.settle(position, SideOutcome::Refused(error.refusal())),
         }
     }
 
@@ -108,7 +108,7 @@ impl<D: SimulatedDisk> UpSide<D> {
                     position,
                     tried,
                 }),
-                outcome: Outcome::Nothing,
+                outcome: SideOutcome::Nothing,
             };
         }
         let outcome = gained(position, self.replica.position(), tried);
@@ -120,15 +120,15 @@ impl<D: SimulatedDisk> UpSide<D> {
 }
 
 /// What an opening gave: the event that was being written, where there are more events now.
-fn gained(before: u64, now: u64, tried: Option<Vec<u8>>) -> Outcome
+fn gained(before: u64, now: u64, tried: Option<Vec<u8>>) -> SideOutcome
     ensures { Gains result before now (option_map (λ spelled. spelled.items) tried) }
 {
     if before < now {
         match tried {
-            Some(spelled) => Outcome::Acknowledged(spelled),
-            None => Outcome::Nothing,
+            Some(spelled) => SideOutcome::Acknowledged(spelled),
+            None => SideOutcome::Nothing,
         }
     } else {
-        Outcome::Nothing
+        SideOutcome::Nothing
     }
 }

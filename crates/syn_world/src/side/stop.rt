@@ -10,7 +10,7 @@ ghost use Rattle.syn_replica.specs.Replica.{disk_of, tried_shown};
 
 use super::{DownSide, SideCall, SideHost, UpSide};
 use crate::disk::SimulatedDisk;
-use crate::outcome::Outcome;
+use crate::outcome::SideOutcome;
 use syn_disk::Arm;
 
 impl<D: SimulatedDisk> UpSide<D> {
@@ -85,13 +85,13 @@ impl<D: SimulatedDisk> UpSide<D> {
 
     /// The side after a call, before which so many events had been acknowledged. Where the machine
     /// stopped in it, nothing comes of the call.
-    pub(crate) fn settle(self, position: u64, outcome: Outcome) -> SideCall<D>
+    pub(crate) fn settle(self, position: u64, outcome: SideOutcome) -> SideCall<D>
         ensures { Settles self position outcome result }
     {
         if self.replica.is_cut() {
             SideCall {
                 side: SideHost::Down(self.stop_at(position)),
-                outcome: Outcome::Nothing,
+                outcome: SideOutcome::Nothing,
             }
         } else {
             SideCall {
@@ -108,13 +108,13 @@ impl<D: SimulatedDisk> UpSide<D> {
         if self.replica.is_cut() {
             return SideCall {
                 side: SideHost::Down(self.stop_at(position)),
-                outcome: Outcome::Nothing,
+                outcome: SideOutcome::Nothing,
             };
         }
         let mut side = self;
         let outcome = match side.replica.take_tried() {
-            Some(spelled) => Outcome::Acknowledged(spelled),
-            None => Outcome::Nothing,
+            Some(spelled) => SideOutcome::Acknowledged(spelled),
+            None => SideOutcome::Nothing,
         };
         SideCall {
             side: SideHost::Up(side),

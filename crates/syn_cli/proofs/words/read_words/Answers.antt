@@ -33,7 +33,7 @@ returns-clause-ok c =
     let words = map (λ word. word.now) c.args.words.now in
     let found =
     subcommand_is c.in-Ok.matches _ words c.in-Some.name.now
-    (rows_of (found_of c.in-Some.found.now)) c.in_ok-command.ensures c.in-Ok.ensures.matches
+    (rows_of (found_of c.in-Some.subcommand.now)) c.in_ok-command.ensures c.in-Ok.ensures.matches
     c.in-Some.ensures.name c.in-Some.ensures.rows in
     IfOk-weaker c.asked_of.result _ _ (λ told read. record {
       taken = no_fault _ _ c.in_ok-command.ensures c.in-Ok.ensures.kinds;
@@ -45,7 +45,7 @@ returns-clause-verbose c =
     let words = map (λ word. word.now) c.args.words.now in
     let found =
     subcommand_is c.in-Ok.matches _ words c.in-Some.name.now
-    (rows_of (found_of c.in-Some.found.now)) c.in_ok-command.ensures c.in-Ok.ensures.matches
+    (rows_of (found_of c.in-Some.subcommand.now)) c.in_ok-command.ensures c.in-Ok.ensures.matches
     c.in-Some.ensures.name c.in-Some.ensures.rows in
     let before = rows_are c.in-Ok.matches _ words c.in_ok-command.ensures c.in-Ok.ensures.matches in
     let P : Bool → Type 0 = λ flag. IsTrue flag ↔ AsksWhy words in
@@ -64,7 +64,7 @@ returns-clause-mistaken c =
     let words = map (λ word. word.now) c.args.words.now in
     let found =
     subcommand_is c.in-Ok.matches _ words c.in-Some.name.now
-    (rows_of (found_of c.in-Some.found.now)) c.in_ok-command.ensures c.in-Ok.ensures.matches
+    (rows_of (found_of c.in-Some.subcommand.now)) c.in_ok-command.ensures c.in-Ok.ensures.matches
     c.in-Some.ensures.name c.in-Some.ensures.rows in
     IfErr-weaker c.asked_of.result _ _ (λ error lacks _ command asks.
     nothing_read _ _ _ found (lack_nothing _ _ error lacks) command asks.reads)
@@ -81,7 +81,7 @@ returns-clause-wrong c =
     let words = map (λ word. word.now) c.args.words.now in
     let found =
     subcommand_is c.in-Ok.matches _ words c.in-Some.name.now
-    (rows_of (found_of c.in-Some.found.now)) c.in_ok-command.ensures c.in-Ok.ensures.matches
+    (rows_of (found_of c.in-Some.subcommand.now)) c.in_ok-command.ensures c.in-Ok.ensures.matches
     c.in-Some.ensures.name c.in-Some.ensures.rows in
     let taken = no_fault _ _ c.in_ok-command.ensures c.in-Ok.ensures.kinds in
     IfErr-weaker c.asked_of.result _ _ (λ error lacks. lack_wrong words _ _ error taken found lacks)

@@ -3,18 +3,20 @@ use Rattle.std.proofs.lemmas.Result.{err_from_is_err_and}
 use Rattle.syn_headline.specs.Network.{Left}
 use Rattle.syn_command.proofs.AskedLemmas.{ended_so, endless_so, none_asked, one_asked, refused_so}
 use Rattle.syn_command.specs.Listings.{exchanges_of}
+use Rattle.syn_user.specs.Sides.{side_line}
 use Rattle.syn_command.proofs.preview.scan_side.Goals as goal
 
 pub loop-init : goal.loop-init
 loop-init g c =
-    none_asked g.S.ListedSide.lists c.args.side.now c.in-Ok.scan c.in-Ok.ensures.found
-    c.in-Ok.ensures.out
+    let line = side_line g.R.Read.remaining g.W.Write.contents in
+    none_asked (line c.args.side.now) c.in-Ok.scan c.in-Ok.ensures.found c.in-Ok.ensures.out
 
 pub loop-preserved : goal.loop-preserved
 loop-preserved g c =
+    let line = side_line g.R.Read.remaining g.W.Write.contents in
     let path = c.in-Ok-Some.path in
     let out = rw c.in-Ok-Some.field-0-is at c.in-Ok-Some.ensures.out in
-    one_asked g.S.ListedSide.lists c.args.side.now c.loop.side c.list.new.self c.loop.scan
+    one_asked (line c.args.side.now) (line c.loop.side) (line c.list_side.new.side) c.loop.scan
     c.next.new.self c.take.new.self path _ c.loop.counter c.loop.invariant
     c.in-Ok-Some.ensures.found out c.in_ok-reply-in-Ok-Some.ensures.listed
     (λ side before waits found. (c.in_ok-take-in-Ok-Some.ensures.step side before 0 waits found).1)
@@ -22,25 +24,27 @@ loop-preserved g c =
 
 pub returns-in_err-reply-in-Ok-Some-clause-cause : goal.returns-in_err-reply-in-Ok-Some-clause-cause
 returns-in_err-reply-in-Ok-Some-clause-cause g c =
+    let line = side_line g.R.Read.remaining g.W.Write.contents in
     let p = err_from_is_err_and c.from_residual.result c.from_residual.ensures.1 in
-    rw (p.1, p.2) (inr (refused_so g.S.ListedSide.lists g.S.ListedSide.refuses c.args.side.now
-    c.loop.side c.list.new.self c.loop.scan c.loop.counter c.loop.invariant _ c.in-Ok-Some.path
+    rw (p.1, p.2) (inr (refused_so (line c.args.side.now) (line c.loop.side)
+    (line c.list_side.new.side) c.loop.scan c.loop.counter c.loop.invariant _ c.in-Ok-Some.path
     c.in_err-reply-in-Ok-Some.ensures.refused))
 
 pub returns-in_err-take-in-Ok-Some-clause-cause : goal.returns-in_err-take-in-Ok-Some-clause-cause
 returns-in_err-take-in-Ok-Some-clause-cause g c =
+    let line = side_line g.R.Read.remaining g.W.Write.contents in
     let p = err_from_is_err_and c.from_residual-in_err-take-in-Ok-Some.result
     c.from_residual-in_err-take-in-Ok-Some.ensures.1 in
     let out = rw c.in-Ok-Some.field-0-is at c.in-Ok-Some.ensures.out in
     let has = c.loop.invariant in
-    rw (p.1, p.2) (ended_so g.S.ListedSide.lists g.S.ListedSide.refuses c.args.side.now c.loop.side
-    c.list.new.self c.loop.scan c.loop.counter has _ c.next.new.self c.in-Ok-Some.path _
+    rw (p.1, p.2) (ended_so (line c.args.side.now) (line c.loop.side) (line c.list_side.new.side)
+    c.loop.scan c.loop.counter has _ c.next.new.self c.in-Ok-Some.path _
     c.in-Ok-Some.ensures.found out c.in_ok-reply-in-Ok-Some.ensures.listed
     (λ waits found. c.in_err-take-in-Ok-Some.ensures.step Left
     (exchanges_of Left has.asked.replies) 0 waits found))
 
 pub returns-clause-cause : goal.returns-clause-cause
 returns-clause-cause g c =
-    inr (endless_so g.S.ListedSide.lists g.S.ListedSide.refuses c.args.side.now c.loop.side
-    c.loop.side c.loop.scan c.loop.counter c.loop.invariant _ refl
-    (omega (arith, c.loop-test.false)) refl)
+    let line = side_line g.R.Read.remaining g.W.Write.contents in
+    inr (endless_so (line c.args.side.now) (line c.loop.side) (line c.loop.side) c.loop.scan
+    c.loop.counter c.loop.invariant _ refl (omega (arith, c.loop-test.false)) refl)

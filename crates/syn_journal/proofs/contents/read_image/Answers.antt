@@ -5,15 +5,15 @@ use Rattle.syn_journal.proofs.Openings.{if_ok_both, with_word, image_too_long}
 use Rattle.syn_journal.proofs.Calls.{then_reads}
 use Rattle.syn_journal.proofs.contents.read_image.Goals as goal
 
-pub returns-then-size-gt-MAX_IMAGE-clause-refusals :
-    goal.returns-then-size-gt-MAX_IMAGE-clause-refusals
+pub returns-then-size-gt-LONGEST_IMAGE-clause-refusals :
+    goal.returns-then-size-gt-LONGEST_IMAGE-clause-refusals
 unfolding image_length_at
-returns-then-size-gt-MAX_IMAGE-clause-refusals g c =
+returns-then-size-gt-LONGEST_IMAGE-clause-refusals g c =
     let seen = g.D.Disk.seen c.args.disk.now in
     let size : c.in_ok-size.field-0 ≡ image_length_at seen c.args.half =
     rw c.start.ensures at c.in_ok-size.ensures.value in
     image_too_long seen c.args.half
-    (subst (λ n. longest_image < n) size c.if-size-gt-MAX_IMAGE.true)
+    (subst (λ n. longest_image < n) size c.if-size-gt-LONGEST_IMAGE.true)
 
 pub returns-clause-image : goal.returns-clause-image
 returns-clause-image g c =
@@ -38,5 +38,6 @@ returns-clause-calls g c =
     (g.D.Disk.arms c.read_u32.new.disk)
     (g.D.Disk.arms c.read_bytes.new.disk) c.in_ok-size.ensures.calls c.read_bytes.ensures.calls
 
-pub returns-then-size-gt-MAX_IMAGE-clause-calls : goal.returns-then-size-gt-MAX_IMAGE-clause-calls
-returns-then-size-gt-MAX_IMAGE-clause-calls g c = c.in_ok-size.ensures.calls
+pub returns-then-size-gt-LONGEST_IMAGE-clause-calls :
+    goal.returns-then-size-gt-LONGEST_IMAGE-clause-calls
+returns-then-size-gt-LONGEST_IMAGE-clause-calls g c = c.in_ok-size.ensures.calls

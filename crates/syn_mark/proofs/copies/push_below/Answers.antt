@@ -37,7 +37,7 @@ returns g c =
     let names = c.in_ok-push_names.ensures
     ∙ ap (λ xs. xs ++ c.split_at.result.1.now) c.new-names.ensures.items in
     let path : c.in-Ok.path ≡ drop (length at) x.0 = c.in-Ok.ensures.ok.0 ∙ (names ∙ is.1) in
-    let content = c.in_ok-content.ensures ∙ c.standing.ensures in
+    let content = c.in_ok-content.ensures ∙ c.content.ensures in
     let entry : c.new.result ≡ (drop (length at) x.0, x.1) = c.new.ensures
     ∙ ap₂ (λ (p : Path) (d : Content). (p, d)) path content in
     c.in_ok-push.ensures.items ∙ ap (λ xs. c.args.copies.now.items ++ xs)

@@ -12,9 +12,9 @@ returns-then-eq c =
     let same : c.eq.result ≡ eq_by_cmp path_cmp left.0 right.0 = search rules in
     let path = same_path left.0 right.0 (sym same ∙ c.if-eq.true) in (
       (λ is. ap₂ (λ (p : Path) (d : Content). (p, d)) path
-          (sym c.standing.ensures ∙ (c.same_mark.ensures.0 is ∙ c.standing-then-eq.ensures))),
+          (sym c.content.ensures ∙ (c.same_mark.ensures.0 is ∙ c.content-then-eq.ensures))),
       (λ e. c.same_mark.ensures.1
-          (c.standing.ensures ∙ (ap (λ (x : Pair). x.1) e ∙ sym c.standing-then-eq.ensures))),
+          (c.content.ensures ∙ (ap (λ (x : Pair). x.1) e ∙ sym c.content-then-eq.ensures))),
     )
 
 pub returns-else-eq : goal.returns-else-eq

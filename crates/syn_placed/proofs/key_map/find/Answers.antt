@@ -7,11 +7,11 @@ use Rattle.syn_placed.proofs.key_map.find.Goals as goal
 pub returns-then-is_at-clause-there : goal.returns-then-is_at-clause-there
 returns-then-is_at-clause-there g c =
     let es = c.args.slots.now in
-    let n = c.place_of-place.result in
+    let n = c.index_of-place.result in
     let x = c.in-Some.slot.now in
     let l = ltb-true _ _ (sym c.in-Some.ensures.lookup.0) in
     record {
-      before = c.place_of-place.ensures;
+      before = c.index_of-place.ensures;
       within = l;
       same = λ d. ap (λ (y : _ × _). y.0)
           (get_or_default es n d x l ∙ sym c.in-Some.ensures.lookup.1)
@@ -20,17 +20,17 @@ returns-then-is_at-clause-there g c =
 
 pub returns-else-is_at-clause-absent : goal.returns-else-is_at-clause-absent
 returns-else-is_at-clause-absent g c = record {
-  before = c.place_of-place.ensures;
+  before = c.index_of-place.ensures;
   absent =
-      absent_at c.args.at.now c.place_of-place.result c.args.slots.now c.in-Some.slot.now
-      c.requires c.place_of-place.ensures (ltb-true _ _ (sym c.in-Some.ensures.lookup.0))
+      absent_at c.args.at.now c.index_of-place.result c.args.slots.now c.in-Some.slot.now
+      c.requires c.index_of-place.ensures (ltb-true _ _ (sym c.in-Some.ensures.lookup.0))
       c.in-Some.ensures.lookup.1 (sym c.is_at.ensures ∙ c.if-is_at.false);
 }
 
 pub returns-in_default-clause-absent : goal.returns-in_default-clause-absent
 returns-in_default-clause-absent g c = record {
-  before = c.place_of-place.ensures;
+  before = c.index_of-place.ensures;
   absent =
-      absent_past c.args.at.now c.place_of-place.result c.args.slots.now c.requires
-      c.place_of-place.ensures (ltb-false _ _ (sym c.in_default.ensures.lookup.0));
+      absent_past c.args.at.now c.index_of-place.result c.args.slots.now c.requires
+      c.index_of-place.ensures (ltb-false _ _ (sym c.in_default.ensures.lookup.0));
 }

@@ -21,8 +21,8 @@ loop-name-preserved c =
           c.mark_found.result c.loop-name.invariant.pushed c.mark_found.ensures;
     }
 
-pub returns : goal.returns
-returns c =
+pub returns-clause-marks : goal.returns-clause-marks
+returns-clause-marks c =
     let rest = c.loop-name.name-iterator.rest in
     let none : rest.items ≡ [] =
     nil_from_length rest.items (omega (arith, c.in-None.ensures.steps.0, rest.ok)) in

@@ -8,4 +8,4 @@ pub returns-in-Ok-plan-clause-items : goal.returns-in-Ok-plan-clause-items
 returns-in-Ok-plan-clause-items c =
     c.in-Ok-plan.ensures.ok
     ∙ ap₂ (λ (l r : Scan). plan (option_map which_of c.args.preference) l r c.args.archive.now)
-    c.in-Ok.ensures c.in-Ok-scan_tree.ensures
+    c.in-Ok.ensures.scan c.in-Ok-scan_tree.ensures.scan

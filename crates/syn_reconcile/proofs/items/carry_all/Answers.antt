@@ -17,6 +17,7 @@ use Rattle.syn_reconcile.proofs.RunLemmas.{after_more, apart_more}
 use Rattle.syn_reconcile.proofs.RunLemmas.{reached_then, started_marks, started_tree, step_marks}
 use Rattle.syn_reconcile.proofs.RunLemmas.{step_tree, stopped, stopped_between}
 use Rattle.syn_reconcile.proofs.SettleLemmas.{goes_further, stays}
+use Rattle.syn_reconcile.proofs.CarryLemmas.{with_settled}
 use Rattle.syn_reconcile.specs.Settlings.{GoesOn, after_all, after_settled, items_in, trees_of}
 use Rattle.syn_reconcile.specs.Strangers.{LeavesAlone}
 use Rattle.syn_reconcile.specs.UnderWay.{AreApart, IsStopped, ReachesMarks, ReachesTree}
@@ -56,13 +57,10 @@ loop-item-init g c =
 are : (g : Over) (c : After-carry g) → items_of c.args.items.items
     ≡ items_in c.loop-item.settled.items ++ item_of c.in-Some.item
     ∷ items_of c.next.new.self.rest.items
-are g c =
-    let made = c.loop-item.yielded in
-    let others = c.next.new.self.rest.items in
-    ap items_of (c.loop-item.invariant.whole ∙ ap (λ xs. made ++ xs) c.in-Some.ensures.steps.0)
-    ∙ (map-append item_of made (c.in-Some.item ∷ others)
-    ∙ ap (λ xs. xs ++ item_of c.in-Some.item ∷ items_of others)
-    (sym c.loop-item.invariant.items))
+are g c = with_settled c.args.items.items c.loop-item.yielded c.next.new.self.rest.items
+    c.loop-item.settled.items c.in-Some.item
+    (c.loop-item.invariant.whole
+    ∙ ap (λ xs. c.loop-item.yielded ++ xs) c.in-Some.ensures.steps.0) c.loop-item.invariant.items
 
 -- the item goes on from what the ones before it left
 goes_on : (g : Over) (c : In_ok-now g) (history : History) (kept : Kept) →

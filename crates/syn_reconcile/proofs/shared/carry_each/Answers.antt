@@ -10,6 +10,7 @@ use Rattle.syn_recon.specs.Items.{item_of, items_of}
 use Rattle.syn_reconcile.proofs.RunLemmas.{part_then}
 use Rattle.syn_reconcile.proofs.SharedLemmas.{alone_more, beside_more, cut_short, hold_more}
 use Rattle.syn_reconcile.proofs.SharedLemmas.{if_err_any, seen_first, step_seen, unwritten}
+use Rattle.syn_reconcile.proofs.CarryLemmas.{with_settled}
 use Rattle.syn_reconcile.specs.Settlings.{here, items_in}
 use Rattle.syn_reconcile.specs.Shared.{HasSeenMarks, HoldInTurn, IsBeside, LeaveAlone}
 use Rattle.syn_reconcile.specs.Shared.{after_all_seen}
@@ -23,7 +24,8 @@ use Rattle.syn_reconcile.proofs.shared.carry_each.Goals.{After-carry_one, In_ok-
 pub loop-item-init : goal.loop-item-init
 loop-item-init g c =
     let tree = g.F.EditedFolder.tree in
-    let found = here (tree c.args.folder.now) c.args.seen.now.tree (marks_shown c.args.archive.now)
+    let found = here (tree c.args.folder.now) c.args.side.now.seen.now.tree
+    (marks_shown c.args.archive.now)
     in
     let none = c.new-settled.ensures.items in
     record {
@@ -35,17 +37,18 @@ loop-item-init g c =
           (tree c.args.folder.now) c.args.archive.now) (sym none)
           (record { folder = refl; marks = record { kept = kept; keeps = keeps; are = refl } });
       holds = λ kept keeps.
-          subst (λ (xs : List Settled). HoldInTurn c.args.shared.now c.args.user
-          c.args.seen.now.position found xs c.args.pass.now c.args.pass.now) (sym none)
+          subst (λ (xs : List Settled). HoldInTurn c.args.side.now.shared.now c.args.side.now.user
+          c.args.side.now.seen.now.position found xs c.args.pass.now c.args.pass.now) (sym none)
           (shared.none c.args.pass.now);
       marks = λ kept keeps.
           unwritten g.met.A.Disk.only_now c.args.archive.now kept keeps _
-          (λ bytes has. seen_first c.args.shared.now c.args.user c.args.seen.now.position
+          (λ bytes has. seen_first c.args.side.now.shared.now c.args.side.now.user
+          c.args.side.now.seen.now.position
           (items_of c.args.items.items) found c.args.pass.now (pair_of c.args.archive.now)
           (marks_shown c.args.archive.now) bytes refl has);
       marked = refl;
       apart = subst (LeaveAlone (g.F.EditedFolder.strangers c.args.folder.now)
-          c.args.seen.now.tree) (sym none) tt;
+          c.args.side.now.seen.now.tree) (sym none) tt;
       strangers = refl;
     }
 
@@ -53,26 +56,24 @@ loop-item-init g c =
 are : (g : Over) (c : After-carry_one g) → items_of c.args.items.items
     ≡ items_in c.loop-item.settled.items ++ item_of c.in-Some.item
     ∷ items_of c.next.new.self.rest.items
-are g c =
-    let made = c.loop-item.yielded in
-    let others = c.next.new.self.rest.items in
-    ap items_of (c.loop-item.invariant.whole ∙ ap (λ xs. made ++ xs) c.in-Some.ensures.steps.0)
-    ∙ (map-append item_of made (c.in-Some.item ∷ others)
-    ∙ ap (λ xs. xs ++ item_of c.in-Some.item ∷ items_of others)
-    (sym c.loop-item.invariant.items))
+are g c = with_settled c.args.items.items c.loop-item.yielded c.next.new.self.rest.items
+    c.loop-item.settled.items c.in-Some.item
+    (c.loop-item.invariant.whole
+    ∙ ap (λ xs. c.loop-item.yielded ++ xs) c.in-Some.ensures.steps.0) c.loop-item.invariant.items
 
 -- what a stop leaves of the archive up to the end of the item
 any_mark : (g : Over) (c : After-carry_one g) (kept : Kept) → Keeps c.args.archive.now kept →
     LeavesOnly g.A.Disk.moment g.A.Disk.left_since (disk_of c.args.archive.now)
-    (disk_of c.carry_one.new.archive) (HasSeenMarks c.args.shared.now c.args.user
-    c.args.seen.now.position (pair_of c.args.archive.now) (items_of c.args.items.items)
-    (here (g.F.EditedFolder.tree c.args.folder.now) c.args.seen.now.tree
+    (disk_of c.carry_one.new.archive) (HasSeenMarks c.args.side.now.shared.now c.args.side.now.user
+    c.args.side.now.seen.now.position (pair_of c.args.archive.now) (items_of c.args.items.items)
+    (here (g.F.EditedFolder.tree c.args.folder.now) c.args.side.now.seen.now.tree
     (marks_shown c.args.archive.now)) c.args.pass.now)
 any_mark g c kept keeps =
     let tree = g.F.EditedFolder.tree in
-    let seen = c.args.seen.now in
+    let seen = c.args.side.now.seen.now in
     let on = c.loop-item.invariant.carried kept keeps in
-    step_seen c.args.shared.now c.args.user seen.position (items_of c.args.items.items)
+    step_seen c.args.side.now.shared.now c.args.side.now.user seen.position
+    (items_of c.args.items.items)
     (here (tree c.args.folder.now) seen.tree (marks_shown c.args.archive.now)) c.args.pass.now
     c.loop-item.settled.items c.in-Some.item (items_of c.next.new.self.rest.items) (are g c)
     (tree c.loop-item.folder) c.loop-item.archive on c.loop-item.pass c.carry_one.new.pass
@@ -84,17 +85,17 @@ any_mark g c kept keeps =
 -- the item goes on from what the ones before it left, and so do the holds of the lock
 goes_on : (g : Over) (c : In_ok-refused g) (kept : Kept) → Keeps c.args.archive.now kept →
     (IsBeside (after_all_seen (here (g.F.EditedFolder.tree c.args.folder.now)
-    c.args.seen.now.tree (marks_shown c.args.archive.now)) (c.loop-item.settled.items
+    c.args.side.now.seen.now.tree (marks_shown c.args.archive.now)) (c.loop-item.settled.items
     ++ record { item = c.in-Some.item; refused = c.in_ok-refused.refused } ∷ []))
     (g.F.EditedFolder.tree c.carry_one.new.folder) c.carry_one.new.archive)
-    × HoldInTurn c.args.shared.now c.args.user c.args.seen.now.position
-    (here (g.F.EditedFolder.tree c.args.folder.now) c.args.seen.now.tree
+    × HoldInTurn c.args.side.now.shared.now c.args.side.now.user c.args.side.now.seen.now.position
+    (here (g.F.EditedFolder.tree c.args.folder.now) c.args.side.now.seen.now.tree
     (marks_shown c.args.archive.now)) (c.loop-item.settled.items
     ++ record { item = c.in-Some.item; refused = c.in_ok-refused.refused } ∷ [])
     c.args.pass.now c.carry_one.new.pass
 goes_on g c kept keeps =
     let tree = g.F.EditedFolder.tree in
-    let seen = c.args.seen.now in
+    let seen = c.args.side.now.seen.now in
     let settled = c.loop-item.settled.items in
     let one : Settled = record { item = c.in-Some.item; refused = c.in_ok-refused.refused } in
     let found = here (tree c.args.folder.now) seen.tree (marks_shown c.args.archive.now) in
@@ -103,7 +104,8 @@ goes_on g c kept keeps =
           (tree c.carry_one.new.folder) c.carry_one.new.archive
           (c.in_ok-refused.ensures.carried on.marks.kept on.marks.keeps),
       hold_more found settled (tree c.loop-item.folder) c.loop-item.archive on
-          c.args.shared.now c.args.user seen.position one c.args.pass.now c.loop-item.pass
+          c.args.side.now.shared.now c.args.side.now.user seen.position one c.args.pass.now
+          c.loop-item.pass
           c.carry_one.new.pass (c.loop-item.invariant.holds kept keeps)
           c.in_ok-refused.ensures.holds,
     )
@@ -117,7 +119,7 @@ loop-item-preserved g c =
     let others = c.next.new.self.rest.items in
     let one : Settled = record { item = item; refused = c.in_ok-refused.refused } in
     let settled = c.loop-item.settled.items in
-    let seen = c.args.seen.now in
+    let seen = c.args.side.now.seen.now in
     let found = here (g.F.EditedFolder.tree c.args.folder.now) seen.tree
     (marks_shown c.args.archive.now) in
     let noted = c.in_ok-note.ensures in
@@ -135,7 +137,8 @@ loop-item-preserved g c =
           (g.F.EditedFolder.tree c.carry_one.new.folder) c.carry_one.new.archive) (sym noted)
           (goes_on g k.In_ok-refused kept keeps).0;
       holds = λ kept keeps.
-          subst (λ (xs : List Settled). HoldInTurn c.args.shared.now c.args.user seen.position found
+          subst (λ (xs : List Settled). HoldInTurn c.args.side.now.shared.now c.args.side.now.user
+          seen.position found
           xs c.args.pass.now c.carry_one.new.pass) (sym noted)
           (goes_on g k.In_ok-refused kept keeps).1;
       marks = any_mark g k.After-carry_one;
@@ -160,11 +163,12 @@ returns-clause-items g c =
 pub returns-in_err-refused-clause-stopped : goal.returns-in_err-refused-clause-stopped
 returns-in_err-refused-clause-stopped g c kept keeps =
     let tree = g.F.EditedFolder.tree in
-    let seen = c.args.seen.now in
+    let seen = c.args.side.now.seen.now in
     let on = c.loop-item.invariant.carried kept keeps in
     let mark = c.carry_one.ensures.any_mark on.marks.kept on.marks.keeps in
     if_err_any _ _
-    (cut_short c.args.shared.now c.args.user seen.position (items_of c.args.items.items)
+    (cut_short c.args.side.now.shared.now c.args.side.now.user seen.position
+    (items_of c.args.items.items)
     (here (tree c.args.folder.now) seen.tree (marks_shown c.args.archive.now)) c.args.pass.now
     c.loop-item.settled.items c.in-Some.item (items_of c.next.new.self.rest.items)
     (are g (goal.at.returns-in_err-refused-clause-stopped g c).After-carry_one)

@@ -33,25 +33,31 @@ returns-in-Ok-put_part-clause-carried g c kept right keeps = record {
 }
 
 -- what was put is the part that the folder has
-put : (g : Over) (c : In-Ok-put_part g) → HoldsFor c.args.shared.now c.args.user c.args.since
+put : (g : Over) (c : In-Ok-put_part g) → HoldsFor c.args.side.now.shared.now c.args.side.now.user
+    c.args.side.now.seen.now.position
     (g.F.EditedFolder.tree c.args.folder.now) (ToRight c.args.path.now) None c.args.pass.now
     c.put_part.new.pass
 put g c =
     shared.puts c.args.path.now c.in-Ok-put_part.field-0 c.args.pass.now c.put_part.new.pass
-    (subst (λ (t : Tree). HeldAfterWait c.args.shared.now c.args.pass.now c.put_part.new.pass
-    (Puts c.args.user c.args.path.now c.args.since t (Ok c.in-Ok-put_part.field-0)))
+    (subst (λ (t : Tree). HeldAfterWait c.args.side.now.shared.now c.args.pass.now
+    c.put_part.new.pass
+    (Puts c.args.side.now.user c.args.path.now c.args.side.now.seen.now.position t
+    (Ok c.in-Ok-put_part.field-0)))
     (c.in-Ok.ensures.part ∙ ap (λ (t : Tree). subtree t c.args.path.now) c.tree.ensures)
     c.in-Ok-put_part.ensures.held)
 
 -- and so is what was refused
-refused : (g : Over) (c : After-refusal-in-Err-put_part g) → HoldsFor c.args.shared.now
-    c.args.user c.args.since (g.F.EditedFolder.tree c.args.folder.now) (ToRight c.args.path.now)
+refused : (g : Over) (c : After-refusal-in-Err-put_part g) → HoldsFor c.args.side.now.shared.now
+    c.args.side.now.user c.args.side.now.seen.now.position (g.F.EditedFolder.tree c.args.folder.now)
+    (ToRight c.args.path.now)
     (Some c.refusal-in-Err-put_part.result) c.args.pass.now c.put_part.new.pass
 refused g c =
     shared.refuses c.args.path.now c.in-Err-put_part.error c.refusal-in-Err-put_part.result
     c.args.pass.now c.put_part.new.pass
-    (subst (λ (t : Tree). HeldAfterWait c.args.shared.now c.args.pass.now c.put_part.new.pass
-    (Puts c.args.user c.args.path.now c.args.since t (Err c.in-Err-put_part.error)))
+    (subst (λ (t : Tree). HeldAfterWait c.args.side.now.shared.now c.args.pass.now
+    c.put_part.new.pass
+    (Puts c.args.side.now.user c.args.path.now c.args.side.now.seen.now.position t
+    (Err c.in-Err-put_part.error)))
     (c.in-Ok.ensures.part ∙ ap (λ (t : Tree). subtree t c.args.path.now) c.tree.ensures)
     c.in-Err-put_part.ensures.held) (sym c.refusal-in-Err-put_part.ensures)
 
@@ -85,7 +91,7 @@ any_mark : (g : Over) (c : After-record g) (kept : Kept) → Keeps c.args.archiv
     Leaves c.args.archive.now c.record.new.archive (HasEitherHeld (pair_of c.args.archive.now)
     (marks_shown c.args.archive.now) (replace (marks_shown c.args.archive.now) c.args.path.now
     (mark (subtree (g.F.EditedFolder.tree c.args.folder.now) c.args.path.now)))
-    (HoldsFor c.args.shared.now c.args.user c.args.since
+    (HoldsFor c.args.side.now.shared.now c.args.side.now.user c.args.side.now.seen.now.position
     (g.F.EditedFolder.tree c.args.folder.now) (ToRight c.args.path.now) None c.args.pass.now
     c.put_part.new.pass))
 any_mark g c kept keeps =

@@ -1,6 +1,6 @@
 use Rattle.std.proofs.Common.{[], ap, refl, subst, sym, option_map}
 use Rattle.syn_session.specs.Sendings.{messages_of}
-use Rattle.syn_session.specs.declared.error.SessionError.TheVariants as session
+use Rattle.syn_coordinator.specs.declared.error.StartError.TheVariants as session
 use Rattle.syn_sync.proofs.RunLemmas.{calls_refused, starts_once}
 use Rattle.syn_sync.proofs.StartLemmas.{is_start_device, restarted, start_refused}
 use Rattle.syn_sync.proofs.driver.start.Goals as goal

@@ -2,7 +2,7 @@ use Rattle.std.proofs.Common.{◌∙◌, [], ap, refl, subst, sym, option_map}
 use Rattle.syn_archive.specs.declared.error.ArchiveError.TheVariants as archive
 use Rattle.syn_coordinator.proofs.DueLemmas.{device_or_other}
 use Rattle.syn_session.specs.Sendings.{messages_of}
-use Rattle.syn_session.specs.declared.error.SessionError.TheVariants as session
+use Rattle.syn_coordinator.specs.declared.error.StartError.TheVariants as session
 use Rattle.syn_sync.proofs.RunLemmas.{calls_one, calls_refused, calls_twice, stands_of}
 use Rattle.syn_sync.proofs.RunLemmas.{starts_after}
 use Rattle.syn_sync.proofs.StartLemmas.{after_refused, checkpoint_refused, is_start_device}

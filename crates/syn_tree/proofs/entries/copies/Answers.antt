@@ -12,7 +12,7 @@ loop-entry-preserved c =
     let list = c.args.list.now in
     c.in_ok-push.ensures.items
     ∙ (ap₂ (λ xs x. xs ++ x ∷ []) c.loop-entry.invariant (c.in_ok-new.ensures
-    ∙ ap₂ (λ p x. (p, x)) c.key.ensures (c.in_ok-content.ensures ∙ c.standing.ensures))
+    ∙ ap₂ (λ p x. (p, x)) c.key.ensures (c.in_ok-content.ensures ∙ c.content.ensures))
     ∙ sym (take_more list i c.entry-item.result c.loop-entry-test.true
     ∙ ap (λ x. take i list ++ x ∷ []) (sym c.entry-item.is)))
 

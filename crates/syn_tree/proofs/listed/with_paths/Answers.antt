@@ -16,5 +16,5 @@ loop-entry-preserved c =
           ∙ ap₂ (λ xs y. xs ++ y ∷ []) c.loop-entry.invariant.pushed
           (c.new.ensures ∙ ap₂ (λ (p : Path) (d : Content). (p, d))
           (c.in_ok-path.ensures ∙ c.key.ensures)
-          (c.in_ok-content.ensures ∙ c.standing.ensures));
+          (c.in_ok-content.ensures ∙ c.content.ensures));
     }

@@ -22,7 +22,7 @@ returns-in-Ok-go_by-clause-safe g c pair stores all =
       later = disks_in running;
       holds = holds_in c.go_by.new.self running had.is.there;
       run = safe_run g.D.Disk pair c.args.disks (disks_in running) stores
-          (map step_of c.args.steps.now) opens.model had.new c.headline.ensures.crash_safe
+          (map step_of c.args.steps.now) opens.model had.new c.crash_safety_laws.ensures.crash_safe
           opens.opened opens.stores_are had.runs counts
           (world_left running had.new had.is.is.machines);
     }
@@ -31,7 +31,7 @@ pub returns-in-Ok-go_by-clause-promised : goal.returns-in-Ok-go_by-clause-promis
 returns-in-Ok-go_by-clause-promised g c pair before all =
     let opens = c.in-Ok.ensures.opened pair before all in
     let had = c.in-Ok-go_by.ensures opens.model opens.is in
-    keeps_promise c.headline.ensures.crash_safe c.promise.ensures.kept pair before
+    keeps_promise c.crash_safety_laws.ensures.crash_safe c.promise.ensures.kept pair before
     (shown_on g.D.Disk.seen c.args.disks) opens.model had.new (map step_of c.args.steps.now)
     c.go_by.new.self opens.opened opens.stores_are had.runs had.is
 
@@ -53,8 +53,8 @@ returns-in-Err-go_by-clause-safe g c pair stores all =
         all = ended.all;
         new = ended.new;
         run = safe_run g.D.Disk pair c.args.disks c.into_disks.result stores ended.made opens.model
-            ended.new c.headline.ensures.crash_safe opens.opened opens.stores_are ended.runs counts
-            (c.into_disks.ensures.left ended.new ended.has);
+            ended.new c.crash_safety_laws.ensures.crash_safe opens.opened opens.stores_are
+            ended.runs counts (c.into_disks.ensures.left ended.new ended.has);
       };
     })
 

@@ -77,7 +77,7 @@ returns-clause-refusals g c =
 
 pub returns-clause-machine : goal.returns-clause-machine
 returns-clause-machine g c =
-    compacts c.args.self.now (record { machine = c.checkpoint.new.self }) _
+    compacts c.args.self.now (record { journaled = c.checkpoint.new.self }) _
     c.checkpoint.ensures.journal c.checkpoint.ensures.state
     (λ kept stands. seen_is_left g.D.Disk.seen g.D.Disk.may_leave g.D.Disk.moment
     g.D.Disk.left_since g.met.D.Disk.seen_may_stay g.met.D.Disk.counts_now _ _
@@ -85,6 +85,7 @@ returns-clause-machine g c =
 
 pub returns-clause-world : goal.returns-clause-world
 returns-clause-world g c number machine is =
-    compacts_image c.args.self.now (record { machine = c.checkpoint.new.self }) number machine is _
+    compacts_image c.args.self.now (record { journaled = c.checkpoint.new.self }) number machine
+    is _
     (returns-clause-machine g c)
     (c.checkpoint.ensures.machine number machine (as_machine c.args.self.now number machine is))

@@ -13,25 +13,25 @@ use Rattle.syn_archive.proofs.archive.Archive.format.Goals as goal
 
 pub returns-clause-formatted : goal.returns-clause-formatted
 returns-clause-formatted g c =
-    let machine = c.in_ok-machine.machine in
+    let machine = c.in_ok-journaled.journaled in
     let pair = c.args.pair in
     let shown = ap (λ (m : Tree). record { marks = m; last_session = 0 }) c.in-Ok.ensures in
     let image = archive_spelling pair new_archive in
     record {
-      remembers = ap agreed_archive c.in_ok-machine.ensures.state ∙ shown;
+      remembers = ap agreed_archive c.in_ok-journaled.ensures.state ∙ shown;
       value = image_alone image;
       runs = subst (λ i. journal.Stands machine.journal (image_alone i))
-          (ap (archive_spelling pair) shown) c.in_ok-machine.ensures.formatted;
+          (ap (archive_spelling pair) shown) c.in_ok-journaled.ensures.formatted;
       means = subst (λ n. ArchiveStandsFor n image [] new_archive)
-          (sym (ap (λ a. a.pair) c.in_ok-machine.ensures.state))
+          (sym (ap (λ a. a.pair) c.in_ok-journaled.ensures.state))
           (c.archive_laws.ensures.formatted pair);
     }
 
-pub returns-in_err-machine-clause-refusals : goal.returns-in_err-machine-clause-refusals
-returns-in_err-machine-clause-refusals g c =
+pub returns-in_err-journaled-clause-refusals : goal.returns-in_err-journaled-clause-refusals
+returns-in_err-journaled-clause-refusals g c =
     let shown = ap (λ (m : Tree). record { marks = m; last_session = 0 }) c.in-Ok.ensures in
-    let h = c.in_err-machine.ensures.refusals in
-    if_err_of_exit c.from_residual.result c.in_err-machine.field-0.0
+    let h = c.in_err-journaled.ensures.refusals in
+    if_err_of_exit c.from_residual.result c.in_err-journaled.field-0.0
     (λ refused. IsOfFormat refused.0) c.from_residual.ensures.1
     (subst IsOfFormat (sym h.1) (format_refusal h.0 h.2 (λ full. image_fits c.args.pair
     (archive_spelling c.args.pair (record { marks = c.in-Ok.marks; last_session = 0 }))

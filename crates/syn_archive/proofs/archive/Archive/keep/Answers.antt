@@ -71,7 +71,7 @@ returns-in_err-payload-clause-world g c number machine is =
 pub returns-clause-acknowledged : goal.returns-clause-acknowledged
 returns-clause-acknowledged g c kept stands =
     on_ok_of refusal_of c.write.result _ (λ none. written_stands c.args.self.now
-    (record { machine = c.write.new.self }) c.deref.result.now _ _
+    (record { journaled = c.write.new.self }) c.deref.result.now _ _
     c.write.ensures.journal (c.deref.ensures.value ∙ c.in_ok-payload.ensures.payload)
     c.in_ok-payload.field-0.update none
     (ok_part refusal_of c.write.result _ _ c.write.ensures.state none) c.in_ok-payload.ensures.keeps
@@ -80,7 +80,7 @@ returns-clause-acknowledged g c kept stands =
 pub returns-clause-session : goal.returns-clause-session
 returns-clause-session g c =
     on_ok_of refusal_of c.write.result _ (λ none. written_shown c.args.self.now
-    (record { machine = c.write.new.self }) c.deref.result.now _ _
+    (record { journaled = c.write.new.self }) c.deref.result.now _ _
     c.write.ensures.journal (c.deref.ensures.value ∙ c.in_ok-payload.ensures.payload)
     c.in_ok-payload.field-0.update none
     (ok_part refusal_of c.write.result _ _ c.write.ensures.state none)
@@ -88,7 +88,7 @@ returns-clause-session g c =
 
 pub returns-clause-any_moment : goal.returns-clause-any_moment
 returns-clause-any_moment g c kept stands =
-    written_moment c.args.self.now (record { machine = c.write.new.self }) c.deref.result.now _ _
+    written_moment c.args.self.now (record { journaled = c.write.new.self }) c.deref.result.now _ _
     c.write.ensures.journal
     (c.deref.ensures.value ∙ c.in_ok-payload.ensures.payload) c.archive_laws.ensures.record
     c.layout_laws.ensures.left _ c.in_ok-payload.ensures.keeps kept stands
@@ -102,7 +102,7 @@ returns-clause-refused g c why running some =
 pub returns-clause-cause : goal.returns-clause-cause
 returns-clause-cause g c =
     cause_of_write c.write.result _ c.write.ensures.journal.refusals
-    (has_room c.args.self.now (record { machine = c.write.new.self }) c.deref.result.now _ _
+    (has_room c.args.self.now (record { journaled = c.write.new.self }) c.deref.result.now _ _
     c.write.ensures.journal (c.deref.ensures.value ∙ c.in_ok-payload.ensures.payload)
     c.in_ok-payload.ensures.fits)
 
@@ -114,12 +114,12 @@ returns-clause-machine g c =
     let old = c.args.self.now in
     let what = kept_in (session_shown old) c.args.what in
     let spelled = c.deref.ensures.value ∙ c.in_ok-payload.ensures.payload in
-    writes old (record { machine = c.write.new.self }) c.deref.result.now what _
+    writes old (record { journaled = c.write.new.self }) c.deref.result.now what _
     c.write.ensures.journal spelled
     (λ kept stands. seen_is_left g.D.Disk.seen g.D.Disk.may_leave g.D.Disk.moment
     g.D.Disk.left_since g.met.D.Disk.seen_may_stay g.met.D.Disk.counts_now _ _
     (KeepsBeforeOrAfter old kept what) (returns-clause-any_moment g c kept stands))
-    (λ none. written_record old (record { machine = c.write.new.self }) c.deref.result.now what _
+    (λ none. written_record old (record { journaled = c.write.new.self }) c.deref.result.now what _
     c.write.ensures.journal spelled c.in_ok-payload.field-0.update none
     (ok_part refusal_of c.write.result _ _ c.write.ensures.state none)
     c.in_ok-payload.ensures.keeps)
@@ -130,7 +130,7 @@ returns-clause-world g c number machine is =
     let old = c.args.self.now in
     let what = kept_in (session_shown old) c.args.what in
     let keeps = c.in_ok-payload.ensures.keeps in
-    keeps_record old (record { machine = c.write.new.self }) number machine is what
+    keeps_record old (record { journaled = c.write.new.self }) number machine is what
     (not_idle number (shown old) machine.value (session_shown old) c.args.what is.remembers
     c.requires) _ (returns-clause-machine g c)
     (c.write.ensures.machine number machine what (as_machine old number machine is) (record {

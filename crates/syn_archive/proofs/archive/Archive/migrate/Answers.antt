@@ -30,14 +30,14 @@ pub returns-in-Ok-migrate-clause-migrated : goal.returns-in-Ok-migrate-clause-mi
 returns-in-Ok-migrate-clause-migrated g c =
     let laws = c.archive_laws.ensures in
     migrated_each laws.sound laws.image laws.image_fits _ (g.D.Disk.seen c.args.disk)
-    (subst (λ bytes. Migrated (λ a. a.pair) GivesOld image_of bytes c.in-Ok-migrate.machine)
+    (subst (λ bytes. Migrated (λ a. a.pair) GivesOld image_of bytes c.in-Ok-migrate.journaled)
     c.in-Err.ensures.device.untouched.same c.in-Ok-migrate.ensures.migrated)
 
 pub returns-in-Ok-migrate-clause-image : goal.returns-in-Ok-migrate-clause-image
 returns-in-Ok-migrate-clause-image g c =
     let laws = c.archive_laws.ensures in
     migrated_image laws.sound laws.image laws.image_fits _ (g.D.Disk.seen c.args.disk)
-    (subst (λ bytes. Migrated (λ a. a.pair) GivesOld image_of bytes c.in-Ok-migrate.machine)
+    (subst (λ bytes. Migrated (λ a. a.pair) GivesOld image_of bytes c.in-Ok-migrate.journaled)
     c.in-Err.ensures.device.untouched.same c.in-Ok-migrate.ensures.migrated)
 
 pub returns-in-Ok-migrate-clause-any_moment : goal.returns-in-Ok-migrate-clause-any_moment

@@ -40,7 +40,7 @@ returns-clause-before_or_after g c kept what (inr d) =
 
 pub returns-clause-refusals : goal.returns-clause-refusals
 returns-clause-refusals g c =
-    IfErr-weaker c.reopen.result _ _ (λ e refused. reopen_refusal e c.args.self.now.machine.state
+    IfErr-weaker c.reopen.result _ _ (λ e refused. reopen_refusal e c.args.self.now.journaled.state
     (g.D.Disk.seen (disk_of c.args.self.now)) refused) c.reopen.ensures.refused
 
 pub returns-clause-unchanged : goal.returns-clause-unchanged
@@ -69,5 +69,5 @@ returns-clause-machine g c =
 pub returns-clause-world : goal.returns-clause-world
 returns-clause-world g c number machine is =
     let old = c.args.self.now in
-    reads_disk old (record { machine = c.reopen.new.self }) number machine is _
+    reads_disk old (record { journaled = c.reopen.new.self }) number machine is _
     (c.reopen.ensures.machine number machine (as_machine old number machine is))

@@ -15,7 +15,7 @@ use Rattle.syn_session.specs.declared.session.Asks.{Asks}
 use Rattle.syn_coordinator.specs.Coordinators.{Stands}
 use Rattle.syn_coordinator.specs.Machines.{IsMachine}
 use Rattle.syn_coordinator.specs.Recorders.{written}
-use Rattle.syn_coordinator.specs.declared.ended.Ended.{Ended}
+use Rattle.syn_coordinator.specs.declared.session_end.SessionEnd.{SessionEnd}
 use Rattle.syn_coordinator.specs.declared.recorder.Recorder.{Recorder}
 use Rattle.syn_coordinator.specs.inner.Taking.{TakesSo}
 use Rattle.syn_archive.specs.Archive.{IsHalted}
@@ -88,7 +88,7 @@ module _ (g : _) (c : After-take-taken g) (pair : ℕ) (machine : CoordinatorMac
   abbrev taken : Exchange
   taken = exchange_of side c.args.number asked (reply_of c.args.reply)
 
-  abbrev comes_to : Result Asks Ended → Type 0
+  abbrev comes_to : Result Asks SessionEnd → Type 0
   comes_to = TakesSo c.take-taken.new.self.archive c.take-taken.new.self.tried pair
       machine.journal expected.0 taken c.take-taken.new.session (written c.take-taken.new.self)
 

@@ -10,9 +10,9 @@ pub returns-in-Ok-clause-opens : goal.returns-in-Ok-clause-opens
 returns-in-Ok-clause-opens g c machine rests =
     let fits : c.args.pair < 2 ^ 64 = omega arith in
     open_ok g.D.Disk.arms g.D.Disk.may_leave c.args.pair c.args.disk c.args.tried machine rests
-    c.in-Ok.archive c.new-coordinator.result (option_map kept_of c.found-kept.result)
+    c.in-Ok.archive c.new-coordinator.result (option_map kept_of c.recovered_record-kept.result)
     (c.in-Ok.ensures.world c.args.pair machine.journal refl fits rests.rests)
-    c.found-kept.ensures c.new-coordinator.ensures.stands
+    c.recovered_record-kept.ensures c.new-coordinator.ensures.stands
 
 pub returns-in-Ok-clause-failures : goal.returns-in-Ok-clause-failures
 returns-in-Ok-clause-failures g c =

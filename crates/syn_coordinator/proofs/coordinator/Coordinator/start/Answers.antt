@@ -11,9 +11,9 @@ use Rattle.syn_coordinator.specs.Recorders.{written}
 use Rattle.syn_coordinator.specs.declared.recorder.Recorder.{Recorder}
 use Rattle.syn_disk.specs.Arms.{is_stopped}
 use Rattle.syn_coordinator.specs.Coordinators.{refusals_of}
-use Rattle.syn_session.specs.Refusals.{CountsFailures, refusal_of}
+use Rattle.syn_coordinator.specs.Refusals.{CountsFailures, refusal_of}
 use Rattle.syn_session.specs.Sendings.{messages_of}
-use Rattle.syn_session.specs.declared.error.SessionError.TheVariants.{Device}
+use Rattle.syn_coordinator.specs.declared.error.StartError.TheVariants.{Device}
 use Rattle.syn_model.specs.Archive as model
 use Rattle.syn_session.specs.Sessions.{IsSession, begin_messages, begun}
 use Rattle.syn_coordinator.specs.Steps.{KeepsSo}
@@ -123,8 +123,7 @@ returns-in_err-session-clause-refused g c pair machine stands =
     c.from_residual-in_err-session.ensures.1
     (λ other. (
       then_memory (refusals_of pair machine)
-          (c.in_ok-check_start.ensures.refused pair machine stands)
-          ∙ ap (λ e. Some (refusal_of e)) (sym c.in_err-session.ensures.memory),
+          (c.in_ok-check_start.ensures.refused pair machine stands),
       stands,
     ))
 

@@ -18,8 +18,7 @@ returns-in_err-progress-clause-step g c =
     let self = c.args.self.now in
     let session = c.args.session.now in
     subst (λ r. TakesSo self.archive self.tried pair journal running taken session (written self) r)
-    (sym (exit_for_memory c.from_residual.result _ c.from_residual.ensures.1
-    c.in_err-progress.ensures.memory))
+    (sym (exit_for_memory c.from_residual.result c.from_residual.ensures.1))
     (no_plan self pair journal running taken session is fault heard scanned nothing quiet)
 
 pub returns-clause-step : goal.returns-clause-step
@@ -27,11 +26,11 @@ returns-clause-step g c =
     λ pair journal running taken is quiet fault heard scanned nothing.
     let self = c.args.self.now in
     let session = c.args.session.now in
-    let left = c.found-left.result.now in
-    let right = c.found-right.result.now in
+    let left = c.scan-left.result.now in
+    let right = c.scan-right.result.now in
     let made = c.in_ok-progress.progress in
-    let same_left = c.found-left.ensures.found in
-    let same_right = c.found-right.ensures.found in
+    let same_left = c.scan-left.ensures.found in
+    let same_right = c.scan-right.ensures.found in
     let marks = c.tree-archive.ensures ∙ ap (λ (a : Archive). a.marks) is.remembers in
     let walked = c.walk-asks.ensures.step pair journal taken (running.taken ++ taken ∷ [])
     (first_reached (plan_in made left right)) is quiet
@@ -44,13 +43,13 @@ returns-clause-step g c =
     right same_left same_right c.in_ok-progress.ensures.begun
     (c.in_ok-progress.ensures.items ∙ ap₂ (λ r m. plan r (scan_of left) (scan_of right) m)
     (sym heard.heard_is.preference) marks)
-    (c.found-left.ensures.scan Left (running.taken ++ taken ∷ []) (scanned.whole Left)
+    (c.scan-left.ensures.scan Left (running.taken ++ taken ∷ []) (scanned.whole Left)
     (scanned.found Left))
-    (c.found-right.ensures.scan Right (running.taken ++ taken ∷ []) (scanned.whole Right)
+    (c.scan-right.ensures.scan Right (running.taken ++ taken ∷ []) (scanned.whole Right)
     (scanned.found Right))
     c.walk-asks.new.self c.walk-asks.new.progress c.walk-asks.result walked)
 
 pub returns-in_err-progress-clause-breaks : goal.returns-in_err-progress-clause-breaks
 returns-in_err-progress-clause-breaks g c =
-    match_of_memory c.from_residual.result _ _ _ c.from_residual.ensures.1
-    c.in_err-progress.ensures.memory (none_breaks c.args.self.now)
+    match_of_memory c.from_residual.result _ _ c.from_residual.ensures.1
+    (none_breaks c.args.self.now)

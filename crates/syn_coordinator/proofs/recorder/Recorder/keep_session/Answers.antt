@@ -8,8 +8,8 @@ use Rattle.syn_coordinator.specs.Steps.{KeepsSo}
 use Rattle.syn_coordinator.specs.Machines.{IsMachine}
 use Rattle.syn_coordinator.proofs.DueLemmas.{stays as stays_so, was_broken, was_kept}
 use Rattle.syn_model.specs.Archive.{Session}
-use Rattle.syn_session.specs.Refusals.{CountsFailures}
-use Rattle.syn_session.specs.declared.error.SessionError.TheVariants as error
+use Rattle.syn_coordinator.specs.Refusals.{CountsFailures}
+use Rattle.syn_coordinator.specs.declared.error.StartError.TheVariants as error
 use Rattle.syn_archive.specs.Archive.{disk_of, session_shown}
 use Rattle.syn_archive.proofs.EndLemmas.{same_error}
 use Rattle.syn_archive.specs.declared.error.ArchiveError.TheVariants as archive_error

@@ -46,27 +46,29 @@ returns-in_err-pass_conflict-in-Conflict-clause-step g c pair journal taken all 
     (c.in_err-pass_conflict-in-Conflict.ensures.step pair journal left right taken before doing.0
     is quiet at.course_is doing.1 doing.2)
 
-pub returns-in_ok-settle-in-Mark-clause-step : goal.returns-in_ok-settle-in-Mark-clause-step
-returns-in_ok-settle-in-Mark-clause-step g c pair journal taken all before is quiet at =
+pub returns-in_ok-record_item-in-Mark-clause-step :
+    goal.returns-in_ok-record_item-in-Mark-clause-step
+returns-in_ok-record_item-in-Mark-clause-step g c pair journal taken all before is quiet at =
     let left = c.args.left.now in
     let right = c.args.right.now in
     let progress = c.args.progress.now in
     let doing = subst (IsDoing progress left right) c.in-Mark.is
     (c.in_ok-doing.ensures.ok before at.course_is) in
-    on_past pair taken journal before left right c.args.self.now c.settle.new.self progress
-    c.settle.new.progress all at
-    (c.in_ok-settle-in-Mark.ensures.step pair journal left right taken before doing.0 is quiet
+    on_past pair taken journal before left right c.args.self.now c.record_item.new.self progress
+    c.record_item.new.progress all at
+    (c.in_ok-record_item-in-Mark.ensures.step pair journal left right taken before doing.0 is quiet
     at.course_is doing.1 (doing.3 taken))
 
-pub returns-in_err-settle-in-Mark-clause-step : goal.returns-in_err-settle-in-Mark-clause-step
-returns-in_err-settle-in-Mark-clause-step g c pair journal taken all before is quiet at =
+pub returns-in_err-record_item-in-Mark-clause-step :
+    goal.returns-in_err-record_item-in-Mark-clause-step
+returns-in_err-record_item-in-Mark-clause-step g c pair journal taken all before is quiet at =
     let left = c.args.left.now in
     let right = c.args.right.now in
     let doing = subst (IsDoing c.args.progress.now left right) c.in-Mark.is
     (c.in_ok-doing.ensures.ok before at.course_is) in
-    match_of_exit c.from_residual-in_err-settle-in-Mark.result _ _ _
-    c.from_residual-in_err-settle-in-Mark.ensures.1
-    (c.in_err-settle-in-Mark.ensures.step pair journal left right taken before doing.0 is quiet
+    match_of_exit c.from_residual-in_err-record_item-in-Mark.result _ _ _
+    c.from_residual-in_err-record_item-in-Mark.ensures.1
+    (c.in_err-record_item-in-Mark.ensures.step pair journal left right taken before doing.0 is quiet
     at.course_is doing.1 (doing.3 taken))
 
 pub returns-in-Carry-clause-step : goal.returns-in-Carry-clause-step
@@ -87,8 +89,7 @@ returns-in-Carry-clause-step g c pair journal taken all before is quiet at =
 
 pub returns-in_err-doing-clause-step : goal.returns-in_err-doing-clause-step
 returns-in_err-doing-clause-step g c pair journal taken all before is quiet at =
-    match_of_memory c.from_residual.result _ _ _ c.from_residual.ensures.1
-    c.in_err-doing.ensures.memory
+    match_of_memory c.from_residual.result _ _ c.from_residual.ensures.1
     (ends_here pair taken journal before c.args.left.now c.args.right.now c.args.self.now is quiet
     c.args.progress.now c.args.progress.now at.course_is refl _ refl)
 
@@ -110,5 +111,5 @@ returns-in_err-pass_conflict-in-Conflict-clause-breaks g c =
 
 pub returns-in_err-doing-clause-breaks : goal.returns-in_err-doing-clause-breaks
 returns-in_err-doing-clause-breaks g c =
-    match_of_memory c.from_residual.result _ _ _ c.from_residual.ensures.1
-    c.in_err-doing.ensures.memory (none_breaks c.args.self.now)
+    match_of_memory c.from_residual.result _ _ c.from_residual.ensures.1
+    (none_breaks c.args.self.now)

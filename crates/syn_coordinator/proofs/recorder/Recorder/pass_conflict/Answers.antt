@@ -32,14 +32,12 @@ returns g c = record {
 pub returns-in_err-pass_conflict : goal.returns-in_err-pass_conflict
 returns-in_err-pass_conflict g c = record {
   step = λ pair journal left right taken before planned is quiet course_is at conflict.
-      match_of_memory c.from_residual.result _ _ _ c.from_residual.ensures.1
-      c.in_err-pass_conflict.ensures.memory (
+      match_of_memory c.from_residual.result _ _ c.from_residual.ensures.1 (
         [],
         sym (append-nil _),
         ends_for_memory c.args.self.now.archive c.args.self.now.tried pair
             taken journal before c.pass_conflict.new.self left right is quiet.0 quiet.1
             (c.in_err-pass_conflict.ensures.stays left right before course_is),
       );
-  memory = memory_alone c.from_residual.result _ c.from_residual.ensures.1
-      c.in_err-pass_conflict.ensures.memory;
+  memory = memory_alone c.from_residual.result c.from_residual.ensures.1;
 }

@@ -22,11 +22,11 @@ returns-clause-step g c =
     let side = which_of c.args.from in
     let request = request_of c.args.request.now in
     let reply = reply_of c.args.reply in
-    let left = c.found-left.result.now in
-    let right = c.found-right.result.now in
+    let left = c.scan-left.result.now in
+    let right = c.scan-right.result.now in
     let was = c.in-Some.is in
-    let same_left = c.found-left.ensures.found in
-    let same_right = c.found-right.ensures.found in
+    let same_left = c.scan-left.ensures.found in
+    let same_right = c.scan-right.ensures.found in
     carries_so pair journal before c.args.session.now running side number request reply session
     answers c.in-Some.progress was left right same_left same_right c.transfer_laws.ensures
     c.args.self.now c.on_carried.new.self nothing c.on_carried.new.progress c.on_carried.result

@@ -3,6 +3,8 @@ use Rattle.syn_journal.proofs.journaled.Journaled.checkpoint.Goals as goal
 
 pub returns-clause-machine : goal.returns-clause-machine
 returns-clause-machine g c number machine is =
-    images (g.S.State.kept_as number) c.args.self.now c.compact.new.self g.S.State.spelling machine
-    is (c.keeping_laws.ensures.written number) g.met.D.Disk.counts_now _ c.compact.ensures.journal
-    c.compact.ensures.state
+    images (g.S.State.kept_as number) c.args.self.now c.checkpoint_journal.new.self
+    g.S.State.spelling machine
+    is (c.keeping_laws.ensures.written number) g.met.D.Disk.counts_now _
+    c.checkpoint_journal.ensures.journal
+    c.checkpoint_journal.ensures.state

@@ -50,7 +50,7 @@ returns-then-not-is_directory-clause-none c marks =
     not_below_file c.first-item.result (others c.as_slice.result.now)
     (sym c.is_root.ensures ∙ c.if-not-is_root.false)
     (sym c.is_empty.ensures ∙ c.if-is_empty.false)
-    (ap (λ x. is_directory_content (Some x)) (sym c.standing.ensures)
+    (ap (λ x. is_directory_content (Some x)) (sym c.content.ensures)
     ∙ (sym c.is_directory.ensures ∙ c.if-not-is_directory.true)) (subst AreMarks
     (whole (goal.at.returns-then-not-is_directory-clause-none c).After-is_root) marks)
 
@@ -60,7 +60,7 @@ below_root c =
     whole (goal.at.After-are_rising c).After-is_root
     ∙ ap (λ e. e ∷ others c.as_slice.result.now) (rooted_directory c.first-item.result
     (sym c.is_root.ensures ∙ c.if-not-is_root.false)
-    (ap (λ x. is_directory_content (Some x)) (sym c.standing.ensures)
+    (ap (λ x. is_directory_content (Some x)) (sym c.content.ensures)
     ∙ (sym c.is_directory.ensures ∙ c.if-not-is_directory.false)))
 
 pub returns-then-not-are_rising-clause-none : goal.returns-then-not-are_rising-clause-none

@@ -6,7 +6,7 @@ use Rattle.syn_mark.proofs.tree.MarkTree.get.Goals as goal
 
 pub returns-in-Some : goal.returns-in-Some
 returns-in-Some c =
-    ap (λ x. Some x) c.standing.ensures ∙ (c.in-Some.ensures
+    ap (λ x. Some x) c.content.ensures ∙ (c.in-Some.ensures
     ∙ (ap₂ (λ q es. find path_cmp q es) c.names.ensures.names c.deref.ensures.value
     ∙ (sym (get_of c.self.inside.list.items c.args.path.now c.self.invariant)
     ∙ ap (λ t. get t c.args.path.now) c.self.view_is)))

@@ -9,7 +9,7 @@ returns-in-Some c =
     ap (λ t. get t root) (sym c.self.view_is)
     ∙ (get_of c.self.inside.list.items root c.self.invariant
     ∙ (ap (find path_cmp root) (sym c.deref.ensures.value)
-    ∙ (sym c.in-Some.ensures ∙ ap (λ x. Some x) (sym c.standing.ensures))))
+    ∙ (sym c.in-Some.ensures ∙ ap (λ x. Some x) (sym c.content.ensures))))
 
 pub returns-in-None : goal.returns-in-None
 returns-in-None c =

@@ -13,17 +13,17 @@ pub split_at-requires : goal.split_at-requires
 split_at-requires g c =
     let at = c.args.at.now in
     let es = c.self.inside.slots.items in
-    let place = subst (IsPlace at c.place_of.result) c.deref-2.ensures.value c.place_of.ensures in
-    subst (λ xs. c.place_of.result ≤ length xs) (sym c.deref.ensures.value)
-    (place_within at c.place_of.result es c.self.invariant.rising place)
+    let place = subst (IsPlace at c.index_of.result) c.deref-2.ensures.value c.index_of.ensures in
+    subst (λ xs. c.index_of.result ≤ length xs) (sym c.deref.ensures.value)
+    (place_within at c.index_of.result es c.self.invariant.rising place)
 
 pub returns : goal.returns
 returns g c =
     let at = c.args.at.now in
     let es = c.self.inside.slots.items in
-    let n = c.place_of.result in
+    let n = c.index_of.result in
     let rising = c.self.invariant.rising in
-    let place = subst (IsPlace at n) c.deref-2.ensures.value c.place_of.ensures in
+    let place = subst (IsPlace at n) c.deref-2.ensures.value c.index_of.ensures in
     let others = c.split_at.result.1.now in
     let rest = c.split_at.ensures.back ∙ ap (drop n) c.deref.ensures.value in
     let rises = subst Rising (sym rest) (back_rises n es rising) in

@@ -19,15 +19,15 @@ pub returns-in-Err-clause-cause : goal.returns-in-Err-clause-cause
 returns-in-Err-clause-cause g c =
     by_journal c.in-Err.error (g.D.Disk.seen c.args.disk) c.in-Err.ensures.refusals
 
-pub returns-then-is_old_image-clause-cause : goal.returns-then-is_old_image-clause-cause
-returns-then-is_old_image-clause-cause g c =
+pub returns-then-is_old_replica-clause-cause : goal.returns-then-is_old_replica-clause-cause
+returns-then-is_old_replica-clause-cause g c =
     let opened = c.in-Ok.opened in
     record {
       value = value_read opened.image opened.records;
       means = ap meaning (sym c.in-Ok.ensures.untouched.same) ∙ c.in-Ok.ensures.opened.holds.means;
       old =
           subst IsOldImage c.deref.ensures.value
-          (c.is_old_image.ensures.0 c.if-is_old_image.true);
+          (c.is_old_replica.ensures.0 c.if-is_old_replica.true);
     }
 
 pub returns-in_err-image-clause-cause : goal.returns-in_err-image-clause-cause
@@ -37,8 +37,8 @@ returns-in_err-image-clause-cause g c =
     let means = ap meaning (sym c.in-Ok.ensures.untouched.same)
     ∙ c.in-Ok.ensures.opened.holds.means in
     let young : ¬ IsOldImage opened.image.items = λ old.
-    true≢false (sym (c.is_old_image.ensures.1 (subst IsOldImage (sym c.deref.ensures.value) old))
-    ∙ c.if-is_old_image.false) in
+    true≢false (sym (c.is_old_replica.ensures.1 (subst IsOldImage (sym c.deref.ensures.value) old))
+    ∙ c.if-is_old_replica.false) in
     let bytes = g.D.Disk.seen c.args.disk in
     let payloads = payloads_of opened.records in
     rw (p.1, p.2) (by_image c.in_err-image.field-0.0 bytes c.in_err-image.ensures.refusals
@@ -78,8 +78,8 @@ returns-in_err-push_events-clause-cause g c =
     let means = ap meaning (sym c.in-Ok.ensures.untouched.same)
     ∙ c.in-Ok.ensures.opened.holds.means in
     let young : ¬ IsOldImage opened.image.items = λ old.
-    true≢false (sym (c.is_old_image.ensures.1 (subst IsOldImage (sym c.deref.ensures.value) old))
-    ∙ c.if-is_old_image.false) in
+    true≢false (sym (c.is_old_replica.ensures.1 (subst IsOldImage (sym c.deref.ensures.value) old))
+    ∙ c.if-is_old_replica.false) in
     let bytes = g.D.Disk.seen c.args.disk in
     let payloads = payloads_of opened.records in
     let is = subst (λ b. IsImageOf current_version b image.pair (image_of image).1)

@@ -7,7 +7,7 @@ use Rattle.syn_replica.proofs.digests.Digests.keep.Goals as goal
 
 pub invariant_of-self-2 : goal.invariant_of-self-2
 invariant_of-self-2 c =
-    let old = c.self.inside.kept.entries in
+    let old = c.self.inside.by_bytes.entries in
     let is = c.self.invariant in
     let copy = c.in_ok-copy.copy in
     let same : copy.items ≡ c.args.bytes.now = c.in_ok-copy.ensures.items in

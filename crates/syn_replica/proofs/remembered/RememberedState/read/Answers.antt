@@ -18,5 +18,5 @@ returns-in_err-pair-clause-unread c =
     if_err_of_exit c.from_residual.result e
     (λ e. IsUnread e c.args.wanted c.args.image.now payloads) c.from_residual.ensures.1
     (unread e c.args.wanted c.args.image.now payloads
-    (λ old. true≢false (sym (c.is_old_image.ensures.1 old) ∙ c.if-is_old_image.false))
+    (λ old. true≢false (sym (c.is_old_replica.ensures.1 old) ∙ c.if-is_old_replica.false))
     told.refusals told.damaged told.other)

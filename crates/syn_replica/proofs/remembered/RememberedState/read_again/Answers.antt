@@ -15,7 +15,7 @@ use Rattle.syn_replica.proofs.remembered.RememberedState.read_again.Goals as goa
 pub returns-then-pair-self-clause-unread : goal.returns-then-pair-self-clause-unread
 returns-then-pair-self-clause-unread c =
     let own = c.args.self.now in (
-      c.has_64_bits.ensures,
+      c.is_long.ensures,
       inr (inr (record {
         pair = c.in_ok-pair.pair;
         fits = c.in_ok-pair.ensures.fits;
@@ -40,7 +40,7 @@ returns-then-position-clause-unread c =
     let own = c.args.self.now in
     let pair : c.in_ok-pair.pair ≡ own.pair =
     (let same = c.if-pair-self.false in omega (arith, same)) in (
-      c.has_64_bits.ensures,
+      c.is_long.ensures,
       inr (inl (record {
         standing = c.in_ok-pair.standing;
         gives = subst (λ n. Gives n c.args.image.now (bytes_of_each c.args.payloads.now)
@@ -74,7 +74,7 @@ returns-in_err-pair-clause-unread c =
     let payloads = bytes_of_each c.args.payloads.now in
     if_err_of_exit c.from_residual.result e
     (λ e. IsUnreadAgain e own c.args.image.now payloads) c.from_residual.ensures.1 (
-      c.has_64_bits.ensures,
+      c.is_long.ensures,
       no_next e own c.args.image.now payloads told.refusals told.damaged told.other,
     )
 
@@ -85,5 +85,5 @@ returns-in_err-pair-clause-own c given =
     let own = c.args.self.now in
     let payloads = bytes_of_each c.args.payloads.now in
     if_err_of_exit c.from_residual.result e (λ e. refusal_of e ≡ Memory) c.from_residual.ensures.1
-    (own_memory c.opening_laws.ensures.one e own c.args.image.now payloads c.has_64_bits.ensures
+    (own_memory c.opening_laws.ensures.one e own c.args.image.now payloads c.is_long.ensures
     given (no_next e own c.args.image.now payloads told.refusals told.damaged told.other))

@@ -83,7 +83,7 @@ device_is_no_halt is = cc is
 pub returns-clause-machine : goal.returns-clause-machine
 returns-clause-machine g c =
     let old = c.args.self.now in
-    let new : Replica _ _ = record old { machine = c.checkpoint.new.self } in
+    let new : Replica _ _ = record old { journaled = c.checkpoint.new.self } in
     let told = c.checkpoint.ensures.journal in
     let pair = ap (λ m. m.pair) c.checkpoint.ensures.state in
     let standing = ap (λ m. m.standing) c.checkpoint.ensures.state in
@@ -112,7 +112,7 @@ returns-clause-machine g c =
 pub returns-clause-world : goal.returns-clause-world
 returns-clause-world g c number machine is =
     let old = c.args.self.now in
-    writes_image (record old { machine = c.checkpoint.new.self }) number machine
+    writes_image (record old { journaled = c.checkpoint.new.self }) number machine
     (ap (λ m. m.pair) c.checkpoint.ensures.state ∙ is.pair_is) _
     (λ other. runs_up old number machine is
     (λ halted. other (c.checkpoint.ensures.journal.halted.1 halted)))

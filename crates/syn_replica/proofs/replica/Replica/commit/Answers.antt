@@ -23,7 +23,7 @@ use Rattle.syn_replica.proofs.replica.Replica.commit.Goals as goal
 pub returns-then-is_halted-clause-any_moment : goal.returns-then-is_halted-clause-any_moment
 returns-then-is_halted-clause-any_moment g c history event stands adds =
     written_moment c.args.self.now
-    (record c.args.self.now { machine = c.write.new.self; tried = Some c.args.payload })
+    (record c.args.self.now { journaled = c.write.new.self; tried = Some c.args.payload })
     c.deref.result.now _ c.write.ensures.journal event (c.deref.ensures.value ∙ adds.spelled)
     c.history_laws.ensures.payload c.layout_laws.ensures.left history stands
     (allowed_after _ history event stands.remembers.standing adds.allowed)
@@ -32,7 +32,7 @@ pub returns-then-is_halted-clause-machine : goal.returns-then-is_halted-clause-m
 returns-then-is_halted-clause-machine g c event adds =
     let old = c.args.self.now in
     let new : Replica _ _ =
-    record old { machine = c.write.new.self; tried = Some c.args.payload } in
+    record old { journaled = c.write.new.self; tried = Some c.args.payload } in
     let same = c.in-Err.ensures.state in
     let halted = c.is_halted.ensures.0 c.if-is_halted.true in
     let device : refusal_of c.in-Err.error ≡ why.Device =
@@ -60,7 +60,7 @@ pub returns-then-is_halted-clause-world : goal.returns-then-is_halted-clause-wor
 returns-then-is_halted-clause-world g c number machine event is adds =
     let old = c.args.self.now in
     writes_record old number machine is event
-    (record old { machine = c.write.new.self; tried = Some c.args.payload })
+    (record old { journaled = c.write.new.self; tried = Some c.args.payload })
     (ap (λ m. m.pair) c.in-Err.ensures.state ∙ is.pair_is)
     (runs_up old number machine is c.requires.running) (Some (refusal_of c.in-Err.error))
     (λ none. absurd (none-some _ (sym none)))
@@ -74,7 +74,7 @@ returns-then-is_halted-clause-world g c number machine event is adds =
 pub returns-else-is_halted-clause-any_moment : goal.returns-else-is_halted-clause-any_moment
 returns-else-is_halted-clause-any_moment g c history event stands adds =
     written_moment c.args.self.now
-    (record c.args.self.now { machine = c.write.new.self }) c.deref.result.now _
+    (record c.args.self.now { journaled = c.write.new.self }) c.deref.result.now _
     c.write.ensures.journal event (c.deref.ensures.value ∙ adds.spelled)
     c.history_laws.ensures.payload c.layout_laws.ensures.left history stands
     (allowed_after _ history event stands.remembers.standing adds.allowed)
@@ -82,7 +82,7 @@ returns-else-is_halted-clause-any_moment g c history event stands adds =
 pub returns-else-is_halted-clause-machine : goal.returns-else-is_halted-clause-machine
 returns-else-is_halted-clause-machine g c event adds =
     let old = c.args.self.now in
-    let new : Replica _ _ = record old { machine = c.write.new.self } in
+    let new : Replica _ _ = record old { journaled = c.write.new.self } in
     let same = c.in-Err.ensures.state in
     let pair = ap (λ m. m.pair) same in
     let standing = ap (λ m. m.standing) same in
@@ -108,7 +108,7 @@ returns-else-is_halted-clause-machine g c event adds =
 pub returns-else-is_halted-clause-world : goal.returns-else-is_halted-clause-world
 returns-else-is_halted-clause-world g c number machine event is adds =
     let old = c.args.self.now in
-    writes_record old number machine is event (record old { machine = c.write.new.self })
+    writes_record old number machine is event (record old { journaled = c.write.new.self })
     (ap (λ m. m.pair) c.in-Err.ensures.state ∙ is.pair_is)
     (runs_up old number machine is c.requires.running) (Some (refusal_of c.in-Err.error))
     (λ none. absurd (none-some _ (sym none)))
@@ -135,7 +135,7 @@ returns-clause-acknowledged g c history event stands adds =
 pub returns-clause-any_moment : goal.returns-clause-any_moment
 returns-clause-any_moment g c history event stands adds =
     written_moment c.args.self.now
-    (record c.args.self.now { machine = c.write.new.self; tried = Some c.args.payload })
+    (record c.args.self.now { journaled = c.write.new.self; tried = Some c.args.payload })
     c.deref.result.now _ c.write.ensures.journal event (c.deref.ensures.value ∙ adds.spelled)
     c.history_laws.ensures.payload c.layout_laws.ensures.left history stands
     (allowed_after _ history event stands.remembers.standing adds.allowed)
@@ -144,7 +144,7 @@ pub returns-clause-machine : goal.returns-clause-machine
 returns-clause-machine g c event adds =
     let old = c.args.self.now in
     let new : Replica _ _ =
-    record old { machine = c.write.new.self; tried = Some c.args.payload } in
+    record old { journaled = c.write.new.self; tried = Some c.args.payload } in
     let makes = c.in_default.ensures.state in
     let seen : (history : History) → Stands old history →
     KeepsBeforeOrAfter old history event (g.D.Disk.seen (disk_of new)) =
@@ -163,7 +163,7 @@ pub returns-clause-world : goal.returns-clause-world
 returns-clause-world g c number machine event is adds =
     let old = c.args.self.now in
     let new : Replica _ _ =
-    record old { machine = c.write.new.self; tried = Some c.args.payload } in
+    record old { journaled = c.write.new.self; tried = Some c.args.payload } in
     let written = c.in_default.ensures in
     let stands = stands_up old number machine is c.requires.running in
     writes_record old number machine is event new (written.state.pair ∙ is.pair_is)

@@ -26,7 +26,7 @@ use Rattle.syn_replica.proofs.StandLemmas.{kept_unwritten}
 use Rattle.syn_replica.proofs.replica.Replica.edit_all.Given.{Over}
 use Rattle.syn_replica.proofs.replica.Replica.edit_all.Goals as goal
 use Rattle.syn_replica.proofs.replica.Replica.edit_all.Goals.{After-add_all, In-Ok}
-use Rattle.syn_replica.proofs.replica.Replica.edit_all.Goals.{In_err-machine, In_ok-machine}
+use Rattle.syn_replica.proofs.replica.Replica.edit_all.Goals.{In_err-journaled, In_ok-journaled}
 
 -- ---- an edit was refused, and nothing was written
 
@@ -101,29 +101,29 @@ adds g c =
     (bytes_of_each c.in-Ok.added.0.items) c.in-Ok.added.1)
     (ap (λ m. m.standing) c.into_parts-journal.ensures.state) c.in-Ok.ensures.added
 
-refused_by : (g : Over) (c : In_err-machine g) → AppendsAll (journal_of c.args.self)
-    c.in_err-machine.field-0.0.1 (bytes_of_each c.in-Ok.added.0.items)
-    (Some (refusal_of c.in_err-machine.field-0.0.0))
+refused_by : (g : Over) (c : In_err-journaled g) → AppendsAll (journal_of c.args.self)
+    c.in_err-journaled.field-0.0.1 (bytes_of_each c.in-Ok.added.0.items)
+    (Some (refusal_of c.in_err-journaled.field-0.0.0))
 refused_by g c =
-    let refused = c.in_err-machine.field-0.0 in
+    let refused = c.in_err-journaled.field-0.0 in
     subst (λ j. AppendsAll j refused.1 (bytes_of_each c.in-Ok.added.0.items)
     (Some (refusal_of refused.0))) c.into_parts-journal.ensures.journal
     (subst (λ ps. AppendsAll c.into_parts-journal.result.0 refused.1 (bytes_of_each ps)
-    (Some (refusal_of refused.0))) c.deref.ensures.value c.in_err-machine.ensures.disk)
+    (Some (refusal_of refused.0))) c.deref.ensures.value c.in_err-journaled.ensures.disk)
 
-pub returns-in_err-machine-clause-any_moment : goal.returns-in_err-machine-clause-any_moment
-returns-in_err-machine-clause-any_moment g c history stands =
-    let k = goal.at.returns-in_err-machine-clause-any_moment g c in
+pub returns-in_err-journaled-clause-any_moment : goal.returns-in_err-journaled-clause-any_moment
+returns-in_err-journaled-clause-any_moment g c history stands =
+    let k = goal.at.returns-in_err-journaled-clause-any_moment g c in
     let laws = c.history_laws.ensures in
-    let refused = c.in_err-machine.field-0.0 in
+    let refused = c.in_err-journaled.field-0.0 in
     match_of_exit c.from_residual.result refused _ _ c.from_residual.ensures.1
     (moments_of laws.payload laws.allows c.args.self _ _ c.in-Ok.added.1 (adds g k.In-Ok)
-    c.layout_laws.ensures.left_all refused.1 _ (refused_by g k.In_err-machine) history stands)
+    c.layout_laws.ensures.left_all refused.1 _ (refused_by g k.In_err-journaled) history stands)
 
-pub returns-in_err-machine-clause-cause : goal.returns-in_err-machine-clause-cause
-returns-in_err-machine-clause-cause g c history stands =
-    let refused = c.in_err-machine.field-0.0 in
-    let told = refused_by g (goal.at.returns-in_err-machine-clause-cause g c).In_err-machine in
+pub returns-in_err-journaled-clause-cause : goal.returns-in_err-journaled-clause-cause
+returns-in_err-journaled-clause-cause g c history stands =
+    let refused = c.in_err-journaled.field-0.0 in
+    let told = refused_by g (goal.at.returns-in_err-journaled-clause-cause g c).In_err-journaled in
     let fits = c.in-Ok.ensures.fits (left_shown c.args.self) (c.room-room.ensures ∙ omega arith) in
     let outside : IsOneOf outside_refusals refused.0 =
     outside_of (refusal_of refused.0) told.refusals
@@ -132,43 +132,43 @@ returns-in_err-machine-clause-cause g c history stands =
     (λ is. absurd (omega (arith, (told.full.0 (ap (λ w. Some w) is)).1, fits))) in
     if_err_of_exit c.from_residual.result refused _ c.from_residual.ensures.1 (inl outside)
 
-pub returns-in_err-machine-clause-refused : goal.returns-in_err-machine-clause-refused
-returns-in_err-machine-clause-refused g c history refusal stands e =
-    let k = goal.at.returns-in_err-machine-clause-refused g c in
+pub returns-in_err-journaled-clause-refused : goal.returns-in_err-journaled-clause-refused
+returns-in_err-journaled-clause-refused g c history refusal stands e =
+    let k = goal.at.returns-in_err-journaled-clause-refused g c in
     absurd (none-some _ (sym (by_history g k.After-add_all history stands None
     c.in-Ok.ensures.passed) ∙ e))
 
 -- ---- they were made
 
-has : (g : Over) (c : In_ok-machine g) → HasAll (journal_of c.args.self)
-    (journal_in c.in_ok-machine.machine) (bytes_of_each c.in-Ok.added.0.items)
+has : (g : Over) (c : In_ok-journaled g) → HasAll (journal_of c.args.self)
+    (journal_in c.in_ok-journaled.journaled) (bytes_of_each c.in-Ok.added.0.items)
 has g c =
-    let new = journal_in c.in_ok-machine.machine in
+    let new = journal_in c.in_ok-journaled.journaled in
     subst (λ j. HasAll j new (bytes_of_each c.in-Ok.added.0.items))
     c.into_parts-journal.ensures.journal
     (subst (λ ps. HasAll c.into_parts-journal.result.0 new (bytes_of_each ps))
-    c.deref.ensures.value c.in_ok-machine.ensures.appended)
+    c.deref.ensures.value c.in_ok-journaled.ensures.appended)
 
 pub returns-clause-acknowledged : goal.returns-clause-acknowledged
 returns-clause-acknowledged g c history stands =
     let k = goal.at.returns-clause-acknowledged g c in
     let laws = c.history_laws.ensures in
-    let made = c.in_ok-machine.ensures in
+    let made = c.in_ok-journaled.ensures in
     stands_with_all laws.payload laws.allows c.args.self _ _ c.in-Ok.added.1 (adds g k.In-Ok)
     history stands _
     (ap (λ m. m.pair) made.state ∙ ap (λ m. m.pair) c.into_parts-journal.ensures.state)
-    (ap (λ m. m.standing) made.state) (has g k.In_ok-machine)
+    (ap (λ m. m.standing) made.state) (has g k.In_ok-journaled)
 
 pub returns-clause-any_moment : goal.returns-clause-any_moment
 returns-clause-any_moment g c history stands =
     let old = c.args.self in
     let laws = c.history_laws.ensures in
-    let new = disk_in c.in_ok-machine.machine in
+    let new = disk_in c.in_ok-journaled.journaled in
     let bytes = bytes_of_each c.in-Ok.added.0.items in
     let told : AppendsAll (journal_of old) new bytes None =
     subst (λ j. AppendsAll j new bytes None) c.into_parts-journal.ensures.journal
     (subst (λ ps. AppendsAll c.into_parts-journal.result.0 new (bytes_of_each ps) None)
-    c.deref.ensures.value c.in_ok-machine.ensures.disk) in
+    c.deref.ensures.value c.in_ok-journaled.ensures.disk) in
     moments_of laws.payload laws.allows old _ bytes c.in-Ok.added.1
     (adds g (goal.at.returns-clause-any_moment g c).In-Ok) c.layout_laws.ensures.left_all new None
     told history stands
@@ -184,5 +184,5 @@ returns-clause-readings g c =
     let k = goal.at.returns-clause-readings g c in
     let laws = c.history_laws.ensures in
     has_records laws.payload laws.allows c.args.self _ _ c.in-Ok.added.1 (adds g k.In-Ok) _
-    (ap (λ m. m.pair) c.in_ok-machine.ensures.state
-    ∙ ap (λ m. m.pair) c.into_parts-journal.ensures.state) (has g k.In_ok-machine)
+    (ap (λ m. m.pair) c.in_ok-journaled.ensures.state
+    ∙ ap (λ m. m.pair) c.into_parts-journal.ensures.state) (has g k.In_ok-journaled)

@@ -34,18 +34,18 @@ pub returns-in-Ok-migrate-clause-gives : goal.returns-in-Ok-migrate-clause-gives
 returns-in-Ok-migrate-clause-gives g c =
     let laws = c.history_laws.ensures in
     migrated_gives laws.image laws.standing_fits
-    (record { machine = c.in-Ok-migrate.machine; tried = None; digests = c.new.result }) _
+    (record { journaled = c.in-Ok-migrate.journaled; tried = None; digests = c.new.result }) _
     c.in-Ok-migrate.ensures.migrated
 
 pub returns-in-Ok-migrate-clause-migrated : goal.returns-in-Ok-migrate-clause-migrated
 returns-in-Ok-migrate-clause-migrated g c =
     let laws = c.history_laws.ensures in
     migrated_each laws.image laws.standing_fits _ (g.D.Disk.seen c.args.disk)
-    (subst (λ bytes. Migrated (λ m. m.pair) GivesOld image_of bytes c.in-Ok-migrate.machine)
+    (subst (λ bytes. Migrated (λ m. m.pair) GivesOld image_of bytes c.in-Ok-migrate.journaled)
     c.in-Err.ensures.device.untouched.same c.in-Ok-migrate.ensures.migrated)
 
 made : (g : Over) (c : In-Ok-migrate g) → Migrates g.D.Disk (λ m. m.pair) GivesOld image_of None
-    c.args.disk (disk_of c.in-Ok-migrate.machine)
+    c.args.disk (disk_of c.in-Ok-migrate.journaled)
 made g c =
     whole c.args.disk c.in-Err.refused.1 _ c.in-Err.refused.0 None c.in-OldVersion.is
     c.in-Err.ensures.device c.in-Ok-migrate.ensures.device

@@ -59,7 +59,7 @@ no_memory is = cc is
 
 pub returns-in-Err-clause-refusals : goal.returns-in-Err-clause-refusals
 returns-in-Err-clause-refusals g c =
-    reopen_refusal c.in-Err.error c.args.self.now.machine.state
+    reopen_refusal c.in-Err.error c.args.self.now.journaled.state
     (g.D.Disk.seen (disk_of c.args.self.now)) c.in-Err.ensures.refused
 
 pub returns-in-Err-clause-keeps_up : goal.returns-in-Err-clause-keeps_up
@@ -69,7 +69,7 @@ returns-in-Err-clause-keeps_up g c history k =
 
 pub returns-in-Err-clause-lawful : goal.returns-in-Err-clause-lawful
 returns-in-Err-clause-lawful g c history d early =
-    unopened_outside c.opening_laws.ensures.one c.args.self.now.machine.state
+    unopened_outside c.opening_laws.ensures.one c.args.self.now.journaled.state
     (g.D.Disk.seen (disk_of c.args.self.now)) history d early c.in-Err.error
     c.in-Err.ensures.refused
 
@@ -95,12 +95,12 @@ returns-in-Err-clause-unchanged g c history stands =
 pub returns-in-Err-clause-machine : goal.returns-in-Err-clause-machine
 returns-in-Err-clause-machine g c =
     let old = c.args.self.now in
-    let new : Replica _ _ = record old { machine = c.reopen.new.self } in
+    let new : Replica _ _ = record old { journaled = c.reopen.new.self } in
     let told = c.in-Err.ensures in
     let pair = ap (λ m. m.pair) told.state in
     let standing = ap (λ m. m.standing) told.state in
     let memory : SameMemory old new = record { pair = pair; standing = standing } in
-    let kept : machine.KeepsReadings old.machine new.machine → KeepsReadings old new =
+    let kept : machine.KeepsReadings old.journaled new.journaled → KeepsReadings old new =
     λ keeps. record { memory = memory; left_is = keeps.left_is; generation = keeps.generation } in
     record {
       pair = pair;
@@ -138,6 +138,6 @@ returns-in-Ok-clause-world g c number machine is =
 pub returns-in-Err-clause-world : goal.returns-in-Err-clause-world
 returns-in-Err-clause-world g c number machine is =
     let old = c.args.self.now in
-    let new : Replica _ _ = record old { machine = c.reopen.new.self } in
+    let new : Replica _ _ = record old { journaled = c.reopen.new.self } in
     reads_disk new number machine (ap (λ m. m.pair) c.in-Err.ensures.state ∙ is.pair_is) _
     (c.in-Err.ensures.machine number machine (as_machine old number machine is))

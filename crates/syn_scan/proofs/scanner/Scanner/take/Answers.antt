@@ -137,7 +137,7 @@ invariant_of-self-2 c =
     let es = contents_in c.args.entries.items in
     let n = c.min-self-inside.result in
     let least = c.min-self-inside.ensures in
-    let place = c.place_of-place.ensures in
+    let place = c.index_of-place.ensures in
     record {
       out_open = subst (All (λ q. is_open c.take.new.self q ≡ true)) (sym c.take_back.ensures)
           (out_then old c.take.new.self c.self.inside.out.items p

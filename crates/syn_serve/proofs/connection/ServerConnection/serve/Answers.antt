@@ -1,5 +1,5 @@
 use Rattle.std.proofs.lemmas.Result.{err_from_is_err_and}
-use Rattle.syn_serve.proofs.ServeLemmas.{later_same, later_twice}
+use Rattle.syn_shared.proofs.HoldLemmas.{later_same, later_twice}
 use Rattle.syn_serve.proofs.connection.ServerConnection.serve.Goals as goal
 use Rattle.syn_serve.specs.Runs.{none, one_more}
 

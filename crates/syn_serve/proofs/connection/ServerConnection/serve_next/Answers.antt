@@ -1,6 +1,7 @@
 use Rattle.std.proofs.Common.{refl, subst}
 use Rattle.std.proofs.lemmas.Result.{err_from_is_err_and}
-use Rattle.syn_serve.proofs.ServeLemmas.{answered_so, later_same}
+use Rattle.syn_serve.proofs.ServeLemmas.{answered_so}
+use Rattle.syn_shared.proofs.HoldLemmas.{later_same}
 use Rattle.syn_serve.proofs.connection.ServerConnection.serve_next.Goals as goal
 use Rattle.syn_serve.specs.Exchanges.{answers, breaks, closes, ends}
 use Rattle.syn_serve.specs.Lines.{BreaksOff, Sends, line_of}

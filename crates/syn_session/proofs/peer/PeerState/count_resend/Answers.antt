@@ -1,7 +1,7 @@
 use Rattle.std.proofs.Common.{◌≡◌, ◌∙◌, ap, map, subst, sym}
 use Rattle.std.specs.Prelude.{All}
 use Rattle.syn_session.specs.Stages.{outstanding_of}
-use Rattle.syn_session.specs.declared.requests.Waiting.{Waiting}
+use Rattle.syn_session.specs.declared.requests.UnansweredRequest.{UnansweredRequest}
 use Rattle.syn_session.proofs.WaitingLemmas.{resent_of, resent_waits, worn_same}
 use Rattle.syn_session.proofs.peer.PeerState.count_resend.Goals as goal
 
@@ -14,5 +14,5 @@ returns-clause-waits c =
 
 pub returns-clause-of_session : goal.returns-clause-of_session
 returns-clause-of_session c session of =
-    subst (All (λ (one : Waiting). one.asked.value.session ≡ session))
+    subst (All (λ (one : UnansweredRequest). one.asked.value.session ≡ session))
     (sym c.count_resends.ensures) (resent_of session c.args.self.now.waiting.items of)

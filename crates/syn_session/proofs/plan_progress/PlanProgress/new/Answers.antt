@@ -8,13 +8,13 @@ use Rattle.syn_path.specs.Sides.{which_of}
 
 pub returns-clause-begun : goal.returns-clause-begun
 returns-clause-begun c =
-    let plan = planned_all c.args.left.now c.args.right.now (items_of c.in_ok-items.items.items) in
+    let plan = planned_all c.args.left.now c.args.right.now (items_of c.in-Ok.items.items) in
     record {
       plan = refl;
       made = (
         option_map which_of c.args.preference,
         c.args.archive.now,
-        c.in_ok-items.ensures.ok,
+        c.in-Ok.ensures.ok,
       );
       short = omega (arith, c.len.ensures, c.if-len-gt-MAX_ITEMS.false);
       cursor = refl;

@@ -14,7 +14,7 @@ returns c archive running is = resent_so archive c.args.self.now _ running is re
       preference = c.args.self.now.preference;
       left = c.count_resend.new.self;
       right = c.count_resend-2.new.self;
-      is_unstable = c.args.self.now.is_unstable;
+      has_unstable_path = c.args.self.now.has_unstable_path;
       progress = c.args.self.now.progress;
     }) side)
     again Left =

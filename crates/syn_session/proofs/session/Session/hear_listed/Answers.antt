@@ -46,7 +46,7 @@ returns c = record {
       let keeps = c.in_ok-take_listing.ensures.keeps in
       let step = c.in_ok-take_listing.ensures.step running.taken number waits before_found in
       let counted = c.note_unstable.ensures.unstable
-      ∙ ap (λ b. taken.is_unstable || b) c.is_no_directory-is_no_directory.ensures in
+      ∙ ap (λ b. taken.has_unstable_path || b) c.is_no_directory-is_no_directory.ensures in
       let taken_out = c.in_ok-take_listing.ensures.out in
       let has = listed_heard archive before now running side number (ListAt path) reply is answers
       scans path refl taken after keeps c.in_ok-take_listing.ensures.unstable counted

@@ -42,7 +42,7 @@ returns-clause-unheard g c =
     λ reply fits. record {
       session = search rules;
       begun = search rules;
-      number = c.is_lawful_number.ensures;
+      number = c.is_short.ensures;
       reply = fits;
     } in (
       c.in-Some.body.items,

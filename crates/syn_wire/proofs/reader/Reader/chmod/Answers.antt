@@ -18,5 +18,5 @@ returns-in_err-mode c =
     (λ e same malformed.
     chmod_none (version_of c.args.version) c.args.self.now (second_none IsPlace IsMode
     place_spelling mode_spelling place_tells c.args.self.now
-    c.place.new.self (c.in_ok-user.user, c.in_ok-user.path) c.in_ok-user.ensures
+    c.user_and_path.new.self (c.in_ok-user.user, c.in_ok-user.path) c.in_ok-user.ensures
     (c.in_err-mode.ensures.read (rw (← same) malformed))))

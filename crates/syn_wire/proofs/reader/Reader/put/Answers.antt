@@ -16,5 +16,5 @@ returns-in_err-bytes c version =
     e same malformed.
     put_none version c.args.self.now (second_none IsPlace IsFile place_spelling file_spelling
     place_tells c.args.self.now
-    c.place.new.self (c.in_ok-user.user, c.in_ok-user.path) c.in_ok-user.ensures
+    c.user_and_path.new.self (c.in_ok-user.user, c.in_ok-user.path) c.in_ok-user.ensures
     (c.in_err-bytes.ensures.read (rw (← same) malformed))))

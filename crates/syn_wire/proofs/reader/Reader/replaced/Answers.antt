@@ -21,6 +21,9 @@ returns-in_err-new c =
     replaced_none (version_of c.args.version) c.args.self.now (second_none IsSince (IsOptionalTreeIn
     (version_of c.args.version)) since_spelling (spelling_in (version_of c.args.version))
     since_tells c.args.self.now
-    c.since.new.self ((token_of c.in_ok-token.token, c.in_ok-token.path), c.in_ok-token.since)
+    c.token_path_and_since.new.self (
+      (token_of c.in_ok-token.token, c.in_ok-token.path),
+      c.in_ok-token.since,
+    )
     c.in_ok-token.ensures
     (c.in_err-new.ensures (rw (← same) malformed))))

@@ -1,5 +1,5 @@
 use Rattle.std.proofs.Common.{◌∙◌, sym}
-use Rattle.syn_disk.specs.Half.{content_of}
+use Rattle.syn_disk.specs.SimulatedHalf.{content_of}
 use Rattle.syn_disk.specs.Halves.{length-half, length-synced, length-written}
 use Rattle.syn_disk.proofs.Stopped.{left_joined}
 use Rattle.syn_disk.proofs.simulated.memory.MemDisk.stop.Goals as goal

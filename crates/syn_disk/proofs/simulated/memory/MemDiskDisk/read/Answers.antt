@@ -1,5 +1,5 @@
 use Rattle.std.proofs.Common.{◌≡◌, ◌≤◌, ◌+◌, ◌-◌, min, length, arith}
-use Rattle.syn_disk.specs.Half.{content_of}
+use Rattle.syn_disk.specs.SimulatedHalf.{content_of}
 use Rattle.syn_disk.specs.Halves.{HalvesMayLeave, length-half}
 use Rattle.syn_disk.specs.declared.disk.TheConstants.{HALF_SIZE}
 use Rattle.syn_disk.proofs.Joined.{joined_read}

@@ -2,7 +2,7 @@ use Rattle.std.proofs.Common.{◌≡◌, ◌∙◌, ◌≤◌, ◌+◌, ◌-◌,
 use Rattle.std.proofs.Common.{subst, arith}
 use Rattle.std.proofs.lemmas.List.{length-replicate, take-replicate, drop-replicate}
 use Rattle.syn_disk.specs.Disk.{overwritten}
-use Rattle.syn_disk.specs.Half.{content_of, written_of}
+use Rattle.syn_disk.specs.SimulatedHalf.{content_of, written_of}
 use Rattle.syn_disk.specs.Halves.{HalvesMayLeave, both_contents, both_written, length-half}
 use Rattle.syn_disk.specs.Halves.{length-written, length-halves, length-both_written}
 use Rattle.syn_disk.specs.Moments.{MayLeave}

@@ -1,6 +1,6 @@
 use Rattle.std.proofs.Common.{◌∙◌}
 use Rattle.syn_disk.specs.Halves.{HalvesMayLeave, length-halves}
-use Rattle.syn_disk.proofs.Moments.{elapses_noted, only_settled}
+use Rattle.syn_disk.proofs.Moments.{elapses_noted, only_durable}
 use Rattle.syn_disk.proofs.Stopped.{unwritten_stays}
 use Rattle.syn_disk.proofs.simulated.memory.MemDiskRestart.restart.Goals as goal
 
@@ -12,10 +12,10 @@ returns-clause-left c =
       kept = unwritten_stays _ _ _ _ _ left;
     }
 
-pub returns-clause-settled : goal.returns-clause-settled
-returns-clause-settled c =
-    only_settled _ _ (length-halves c.stop.new.self.low c.stop.new.self.high)
-    c.stop.ensures.settled.none_written
+pub returns-clause-durable : goal.returns-clause-durable
+returns-clause-durable c =
+    only_durable _ _ (length-halves c.stop.new.self.low c.stop.new.self.high)
+    c.stop.ensures.synced.none_written
 
 pub returns-clause-time : goal.returns-clause-time
 returns-clause-time c = rw c.stop.ensures.past (elapses_noted HalvesMayLeave _ _ _)
