@@ -15,18 +15,25 @@ ghost use Rattle.syn_path.specs.Keys.{filled, names_of, IsSpelling};
 
 use crate::error::PathError;
 use crate::name::Name;
-use crate::path::{Path, parse_names, pieces_of};
+use crate::path::{LONGEST_PATH, MOST_NAMES, Path, parse_names, pieces_of};
 use std::alloc::{AllocError, Global};
 use std::cmp::Ordering;
 use std::marker::Model;
 use std::str;
+
+/// The bytes of a key: as many as spell the longest path.
+const KEY_LENGTH: usize = LONGEST_PATH;
+
+/// The most bytes of a key that are of names, with the zero byte after each. A spelling has its
+/// count beside as many.
+const LONGEST_NAMES: usize = LONGEST_PATH - 1;
 
 /// The key of a path: its names, each followed by one zero byte, filled with zeros to 255 bytes. It
 /// takes no memory, and the order of keys, byte by byte, is that of paths. Contracts see it as the
 /// path.
 #[derive(Clone, Copy, Debug)]
 pub struct Key {
-    bytes: [u8; 255],
+    bytes: [u8; KEY_LENGTH],
     /// How many of the bytes are of the names, with the zero byte after each.
     len: usize,
     /// Where the last name begins; 0 for the root.
@@ -166,8 +173,8 @@ impl Key {
     fn fits_under(&self, above: &Key) -> bool
         ensures { IsTrue result ↔ IsPath (above.now ++ self.now) }
     {
-        let short = above.spelled().len() + self.spelled().len() <= 254;
-        short && above.depth() + self.depth() <= 16
+        let short = above.spelled().len() + self.spelled().len() <= LONGEST_NAMES;
+        short && above.depth() + self.depth() <= MOST_NAMES
     }
 
     /// Where the last name of the path with the other before it begins.
@@ -221,13 +228,13 @@ impl Key {
 
 /// The names, each followed by a zero byte, filled with zeros; how many bytes they have without
 /// these; and where the last name begins.
-fn spelling_of(names: &[Name]) -> ([u8; 255], usize, usize)
+fn spelling_of(names: &[Name]) -> ([u8; KEY_LENGTH], usize, usize)
     requires { IsPath names.now }
     ensures bytes { result.0 ≡ filled names.now }
     ensures len { result.1 ≡ length (path_key names.now) }
     ensures start { result.2 ≡ length (path_key (parent names.now)) }
 {
-    let mut bytes = [0; 255];
+    let mut bytes = [0; KEY_LENGTH];
     let mut len = 0;
     let mut start = 0;
     for name in names {
@@ -246,7 +253,7 @@ fn of_bytes(front: &[u8], back: &[u8], start: usize) -> Key
     requires { IsSpelling (front.now ++ back.now) start }
     ensures { result ≡ names_of (front.now ++ back.now) }
 {
-    let mut bytes = [0; 255];
+    let mut bytes = [0; KEY_LENGTH];
     put_at(&mut bytes, 0, front);
     put_at(&mut bytes, front.len(), back);
     Key {
@@ -257,7 +264,7 @@ fn of_bytes(front: &[u8], back: &[u8], start: usize) -> Key
 }
 
 /// Puts more bytes after so many, where zeros are.
-fn put_at(bytes: &mut [u8; 255], at: usize, more: &[u8])
+fn put_at(bytes: &mut [u8; KEY_LENGTH], at: usize, more: &[u8])
     requires { at + length more.now ≤ 255 }
     ensures { (front : Bytes) → at ≡ length front
         → bytes.old ≡ front ++ replicate (255 - at) 0

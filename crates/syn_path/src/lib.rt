@@ -22,5 +22,5 @@ mod side;
 pub use error::PathError;
 pub use key::Key;
 pub use name::Name;
-pub use path::{Path, is_path};
+pub use path::{LONGEST_PATH, MOST_NAMES, Path, is_path};
 pub use side::Side;

@@ -7,6 +7,9 @@ use std::alloc::{AllocError, Global};
 use std::marker::Model;
 use std::str;
 
+/// The most bytes of a name.
+const LONGEST_NAME: usize = 64;
+
 /// A name in a directory: 1 to 64 bytes of UTF-8 without `/` and the zero byte, and neither `.` nor
 /// `..`. Contracts see it as its bytes.
 #[derive(Debug, Drop)]
@@ -77,7 +80,7 @@ fn is_name(text: &str) -> bool
 {
     let bytes = text.as_bytes();
     !bytes.is_empty()
-        && bytes.len() <= 64
+        && bytes.len() <= LONGEST_NAME
         && !bytes.contains(&b'/')
         && !bytes.contains(&0)
         && text != "."

@@ -12,6 +12,15 @@ use crate::name::Name;
 use std::alloc::{AllocError, Global};
 use std::marker::Model;
 
+/// The most names of a path.
+pub const MOST_NAMES: usize = 16;
+
+/// The most bytes that spell a path: a count, and each name with its length.
+pub const LONGEST_PATH: usize = 255;
+
+/// The most bytes of the text of a path, which has a slash between two names and no count.
+const LONGEST_TEXT: usize = LONGEST_PATH - 2;
+
 /// A path of a replica: at most 16 names, whose spelling (a count, and each name with its length)
 /// has at most 255 bytes. Contracts see it as the list of its names.
 #[derive(Debug, Drop)]
@@ -51,11 +60,11 @@ impl Path {
         if text == "." {
             return Ok(Path::root(alloc));
         }
-        if text.len() > 253 {
+        if text.len() > LONGEST_TEXT {
             return Err(PathError::BadPath);
         }
         let pieces = pieces_of(alloc, text, '/')?;
-        if pieces.len() > 16 {
+        if pieces.len() > MOST_NAMES {
             return Err(PathError::BadPath);
         }
         let names = parse_names(alloc, pieces.as_slice())?;
@@ -69,7 +78,7 @@ impl Path {
         ensures ok { IfOk result (λ path. (path ≡ names.items) × IsPath path) }
         ensures bad { IfErr result (λ e. (e ≡ PathError.BadPath) × ¬ IsPath names.items) }
     {
-        if names.len() > 16 || spelled_len(names.as_slice()) > 255 {
+        if names.len() > MOST_NAMES || spelled_len(names.as_slice()) > LONGEST_PATH {
             return Err(PathError::BadPath);
         }
         Ok(Path { names })
@@ -120,8 +129,8 @@ impl Path {
         ensures memory { IfErr result (λ e. e ≡ PathError.Memory
             → IsPath (self.now ++ name.now ∷ [])) }
     {
-        if self.names.len() >= 16
-            || spelled_len(self.names.as_slice()) + 1 + name.as_str().len() > 255
+        if self.names.len() >= MOST_NAMES
+            || spelled_len(self.names.as_slice()) + 1 + name.as_str().len() > LONGEST_PATH
         {
             return Err(PathError::BadPath);
         }

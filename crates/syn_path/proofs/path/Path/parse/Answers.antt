@@ -6,8 +6,8 @@ use Rattle.syn_model.specs.Path.{IsName}
 use Rattle.syn_path.proofs.PathLemmas.{pieces_of_named, named_by_pieces}
 use Rattle.syn_path.proofs.path.Path.parse.Goals as goal
 
-pub returns-then-len-gt16-clause-bad : goal.returns-then-len-gt16-clause-bad
-returns-then-len-gt16-clause-bad c is_bad path named =
+pub returns-then-len-gt-MOST_NAMES-clause-bad : goal.returns-then-len-gt-MOST_NAMES-clause-bad
+returns-then-len-gt-MOST_NAMES-clause-bad c is_bad path named =
     let not_root : c.args.text.now ≢ codes "." = search rules in
     let cut = ap length
     (c.in_ok-pieces.ensures ∙ pieces_of_named c.args.text.now path not_root named) in
@@ -17,7 +17,7 @@ returns-then-len-gt16-clause-bad c is_bad path named =
       cut,
       deep,
       length-map c.in_ok-pieces.pieces.items (λ p. p.now),
-      c.if-len-gt16.true,
+      c.if-len-gt-MOST_NAMES.true,
       c.len.ensures,
     )
 
@@ -42,9 +42,9 @@ invariant_of-result c =
       count,
       length-map c.as_slice.result.now (λ p. p.now),
       c.as_slice.ensures.len,
-      c.if-len-gt16.false,
+      c.if-len-gt-MOST_NAMES.false,
       c.len.ensures,
-    )) c.if-text-gt253.false).lawful
+    )) c.if-text-gt-LONGEST_TEXT.false).lawful
 
 pub returns-clause-ok : goal.returns-clause-ok
 returns-clause-ok c =
@@ -57,6 +57,6 @@ returns-clause-ok c =
       count,
       length-map c.as_slice.result.now (λ p. p.now),
       c.as_slice.ensures.len,
-      c.if-len-gt16.false,
+      c.if-len-gt-MOST_NAMES.false,
       c.len.ensures,
-    )) c.if-text-gt253.false
+    )) c.if-text-gt-LONGEST_TEXT.false
