@@ -5,7 +5,7 @@ use Rattle.std.proofs.Common.{length-append, take, drop, refl, sym, ap, ap₂, �
 use Rattle.std.proofs.Common.{Some, None, is_some, IsSome, slice_index_or, All, is_lt, append-nil}
 use Rattle.std.proofs.Common.{true≢false, arith}
 use Rattle.std.specs.Prelude.{option_map, option_and_then, flat_map}
-use Rattle.std.specs.List.{cons_option, list_all}
+use Rattle.std.specs.List.{cons_option}
 use Rattle.std.specs.FinMap.{entries, get, get-entries, get-empty, find, len}
 use Rattle.std.proofs.Math.Seq.{drop-append_seam}
 use Rattle.std.proofs.lemmas.Bool.{and_parts}
@@ -13,7 +13,6 @@ use Rattle.std.proofs.lemmas.Bool.Decides.{nat_tests}
 use Rattle.std.proofs.lemmas.Grind.{flat_map-append}
 use Rattle.std.proofs.lemmas.List.{take_more}
 use Rattle.std.proofs.lemmas.List.Elements.{filter_map-append, All-drop}
-use Rattle.std.proofs.lemmas.List.Folds.{list_all-append}
 use Rattle.syn_model.specs.Path.{Name, Path, IsName, IsPath, path_cmp, root, is_root, strip_prefix}
 use Rattle.syn_model.specs.Path.{is_prefix, path_spelling}
 use Rattle.syn_model.specs.Contents.{Contents}
@@ -22,22 +21,21 @@ use Rattle.syn_model.specs.Tree.{absent, at_root, subtree, is_directory_content}
 use Rattle.syn_model.proofs.HistoryLemmas.{get-at_root}
 use Rattle.std.specs.Ordering.{eq_by_cmp}
 use Rattle.std.proofs.lemmas.Option.{none-some, same_Some}
-use Rattle.syn_model.specs.Limits.{fits_path, fits_content, fits_part, fits_paths, fits_replica}
+use Rattle.syn_model.specs.Limits.{fits_part, fits_paths, fits_replica}
 use Rattle.syn_model.specs.Limits.{greatest_spelling, tree_spelling_length}
 use Rattle.syn_model.proofs.PathLemmas.{strip_prefix-append, is_prefix-is, not_root}
 use Rattle.syn_model.proofs.TreeLemmas.{same_tree, get-subtree}
-use Rattle.syn_placed.specs.Pairs.{Pairs, rooted, before, within, beyond, tree_with, under}
+use Rattle.syn_placed.specs.Pairs.{Pairs, rooted, tree_with}
 use Rattle.syn_tree.specs.Lists.{below_off, stripped}
 use Rattle.syn_tree.specs.Entries.{AreEntries}
 use Rattle.syn_tree.specs.inner.Kept.{IsKept}
-use Rattle.syn_placed.proofs.RisingLemmas.{Rising, After, three_parts}
-use Rattle.syn_placed.proofs.TreeLemmas.{taken, within-taken, rising-taken, rising-entries}
+use Rattle.syn_placed.proofs.RisingLemmas.{Rising, After}
+use Rattle.syn_placed.proofs.TreeLemmas.{taken, rising-taken, rising-entries}
 use Rattle.syn_placed.proofs.TreeLemmas.{entries-subtree, entries-with}
-use Rattle.syn_placed.proofs.CountLemmas.{kids, kids-append, kids-under, no_root}
-use Rattle.syn_tree.proofs.FitLemmas.{part-pairs, pair_fits}
+use Rattle.syn_placed.proofs.CountLemmas.{no_root}
 use Rattle.syn_tree.proofs.PartLemmas.{subtree-parents}
 use Rattle.syn_tree.proofs.WholeLemmas.{whole_rising, whole_tree}
-use Rattle.syn_model.proofs.SubtreeLemmas.{fits_later, subtree-fits_paths, subtree-fits}
+use Rattle.syn_model.proofs.SubtreeLemmas.{subtree-fits_paths, subtree-fits}
 
 -- a path with a prefix, and the rest
 pub prefix_rest : (at x : Path) → is_prefix at x ≡ true →

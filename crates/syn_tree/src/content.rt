@@ -1,7 +1,7 @@
 //! What stands at a path of a tree: owned where it is put, and lent where it is found.
 ghost use Rattle.std.specs.Prelude.{◌≡◌, Some};
 ghost use Rattle.syn_model.specs.Tree.{is_directory_content};
-ghost use Rattle.syn_tree.specs.Contents.{found_content};
+ghost use Rattle.syn_tree.specs.Contents.{content_of, found_content};
 
 use crate::mode::Mode;
 
@@ -21,6 +21,18 @@ pub enum Found<'a> {
     File(Mode, &'a [u8]),
     /// A directory.
     Dir,
+}
+
+impl Content {
+    /// The same, lent.
+    pub(crate) fn as_found(&self) -> Found<'_>
+        ensures { found_content result ≡ content_of self.now }
+    {
+        match self {
+            Content::File(mode, bytes) => Found::File(*mode, bytes),
+            Content::Dir => Found::Dir,
+        }
+    }
 }
 
 impl Found<'_> {

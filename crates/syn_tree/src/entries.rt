@@ -11,7 +11,7 @@ ghost use Rattle.syn_tree.specs.Entries.{AreEntries, has_few, stands_in, IsLawfu
 
 use crate::content::Found;
 use crate::cursor::Cursor;
-use crate::entry::{Entry, found_at};
+use crate::entry::Entry;
 use crate::lawful::{are_contents, is_path};
 use crate::measures::{LONGEST_FILE, MOST_CHILDREN};
 use crate::pair::Pair;
@@ -174,7 +174,7 @@ fn has_few(list: &[Entry], entry: &Entry) -> bool
     requires { AreRising (rooted list.now) }
     ensures { result ≡ has_few list.now entry.now }
 {
-    !found_at(entry).is_directory() || count_children_at(list, entry.key()) <= MOST_CHILDREN
+    !entry.content().is_directory() || count_children_at(list, entry.key()) <= MOST_CHILDREN
 }
 
 /// The entry is a directory, or a file within its limit.
@@ -182,7 +182,7 @@ fn is_brief(entry: &Entry) -> bool
     ensures value { result ≡ fits_content entry.now.1 }
     ensures lawful { IsLawful entry.now.1 }
 {
-    match found_at(entry) {
+    match entry.content().as_found() {
         Found::File(mode, bytes) => {
             are_contents(mode, bytes);
             bytes.len() <= LONGEST_FILE

@@ -40,16 +40,6 @@ pub(crate) fn with_keys(alloc: Global, list: &[Entry]) -> Result<Vec<crate::Entr
     Ok(entries)
 }
 
-/// What stands at the entry's path, with a file's mode and bytes.
-fn found_at(entry: &Entry) -> Found<'_>
-    ensures { found_content result ≡ entry.now.1 }
-{
-    match entry.content() {
-        Content::File(mode, bytes) => Found::File(*mode, bytes),
-        Content::Dir => Found::Dir,
-    }
-}
-
 /// What stands at the path of these names, of entries below a root directory.
 pub(crate) fn find<'a>(list: &'a [Entry], names: &[Name]) -> Option<Found<'a>>
     requires { AreRising (rooted list.now) }
@@ -60,7 +50,7 @@ pub(crate) fn find<'a>(list: &'a [Entry], names: &[Name]) -> Option<Found<'a>>
         return Some(Found::Dir);
     }
     match entry_at(list, names) {
-        Some(entry) => Some(found_at(entry)),
+        Some(entry) => Some(entry.content().as_found()),
         None => None,
     }
 }
@@ -70,7 +60,7 @@ fn entry_spelled(entry: &Entry) -> usize
     ensures length { result ≡ pair_spelling_length entry.now }
     ensures fits { result < 2 ^ 63 + 128 }
 {
-    name_spelled(&entry.path().key()) + found_spelled(&found_at(entry))
+    name_spelled(&entry.path().key()) + found_spelled(&entry.content().as_found())
 }
 
 /// How many bytes spell the entries.

@@ -8,7 +8,7 @@ ghost use Rattle.syn_tree.specs.Contents.{found_content};
 ghost use Rattle.syn_placed.specs.Pairs.{rooted, AreRising, pair_spelling_length, spelling_length};
 
 use crate::content::Found;
-use crate::entry::{Entry, found_at};
+use crate::entry::Entry;
 use crate::lawful::is_path;
 use syn_path::Key;
 use syn_placed::by_key::entry_at;
@@ -41,7 +41,7 @@ pub(crate) fn find<'a>(list: &'a [Entry], at: &Key) -> Option<Found<'a>>
         return Some(Found::Dir);
     }
     match entry_at(list, at) {
-        Some(entry) => Some(found_at(entry)),
+        Some(entry) => Some(entry.content().as_found()),
         None => None,
     }
 }
@@ -64,7 +64,7 @@ pub(crate) fn entry_spelled(entry: &Entry) -> usize
     ensures length { result ≡ pair_spelling_length entry.now }
     ensures fits { result < 2 ^ 63 + 128 }
 {
-    name_spelled(entry.key()) + found_spelled(&found_at(entry))
+    name_spelled(entry.key()) + found_spelled(&entry.content().as_found())
 }
 
 /// How many bytes spell what was found, without what is below it.

@@ -5,7 +5,7 @@ ghost use Rattle.syn_model.specs.Path.{IsName};
 ghost use Rattle.syn_tree.specs.Contents.{found_content};
 
 use crate::content::Found;
-use crate::entry::{Entry, found_at};
+use crate::entry::Entry;
 use std::alloc::{AllocError, Global};
 use std::marker::Model;
 use syn_path::Path;
@@ -59,6 +59,6 @@ impl<'a> Pair<'a> {
     pub fn found(&self) -> Found<'a>
         ensures { found_content result ≡ self.now.1 }
     {
-        found_at(self.entry)
+        self.entry.content().as_found()
     }
 }

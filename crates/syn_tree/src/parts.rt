@@ -8,7 +8,7 @@ ghost use Rattle.syn_placed.specs.Pairs.{under};
 ghost use Rattle.syn_tree.specs.Lists.{stripped, child_contents, contents_at, kinds_of};
 
 use crate::content::Found;
-use crate::entry::{Entry, found_at};
+use crate::entry::Entry;
 use crate::error::TreeError;
 use crate::lawful::is_path;
 use std::alloc::{AllocError, Global};
@@ -87,7 +87,7 @@ pub fn children<'a>(
     let mut found = Vec::new(alloc);
     for entry in list {
         if let Some(name) = child_name(above, entry.key()) {
-            found.push((Name::from_bytes(alloc, name)?, found_at(entry)))?;
+            found.push((Name::from_bytes(alloc, name)?, entry.content().as_found()))?;
         }
     }
     Ok(found)

@@ -32,7 +32,7 @@ loop-entry-preserved c =
           w.in-Some.is ∙ ap (λ n. Some n) (sym w.in_ok-from_bytes.ensures.ok.0))) in
           rw w.found-is (ap contents_at w.in_ok-push.ensures.items
           ∙ (map-append _ c.loop-entry.found.items _ ∙ (ap₂ (λ ys there. ys ++ (name, there) ∷ [])
-          c.loop-entry.invariant w.found_at.ensures
+          c.loop-entry.invariant (w.as_found.ensures ∙ w.content.ensures)
           ∙ (ap (λ ys. read ++ ys) (sym one) ∙ sym more))))
       | in_default w ↦
           let none = one_more above x None
