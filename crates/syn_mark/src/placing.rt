@@ -16,7 +16,7 @@ use crate::lawful::is_entry;
 use crate::mark::Mark;
 use crate::tree::{MarkEntry, MarkTree};
 use std::alloc::{AllocError, Global};
-use syn_path::{Name, Path};
+use syn_path::{LONGEST_PATH, MOST_NAMES, Name, Path};
 use syn_placed::EntryKind;
 use syn_placed::by_path::{entry_at, is_directory, parent_names};
 use syn_tree::TreeError;
@@ -71,8 +71,8 @@ fn fits_below(at: &Path, path: &Path) -> bool
     ensures { result ≡ fits_path (at.now ++ path.now) }
 {
     // the second count is spelled once
-    at.names().len() + path.names().len() <= 16
-        && at.spelling_length() + path.spelling_length() <= 256
+    at.names().len() + path.names().len() <= MOST_NAMES
+        && at.spelling_length() + path.spelling_length() <= LONGEST_PATH + 1
 }
 
 /// The mark alone, and after it the entries below the path, each without the path before its own.
