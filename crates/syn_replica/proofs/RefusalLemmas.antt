@@ -143,6 +143,9 @@ not_full_device is = cc is
 pub not_full_halted : why.JournalFull ≡ why.Halted → ⊥
 not_full_halted is = cc is
 
+pub not_halted_device : why.Halted ≡ why.Device → ⊥
+not_halted_device is = cc is
+
 tree_halted : (e : TreeError) → of_tree e ≢ why.Halted
 tree_halted tree_error.Memory is = let k : why.Memory ≡ why.Halted = is in cc
 tree_halted e is = let k : of_tree e ≡ why.Halted = is in cc

@@ -1,5 +1,6 @@
 -- Why an event is not added, with so much room in the journal.
-use Rattle.std.proofs.Common.{◌≡◌, ◌<◌, ◌≤◌, ℕ, true, false, if◌then◌else◌, nat_lt, List, ◌∷◌, ◌++◌}
+use Rattle.std.proofs.Common.{◌≡◌, ◌<◌, ◌≤◌, ℕ, true, false, if◌then◌else◌, nat_lt, List, [], ◌∷◌}
+use Rattle.std.proofs.Common.{◌++◌}
 use Rattle.std.proofs.Common.{◌⊎◌, length, ap, sym, subst, ◌∙◌, Option, Some, None, refl, Result}
 use Rattle.std.proofs.Common.{Ok, Err, inl, inr, arith}
 use Rattle.std.specs.Int.{to_be_bytes, w16, w32, w64}
@@ -10,7 +11,7 @@ use Rattle.syn_model.specs.Event.{Edit, Put, MakeDir, Remove, Chmod, Token, Even
 use Rattle.syn_model.specs.Event.{Began, Replaced}
 use Rattle.syn_model.specs.Path.{Path, path_spelling}
 use Rattle.syn_model.specs.Tree.{Tree}
-use Rattle.syn_model.specs.Refusal.{Refusal}
+use Rattle.syn_model.specs.Refusal.{Cause, Refusal, first_cause}
 use Rattle.syn_model.specs.Refusal as why
 use Rattle.syn_model.specs.Spelling.{event_spelling, spelling, token_spelling}
 use Rattle.syn_model.specs.Standing.{Standing, causes_at, refusal_at}
@@ -51,6 +52,22 @@ pub refused_at : (room : ℕ) (standing : Standing) (event : Event) (refusal : R
     refusal_at standing event ≡ Some refusal → add_refusal_at room standing event ≡ Some refusal
 refused_at room standing event refusal e =
     first_stays (causes_at standing event) (room_causes room event) refusal e
+
+-- a last cause that does not stand changes nothing
+pub last_false : (causes : List Cause) (refusal : Refusal) →
+    first_cause (causes ++ (false, refusal) ∷ []) ≡ first_cause causes
+last_false [] refusal = refl
+last_false ((true, cause) ∷ causes) refusal = refl
+last_false ((false, cause) ∷ causes) refusal = last_false causes refusal
+
+-- so where there is room, all is said by what stands against the event
+pub room_aside : (room : ℕ) (standing : Standing) (event : Event) →
+    length (event_spelling event) ≤ room →
+    refusal_at standing event ≡ add_refusal_at room standing event
+room_aside room standing event fits =
+    let causes = causes_at standing event in
+    sym (ap (λ b. first_cause (causes ++ (b, why.JournalFull) ∷ []))
+    (le_false room (length (event_spelling event)) fits) ∙ last_false causes why.JournalFull)
 
 -- what refuses the update is answered, and so is lack of room
 module _ {X : Type 0} (room : ℕ) (standing : Standing) (event : Event) where

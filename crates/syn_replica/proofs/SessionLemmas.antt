@@ -1,22 +1,26 @@
 -- Why a replacement is refused, as it is found out step by step.
-use Rattle.std.proofs.Common.{◌≡◌, ◌≢◌, ◌==◌, ◌⊎◌, inr, ℕ, Bool, false, not, nat_lt, nat_le}
+use Rattle.std.proofs.Common.{◌≡◌, ◌≢◌, ◌==◌, ◌⊎◌, inr, ℕ, Bool, false, true, not, nat_lt, nat_le}
 use Rattle.std.proofs.Common.{if◌then◌else◌, List, [], ◌∷◌, ◌++◌, length, refl, sym, ap, ap₂, ◌∙◌}
 use Rattle.std.proofs.Common.{subst, Option, Some, None, append_assoc, arith, ◌+◌, Result, Ok, Err}
 use Rattle.std.specs.Prelude.{IfOk, IfErr, IsErrAnd, IfSome}
 use Rattle.std.proofs.lemmas.List.{length-append}
+use Rattle.std.proofs.lemmas.Bool.{eq-eqb, eqb-true}
 use Rattle.std.proofs.lemmas.Bool.Decides.{nat_tests}
 use Rattle.std.proofs.lemmas.Option.{none-some, same_Some}
 use Rattle.syn_model.proofs.ExitLemmas.{if_err_of_exit, is_err_of_exit}
 use Rattle.syn_model.specs.Path.{Path}
 use Rattle.syn_model.specs.Tree.{Tree, replace}
 use Rattle.syn_model.specs.Event.{Token, Event, Began, Replaced}
-use Rattle.syn_model.specs.Refusal.{Refusal, Memory, OldSession, WrongPair, Cause, first_cause}
+use Rattle.syn_model.specs.Refusal.{Refusal, Memory, JournalFull, OldSession, WrongPair, Cause}
+use Rattle.syn_model.specs.Refusal.{first_cause}
 use Rattle.syn_model.specs.Spelling.{event_spelling}
-use Rattle.syn_model.specs.Standing.{Standing, is_old, place_causes, full_causes}
+use Rattle.syn_model.specs.Standing.{Standing, causes_at, is_old, place_causes, full_causes}
+use Rattle.syn_model.specs.Standing.{full_position, refusal_at}
 use Rattle.syn_model.specs.History.{History, standing_of, tree_of, is_old_token, last_session}
 use Rattle.syn_model.specs.History.{position_causes}
 use Rattle.syn_replica.specs.Refusals.{IsOneOf, outside_refusals}
 use Rattle.syn_replica.specs.Steps.{add_refusal, room_causes, replace_refusal, begin_refusal}
+use Rattle.syn_replica.specs.Steps.{begin_refusal_at}
 use Rattle.syn_replica.specs.Steps.{is_done, replaced, begun}
 use Rattle.syn_replica.specs.inner.Additions.{MayReplace, add_refusal_at}
 use Rattle.syn_replica.specs.Causes.{since_causes}
@@ -24,6 +28,7 @@ use Rattle.syn_replica.specs.ErrorRefusals.{refusal_of}
 use Rattle.syn_tree.specs.Lists.{replace_refusal as tree_refusal}
 use Rattle.syn_replica.specs.declared.error.ReplicaError.{ReplicaError}
 use Rattle.syn_model.proofs.HistoryLemmas.{first_skips, first_stays}
+use Rattle.syn_replica.proofs.RoomLemmas.{last_false}
 use Rattle.syn_replica.proofs.SinceLemmas.{first_false}
 
 -- what a clause says of a value that is there
@@ -124,47 +129,52 @@ not_other m n same = grind (arith, nat_tests)
 less_or_same : (m n : ℕ) → m ≢ n → nat_lt m n ≡ nat_le m n
 less_or_same m n other = grind (arith, nat_tests)
 
+not_less : (m n : ℕ) → m ≡ n → nat_lt m n ≡ false
+not_less m n same = grind (arith, nat_tests)
+
 differs : (m n : ℕ) → m ≢ n → (m == n) ≡ false
 differs m n other = grind (arith, nat_tests)
 
 pub begun_size : (session : ℕ) → length (event_spelling (Began session)) ≡ 9
 begun_size session = refl
 
-module _ (room own : ℕ) (history : History) (pair session : ℕ) where
-  -- where the pair is the replica's and the session was not begun, what is left is why the event is
-  -- not added
-  begin_rest : pair ≡ own → session ≢ last_session history →
-      begin_refusal room own history pair session ≡ add_refusal room history (Began session)
-  begin_rest same other =
-      let last = position_causes history ++ room_causes room (Began session) in
-      first_false (not (pair == own)) WrongPair ((nat_lt session (last_session history), OldSession)
-      ∷ (if session == last_session history then [] else last)) (not_other pair own same)
-      ∙ ap₂ (λ b c. first_cause ((b, OldSession) ∷ (if c then [] else last)))
-      (less_or_same session (last_session history) other)
-      (differs session (last_session history) other)
+module _ (room own : ℕ) (standing : Standing) (pair session : ℕ) where
+  abbrev answer : Option Refusal
+  answer = begin_refusal_at room own standing pair session
 
-  pub rest_at : (standing : Standing) (begun_last : ℕ) → standing ≡ standing_of history →
-      pair ≡ own → begun_last ≡ standing.session → session ≢ begun_last →
-      begin_refusal room own history pair session ≡ add_refusal_at room standing (Began session)
-  rest_at standing begun_last is same last other =
-      begin_rest same (λ again. other (again ∙ sym (last ∙ ap (λ s. s.session) is)))
-      ∙ ap (λ s. add_refusal_at room s (Began session)) (sym is)
+  abbrev later : List Cause
+  later = (nat_lt session standing.session, OldSession)
+      ∷ (if session == standing.session then []
+      else full_position standing.position ++ room_causes room (Began session))
 
-  -- where it may be added, there is no cause
-  pub begin_allowed : (standing : Standing) (begun_last : ℕ) (why : Refusal) →
-      standing ≡ standing_of history → pair ≡ own → begun_last ≡ standing.session →
-      session ≢ begun_last → add_refusal_at room standing (Began session) ≡ None →
-      begin_refusal room own history pair session ≡ Some why → ⊥
-  begin_allowed standing begun_last why is same last other none cause =
-      none-some _ (sym (rest_at standing begun_last is same last other ∙ none) ∙ cause)
+  pub other_pair : pair ≢ own → answer ≡ Some WrongPair
+  other_pair other =
+      ap (λ b. first_cause ((not b, WrongPair) ∷ later)) (differs pair own other)
 
-  module _ {X : Type 0} (r : Result X ReplicaError) (e : ReplicaError) (standing : Standing)
-      (begun_last : ℕ) (at_exit : IsErrAnd r (λ x. x ≡ e)) (is : standing ≡ standing_of history)
-      (same : pair ≡ own)
-      (last : begun_last ≡ standing.session) (other : session ≢ begun_last)
-      (told : add_refusal_at room standing (Began session) ≡ Some (refusal_of e)) where
+  -- the session begun last begins again
+  pub begins_again : pair ≡ own → session ≡ standing.session → answer ≡ None
+  begins_again own_pair last =
+      first_false (not (pair == own)) WrongPair later (not_other pair own own_pair)
+      ∙ ap₂ (λ b c. first_cause ((b, OldSession) ∷ (if c then []
+      else full_position standing.position ++ room_causes room (Began session))))
+      (not_less session standing.session last) (eq-eqb session standing.session last)
+
+  -- where the pair is the replica's and the session was not begun last, what is left is why the
+  -- event is not added
+  pub rest_at : pair ≡ own → session ≢ standing.session →
+      answer ≡ add_refusal_at room standing (Began session)
+  rest_at same other =
+      first_false (not (pair == own)) WrongPair later (not_other pair own same)
+      ∙ ap₂ (λ b c. first_cause ((b, OldSession) ∷ (if c then []
+      else full_position standing.position ++ room_causes room (Began session))))
+      (less_or_same session standing.session other)
+      (differs session standing.session other)
+
+  module _ {X : Type 0} (r : Result X ReplicaError) (e : ReplicaError) (history : History)
+      (at_exit : IsErrAnd r (λ x. x ≡ e)) (is : standing ≡ standing_of history)
+      (told : answer ≡ Some (refusal_of e)) where
     answered : begin_refusal room own history pair session ≡ Some (refusal_of e)
-    answered = rest_at standing begun_last is same last other ∙ told
+    answered = ap (λ s. begin_refusal_at room own s pair session) (sym is) ∙ told
 
     pub begin_cause : IfErr r (λ e. IsOneOf outside_refusals e
         ⊎ (begin_refusal room own history pair session ≡ Some (refusal_of e)))
@@ -177,6 +187,44 @@ module _ (room own : ℕ) (history : History) (pair session : ℕ) where
         IsErrAnd r (λ e. refusal_of e ≡ why)
     begin_refused why cause =
         is_err_of_exit r e (λ e. refusal_of e ≡ why) at_exit (same_Some _ _ (sym answered ∙ cause))
+
+-- with room for its event, a session is refused for what stands against it alone
+module _ (own : ℕ) (standing : Standing) (pair session : ℕ) where
+  abbrev with_room : Option Refusal
+  with_room = begin_refusal_at 9 own standing pair session
+
+  abbrev early : List Cause
+  early = (not (pair == own), WrongPair) ∷ (nat_lt session standing.session, OldSession) ∷ []
+
+  -- what stands against it is answered whatever the room
+  pub any_room : (room : ℕ) (why : Refusal) → with_room ≡ Some why →
+      begin_refusal_at room own standing pair session ≡ Some why
+  any_room room why told = by (session == standing.session) told
+    where
+      by : (again : Bool) → first_cause (early ++ (if again then []
+          else full_position standing.position ++ room_causes 9 (Began session))) ≡ Some why →
+          first_cause (early ++ (if again then []
+          else full_position standing.position ++ room_causes room (Began session))) ≡ Some why
+      by true told = told
+      by false told =
+          let causes : List Cause = early ++ full_position standing.position in
+          first_stays causes (room_causes room (Began session)) why
+          (sym (last_false causes JournalFull) ∙ told)
+
+  pub own_pair : with_room ≡ None → pair ≡ own
+  own_pair none = by (pair == own) refl none
+    where
+      by : (b : Bool) → (pair == own) ≡ b → first_cause ((not b, WrongPair)
+          ∷ later 9 own standing pair session) ≡ None → pair ≡ own
+      by true same none = eqb-true pair own same
+      by false same none = absurd (none-some _ (sym none))
+
+  -- nothing stands against its event
+  pub event_free : with_room ≡ None → session ≢ standing.session →
+      refusal_at standing (Began session) ≡ None
+  event_free none other =
+      sym (last_false (causes_at standing (Began session)) JournalFull)
+      ∙ (sym (rest_at 9 own standing pair session (own_pair none) other) ∙ none)
 
 -- ---- what is answered
 

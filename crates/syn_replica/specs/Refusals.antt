@@ -26,6 +26,9 @@ abbrev pub begin_refusals : List Refusal
 begin_refusals = why.Halted ∷ why.WrongPair ∷ why.OldSession ∷ why.Full ∷ why.JournalFull
     ∷ why.Memory ∷ why.Device ∷ []
 
+abbrev pub check_begin_refusals : List Refusal
+check_begin_refusals = why.Halted ∷ why.WrongPair ∷ why.OldSession ∷ why.Full ∷ []
+
 abbrev pub fetch_refusals : List Refusal
 fetch_refusals = why.Halted ∷ why.BelowFloor ∷ why.Touched ∷ why.Memory ∷ []
 

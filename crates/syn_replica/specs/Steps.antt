@@ -7,9 +7,9 @@ use Rattle.syn_model.specs.Path.{Bytes, Path}
 use Rattle.syn_model.specs.Tree.{Tree, subtree, replace}
 use Rattle.syn_model.specs.Refusal.{Refusal, JournalFull, OldSession, WrongPair, Cause, first_cause}
 use Rattle.syn_model.specs.Event.{Token, Event, Began, Replaced, is_same_token}
-use Rattle.syn_model.specs.Standing.{Standing, place_causes, full_causes}
+use Rattle.syn_model.specs.Standing.{Standing, place_causes, full_causes, full_position}
 use Rattle.syn_model.specs.History.{History, tree_of, event_causes, position_causes, is_old_token}
-use Rattle.syn_model.specs.History.{last_session, last_token}
+use Rattle.syn_model.specs.History.{last_session, last_token, standing_of}
 use Rattle.syn_model.specs.Spelling.{event_spelling, spelling}
 use Rattle.syn_replica.specs.Causes.{since_causes}
 use Rattle.syn_replica.specs.declared.replica.session.TokenStatus.{TokenStatus}
@@ -30,12 +30,16 @@ begun history session =
 
 -- why a session is not begun: the pair is another, or the session is below the last; a session that
 -- was not begun yet needs its event
+abbrev pub begin_refusal_at : ℕ → ℕ → Standing → ℕ → ℕ → Option Refusal
+begin_refusal_at room own standing pair session =
+    first_cause
+    ((not (pair == own), WrongPair) ∷ (nat_lt session standing.session, OldSession)
+    ∷ (if session == standing.session then []
+    else full_position standing.position ++ room_causes room (Began session)))
+
 abbrev pub begin_refusal : ℕ → ℕ → History → ℕ → ℕ → Option Refusal
 begin_refusal room own history pair session =
-    first_cause
-    ((not (pair == own), WrongPair) ∷ (nat_lt session (last_session history), OldSession)
-    ∷ (if session == last_session history then []
-    else position_causes history ++ room_causes room (Began session)))
+    begin_refusal_at room own (standing_of history) pair session
 
 -- the token is that of the last replacement
 abbrev pub is_done_at : Standing → Token → Bool

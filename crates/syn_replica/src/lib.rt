@@ -9,8 +9,9 @@
 //!
 //! - `edit`, where it succeeds, leaves `history ++ event` standing and answers its position
 //!   (`acknowledged`). `begin` adds the event of a session above the last, and none for the last
-//!   one again. `replace` checks the token, the path and the tree, and writes the event, in one
-//!   call. A token that was done before changes nothing (`again`).
+//!   one again; `check_begin` tells beforehand what it refuses, but for the room (`refusal`).
+//!   `replace` checks the token, the path and the tree, and writes the event, in one call. A token
+//!   that was done before changes nothing (`again`).
 //! - `edit_all` makes many edits at once: where it succeeds all of them stand (`acknowledged`), and
 //!   at any moment the disk stands for the history, or for that with all of them (`any_moment`:
 //!   `KeepsNoneOrAll`). It is refused for the first cause of the first that is refused, and then

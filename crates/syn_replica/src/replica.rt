@@ -247,9 +247,7 @@ impl<D: Disk> Replica<D> {
             ↔ IsHalted self.now }
         ensures refusals { IfErr result (IsOneOf reading_refusals) }
     {
-        if self.is_halted() {
-            return Err(ReplicaError::Journal(JournalError::Halted));
-        }
+        self.check_running()?;
         match self.tree().get(path) {
             Some(Found::File(mode, bytes)) => Ok(Content::File(mode, bytes.to_vec(alloc)?)),
             Some(Found::Dir) => Ok(Content::Dir),
@@ -270,9 +268,7 @@ impl<D: Disk> Replica<D> {
             ↔ IsHalted self.now }
         ensures refusals { IfErr result (IsOneOf reading_refusals) }
     {
-        if self.is_halted() {
-            return Err(ReplicaError::Journal(JournalError::Halted));
-        }
+        self.check_running()?;
         Ok(self.tree().list(alloc, path)?)
     }
 
@@ -314,15 +310,26 @@ impl<D: Disk> Replica<D> {
             (ended refusal_of result) }
     {
         opening_laws();
-        if self.is_halted() {
-            return Err(ReplicaError::Journal(JournalError::Halted));
-        }
+        self.check_running()?;
         let length = edit_length(&edit);
         let event = Event::Edited { user, edit };
         self.check(&event)?;
         self.check_room(length)?;
         let (payload, update) = self.prepare(alloc, event)?;
         self.commit(alloc, payload, update)
+    }
+
+    /// Why no call is answered: the replica is halted (10).
+    fn check_running(&self) -> Result<(), ReplicaError>
+        ensures running { OnOk result (¬ IsHalted self.now) }
+        ensures halted { IfErr result (λ e. (e ≡ ReplicaError.Journal JournalError.Halted)
+            × IsHalted self.now) }
+    {
+        if self.is_halted() {
+            Err(ReplicaError::Journal(JournalError::Halted))
+        } else {
+            Ok(())
+        }
     }
 
     /// Why a payload of this length is not written: there is no room for it (8).

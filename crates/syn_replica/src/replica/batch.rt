@@ -80,9 +80,8 @@ impl<D: Disk> Replica<D> {
     {
         history_laws();
         layout_laws();
-        if self.is_halted() {
-            let halted = ReplicaError::Journal(JournalError::Halted);
-            return Err((halted, self.into_disk()));
+        if let Err(error) = self.check_running() {
+            return Err((error, self.into_disk()));
         }
         let room = self.room();
         let (journal, memory) = self.journaled.into_parts();

@@ -47,9 +47,7 @@ impl<D: Disk> Replica<D> {
             ↔ IsHalted self.now }
         ensures refusals { IfErr result (IsOneOf reading_refusals) }
     {
-        if self.is_halted() {
-            return Err(ReplicaError::Journal(JournalError::Halted));
-        }
+        self.check_running()?;
         let mut digests = match self.digests.take() {
             Some(digests) => digests,
             None => Digests::new(alloc),

@@ -7,16 +7,18 @@ ghost use Rattle.syn_model.specs.Limits.{greatest_piece};
 ghost use Rattle.syn_model.specs.Event.{Began, Replaced};
 ghost use Rattle.syn_model.specs.History.{History, last_session, standing_of, tree_of};
 ghost use Rattle.syn_model.specs.Refusal.{Refusal, Memory, first_cause};
-ghost use Rattle.syn_model.specs.Spelling.{spelling};
+ghost use Rattle.syn_model.specs.Spelling.{event_spelling, spelling};
 ghost use Rattle.syn_model.specs.Tree.{subtree};
 ghost use Rattle.syn_history.specs.Events.{token_of};
 ghost use Rattle.syn_tree.specs.Nodes.{part_of};
-ghost use Rattle.syn_replica.specs.ErrorRefusals.{refusal_of};
+ghost use Rattle.syn_replica.specs.ErrorRefusals.{refusal_in, refusal_of};
 ghost use Rattle.syn_replica.specs.Refusals.{IsOneOf, outside_refusals};
 ghost use Rattle.syn_replica.specs.inner.Additions.{checking_refusals, MayReplace};
-ghost use Rattle.syn_replica.specs.Refusals.{begin_refusals, fetch_refusals, replace_refusals};
+ghost use Rattle.syn_replica.specs.Refusals.{begin_refusals, check_begin_refusals};
+ghost use Rattle.syn_replica.specs.Refusals.{fetch_refusals, replace_refusals};
 ghost use Rattle.syn_replica.specs.Calls.{unless};
-ghost use Rattle.syn_replica.specs.Steps.{begun, begin_refusal, is_done, is_done_at, piece};
+ghost use Rattle.syn_replica.specs.Steps.{begun, begin_refusal, begin_refusal_at, is_done};
+ghost use Rattle.syn_replica.specs.Steps.{is_done_at, piece};
 ghost use Rattle.syn_replica.specs.Causes.{since_causes};
 ghost use Rattle.syn_replica.specs.Steps.{early_refusal, how_stands, replaced, replace_refusal};
 ghost use Rattle.std.specs.Prelude.{◌==◌, None, IfSome, option_map};
@@ -102,20 +104,37 @@ impl<D: Disk> Replica<D> {
             (ended refusal_of result) }
     {
         opening_laws();
-        if self.is_halted() {
-            return Err(ReplicaError::Journal(JournalError::Halted));
-        }
-        if pair != self.pair() {
-            return Err(ReplicaError::WrongPair);
-        }
+        self.check_begin(pair, session)?;
         if session == self.last_session() {
             return Ok(self.position());
         }
-        let event = Event::Began { session };
-        self.check(&event)?;
         self.check_room(BEGAN_LENGTH)?;
-        let (payload, update) = self.prepare(alloc, event)?;
+        let (payload, update) = self.prepare(alloc, Event::Began { session })?;
         self.commit(alloc, payload, update)
+    }
+
+    /// Why the session would not begin, whatever the journal has room for. It takes no memory.
+    ///
+    /// Refused 10 while the replica is halted; 20 where the pair is another, 14 where the session
+    /// is below the last, and 7 where it is above the last and the position is the greatest.
+    pub fn check_begin(&self, pair: u64, session: u64) -> Result<(), ReplicaError>
+        // It refuses what `begin` refuses where its record fits in the journal.
+        ensures refusal { (room : ℕ) → length (event_spelling (Began session)) ≤ room
+            → ¬ IsHalted self.now
+            → refusal_in result
+            ≡ begin_refusal_at room (pair_of self.now) (standing_shown self.now) pair session }
+        ensures refusals { IfErr result (IsOneOf check_begin_refusals) }
+        ensures halted { (result ≡ Err (ReplicaError.Journal JournalError.Halted))
+            ↔ IsHalted self.now }
+    {
+        self.check_running()?;
+        if pair != self.pair() {
+            Err(ReplicaError::WrongPair)
+        } else if session == self.last_session() {
+            Ok(())
+        } else {
+            self.check(&Event::Began { session })
+        }
     }
 
     /// A part of what stands at the path with all below it: its spelling from the offset on, the
@@ -148,9 +167,7 @@ impl<D: Disk> Replica<D> {
         ensures halted { (result ≡ Err (ReplicaError.Journal JournalError.Halted))
             ↔ IsHalted self.now }
     {
-        if self.is_halted() {
-            return Err(ReplicaError::Journal(JournalError::Halted));
-        }
+        self.check_running()?;
         self.check_untouched(path, since)?;
         let tree = self.tree();
         let bytes = encode_piece(alloc, tree, path, offset)?;
@@ -285,9 +302,7 @@ impl<D: Disk> Replica<D> {
         ensures halted { (result ≡ Err (ReplicaError.Journal JournalError.Halted))
             ↔ IsHalted self.now }
     {
-        if self.is_halted() {
-            return Err(ReplicaError::Journal(JournalError::Halted));
-        }
+        self.check_running()?;
         if self.is_done(token) {
             return Ok(None);
         }

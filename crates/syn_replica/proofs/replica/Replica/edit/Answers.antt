@@ -1,5 +1,5 @@
 use Rattle.std.proofs.Common.{◌≡◌, ◌⊎◌, ◌<◌, ◌≤◌, Some, sym, ap, ◌∙◌, refl, subst, inr}
-use Rattle.std.proofs.Common.{true≢false}
+use Rattle.std.proofs.Common.{Err}
 use Rattle.std.proofs.lemmas.Result.{err_from_is_err_and}
 use Rattle.syn_tree.specs.Edits.{edit_of}
 use Rattle.syn_replica.specs.Edits.{event_by}
@@ -10,9 +10,9 @@ use Rattle.syn_replica.specs.inner.Additions.{add_refusal_at}
 use Rattle.syn_model.specs.Refusal as why
 use Rattle.syn_replica.proofs.RefusalLemmas.{inner_refusals, never, edit_among, same_refusal}
 use Rattle.syn_replica.proofs.RefusalLemmas.{early_among, inner_among, not_full_device}
-use Rattle.syn_replica.proofs.RefusalLemmas.{not_full_halted, or_outside}
-use Rattle.syn_replica.proofs.CallLemmas.{exits_early, refused_early, still_stands}
-use Rattle.syn_replica.proofs.MachineLemmas.{exits_so, stays_refused}
+use Rattle.syn_replica.proofs.RefusalLemmas.{not_full_halted, not_halted_device, or_outside}
+use Rattle.syn_replica.proofs.CallLemmas.{exits_early, exits_halted, still_stands}
+use Rattle.syn_replica.proofs.MachineLemmas.{exits_so}
 use Rattle.syn_replica.proofs.StandingLemmas.{early_at}
 use Rattle.syn_replica.proofs.RoomLemmas.{added_refusals, edited_among, refused_at, room_at}
 use Rattle.syn_replica.proofs.RoomLemmas.{room_refused, room_passed}
@@ -24,7 +24,8 @@ use Rattle.syn_replica.proofs.replica.Replica.edit.Goals as goal
 
 pub returns-in_err-check-clause-cause : goal.returns-in_err-check-clause-cause
 returns-in_err-check-clause-cause g c history stands =
-    let p = err_from_is_err_and c.from_residual.result c.from_residual.ensures.1 in
+    let p = err_from_is_err_and c.from_residual-in_err-check.result
+    c.from_residual-in_err-check.ensures.1 in
     let old = c.args.self.now in
     let event = event_by c.args.user c.args.edit in
     rw (p.1, p.2)
@@ -34,7 +35,8 @@ returns-in_err-check-clause-cause g c history stands =
 
 pub returns-in_err-check-clause-refused : goal.returns-in_err-check-clause-refused
 returns-in_err-check-clause-refused g c history why stands e =
-    let p = err_from_is_err_and c.from_residual.result c.from_residual.ensures.1 in
+    let p = err_from_is_err_and c.from_residual-in_err-check.result
+    c.from_residual-in_err-check.ensures.1 in
     let old = c.args.self.now in
     let event = event_by c.args.user c.args.edit in
     rw (p.1, p.2)
@@ -45,7 +47,8 @@ returns-in_err-check-clause-refused g c history why stands e =
 
 pub returns-in_err-check-clause-refusals : goal.returns-in_err-check-clause-refusals
 returns-in_err-check-clause-refusals g c =
-    let p = err_from_is_err_and c.from_residual.result c.from_residual.ensures.1 in
+    let p = err_from_is_err_and c.from_residual-in_err-check.result
+    c.from_residual-in_err-check.ensures.1 in
     rw (p.1, p.2) (edit_among (standing_shown c.args.self.now) c.args.user (edit_of c.args.edit) _
     (sym c.in_err-check.ensures))
 
@@ -70,8 +73,9 @@ prepare-requires-clause-brief g c =
     c.opening_laws.ensures.short (standing_shown c.args.self.now)
     (event_by c.args.user c.args.edit) none
 
-pub returns-then-is_halted-clause-any_moment : goal.returns-then-is_halted-clause-any_moment
-returns-then-is_halted-clause-any_moment g c history stands =
+pub returns-in_err-check_running-clause-any_moment :
+    goal.returns-in_err-check_running-clause-any_moment
+returns-in_err-check_running-clause-any_moment g c history stands =
     kept_unwritten g.met.D.Disk.only_now c.args.self.now history stands _
 
 pub returns-in_err-check-clause-any_moment : goal.returns-in_err-check-clause-any_moment
@@ -132,17 +136,20 @@ returns-clause-refusals g c =
 
 -- ---- the machine
 
-pub returns-then-is_halted-clause-machine : goal.returns-then-is_halted-clause-machine
-returns-then-is_halted-clause-machine g c =
-    refused_early c.args.self.now (Some (event_by c.args.user c.args.edit)) why.Halted (λ is. cc)
-    (λ _. c.is_halted.ensures.0 c.if-is_halted.true, λ _. refl)
+pub returns-in_err-check_running-clause-machine : goal.returns-in_err-check_running-clause-machine
+returns-in_err-check_running-clause-machine g c =
+    let halted = c.in_err-check_running.ensures.halted in
+    exits_halted {Y = Unit {0}} c.args.self.now c.from_residual.result _
+    (Some (event_by c.args.user c.args.edit)) c.from_residual.ensures.1
+    (λ device. not_halted_device (sym (ap refusal_of halted.0) ∙ device))
+    (λ _. halted.1, λ _. ap (λ e. Err e) halted.0)
 
 pub returns-in_err-check-clause-machine : goal.returns-in_err-check-clause-machine
 returns-in_err-check-clause-machine g c =
     let event = event_by c.args.user c.args.edit in
     let among = early_among (standing_shown c.args.self.now) event _ c.in_err-check.ensures in
-    exits_early c.args.self.now c.from_residual.result _ (Some event) c.from_residual.ensures.1
-    (λ h. true≢false (sym (c.is_halted.ensures.1 h) ∙ c.if-is_halted.false))
+    exits_early c.args.self.now c.from_residual-in_err-check.result _ (Some event)
+    c.from_residual-in_err-check.ensures.1 c.in_ok-check_running.ensures.running
     (never inner_refusals why.Halted refl _ among) (never inner_refusals why.Device refl _ among)
 
 pub returns-in_err-check_room-clause-machine : goal.returns-in_err-check_room-clause-machine
@@ -150,7 +157,7 @@ returns-in_err-check_room-clause-machine g c =
     let full = ap refusal_of c.in_err-check_room.ensures.refused.0 in
     exits_early c.args.self.now c.from_residual-in_err-check_room.result _
     (Some (event_by c.args.user c.args.edit)) c.from_residual-in_err-check_room.ensures.1
-    (λ h. true≢false (sym (c.is_halted.ensures.1 h) ∙ c.if-is_halted.false))
+    c.in_ok-check_running.ensures.running
     (λ halted. not_full_halted (sym full ∙ halted)) (λ device. not_full_device (sym full ∙ device))
 
 pub returns-in_err-payload-clause-machine : goal.returns-in_err-payload-clause-machine
@@ -160,7 +167,7 @@ returns-in_err-payload-clause-machine g c =
     c.in_err-payload.ensures.refused in
     exits_early c.args.self.now c.from_residual-in_err-payload.result _ (Some event)
     c.from_residual-in_err-payload.ensures.1
-    (λ h. true≢false (sym (c.is_halted.ensures.1 h) ∙ c.if-is_halted.false))
+    c.in_ok-check_running.ensures.running
     (never inner_refusals why.Halted refl _ among) (never inner_refusals why.Device refl _ among)
 
 pub returns-clause-machine : goal.returns-clause-machine
@@ -169,16 +176,17 @@ returns-clause-machine g c =
 
 -- ---- what it is to the model's machine
 
-pub returns-then-is_halted-clause-world : goal.returns-then-is_halted-clause-world
-returns-then-is_halted-clause-world g c number machine is =
-    stays_refused c.args.self.now number machine is (Some (event_by c.args.user c.args.edit))
-    why.Halted (λ is. cc)
+pub returns-in_err-check_running-clause-world : goal.returns-in_err-check_running-clause-world
+returns-in_err-check_running-clause-world g c number machine is =
+    exits_so c.args.self.now number machine is c.from_residual.result _
+    (Some (event_by c.args.user c.args.edit)) c.from_residual.ensures.1 (λ device. not_halted_device
+    (sym (ap refusal_of c.in_err-check_running.ensures.halted.0) ∙ device))
 
 pub returns-in_err-check-clause-world : goal.returns-in_err-check-clause-world
 returns-in_err-check-clause-world g c number machine is =
     let event = event_by c.args.user c.args.edit in
-    exits_so c.args.self.now number machine is c.from_residual.result _ (Some event)
-    c.from_residual.ensures.1 (never inner_refusals why.Device refl _
+    exits_so c.args.self.now number machine is c.from_residual-in_err-check.result _ (Some event)
+    c.from_residual-in_err-check.ensures.1 (never inner_refusals why.Device refl _
     (early_among (standing_shown c.args.self.now) event _ c.in_err-check.ensures))
 
 pub returns-in_err-check_room-clause-world : goal.returns-in_err-check_room-clause-world

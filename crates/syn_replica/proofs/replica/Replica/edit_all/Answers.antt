@@ -1,6 +1,6 @@
 use Rattle.std.proofs.Common.{◌≡◌, ◌⊎◌, ◌∷◌, Option, None, Some, ap, arith, inl, inr, map, refl}
 use Rattle.std.proofs.Common.{subst, sym}
-use Rattle.std.proofs.Common.{true≢false, ◌∙◌}
+use Rattle.std.proofs.Common.{◌∙◌}
 use Rattle.std.proofs.lemmas.Option.{none-some, same_Some}
 use Rattle.syn_journal.specs.Batches.{bytes_of_each, calls_for}
 use Rattle.syn_journal.specs.Journal as journal
@@ -30,11 +30,11 @@ use Rattle.syn_replica.proofs.replica.Replica.edit_all.Goals.{In_err-journaled, 
 
 -- ---- an edit was refused, and nothing was written
 
-pub returns-in-Err-clause-any_moment : goal.returns-in-Err-clause-any_moment
-returns-in-Err-clause-any_moment g c history stands =
+pub returns-in-Err-add_all-clause-any_moment : goal.returns-in-Err-add_all-clause-any_moment
+returns-in-Err-add_all-clause-any_moment g c history stands =
     let old = c.args.self in
-    let same : c.into_disk-in-Err.result ≡ disk_of old =
-    c.into_disk-in-Err.ensures
+    let same : c.into_disk-in-Err-add_all.result ≡ disk_of old =
+    c.into_disk-in-Err-add_all.ensures
     ∙ ap (λ j. journal.disk_of j) c.into_parts-journal.ensures.journal in
     rw same (kept_unwritten g.met.D.Disk.only_now old history stands _)
 
@@ -49,45 +49,45 @@ by_history g c history stands found =
     (map (event_by c.args.user) c.args.edits.items) found c.room-room.ensures
     (ap (λ m. m.standing) c.into_parts-journal.ensures.state)
 
-pub returns-in-Err-clause-cause : goal.returns-in-Err-clause-cause
-returns-in-Err-clause-cause g c history stands =
-    let told = by_history g (goal.at.returns-in-Err-clause-cause g c).After-add_all history stands
-    in
-    elim c.in-Err.ensures.refused as (λ _. IsOneOf outside_refusals c.in-Err.error
+pub returns-in-Err-add_all-clause-cause : goal.returns-in-Err-add_all-clause-cause
+returns-in-Err-add_all-clause-cause g c history stands =
+    let k = (goal.at.returns-in-Err-add_all-clause-cause g c).After-add_all in
+    let told = by_history g k history stands in
+    elim c.in-Err-add_all.ensures.refused as (λ _. IsOneOf outside_refusals c.in-Err-add_all.error
     ⊎ (add_all_refusal (room_shown c.args.self) history
-    (map (event_by c.args.user) c.args.edits.items) ≡ Some (refusal_of c.in-Err.error))) [
+    (map (event_by c.args.user) c.args.edits.items) ≡ Some (refusal_of c.in-Err-add_all.error))) [
       | inl memory ↦ inl (ap (is_among outside_refusals) memory)
       | inr cause ↦ inr (told _ cause)
     ]
 
-pub returns-in-Err-clause-refused : goal.returns-in-Err-clause-refused
-returns-in-Err-clause-refused g c history refusal stands e =
-    let told = by_history g (goal.at.returns-in-Err-clause-refused g c).After-add_all history stands
-    in
-    elim c.in-Err.ensures.refused as (λ _. (refusal_of c.in-Err.error ≡ refusal)
-    ⊎ (refusal_of c.in-Err.error ≡ why.Memory)) [
+pub returns-in-Err-add_all-clause-refused : goal.returns-in-Err-add_all-clause-refused
+returns-in-Err-add_all-clause-refused g c history refusal stands e =
+    let k = (goal.at.returns-in-Err-add_all-clause-refused g c).After-add_all in
+    let told = by_history g k history stands in
+    elim c.in-Err-add_all.ensures.refused as (λ _. (refusal_of c.in-Err-add_all.error ≡ refusal)
+    ⊎ (refusal_of c.in-Err-add_all.error ≡ why.Memory)) [
       | inl memory ↦ inr memory
       | inr cause ↦ inl (same_Some _ _ (sym (told _ cause) ∙ e))
     ]
 
-pub returns-in-Err-clause-refusals : goal.returns-in-Err-clause-refusals
-returns-in-Err-clause-refusals g c =
-    elim c.in-Err.ensures.refused as (λ _. IsOneOf edit_refusals c.in-Err.error) [
+pub returns-in-Err-add_all-clause-refusals : goal.returns-in-Err-add_all-clause-refusals
+returns-in-Err-add_all-clause-refusals g c =
+    elim c.in-Err-add_all.ensures.refused as (λ _. IsOneOf edit_refusals c.in-Err-add_all.error) [
       | inl memory ↦ ap (is_among edit_refusals) memory
       | inr cause ↦ edits_among c.room-room.result _ c.args.user c.args.edits.items _ cause
     ]
 
-pub returns-in-Err-clause-device : goal.returns-in-Err-clause-device
-returns-in-Err-clause-device g c =
+pub returns-in-Err-add_all-clause-device : goal.returns-in-Err-add_all-clause-device
+returns-in-Err-add_all-clause-device g c =
     let old = c.args.self in
-    let refused = c.in-Err.error in
-    let same : c.into_disk-in-Err.result ≡ disk_of old =
-    c.into_disk-in-Err.ensures
+    let refused = c.in-Err-add_all.error in
+    let same : c.into_disk-in-Err-add_all.result ≡ disk_of old =
+    c.into_disk-in-Err-add_all.ensures
     ∙ ap (λ j. journal.disk_of j) c.into_parts-journal.ensures.journal in
     let not_device : refusal_of refused ≡ why.Device → ⊥ =
     never (why.JournalFull ∷ inner_refusals) why.Device refl refused
     (edits_inner c.room-room.result _ c.args.user c.args.edits.items refused
-    c.in-Err.ensures.refused) in
+    c.in-Err-add_all.ensures.refused) in
     subst (λ d. Spends g.D.Disk (calls_for c.args.edits.items) (Some (refusal_of refused))
     (disk_of old) d) (sym same) (spends_nothing _ _ (disk_of old) not_device)
 
@@ -127,8 +127,7 @@ returns-in_err-journaled-clause-cause g c history stands =
     let fits = c.in-Ok.ensures.fits (left_shown c.args.self) (c.room-room.ensures ∙ omega arith) in
     let outside : IsOneOf outside_refusals refused.0 =
     outside_of (refusal_of refused.0) told.refusals
-    (λ is. true≢false (sym (c.is_halted.ensures.1 (told.halted.0 (ap (λ w. Some w) is)))
-    ∙ c.if-is_halted.false))
+    (λ is. c.in_default.ensures.running (told.halted.0 (ap (λ w. Some w) is)))
     (λ is. absurd (omega (arith, (told.full.0 (ap (λ w. Some w) is)).1, fits))) in
     if_err_of_exit c.from_residual.result refused _ c.from_residual.ensures.1 (inl outside)
 
