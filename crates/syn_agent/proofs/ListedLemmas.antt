@@ -1,22 +1,19 @@
 -- What stands in a directory of a history is a listing that can be sent.
 use Rattle.sha2.proofs.Facts256.{length-sha256}
 use Rattle.std.proofs.Common.{◌≡◌, ◌∙◌, ◌+◌, ◌≤◌, ℕ, zero, suc, Bool, true, false, ◌&&◌}
-use Rattle.std.proofs.Common.{List, [], ◌∷◌, ◌++◌, Option, Some, None, T, Less, Equal, Greater, ap}
+use Rattle.std.proofs.Common.{List, [], ◌∷◌, ◌++◌, Option, Some, None, T, Less, ap}
 use Rattle.std.proofs.Common.{ap₂, arith, cond, is_eq, IsSome, length, map, nat_le, refl}
 use Rattle.std.proofs.Common.{option_map, subst, sym}
 use Rattle.std.proofs.lemmas.Bool.{and_parts}
 use Rattle.std.proofs.lemmas.Bool.Decides.{nat_tests}
-use Rattle.std.proofs.lemmas.Cmp.{lists_total, nat_list_cmp_total}
 use Rattle.std.proofs.lemmas.List.Elements.{All-cons, All-head, All-nil, All-tail}
 use Rattle.std.proofs.lemmas.Option.{none-some, same_Some}
-use Rattle.std.specs.Cmp.{IsTotalOrder, tied_itself}
-use Rattle.std.specs.FinMap.{IsAntisymmetric, entries, entries_sorted, find, get-entries}
-use Rattle.std.specs.FinMap.{nat_cmp-IsAntisymmetric, slice_cmp-IsAntisymmetric}
+use Rattle.std.specs.Cmp.{tied_itself}
+use Rattle.std.specs.FinMap.{entries, entries_sorted, find, get-entries}
 use Rattle.std.specs.FinMap.Entries.{below_all, is_sorted, same_entries}
 use Rattle.std.specs.List.{cons_option, list_all, slice_index_or}
-use Rattle.std.specs.Ordering.{eq_by_cmp, is_lt, ordering_reverse, ordering_then}
-use Rattle.std.specs.Prelude.{All, filter_map, if◌then◌else◌, option_and_then}
-use Rattle.std.specs.declared.cmp.Ordering.{Ordering}
+use Rattle.std.specs.Ordering.{eq_by_cmp, is_lt, ordering_reverse}
+use Rattle.std.specs.Prelude.{All, if◌then◌else◌, option_and_then}
 use Rattle.syn_agent.specs.inner.Lawful.{ListsLawfully}
 use Rattle.syn_mark.specs.Marks.{IsDigestOrDirectory}
 use Rattle.syn_message.specs.Listings.{AreRising, IsEntry, IsListing}
@@ -30,134 +27,27 @@ use Rattle.syn_model.specs.Tree.{Content, Directory, File, IsPart, IsTree, Pair,
 use Rattle.std.specs.FinMap.{get, len}
 use Rattle.syn_model.proofs.ContentsLemmas.{digest_is_bytes}
 use Rattle.syn_tree.specs.Contents.{IsLawful}
-use Rattle.syn_model.proofs.BaseLemmas.{both_hold, equal_of}
-use Rattle.syn_model.proofs.PathLemmas.{strip_prefix-is}
-
-name_total : IsTotalOrder name_cmp
-name_total = nat_list_cmp_total
-
-path_total : IsTotalOrder path_cmp
-path_total = lists_total nat_list_cmp_total
-
-name_exact : IsAntisymmetric name_cmp
-name_exact = slice_cmp-IsAntisymmetric nat_cmp-IsAntisymmetric
-
-path_exact : IsAntisymmetric path_cmp
-path_exact = slice_cmp-IsAntisymmetric name_exact
-
-less_of : (o : Ordering) → T (is_lt o) → o ≡ Less
-less_of Less h = refl
-less_of Equal h = absurd h
-less_of Greater h = absurd h
-
--- A name in a directory, with what stands there
-
-abbrev Row : Type 0
-Row = Name × Content
-
-abbrev row : Path → Pair → Option Row
-row path pair = option_map (λ name. (name, pair.1))
-    (option_and_then only_name (strip_prefix path pair.0))
-
-abbrev rows : Path → List Pair → List Row
-rows path pairs = filter_map {Y = Row} (row path) pairs
-
-only_is : (path : Path) (name : Name) → only_name path ≡ Some name → path ≡ name ∷ []
-only_is [] name is = absurd (none-some _ is)
-only_is (first ∷ []) name is = ap (λ n. n ∷ []) (same_Some _ _ is)
-only_is (first ∷ next ∷ path) name is = absurd (none-some _ is)
-
--- the pair that a row is of
-abbrev IsRowOf : Path → Pair → Row → Type 0
-IsRowOf path pair found = (pair.0 ≡ path ++ found.0 ∷ []) × (pair.1 ≡ found.1)
-
-row_last : (path : Path) (pair : Pair) (rest : Path) (o : Option Name) (found : Row)
-    → strip_prefix path pair.0 ≡ Some rest → only_name rest ≡ o
-    → option_map (λ name. (name, pair.1)) o ≡ Some found → IsRowOf path pair found
-row_last path pair rest None found at only is = absurd (none-some _ is)
-row_last path pair rest (Some name) found at only is =
-    let same : (name, pair.1) ≡ found = same_Some _ _ is in (
-      strip_prefix-is path pair.0 rest at ∙ (ap (λ r. path ++ r) (only_is rest name only)
-          ∙ ap (λ (r : Row). path ++ r.0 ∷ []) same),
-      ap (λ (r : Row). r.1) same,
-    )
-
-row_is : (path : Path) (pair : Pair) (found : Row) → row path pair ≡ Some found
-    → IsRowOf path pair found
-row_is path pair found is = by (strip_prefix path pair.0) refl is
-  where
-    by : (o : Option Path) → strip_prefix path pair.0 ≡ o
-        → option_map (λ name. (name, pair.1)) (option_and_then only_name o) ≡ Some found
-        → IsRowOf path pair found
-    by None at is = absurd (none-some _ is)
-    by (Some rest) at is = row_last path pair rest (only_name rest) found at refl is
+use Rattle.syn_model.proofs.BaseLemmas.{both_hold, equal_of, is_true, less_of}
+use Rattle.syn_model.proofs.ChildrenLemmas.{Row, rise_rows, row, row_is, rows}
+use Rattle.syn_model.proofs.PathLemmas.{path_exact, path_total}
 
 -- Names rise
 
-under : (path : Path) (a b : Name)
-    → path_cmp (path ++ a ∷ []) (path ++ b ∷ []) ≡ name_cmp a b
-under [] a b = elim (name_cmp a b) as (λ o. ordering_then o Equal ≡ o)
-    [ Less ↦ refl | Equal ↦ refl | Greater ↦ refl ]
-under (n ∷ path) a b =
-    ap (λ o. ordering_then o (path_cmp (path ++ a ∷ []) (path ++ b ∷ [])))
-    (tied_itself name_total n)
-    ∙ under path a b
-
-abbrev IsBelow : Name → List Row → Type 0
-IsBelow name [] = Unit {0}
-IsBelow name (found ∷ others) = (name_cmp name found.0 ≡ Less) × IsBelow name others
-
-abbrev Rise : List Row → Type 0
-Rise [] = Unit {0}
-Rise (found ∷ others) = IsBelow found.0 others × Rise others
-
-below_rows : (path : Path) (name : Name) (pairs : List Pair)
-    → T (below_all path_cmp (path ++ name ∷ []) pairs) → IsBelow name (rows path pairs)
-below_rows path name [] below = tt
-below_rows path name (pair ∷ pairs) below =
-    by (row path pair) refl (below_rows path name pairs both.1)
-  where
-    both : T (is_lt (path_cmp (path ++ name ∷ []) pair.0))
-        × T (below_all path_cmp (path ++ name ∷ []) pairs)
-    both = both_hold (is_lt (path_cmp (path ++ name ∷ []) pair.0))
-        (below_all path_cmp (path ++ name ∷ []) pairs) below
-
-    by : (o : Option Row) → row path pair ≡ o → IsBelow name (rows path pairs)
-        → IsBelow name (cons_option o (rows path pairs))
-    by None at rest = rest
-    by (Some found) at rest = (
-      sym (under path name found.0)
-          ∙ (ap (λ k. path_cmp (path ++ name ∷ []) k) (sym (row_is path pair found at).0)
-          ∙ less_of _ both.0),
-      rest,
-    )
-
-rise_rows : (path : Path) (pairs : List Pair) → T (is_sorted path_cmp pairs)
-    → Rise (rows path pairs)
-rise_rows path [] sorted = tt
-rise_rows path (pair ∷ pairs) sorted = by (row path pair) refl (rise_rows path pairs both.1)
-  where
-    both : T (below_all path_cmp pair.0 pairs) × T (is_sorted path_cmp pairs)
-    both = both_hold (below_all path_cmp pair.0 pairs) (is_sorted path_cmp pairs) sorted
-
-    by : (o : Option Row) → row path pair ≡ o → Rise (rows path pairs)
-        → Rise (cons_option o (rows path pairs))
-    by None at rest = rest
-    by (Some found) at rest = (
-      below_rows path found.0 pairs (subst (λ k. T (below_all path_cmp k pairs))
-          (row_is path pair found at).0 both.0),
-      rest,
-    )
-
-rising : (found : List Row) → Rise found → AreRising found
+rising : (found : List Row) → T (is_sorted name_cmp found) → AreRising found
 rising [] h k d within = absurd (omega arith)
 rising (one ∷ []) h k d within = absurd (omega arith)
-rising (one ∷ next ∷ others) h zero d within = h.0.0
+rising (one ∷ next ∷ others) h zero d within =
+    let below = both_hold (below_all name_cmp one.0 (next ∷ others))
+    (is_sorted name_cmp (next ∷ others)) h in
+    less_of (name_cmp one.0 next.0) (is_true _ (both_hold (is_lt (name_cmp one.0 next.0))
+    (below_all name_cmp one.0 others) below.0).0)
 rising (one ∷ next ∷ others) h (suc k) d within =
     let step : suc k + 1 ≡ suc (k + 1) = omega arith in
+    let rest = both_hold (below_all name_cmp one.0 (next ∷ others))
+    (is_sorted name_cmp (next ∷ others)) h in
     subst (λ j. name_cmp (slice_index_or (next ∷ others) k d).0
     (slice_index_or (one ∷ next ∷ others) j d).0 ≡ Less) (sym step)
-    (rising (next ∷ others) h.1 k d (omega arith))
+    (rising (next ∷ others) rest.1 k d (omega arith))
 
 -- The pairs of marks
 
@@ -282,8 +172,10 @@ more_at : (pair : Pair) (pairs others : List Pair) → T (below_all path_cmp pai
 more_at pair pairs [] below h = tt
 more_at pair pairs (other ∷ others) below h =
     let both = both_hold (is_lt (path_cmp pair.0 other.0)) (below_all path_cmp pair.0 others) below
-    in
-    (further pair other pairs (less_of _ both.0) h.0, more_at pair pairs others both.1 h.1)
+    in (
+      further pair other pairs (less_of _ (is_true _ both.0)) h.0,
+      more_at pair pairs others both.1 h.1,
+    )
 
 each_is_at : (pairs : List Pair) → T (is_sorted path_cmp pairs) → Each (IsAt pairs) pairs
 each_is_at [] sorted = tt

@@ -13,6 +13,7 @@ pub mod FitsLemmas
 pub mod SoundStandings
 pub mod ArchiveImageLemmas
 pub mod SubtreeLemmas
+pub mod ChildrenLemmas
 pub mod SpellingLemmas
 pub mod KeyLemmas
 pub mod MarkLemmas

@@ -1,6 +1,6 @@
 -- What no event touched is as it was, also in what a scan listed.
 use Rattle.std.proofs.Common.{◌≡◌, ◌≤◌, ℕ, zero, suc, Bool, true, false, cond, not, List, [], ◌∷◌}
-use Rattle.std.proofs.Common.{◌++◌, length, take, drop, fold, filter_map, refl, sym, ap, ◌∙◌, subst}
+use Rattle.std.proofs.Common.{◌++◌, length, take, drop, fold, refl, sym, ap, ◌∙◌, subst}
 use Rattle.std.proofs.Common.{Option, Some, None, option_map, is_some, true≢false, append_assoc}
 use Rattle.std.proofs.Common.{append-nil, arith}
 use Rattle.std.proofs.lemmas.List.{take-append-drop, drop-append-le, take-append-le}
@@ -20,6 +20,7 @@ use Rattle.syn_model.specs.Event.{after_event, touches}
 use Rattle.syn_model.specs.History.{History, tree_of, tree_at, is_quiet}
 use Rattle.syn_model.specs.Mark.{mark, mark_of}
 use Rattle.syn_model.specs.Dirty.{Scan, is_unstable}
+use Rattle.syn_model.proofs.ChildrenLemmas.{rows}
 use Rattle.syn_model.proofs.PathLemmas.{eq-under, then_rest}
 use Rattle.syn_model.proofs.TreeLemmas.{subtree-replace_other, get-subtree, same_tree}
 use Rattle.syn_model.proofs.HistoryLemmas.{tree_of-append}
@@ -102,10 +103,6 @@ tree_at-append history events k h = ap tree_of (take-append-le k history events 
 
 -- The names in a directory tell what each is
 
-abbrev named : Path → Pair → Option (Name × Content)
-named p pair =
-    option_map (λ name. (name, pair.1)) (option_and_then only_name (strip_prefix p pair.0))
-
 by_name : (n : Name) (x : Content) (o : Option Path) (found : List (Name × Content)) → find name_cmp
     n (cons_option (option_map (λ name. (name, x)) (option_and_then only_name o)) found) ≡ cond
     (option_map_or (λ r. eq_by_cmp path_cmp (n ∷ []) r) o false) (Some x) (find name_cmp n found)
@@ -121,18 +118,18 @@ by_name n x (Some (m ∷ k ∷ r)) found =
     [ true ↦ refl | false ↦ refl ]
     ∙ ap (λ b. cond b (Some x) (find name_cmp n found)) (sym (then_rest n m [] (k ∷ r)))
 
-find-named : (p : Path) (n : Name) (es : List Pair) →
-    find name_cmp n (filter_map (named p) es) ≡ find path_cmp (p ++ n ∷ []) es
-find-named p n [] = refl
-find-named p n (e ∷ es) =
-    by_name n e.1 (strip_prefix p e.0) (filter_map (named p) es)
+find-rows : (p : Path) (n : Name) (es : List Pair) →
+    find name_cmp n (rows p es) ≡ find path_cmp (p ++ n ∷ []) es
+find-rows p n [] = refl
+find-rows p n (e ∷ es) =
+    by_name n e.1 (strip_prefix p e.0) (rows p es)
     ∙ (ap (cond (option_map_or (λ r. eq_by_cmp path_cmp (n ∷ []) r) (strip_prefix p e.0) false)
-    (Some e.1)) (find-named p n es)
+    (Some e.1)) (find-rows p n es)
     ∙ ap (λ b. cond b (Some e.1) (find path_cmp (p ++ n ∷ []) es)) (sym (eq-under p (n ∷ []) e.0)))
 
 pub get-children : (t : Tree) (p : Path) (n : Name) →
     get t (child p n) ≡ find name_cmp n (children t p)
-get-children t p n = get-entries t (p ++ n ∷ []) ∙ sym (find-named p n (entries t))
+get-children t p n = get-entries t (p ++ n ∷ []) ∙ sym (find-rows p n (entries t))
 
 -- trees with the same names in a directory have the same there
 pub same_child : (t u : Tree) (p : Path) (n : Name) → children t p ≡ children u p →
