@@ -62,7 +62,7 @@ module _ {T : Type 0} where
   record_of_write (Err e) h = outside_record e h
 
 -- what is kept is spelled with some bytes
-some_bytes : (what : Kept) → 0 < length (kept_spelling what)
+pub some_bytes : (what : Kept) → 0 < length (kept_spelling what)
 some_bytes (Session session) = omega arith
 some_bytes (Recorded path marks) = omega arith
 some_bytes (RecordedDir path) = omega arith

@@ -1,7 +1,7 @@
 //! An archive over a journal.
 ghost use Rattle.std.specs.Prelude.{◌≡◌, ◌⊎◌, ◌↔◌, ◌+◌, ◌<◌, ◌≤◌, ℕ, length, OnOk, IfOk, IfErr};
-ghost use Rattle.std.specs.Prelude.{IsErrAnd, MatchResult, None, Some, true, false, option_map};
-ghost use Rattle.syn_model.specs.Archive.{Archive as KeptArchive, Session, Recorded, RecordedDir};
+ghost use Rattle.std.specs.Prelude.{IsErrAnd, MatchResult, None, Some, true, false};
+ghost use Rattle.syn_model.specs.Archive.{Archive as KeptArchive, Session, RecordedDir};
 ghost use Rattle.syn_model.specs.Archive.{new_archive, after_kept, kept_refusal};
 ghost use Rattle.syn_model.specs.Refusal.{Refusal};
 ghost use Rattle.std.specs.FinMap.{entries};
@@ -14,7 +14,8 @@ ghost use Rattle.syn_disk.specs.Armed.{armed};
 ghost use Rattle.syn_disk.specs.Arms.{is_stopped};
 ghost use Rattle.syn_disk.specs.Disk.{SameOutcomes};
 ghost use Rattle.syn_model.specs.MarkSpelling.{kept_spelling};
-ghost use Rattle.syn_mark.specs.Marks.{or_absent};
+ghost use Rattle.syn_archive.specs.Keepings.{recorded_at};
+ghost use Rattle.syn_image.specs.Archives.{kept_for};
 ghost use Rattle.syn_disk.specs.Stops.{LeavesOnly};
 ghost use Rattle.syn_archive.specs.Refusals.{refusal_of, refusal_in, keep_refusal, to_write};
 ghost use Rattle.syn_archive.specs.Refusals.{IsOfFormat, IsOfSession, IsOfRecord, IsOutside};
@@ -28,6 +29,7 @@ use crate::error::ArchiveError;
 use crate::keeping::{Keeping, Prepared};
 use std::alloc::Global;
 use syn_disk::{Arm, Disk, Limit};
+use syn_image::ItemRecord;
 use syn_journal::{Journaled, layout_laws};
 use syn_mark::{Mark, MarkEntry, MarkTree};
 use syn_model::archive_laws;
@@ -195,18 +197,35 @@ impl<D: Disk> Archive<D> {
         Ok(self.last_session())
     }
 
-    /// Why the marks, or that nothing is there, cannot be recorded at the path; it takes no memory.
+    /// Why the record of an item cannot be kept, but for the journal and the device; it takes no
+    /// memory.
     ///
     /// Refused 6 at the root, 2 where the parent is no directory, and 7 where the archive would
-    /// pass a limit.
-    pub fn fits(&self, path: &Path, marks: Option<&MarkTree>) -> Result<(), ArchiveError>
-        ensures { refusal_in result ≡ kept_refusal (shown self.now)
-            (Recorded path.now (or_absent (option_map (λ there. there.now) marks.entry))) }
+    /// pass a limit. A directory that is recorded already is refused nothing.
+    pub fn fits(&self, kept: &ItemRecord) -> Result<(), ArchiveError>
+        ensures { refusal_in result ≡ kept_refusal (shown self.now) (kept_for kept.now) }
     {
-        Ok(self.tree().check_replace(path, marks)?)
+        match kept {
+            ItemRecord::Record(path, marks) => Ok(self.tree().check_replace(path, marks.as_ref())?),
+            ItemRecord::Dir(path) => self.fits_dir(path),
+        }
     }
 
-    /// Records the marks at and below the path, or that nothing is there.
+    /// The same of a directory.
+    fn fits_dir(&self, path: &Path) -> Result<(), ArchiveError>
+        ensures { refusal_in result ≡ kept_refusal (shown self.now) (RecordedDir path.now) }
+    {
+        if path.names().is_empty() {
+            return Err(ArchiveError::Root);
+        }
+        match self.tree().get(path) {
+            Some(Mark::Dir) => Ok(()),
+            _ => Ok(self.tree().check_dir(path)?),
+        }
+    }
+
+    /// Records the marks at and below the path, or that nothing is there. They are copied once
+    /// nothing but memory and the device can refuse the record.
     ///
     /// Refused 10 while the archive is halted; 6 at the root, 2 where the parent is no directory,
     /// and 7 where the archive would pass a limit; 8 where the record does not fit in the journal,
@@ -216,32 +235,32 @@ impl<D: Disk> Archive<D> {
         &mut self,
         alloc: Global,
         path: &Path,
-        marks: Option<MarkTree>,
+        marks: Option<&MarkTree>,
     ) -> Result<(), ArchiveError>
         ensures acknowledged { (kept : KeptArchive) → Stands self.old kept
             → OnOk result (Stands self.new
-            (after_kept kept (Recorded path.now (or_absent marks)))) }
+            (after_kept kept (recorded_at path.now marks.entry))) }
         ensures any_moment { (kept : KeptArchive) → Stands self.old kept
             → LeavesOnly D.moment D.left_since (disk_of self.old) (disk_of self.new)
-            (KeepsBeforeOrAfter self.old kept (Recorded path.now (or_absent marks))) }
+            (KeepsBeforeOrAfter self.old kept (recorded_at path.now marks.entry)) }
 
         // Each refusal has its cause, and each cause its refusal.
         ensures refused { (why : Refusal) → ¬ IsHalted self.old
             → keep_refusal (room_shown self.old) (shown self.old)
-            (Recorded path.now (or_absent marks)) ≡ Some why
+            (recorded_at path.now marks.entry) ≡ Some why
             → IsErrAnd result (λ e. refusal_of e ≡ why) }
         ensures cause { IfErr result (λ e. IsOutside e
             ⊎ (keep_refusal (room_shown self.old) (shown self.old)
-            (Recorded path.now (or_absent marks)) ≡ Some (refusal_of e))) }
+            (recorded_at path.now marks.entry) ≡ Some (refusal_of e))) }
         ensures refusals { IfErr result IsOfRecord }
 
         // Four device calls where it succeeds. After 9 the last that was made failed.
-        ensures machine { Writes self.old self.new (Some (Recorded path.now (or_absent marks)))
+        ensures machine { Writes self.old self.new (Some (recorded_at path.now marks.entry))
             (ended refusal_of result) }
 
         // What it is to the model's machine, also where its device fails or stops.
         ensures world { (number : ℕ) (machine : Journal) → IsMachine self.old number machine
-            → KeepsRecord self.new number machine (Recorded path.now (or_absent marks))
+            → KeepsRecord self.new number machine (recorded_at path.now marks.entry)
             (ended refusal_of result) }
     {
         self.keep(alloc, Keeping::Record(path, marks))

@@ -16,7 +16,8 @@ use crate::agreed::{Agreed, Update};
 use crate::error::ArchiveError;
 use std::alloc::Global;
 use syn_image::{
-    SESSION_LENGTH, dir_length, encode_dir, encode_record, encode_session, record_length,
+    SESSION_LENGTH, copied_marks, dir_length, encode_dir, encode_record, encode_session,
+    record_length,
 };
 use syn_mark::{Mark, MarkTree};
 use syn_path::Path;
@@ -27,7 +28,7 @@ pub(crate) enum Keeping<'a> {
     /// The session after the last.
     Session,
     /// The marks at and below the path, or that nothing is there.
-    Record(&'a Path, Option<MarkTree>),
+    Record(&'a Path, Option<&'a MarkTree>),
     /// A directory at the path, where none is.
     Dir(&'a Path),
 }
@@ -46,7 +47,7 @@ impl Keeping<'_> {
     {
         match self {
             Keeping::Session => SESSION_LENGTH,
-            Keeping::Record(path, marks) => record_length(path, marks.as_ref()),
+            Keeping::Record(path, marks) => record_length(path, *marks),
             Keeping::Dir(path) => dir_length(path),
         }
     }
@@ -65,7 +66,7 @@ impl Agreed {
     {
         match what {
             Keeping::Session => self.check_session(),
-            Keeping::Record(path, marks) => Ok(self.marks.check_replace(path, marks.as_ref())?),
+            Keeping::Record(path, marks) => Ok(self.marks.check_replace(path, *marks)?),
             Keeping::Dir(path) => Ok(self.marks.check_dir(path)?),
         }
     }
@@ -100,8 +101,9 @@ impl Agreed {
         match what {
             Keeping::Session => self.prepare_session(alloc),
             Keeping::Record(path, marks) => {
-                let payload = encode_record(alloc, path, marks.as_ref())?;
-                self.prepare_marks(alloc, path, marks, payload)
+                let copy = copied_marks(alloc, marks)?;
+                let payload = encode_record(alloc, path, marks)?;
+                self.prepare_marks(alloc, path, copy, payload)
             }
             Keeping::Dir(path) => {
                 let directory = MarkTree::of_mark(alloc, Mark::Dir)?;

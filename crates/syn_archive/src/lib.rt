@@ -11,7 +11,8 @@
 //! - How such a call ended is one fact, the `machine` (`Writes`). A read after it gives the archive
 //!   without what was kept or with it, also after 9 (`seen`). Where it succeeds the journal has the
 //!   record (`written`).
-//! - `fits` answers exactly why the definition refuses a record, without memory (`kept_refusal`).
+//! - `fits` answers exactly why the definition refuses the record of an item, without memory
+//!   (`kept_refusal`).
 //!   `record`, `record_dir` and `next_session` are refused with just that cause where there is one,
 //!   and else 8 where the record does not fit in the journal (`refused`: `keep_refusal`).
 //! - Else a refusal is 9, 10 or 11 (`cause`). 10 comes exactly where the archive is halted

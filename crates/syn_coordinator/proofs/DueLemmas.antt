@@ -1,5 +1,5 @@
 -- A record that is due is what its machine does.
-use Rattle.std.proofs.Common.{◌≡◌, ◌≢◌, ◌⊎◌, ◌<◌, ◌+◌, ◌^◌, ℕ, Bool, true, false, nat_le, ◌||◌}
+use Rattle.std.proofs.Common.{◌≡◌, ◌≢◌, ◌⊎◌, ◌<◌, ◌+◌, ◌^◌, ℕ, true, false, nat_le, ◌||◌}
 use Rattle.std.proofs.Common.{[], ◌∷◌, ◌++◌, Some, None, is_some, refl, sym}
 use Rattle.std.proofs.Common.{Ok, Err, ap, ap₂, ◌∙◌, subst, inl, inr, arith}
 use Rattle.std.proofs.lemmas.Bool.{false≢true, true≢false}
@@ -32,15 +32,16 @@ use Rattle.syn_archive.specs.Machines.{CompactsImage, IsMachine, Journal, KeepsR
 use Rattle.syn_archive.specs.Machines.{breaks_off, refuses}
 use Rattle.syn_archive.specs.Machines as by_archive
 use Rattle.syn_coordinator.specs.declared.due.RecordOutcome.{RecordOutcome}
-use Rattle.syn_coordinator.specs.declared.due.RecordOutcome.TheVariants.{Ends, Unconfirmed, Unsent}
+use Rattle.syn_coordinator.specs.declared.due.RecordOutcome.TheVariants.{Ends, Unsent}
 use Rattle.syn_coordinator.specs.RecordOutcome.{IsReady, MakesRoom, has_some}
 use Rattle.syn_coordinator.specs.RecordOutcome.{makes_some, Settles, recorded}
-use Rattle.syn_coordinator.specs.RecordOutcome.{no_checkpoint, checkpoint_breaks}
+use Rattle.syn_coordinator.specs.RecordOutcome.{archive_refuses, checkpoint_breaks, failed_before}
+use Rattle.syn_coordinator.specs.RecordOutcome.{no_checkpoint, no_room_left}
 use Rattle.syn_coordinator.specs.RecordOutcome.{record_breaks, no_memory}
 use Rattle.syn_coordinator.specs.RecordOutcome.{no_memory_after}
-use Rattle.syn_coordinator.specs.inner.Recording.{Writes, written, Checkpoints}
-use Rattle.syn_coordinator.specs.inner.Recording.{at_greatest, MakesRoomNow}
-use Rattle.syn_coordinator.specs.inner.Recording.{has_made, made_none, ended_by}
+use Rattle.syn_coordinator.specs.inner.Recording.{Checkpoints, MakesRoomNow, Records, at_greatest}
+use Rattle.syn_coordinator.specs.inner.Recording.{has_made, is_halted, made_none, memory_refused}
+use Rattle.syn_coordinator.specs.inner.Recording.{no_room, written}
 use Rattle.syn_coordinator.specs.inner.Recording as step
 use Rattle.syn_archive.specs.Machines.{CompactsSo, KeepsSo, moves_on, moves_down}
 use Rattle.syn_archive.proofs.EndLemmas.{same_error}
@@ -70,15 +71,6 @@ nothing_marks =
 pub device_or_other : (e : ArchiveError) → (e ≡ error.Device) ⊎ (e ≢ error.Device)
 device_or_other error.Device = inl refl
 device_or_other _ = inr (λ is. cc)
-
--- each other error ends what is due for lack of memory
-pub other_ends : (broken : RecordOutcome) (e : ArchiveError) → e ≢ error.Device →
-    ended_by broken e ≡ Ends refusal.Memory
-other_ends broken error.Device other = absurd (other refl)
-other_ends broken _ other = refl
-
-pub full_no_device : error.Full ≢ error.Device
-full_no_device is = cc
 
 pub is_greatest : (n : ℕ) → n + 1 ≡ 2 ^ 64 → nat_le greatest n ≡ true
 is_greatest n e = grind (arith, nat_tests)
@@ -163,19 +155,6 @@ module _ {D : Type 0} {disk : Ghosts D} (new : Archive D disk) (pair : ℕ) (mac
   was_refused why other (by_archive.breaks so) = absurd (other refl)
   was_refused why other (refuses same differs is) = is
 
-  pub write_fails : (e : ArchiveError) → KeepsRecord new pair machine kept (Some (refusal_of e)) →
-      Writes new pair machine kept (ended_by Unconfirmed e)
-  write_fails e told =
-      elim (device_or_other e) as (λ _. Writes new pair machine kept (ended_by Unconfirmed e)) [
-        | inl device ↦ subst (λ x. Writes new pair machine kept (ended_by Unconfirmed x))
-            (sym device)
-            (step.breaks (was_broken (subst
-            (λ x. KeepsRecord new pair machine kept (Some (refusal_of x))) device told)))
-        | inr other ↦ subst (Writes new pair machine kept) (sym (other_ends Unconfirmed e other))
-            (step.no_memory (was_refused (refusal_of e)
-            (λ is. other (same_error e error.Device is)) told))
-      ]
-
 -- and of a checkpoint
 module _ {D : Type 0} {disk : Ghosts D} (new : Archive D disk) (pair : ℕ) (machine : Journal)
   where
@@ -210,36 +189,71 @@ same_value pair machine between (compacted arms meets) = refl
 same_value pair machine between (not_compacted status arms failed left meets) = refl
 
 module _ {D : Type 0} {disk : Ghosts D} (new : Archive D disk) (pair : ℕ) (machine : Journal)
-    (kept : Kept) (ready : IsReady machine kept) where
-  pub settled : (made : Bool) (between : Journal) → MakesRoom pair machine kept made between →
-      has_room (archive_layout pair) between kept ≡ true → (due : RecordOutcome) →
-      Writes new pair between kept due → Settles new pair machine kept due
-  settled made between room has due (written keeps) = recorded made between ready room has keeps
-  settled made between room has due (step.breaks keeps) =
-      record_breaks made between ready room has keeps
-  settled made between (has_some enough) has due (step.no_memory is) = no_memory is
-  settled made between (makes_some new none less compacts up) has due (step.no_memory is) =
-      no_memory_after between ready (makes_some new none less compacts up) is
-
-  pub ready_still : (between : Journal) → Compacts (archive_layout pair) machine between →
-      between.status ≡ Up → IsReady between kept
-  ready_still between compacts up =
+    (kept : Kept) where
+  pub ready_still : IsReady machine kept → (between : Journal) →
+      Compacts (archive_layout pair) machine between → between.status ≡ Up → IsReady between kept
+  ready_still ready between compacts up =
       record {
         up = up;
         can =
             subst (λ v. CanKeep v kept) (sym (same_value pair machine between compacts)) ready.can;
       }
 
-  module _ (no_room : has_room (archive_layout pair) machine kept ≡ false) where
-    pub without_room : (due : RecordOutcome) → MakesRoomNow new pair machine (Err due) →
-        Settles new pair machine kept due
-    without_room due (made_none due' checkpoint) = by due' checkpoint
-      where
-        by : (due : RecordOutcome) → Checkpoints new pair machine (Err due) →
-            Settles new pair machine kept due
-        by due (at_greatest last is) = no_checkpoint ready no_room last is
-        by due (step.breaks less moves) = checkpoint_breaks ready no_room less moves
-        by due (step.no_memory is) = no_memory is
+  -- the journal had room for it
+  pub settled : (due : RecordOutcome) → Records new pair machine kept (Some due) →
+      Settles new pair machine kept due
+  settled due (written ready room keeps) = recorded false machine ready (has_some room) room keeps
+  settled due (step.breaks ready room keeps) =
+      record_breaks false machine ready (has_some room) room keeps
+  settled due (step.refuses why up cause is) = archive_refuses why up cause is
+  settled due (is_halted halted is) = failed_before halted is
+  settled due (memory_refused is) = no_memory is
+
+  -- it had none, and no checkpoint was made
+  pub without_room : {mid : Archive D disk} → Records mid pair machine kept None →
+      (due : RecordOutcome) → MakesRoomNow new pair machine (Err due) →
+      Settles new pair machine kept due
+  without_room (no_room ready lacks before) due (made_none due' checkpoint) = by due' checkpoint
+    where
+      by : (due : RecordOutcome) → Checkpoints new pair machine (Err due) →
+          Settles new pair machine kept due
+      by due (at_greatest last is) = no_checkpoint ready lacks last is
+      by due (step.breaks_off less moves) = checkpoint_breaks ready lacks less moves
+      by due (step.no_memory is) = no_memory is
+
+  -- or one was
+  pub settled_after : {mid : Archive D disk} → Records mid pair machine kept None →
+      (between : Journal) → nat_le greatest machine.generation ≡ false →
+      Compacts (archive_layout pair) machine between → between.status ≡ Up →
+      (due : RecordOutcome) → Records new pair between kept (Some due) →
+      Settles new pair machine kept due
+  settled_after (no_room ready lacks before) between less compacts up due after = by due after
+    where
+      makes : MakesRoom pair machine kept true between
+      makes = makes_some between lacks less compacts up
+
+      by : (due : RecordOutcome) → Records new pair between kept (Some due) →
+          Settles new pair machine kept due
+      by due (written now room keeps) = recorded true between ready makes room keeps
+      by due (step.breaks now room keeps) = record_breaks true between ready makes room keeps
+      by due (step.refuses why now cause is) =
+          absurd (none-some _
+          (sym (ready_still ready between compacts up).can.not_refused ∙ cause))
+      by due (is_halted halted is) = absurd (up_or_halted up halted)
+      by due (memory_refused is) = no_memory_after between ready makes is
+
+  pub still_no_room : {mid : Archive D disk} → Records mid pair machine kept None →
+      (between : Journal) → nat_le greatest machine.generation ≡ false →
+      Compacts (archive_layout pair) machine between → between.status ≡ Up →
+      Records new pair between kept None →
+      Settles new pair machine kept (Ends refusal.JournalFull)
+  still_no_room (no_room ready lacks before) between less compacts up (no_room now none is) =
+      no_room_left between ready (makes_some between lacks less compacts up) none is
+
+  -- it was up then, and is the machine that it was
+  pub before_room : {mid : Archive D disk} → Records mid pair machine kept None →
+      IsMachine mid pair machine × (machine.status ≡ Up)
+  before_room (no_room ready lacks before) = (before, ready.up)
 
 -- after a checkpoint the machine goes on, or was stopped
 module _ {D : Type 0} {disk : Ghosts D} (new : Archive D disk) (pair : ℕ) (machine : Journal) where
@@ -248,7 +262,7 @@ module _ {D : Type 0} {disk : Ghosts D} (new : Archive D disk) (pair : ℕ) (mac
   stopped_after stopped (step.made less (moves_on between compacts up is)) =
       absurd (false≢true (sym is.goes ∙ stopped))
   stopped_after stopped (step.made less (moves_down between compacts cut down leaves)) =
-      step.breaks less (moves_down between compacts cut down leaves)
+      step.breaks_off less (moves_down between compacts cut down leaves)
 
   pub goes_on_after : is_stopped (disk.arms (disk_of new)) ≡ false →
       Checkpoints new pair machine (Ok tt) → MakesRoomNow new pair machine (Ok tt)

@@ -24,3 +24,4 @@ pub mod HaltLemmas
 pub mod StayLemmas
 pub mod OutcomeLemmas
 pub mod DueLemmas
+pub mod RecordLemmas

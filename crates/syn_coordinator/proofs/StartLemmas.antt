@@ -28,7 +28,6 @@ use Rattle.syn_coordinator.proofs.TriedLemmas.{tries_none}
 use Rattle.syn_archive.specs.declared.archive.Archive.{Archive}
 use Rattle.syn_coordinator.specs.Steps.{KeepsSo, moves_on, moves_down}
 use Rattle.syn_model.specs.Which.{Which}
-use Rattle.syn_model.proofs.HistoryLemmas.{first_stays}
 
 is_up : Status → Bool
 is_up Up = true

@@ -1,32 +1,25 @@
 //! A record that is due for an item of the plan.
-ghost use Rattle.std.specs.Prelude.{◌≡◌, ◌≢◌, ◌||◌, ◌<◌, ℕ, nat_le, IfErr, MatchResult, false};
-ghost use Rattle.std.specs.Prelude.{option_map};
-ghost use Rattle.syn_archive.specs.Archive.{disk_of, left_shown, marks_shown, pair_of, shown};
-ghost use Rattle.syn_archive.specs.Disks.{kept_size};
+ghost use Rattle.std.specs.Prelude.{◌≡◌, ℕ, IfErr, MatchResult, option_map};
+ghost use Rattle.syn_archive.specs.Archive.{SameMemory, disk_of, pair_of};
 ghost use Rattle.syn_disk.specs.Arms.{is_stopped};
-ghost use Rattle.syn_headline.specs.Coordinator.{archive_layout};
-ghost use Rattle.syn_headline.specs.Machine.{has_room};
-ghost use Rattle.syn_headline.specs.Session.{is_recorded};
-ghost use Rattle.syn_coordinator.specs.RecordOutcome.{IsAsItWas, IsReady, Settles, CountsFailures};
+ghost use Rattle.syn_headline.specs.Machine.{Up};
+ghost use Rattle.syn_coordinator.specs.RecordOutcome.{IsAsItWas, Settles, CountsFailures};
 ghost use Rattle.syn_coordinator.specs.RecordOutcome.{CountsFailuresOrStops};
 ghost use Rattle.syn_coordinator.specs.Machines.{IsMachine, Journal};
-ghost use Rattle.syn_coordinator.specs.inner.Recording.{Checkpoints, MakesRoomNow, Writes};
-ghost use Rattle.syn_coordinator.specs.inner.Recording.{ended_by};
+ghost use Rattle.syn_coordinator.specs.inner.Recording.{Checkpoints, CountsFailuresIn};
+ghost use Rattle.syn_coordinator.specs.inner.Recording.{IsOutcomeOf, IsUnmade, Leaves};
+ghost use Rattle.syn_coordinator.specs.inner.Recording.{MakesRoomNow, Records};
 ghost use Rattle.syn_mark.specs.Marks.{or_absent};
-ghost use Rattle.syn_model.specs.Archive.{IsLawfulKept, Recorded as RecordOf, RecordedDir};
-ghost use Rattle.syn_model.specs.Archive.{kept_refusal};
+ghost use Rattle.syn_model.specs.Archive.{IsLawfulKept};
 ghost use Rattle.syn_model.specs.Mark.{IsMarks};
-ghost use Rattle.syn_model.specs.Tree.{is_directory};
-ghost use Rattle.syn_refusal.specs.Refusals.{cause_of};
 ghost use Rattle.syn_image.specs.Archives.{kept_for};
 
 use std::alloc::Global;
 use syn_archive::{Archive, ArchiveError};
 use syn_disk::Disk;
-use syn_image::{ItemRecord, copied_marks, dir_length, record_length};
-use syn_mark::{Mark, MarkTree};
+use syn_image::ItemRecord;
+use syn_mark::MarkTree;
 use syn_model::is_long;
-use syn_path::Path;
 use syn_refusal::Refusal;
 
 /// What became of a record that was due.
@@ -69,37 +62,52 @@ pub fn keep_due<D: Disk>(
         → IsAsItWas archive.old archive.new }
     ensures pair { pair_of archive.new ≡ pair_of archive.old }
 {
-    is_lawful(kept);
-    if archive.is_halted() {
-        return RecordOutcome::Ends(Refusal::Halted);
+    if let Some(due) = record(alloc, archive, kept) {
+        return due;
     }
-    match refusal_for(archive, kept) {
-        Some(why) => RecordOutcome::Refused(why),
-        None if has_room(archive, kept) => write(alloc, archive, kept),
-        None => write_after(alloc, archive, kept),
-    }
-}
-
-/// Records after a checkpoint what the archive does not refuse and has no room for.
-fn write_after<D: Disk>(alloc: Global, archive: &mut Archive<D>, kept: &ItemRecord) -> RecordOutcome
-    ensures settles { (pair : ℕ) (machine : Journal) → IsMachine archive.old pair machine
-        → IsReady machine (kept_for kept.now)
-        → has_room (archive_layout pair) machine (kept_for kept.now) ≡ false
-        → Settles archive.new pair machine (kept_for kept.now) result }
-    ensures failures { CountsFailuresOrStops result
-        (is_stopped (D.Disk.arms (disk_of archive.new)))
-        (D.Disk.failures (disk_of archive.old)) (D.Disk.failures (disk_of archive.new)) }
-    ensures refused { (why : Refusal) → result ≡ RecordOutcome.Refused why
-        → IsAsItWas archive.old archive.new }
-    ensures pair { pair_of archive.new ≡ pair_of archive.old }
-{
     if let Err(due) = make_room(alloc, archive) {
         return due;
     }
-    if has_room(archive, kept) {
-        write(alloc, archive, kept)
-    } else {
-        RecordOutcome::Ends(Refusal::JournalFull)
+    match record(alloc, archive, kept) {
+        Some(due) => due,
+        None => RecordOutcome::Ends(Refusal::JournalFull),
+    }
+}
+
+/// Records it, unless the journal has no room for it: then nothing is answered.
+fn record<D: Disk>(
+    alloc: Global,
+    archive: &mut Archive<D>,
+    kept: &ItemRecord,
+) -> Option<RecordOutcome>
+    ensures records { (pair : ℕ) (machine : Journal) → IsMachine archive.old pair machine
+        → Records archive.new pair machine (kept_for kept.now) result }
+    ensures failures { CountsFailuresIn result (D.Disk.failures (disk_of archive.old))
+        (D.Disk.failures (disk_of archive.new)) }
+    ensures leaves { Leaves archive.old archive.new (kept_for kept.now) result }
+    ensures pair { pair_of archive.new ≡ pair_of archive.old }
+{
+    is_lawful(kept);
+    match kept {
+        ItemRecord::Record(path, marks) => outcome_of(archive.record(alloc, path, marks.as_ref())),
+        ItemRecord::Dir(path) => outcome_of(archive.record_dir(alloc, path)),
+    }
+}
+
+/// What became of a record that the archive was asked for; nothing where its journal has no room.
+fn outcome_of(recorded: Result<(), ArchiveError>) -> Option<RecordOutcome>
+    ensures { IsOutcomeOf recorded result }
+{
+    let Err(error) = recorded else {
+        return Some(RecordOutcome::Recorded);
+    };
+    match error {
+        ArchiveError::JournalFull => None,
+        ArchiveError::Device => Some(RecordOutcome::Unconfirmed),
+        ArchiveError::NoParent | ArchiveError::Root | ArchiveError::Full => Some(
+            RecordOutcome::Refused(error.refusal()),
+        ),
+        _ => Some(RecordOutcome::Ends(error.refusal())),
     }
 }
 
@@ -130,63 +138,18 @@ fn are_lawful(marks: Option<&MarkTree>)
     }
 }
 
-/// Why the archive refuses the record of an item, but for its journal and its device.
-pub fn refusal_for<D: Disk>(archive: &Archive<D>, kept: &ItemRecord) -> Option<Refusal>
-    ensures { option_map cause_of result ≡ kept_refusal (shown archive.now) (kept_for kept.now) }
-{
-    match kept {
-        ItemRecord::Record(path, marks) => {
-            let fits = archive.fits(path, marks.as_ref());
-            fits.err().map(|error| error.refusal())
-        }
-        ItemRecord::Dir(path) => refusal_for_dir(archive, path),
-    }
-}
-
-/// The same of a directory.
-fn refusal_for_dir<D: Disk>(archive: &Archive<D>, path: &Path) -> Option<Refusal>
-    ensures { option_map cause_of result ≡ kept_refusal (shown archive.now) (RecordedDir path.now) }
-{
-    if path.names().is_empty() {
-        return Some(Refusal::Root);
-    }
-    if has_dir(archive, path) {
-        return None;
-    }
-    let fits = archive.tree().check_dir(path);
-    fits.err().map(|error| error.refusal())
-}
-
-/// Whether a directory is recorded at the path.
-fn has_dir<D: Disk>(archive: &Archive<D>, path: &Path) -> bool
-    ensures { result ≡ is_directory (marks_shown archive.now) path.now }
-{
-    matches!(archive.tree().get(path), Some(Mark::Dir))
-}
-
-/// Whether the record need not be written, or fits into what the journal has left.
-fn has_room<D: Disk>(archive: &Archive<D>, kept: &ItemRecord) -> bool
-    ensures { result ≡ (is_recorded (shown archive.now) (kept_for kept.now)
-        || nat_le (kept_size (kept_for kept.now)) (left_shown archive.now)) }
-{
-    match kept {
-        ItemRecord::Record(path, marks) => record_length(path, marks.as_ref()) <= archive.room(),
-        ItemRecord::Dir(path) => has_dir(archive, path) || dir_length(path) <= archive.room(),
-    }
-}
-
 /// Writes a checkpoint, so that the journal has room again. Where none is written, the error is
 /// what becomes of the record.
 fn make_room<D: Disk>(alloc: Global, archive: &mut Archive<D>) -> Result<(), RecordOutcome>
     ensures room { (pair : ℕ) (machine : Journal) → IsMachine archive.old pair machine
-        → MakesRoomNow archive.new pair machine result }
+        → machine.status ≡ Up → MakesRoomNow archive.new pair machine result }
     ensures failures { MatchResult result
         (λ _. D.Disk.failures (disk_of archive.new) ≡ D.Disk.failures (disk_of archive.old))
         (λ due. CountsFailuresOrStops due (is_stopped (D.Disk.arms (disk_of archive.new)))
         (D.Disk.failures (disk_of archive.old)) (D.Disk.failures (disk_of archive.new))) }
     ensures refused { IfErr result (λ due. (why : Refusal) → due ≡ RecordOutcome.Refused why
         → IsAsItWas archive.old archive.new) }
-    ensures pair { pair_of archive.new ≡ pair_of archive.old }
+    ensures memory { SameMemory archive.old archive.new }
 {
     checkpoint(alloc, archive)?;
     if archive.is_cut() {
@@ -198,89 +161,30 @@ fn make_room<D: Disk>(alloc: Global, archive: &mut Archive<D>) -> Result<(), Rec
 /// Writes a checkpoint. Where none is written, the error is what becomes of the record.
 fn checkpoint<D: Disk>(alloc: Global, archive: &mut Archive<D>) -> Result<(), RecordOutcome>
     ensures made { (pair : ℕ) (machine : Journal) → IsMachine archive.old pair machine
-        → Checkpoints archive.new pair machine result }
+        → machine.status ≡ Up → Checkpoints archive.new pair machine result }
     ensures failures { MatchResult result
         (λ _. D.failures (disk_of archive.new) ≡ D.failures (disk_of archive.old))
         (λ due. CountsFailures due (D.failures (disk_of archive.old))
         (D.failures (disk_of archive.new))) }
     ensures refused { IfErr result (λ due. (why : Refusal) → due ≡ RecordOutcome.Refused why
         → IsAsItWas archive.old archive.new) }
-    ensures pair { pair_of archive.new ≡ pair_of archive.old }
+    ensures memory { SameMemory archive.old archive.new }
 {
     let generation = archive.generation();
     is_long(generation);
     match archive.checkpoint(alloc) {
         Ok(()) => Ok(()),
-        Err(ArchiveError::Full) => Err(RecordOutcome::Refused(Refusal::Full)),
-        Err(error) => Err(ending(error, RecordOutcome::Unsent)),
+        Err(error) => Err(without_checkpoint(error)),
     }
 }
 
-/// How what is due ends where the archive fails so: as is given where its device does, and else for
-/// lack of memory, since each other cause was looked at before.
-fn ending(error: ArchiveError, broken: RecordOutcome) -> RecordOutcome
-    ensures ended { result ≡ ended_by broken error }
-    ensures unrefused { (why : Refusal) → broken ≢ RecordOutcome.Refused why
-        → result ≢ RecordOutcome.Refused why }
+/// What becomes of a record for which the archive refuses a checkpoint so.
+fn without_checkpoint(error: ArchiveError) -> RecordOutcome
+    ensures { IsUnmade error result }
 {
     match error {
-        ArchiveError::Device => broken,
-        _ => RecordOutcome::Ends(Refusal::Memory),
-    }
-}
-
-/// Writes the record of an item, which the archive does not refuse.
-fn write<D: Disk>(alloc: Global, archive: &mut Archive<D>, kept: &ItemRecord) -> RecordOutcome
-    ensures writes { (pair : ℕ) (machine : Journal) → IsMachine archive.old pair machine
-        → IsReady machine (kept_for kept.now)
-        → Writes archive.new pair machine (kept_for kept.now) result }
-    ensures failures { CountsFailures result (D.failures (disk_of archive.old))
-        (D.failures (disk_of archive.new)) }
-    ensures unrefused { (why : Refusal) → result ≢ RecordOutcome.Refused why }
-    ensures pair { pair_of archive.new ≡ pair_of archive.old }
-{
-    match kept {
-        ItemRecord::Record(path, marks) => match copied_marks(alloc, marks.as_ref()) {
-            Ok(copy) => write_record(alloc, archive, path, copy),
-            Err(_) => RecordOutcome::Ends(Refusal::Memory),
-        },
-        ItemRecord::Dir(path) => write_dir(alloc, archive, path),
-    }
-}
-
-/// Writes the record of what is at the path.
-fn write_record<D: Disk>(
-    alloc: Global,
-    archive: &mut Archive<D>,
-    path: &Path,
-    marks: Option<MarkTree>,
-) -> RecordOutcome
-    ensures writes { (pair : ℕ) (machine : Journal) → IsMachine archive.old pair machine
-        → let kept = RecordOf path.now (or_absent marks) in IsReady machine kept
-        → Writes archive.new pair machine kept result }
-    ensures failures { CountsFailures result (D.failures (disk_of archive.old))
-        (D.failures (disk_of archive.new)) }
-    ensures unrefused { (why : Refusal) → result ≢ RecordOutcome.Refused why }
-    ensures pair { pair_of archive.new ≡ pair_of archive.old }
-{
-    match archive.record(alloc, path, marks) {
-        Ok(()) => RecordOutcome::Recorded,
-        Err(error) => ending(error, RecordOutcome::Unconfirmed),
-    }
-}
-
-/// Writes the record of a directory at the path, if none is recorded there.
-fn write_dir<D: Disk>(alloc: Global, archive: &mut Archive<D>, path: &Path) -> RecordOutcome
-    ensures writes { (pair : ℕ) (machine : Journal) → IsMachine archive.old pair machine
-        → IsReady machine (RecordedDir path.now)
-        → Writes archive.new pair machine (RecordedDir path.now) result }
-    ensures failures { CountsFailures result (D.failures (disk_of archive.old))
-        (D.failures (disk_of archive.new)) }
-    ensures unrefused { (why : Refusal) → result ≢ RecordOutcome.Refused why }
-    ensures pair { pair_of archive.new ≡ pair_of archive.old }
-{
-    match archive.record_dir(alloc, path) {
-        Ok(()) => RecordOutcome::Recorded,
-        Err(error) => ending(error, RecordOutcome::Unconfirmed),
+        ArchiveError::Full => RecordOutcome::Refused(Refusal::Full),
+        ArchiveError::Device => RecordOutcome::Unsent,
+        _ => RecordOutcome::Ends(error.refusal()),
     }
 }

@@ -51,7 +51,6 @@
 //! - An item that is refused leaves the archive just as it was, with its disk (`refused`).
 //! - The count of failed device calls grows exactly where the session ends for the device, but for
 //!   a stop right after the checkpoint (`failures`). The pair stays (`pair`).
-//! - `refusal_for` is why the archive refuses the record, but for its journal and its device.
 //! - `Unconfirmed` is a record that was being written as a device call failed, with the room and
 //!   the generation that the archive showed (`IsTriedBy`). `recovered_record` gives it where the
 //!   archive, which was opened again, has less room in the same generation (`found_in`).
@@ -67,6 +66,6 @@ mod session_end;
 mod tried;
 
 pub use coordinator::Coordinator;
-pub use due::{RecordOutcome, keep_due, refusal_for};
+pub use due::{RecordOutcome, keep_due};
 pub use error::StartError;
 pub use tried::{Unconfirmed, recovered_record};

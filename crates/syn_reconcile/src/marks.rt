@@ -75,7 +75,7 @@ pub(crate) fn record<A: Disk>(
         (replace (marks_shown archive.old) path.now (or_absent marks))) }
 {
     make_room(alloc, archive)?;
-    archive.record(alloc, path, marks)?;
+    archive.record(alloc, path, marks.as_ref())?;
     Ok(())
 }
 

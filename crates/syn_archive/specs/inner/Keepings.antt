@@ -1,8 +1,8 @@
 -- What is to be kept in an archive, and why it is not.
 use Rattle.std.specs.Prelude.{◌≡◌, ◌+◌, ℕ, Bool, true, false, Some, None}
-use Rattle.syn_model.specs.Archive.{Archive, Kept, Session, Recorded, RecordedDir}
+use Rattle.syn_model.specs.Archive.{Archive, Kept, Session, RecordedDir}
 use Rattle.syn_model.specs.Tree.{is_directory}
-use Rattle.syn_mark.specs.Marks.{or_absent}
+use Rattle.syn_archive.specs.Keepings.{recorded_at}
 use Rattle.syn_archive.specs.Refusals.{keep_refusal, refusal_of}
 use Rattle.syn_archive.specs.declared.error.ArchiveError.{ArchiveError}
 use Rattle.syn_archive.specs.declared.error.ArchiveError.TheVariants.{NoParent, Root, Full}
@@ -13,7 +13,7 @@ use Rattle.syn_archive.specs.declared.keeping.Keeping.TheVariants as keeping
 -- as the model has it, of an archive with this last session
 abbrev pub kept_in : ℕ → Keeping → Kept
 kept_in last keeping.Session = Session (last + 1)
-kept_in last (keeping.Record path marks) = Recorded path.now (or_absent marks)
+kept_in last (keeping.Record path marks) = recorded_at path.now marks
 kept_in last (keeping.Dir path) = RecordedDir path.now
 
 -- a directory is recorded where none is

@@ -19,8 +19,8 @@ ghost use Rattle.syn_session.specs.Stages.{IsPlanProgress, Reached, plan_in};
 ghost use Rattle.syn_image.specs.Archives.{kept_for};
 
 use super::Recorder;
+use crate::RecordOutcome;
 use crate::session_end::SessionEnd;
-use crate::{RecordOutcome, refusal_for};
 use std::alloc::Global;
 use syn_disk::Disk;
 use syn_image::ItemRecord;
@@ -131,8 +131,8 @@ impl<D: Disk> Recorder<D> {
             (EndsSo self.now self.now pair taken journal before progress.new left right) }
         ensures memory { IfErr result (λ ended. ended ≡ SessionEnd.Early Refusal.Memory) }
     {
-        if let Some(why) = refusal_for(&self.archive, &carried.kept) {
-            self.give_up(alloc, progress, why)?;
+        if let Err(error) = self.archive.fits(&carried.kept) {
+            self.give_up(alloc, progress, error.refusal())?;
             return Ok(None);
         }
         Ok(Some(ask_first(alloc, progress, carried)?))

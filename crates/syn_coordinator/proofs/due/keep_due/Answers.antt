@@ -1,34 +1,50 @@
-use Rattle.std.proofs.Common.{◌≡◌, ◌∙◌, true, false, ap, sym}
-use Rattle.std.proofs.lemmas.Bool.{true≢false}
-use Rattle.syn_headline.specs.Coordinator.{archive_layout}
-use Rattle.syn_headline.specs.Machine.{has_room}
-use Rattle.syn_model.specs.Archive.{kept_refusal}
-use Rattle.syn_coordinator.specs.RecordOutcome.{archive_refuses, failed_before, has_some}
-use Rattle.syn_coordinator.proofs.DueLemmas.{is_ready, room_is, settled, when_halted, when_runs}
+use Rattle.std.proofs.Common.{Ok}
 use Rattle.syn_image.specs.Archives.{kept_for}
+use Rattle.syn_refusal.specs.declared.refusal.Refusal.TheVariants as refusal
+use Rattle.syn_coordinator.specs.RecordOutcome.{Settles}
+use Rattle.syn_coordinator.specs.declared.due.RecordOutcome.TheVariants.{Ends}
+use Rattle.syn_coordinator.specs.inner.Recording.{MakesRoomNow, has_made}
+use Rattle.syn_coordinator.proofs.DueLemmas.{before_room, settled, settled_after, still_no_room}
+use Rattle.syn_coordinator.proofs.DueLemmas.{without_room}
 use Rattle.syn_coordinator.proofs.due.keep_due.Goals as goal
-
-pub returns-then-is_halted-clause-settles : goal.returns-then-is_halted-clause-settles
-returns-then-is_halted-clause-settles g c pair machine is =
-    failed_before (when_halted c.args.archive.now pair machine is
-    (c.is_halted.ensures.0 c.if-is_halted.true)) is
 
 pub returns-in-Some-clause-settles : goal.returns-in-Some-clause-settles
 returns-in-Some-clause-settles g c pair machine is =
-    let was = when_runs c.args.archive.now pair machine is
-    (λ h. true≢false (sym (c.is_halted.ensures.1 h) ∙ c.if-is_halted.false)) in
-    archive_refuses _ was.up (ap (λ a. kept_refusal a (kept_for c.args.kept.now)) (sym is.remembers)
-    ∙ sym c.in-Some.ensures) is
+    settled c.record.new.archive pair machine (kept_for c.args.kept.now) c.in-Some.due
+    (c.in-Some.ensures.records pair machine is)
+
+pub returns-in-Err-clause-settles : goal.returns-in-Err-clause-settles
+returns-in-Err-clause-settles g c pair machine is =
+    let kept = kept_for c.args.kept.now in
+    let none = c.in_default.ensures.records pair machine is in
+    let was = before_room c.make_room.new.archive pair machine kept none in
+    without_room c.make_room.new.archive pair machine kept none c.in-Err.due
+    (c.in-Err.ensures.room pair machine was.0 was.1)
+
+pub returns-in-Some-record-clause-settles : goal.returns-in-Some-record-clause-settles
+returns-in-Some-record-clause-settles g c pair machine is =
+    let kept = kept_for c.args.kept.now in
+    let none = c.in_default.ensures.records pair machine is in
+    let was = before_room c.make_room.new.archive pair machine kept none in
+    by (c.in_default-make_room.ensures.room pair machine was.0 was.1)
+  where
+    by : MakesRoomNow c.make_room.new.archive pair machine (Ok tt) → Settles c.record-2.new.archive
+        pair machine (kept_for c.args.kept.now) c.in-Some-record.due
+    by (has_made between less compacts up now) =
+        settled_after c.record-2.new.archive pair machine (kept_for c.args.kept.now)
+        (c.in_default.ensures.records pair machine is) between less compacts up
+        c.in-Some-record.due (c.in-Some-record.ensures.records pair between now)
 
 pub returns-in-None-clause-settles : goal.returns-in-None-clause-settles
 returns-in-None-clause-settles g c pair machine is =
-    let was = when_runs c.args.archive.now pair machine is
-    (λ h. true≢false (sym (c.is_halted.ensures.1 h) ∙ c.if-is_halted.false)) in
     let kept = kept_for c.args.kept.now in
-    let ready = is_ready c.args.archive.now pair machine is kept was c.is_lawful.ensures
-    (sym c.in-None.ensures) in
-    let room : has_room (archive_layout pair) machine kept ≡ true =
-    sym (room_is c.args.archive.now pair machine is kept was)
-    ∙ (sym c.has_room.ensures ∙ c.if-has_room.true) in
-    settled c.write.new.archive pair machine kept ready false machine
-    (has_some room) room c.write.result (c.write.ensures.writes pair machine is ready)
+    let none = c.in_default.ensures.records pair machine is in
+    let was = before_room c.make_room.new.archive pair machine kept none in
+    by (c.in_default-make_room.ensures.room pair machine was.0 was.1)
+  where
+    by : MakesRoomNow c.make_room.new.archive pair machine (Ok tt) → Settles c.record-2.new.archive
+        pair machine (kept_for c.args.kept.now) (Ends refusal.JournalFull)
+    by (has_made between less compacts up now) =
+        still_no_room c.record-2.new.archive pair machine (kept_for c.args.kept.now)
+        (c.in_default.ensures.records pair machine is) between less compacts up
+        (c.in-None.ensures.records pair between now)

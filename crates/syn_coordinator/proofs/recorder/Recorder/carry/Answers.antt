@@ -1,4 +1,4 @@
-use Rattle.std.proofs.Common.{ap, sym, ◌∙◌}
+use Rattle.std.proofs.Common.{Some, ap, sym, ◌∙◌}
 use Rattle.syn_model.specs.Archive.{kept_refusal}
 use Rattle.syn_model.proofs.ExitLemmas.{if_err_of_exit, match_of_exit}
 use Rattle.syn_session.proofs.CourseLemmas.{no_conflict}
@@ -6,15 +6,15 @@ use Rattle.syn_coordinator.proofs.PassLemmas.{asks_here, carried_unfit, ends_her
 use Rattle.syn_image.specs.Archives.{kept_for}
 use Rattle.syn_coordinator.proofs.recorder.Recorder.carry.Goals as goal
 
-pub returns-in-Some : goal.returns-in-Some
-returns-in-Some g c = record {
+pub returns-in-Err : goal.returns-in-Err
+returns-in-Err g c = record {
   step =
       λ pair journal left right taken all before planned is quiet at there spec record_is.
       c.in_ok-give_up.ensures.step pair journal left right taken before planned is quiet
       at.course_is there (no_conflict planned planned.item _ record_is)
       (carried_unfit pair taken journal before left right c.args.self.now.archive is
-      c.args.progress.now at.course_is planned there c.args.carried spec record_is c.in-Some.why
-      c.in-Some.ensures);
+      c.args.progress.now at.course_is planned there c.args.carried spec record_is c.refusal.result
+      (ap (λ w. Some w) c.refusal.ensures ∙ c.in-Err.ensures));
   memory = tt;
 }
 
@@ -26,8 +26,8 @@ returns-in_err-give_up g c = record {
       (c.in_err-give_up.ensures.step pair journal left right taken before planned is quiet
       at.course_is there (no_conflict planned planned.item _ record_is)
       (carried_unfit pair taken journal before left right c.args.self.now.archive is
-      c.args.progress.now at.course_is planned there c.args.carried spec record_is c.in-Some.why
-      c.in-Some.ensures));
+      c.args.progress.now at.course_is planned there c.args.carried spec record_is c.refusal.result
+      (ap (λ w. Some w) c.refusal.ensures ∙ c.in-Err.ensures)));
   memory = if_err_of_exit c.from_residual.result _ _ c.from_residual.ensures.1
       c.in_err-give_up.ensures.memory;
 }
