@@ -26,6 +26,8 @@ use Rattle.syn_cli.specs.declared.command.ImageKind.TheVariants.{Replica, Archiv
 use Rattle.syn_cli.specs.declared.command.ImageCommand.{ImageCommand}
 use Rattle.syn_cli.specs.declared.command.ImageCommand.TheVariants as image
 use Rattle.syn_cli.specs.declared.command.KeepCommand.{KeepCommand}
+use Rattle.syn_cli.specs.declared.command.OnStranger.{OnStranger}
+use Rattle.syn_cli.specs.declared.command.OnStranger.TheVariants.{Refuse, Skip}
 use Rattle.syn_cli.specs.declared.command.Command.{Command}
 use Rattle.syn_cli.specs.declared.command.Command.TheVariants as command
 use Rattle.syn_cli.specs.declared.command.Pairing.{Pairing}
@@ -79,6 +81,11 @@ abbrev pub HasExisting : List Row → Existing → Type 0
 HasExisting rows Refused = ¬ IsSet rows (codes "delete") × ¬ IsSet rows (codes "update")
 HasExisting rows Updated = ¬ IsSet rows (codes "delete") × IsSet rows (codes "update")
 HasExisting rows Mirrored = IsSet rows (codes "delete")
+
+-- what the flag of an import asks of what can stand in no replica
+abbrev pub HasOnStranger : List Row → OnStranger → Type 0
+HasOnStranger rows Refuse = ¬ IsSet rows (codes "skip")
+HasOnStranger rows Skip = IsSet rows (codes "skip")
 
 -- the word of a kind
 abbrev pub kind_word : ImageKind → Text
@@ -241,7 +248,7 @@ HasValues rows (command.Import imported) = HasLocation rows imported.location
     × HasNumber 32 rows (name_of value.User) imported.user
     × HasText rows (name_of value.Folder) imported.folder.now
     × MayHaveText rows (name_of value.Path) imported.path
-    × (IsTrue imported.is_skipping ↔ IsSet rows (codes "skip"))
+    × HasOnStranger rows imported.on_stranger
 HasValues rows (command.Reconcile reconciled) = HasReconciled rows reconciled
 HasValues rows (command.Serve served) = HasServed rows served
 HasValues rows (command.Session pairing) = HasPairing rows pairing × IsOnce rows pairing.between

@@ -59,6 +59,15 @@ pub enum Existing {
     Mirrored,
 }
 
+/// What becomes of something in a folder that can stand in no replica.
+#[derive(Clone, Copy, Debug, PartialEq, Eq)]
+pub enum OnStranger {
+    /// All is refused.
+    Refuse,
+    /// It is left out, and told.
+    Skip,
+}
+
 /// An edit of a replica at a path, by a user.
 #[derive(Clone, Copy, Debug, PartialEq, Eq)]
 pub struct EditCommand<'a> {
@@ -84,7 +93,7 @@ pub struct ImportCommand<'a> {
     pub user: u32,
     pub folder: &'a str,
     pub path: Option<&'a str>,
-    pub is_skipping: bool,
+    pub on_stranger: OnStranger,
 }
 
 /// A folder and a replica that are to be the same.

@@ -21,7 +21,7 @@ mod words;
 
 pub use command::{
     Arguments, Between, Command, EditCommand, EditKind, Existing, ExportCommand, FolderCommand,
-    ImageCommand, ImageKind, ImportCommand, KeepCommand, Pairing, ReconcileCommand,
+    ImageCommand, ImageKind, ImportCommand, KeepCommand, OnStranger, Pairing, ReconcileCommand,
     ReplicaLocation, ServeCommand,
 };
 pub use error::LineError;

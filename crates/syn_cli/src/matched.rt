@@ -1,7 +1,8 @@
 //! The line of each command, from the values that `clap` matches.
 ghost use Rattle.std.specs.Prelude.{◌≡◌, IfOk, IfErr};
 ghost use Rattle.clap.specs.Words.{found_of, rows_of};
-ghost use Rattle.syn_cli.specs.Reads.{HasExisting, HasMode, HasNumber, HasText, HasUser, IsEdit};
+ghost use Rattle.syn_cli.specs.Reads.{HasExisting, HasMode, HasNumber, HasOnStranger, HasText};
+ghost use Rattle.syn_cli.specs.Reads.{HasUser, IsEdit};
 ghost use Rattle.syn_cli.specs.Reads.{MayHaveFolderSide, MayHaveNumber, MayHaveSide};
 ghost use Rattle.syn_cli.specs.Reads.{IsGiven, MayHaveFolder, TakesSeconds};
 ghost use Rattle.syn_cli.specs.Reads.{TakesPreference, kind_word};
@@ -11,7 +12,7 @@ ghost use Rattle.syn_cli.specs.inner.Lacking.{IsLack, IsCommandOf};
 
 use crate::command::{
     Between, Command, EditCommand, EditKind, Existing, ExportCommand, FolderCommand, ImageCommand,
-    ImageKind, ImportCommand, KeepCommand, Pairing, ReconcileCommand, ServeCommand,
+    ImageKind, ImportCommand, KeepCommand, OnStranger, Pairing, ReconcileCommand, ServeCommand,
 };
 use crate::error::LineError;
 use crate::value::ValueName;
@@ -211,14 +212,25 @@ fn import_command<'a>(matches: &ArgMatches<'a>) -> Result<Command<'a>, LineError
     let user = user_given(matches, Verb::Import)?;
     let folder = text(matches, ValueName::Folder)?;
     let path = optional_text(matches, ValueName::Path);
-    let is_skipping = is_set(matches, "skip");
+    let on_stranger = on_stranger_given(matches);
     Ok(Command::Import(ImportCommand {
         location,
         user,
         folder,
         path,
-        is_skipping,
+        on_stranger,
     }))
+}
+
+/// What is asked of what can stand in no replica.
+fn on_stranger_given(matches: &ArgMatches<'_>) -> OnStranger
+    ensures { HasOnStranger (rows_of (found_of matches.now)) result }
+{
+    if is_set(matches, "skip") {
+        OnStranger::Skip
+    } else {
+        OnStranger::Refuse
+    }
 }
 
 fn reconcile_command<'a>(matches: &ArgMatches<'a>) -> Result<Command<'a>, LineError>

@@ -16,20 +16,12 @@ use crate::planning::plan_import;
 use crate::progress_mode::{ProgressMode, lines_of};
 use std::alloc::Global;
 use std::io::Write;
+use syn_cli::OnStranger;
 use syn_disk::Disk;
 use syn_folder::{Folder, FolderError, all_known, skipping};
 use syn_path::Path;
 use syn_replica::Replica;
 use syn_tree::{Edit, Tree};
-
-/// What becomes of something in a folder that can stand in no replica.
-#[derive(Clone, Copy, Debug, PartialEq, Eq)]
-pub enum OnStranger {
-    /// All is refused.
-    Refuse,
-    /// It is left out, and told.
-    Skip,
-}
 
 /// Makes what is at and below the path what stands in the folder, by edits of the user, all of them
 /// or none. Where it is that already, no edit is made. Where something that can stand in no replica

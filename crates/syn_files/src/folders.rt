@@ -11,10 +11,9 @@ use std::fs::Files;
 use std::io::Write;
 use std::net::{Net, TcpStream};
 use std::thread::Threads;
-use syn_cli::{ExportCommand, ImportCommand, ReplicaLocation};
+use syn_cli::{ExportCommand, ImportCommand, OnStranger, ReplicaLocation};
 use syn_command::{
-    CommandError, OnStranger, ProgressMode, export_part, import_folder, part_of, plan_import,
-    send_edits,
+    CommandError, ProgressMode, export_part, import_folder, part_of, plan_import, send_edits,
 };
 use syn_daemon::reach;
 use syn_folder::{ExportedFolder, Folder, FolderError, SystemFolder};
@@ -79,11 +78,6 @@ pub fn import<H: Net<Stream = TcpStream>, N: NamedDisks, F: Files, E: Write>(
     let path = path_of(alloc, command.path)?;
     let folder = SystemFolder::open(alloc, files, command.folder, &path)?;
     let user = command.user;
-    let on_stranger = if command.is_skipping {
-        OnStranger::Skip
-    } else {
-        OnStranger::Refuse
-    };
     match command.location {
         ReplicaLocation::File(name) => {
             let replica = replica_in(alloc, disks, name)?;
@@ -93,7 +87,7 @@ pub fn import<H: Net<Stream = TcpStream>, N: NamedDisks, F: Files, E: Write>(
                 user,
                 &path,
                 &folder,
-                on_stranger,
+                command.on_stranger,
                 progress,
                 errors,
             );
@@ -108,7 +102,7 @@ pub fn import<H: Net<Stream = TcpStream>, N: NamedDisks, F: Files, E: Write>(
                 user,
                 &path,
                 &folder,
-                on_stranger,
+                command.on_stranger,
                 progress,
                 errors,
             )
