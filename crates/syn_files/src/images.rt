@@ -73,6 +73,8 @@ pub fn print_log<N: NamedDisks, O: Write>(
     lines: Option<u64>,
     output: &mut O,
 ) -> Result<(), CommandError> {
+    // As a replica it makes each event again, so that no log is printed of a disk that is none. It
+    // keeps no events, so these are read from its disk once more.
     let replica = replica_to_read(alloc, disks, name)?;
     let logged = read_log(alloc, replica.into_disk())?;
     let most = lines.unwrap_or(u64::MAX) as usize;
