@@ -10,10 +10,10 @@ use Rattle.syn_headline.specs.Side.{ListAt, Reply}
 use Rattle.syn_model.specs.Dirty.{IsScanBy}
 use Rattle.syn_model.specs.Path.{Path}
 use Rattle.syn_model.proofs.PathLemmas.{path_itself}
-use Rattle.syn_command.specs.Listings.{GaveReplies, IsScanned, IsUnlisted, Replies, SaysListed}
+use Rattle.syn_command.specs.Listings.{GaveReplies, IsScanned, IsUnlisted, Replies}
 use Rattle.syn_model.specs.Limits.{most_nodes}
 use Rattle.syn_model.specs.Refusal.{Refusal, Memory, TooLarge}
-use Rattle.syn_command.specs.Listings.{NotScanned, SaysNone, endless, ended}
+use Rattle.syn_command.specs.Listings.{NotScanned, endless, ended}
 use Rattle.syn_command.specs.Listings.{exchanges_of, fault_after, refused}
 use Rattle.syn_command.specs.inner.Asking.{IsAsked}
 use Rattle.syn_scan.specs.Asked.{handed_out, without}
@@ -136,26 +136,23 @@ module _ (old now new : SideLine) (scan : SideScan)
       (subst (λ n. most_nodes < n) (sym has.count) many) is
 
 -- the scan that it is then
-pub scanned : (old new : SideLine) (scan : SideScan) (shown : Found) → shown ≡ found_of scan
+pub scanned : (old new : SideLine) (scan : SideScan) (shown : Found)
     → IsAsked old scan new → ((side : Which) (taken : Exchanges)
     → IsFoundIn (found_of scan) side taken
     → IsScanBy (WasListedAt taken side) (WasNoDirectoryAt taken side) (scan_of shown)
-    (position_of shown)) → IsScanned old scan new
-scanned old new scan shown same asked by =
+    (position_of shown)) → IsScanned old shown new
+scanned old new scan shown asked by =
     let one = by Left (exchanges_of Left asked.replies) (asked.found Left) in
     record {
       replies = asked.replies;
       gave = asked.gave;
-      shows =
-          subst (λ (f : Found). IsScanBy (SaysListed asked.replies) (SaysNone asked.replies)
-          (scan_of f) (position_of f)) same (record {
-            tree = one.tree;
-            fits = one.fits;
-            listed = λ path d u.
-                let w = one.listed path d u in given Left asked.replies w.0 path _ w.1;
-            not_dir = λ path c.
-                let w = one.not_dir path c in
-                (w.0, given Left asked.replies w.1.0 path _ w.1.1);
-            nothing_below = one.nothing_below;
-          });
+      shows = record {
+        tree = one.tree;
+        fits = one.fits;
+        listed = λ path d u.
+            let w = one.listed path d u in given Left asked.replies w.0 path _ w.1;
+        not_dir = λ path c.
+            let w = one.not_dir path c in (w.0, given Left asked.replies w.1.0 path _ w.1.1);
+        nothing_below = one.nothing_below;
+      };
     }

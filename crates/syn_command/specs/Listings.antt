@@ -8,9 +8,8 @@ use Rattle.syn_model.specs.Limits.{most_nodes}
 use Rattle.syn_model.specs.Path.{Name, Path}
 use Rattle.syn_model.specs.Refusal.{Refusal, TooLarge}
 use Rattle.syn_model.specs.Tree.{Content}
-use Rattle.syn_scan.specs.Found.{position_of, scan_of}
-use Rattle.syn_session.specs.Scanning.{Exchanges, found_of}
-use Rattle.syn_session.specs.declared.side_scan.SideScan.{SideScan}
+use Rattle.syn_scan.specs.Found.{Found, position_of, scan_of}
+use Rattle.syn_session.specs.Scanning.{Exchanges}
 use Rattle.syn_user.specs.Refusals.{refusal_of}
 use Rattle.syn_user.specs.Sides as side
 use Rattle.syn_user.specs.Sides.{IsReplied, SideLine}
@@ -53,11 +52,10 @@ IsUnlisted old new path why = (error : UserError) × (why ≡ refusal_of error)
     × side.IsUnlisted old new path error
 
 -- the scan shows what the side replied, and each directory in it was asked for
-pub record IsScanned (old : SideLine) (scan : SideScan) (new : SideLine) : Type 0 where
+pub record IsScanned (old : SideLine) (found : Found) (new : SideLine) : Type 0 where
   pub replies : Replies
   pub gave : GaveReplies old replies new
-  pub shows : IsScanBy (SaysListed replies) (SaysNone replies) (scan_of (found_of scan))
-      (position_of (found_of scan))
+  pub shows : IsScanBy (SaysListed replies) (SaysNone replies) (scan_of found) (position_of found)
 
 -- Why a side is not scanned, once it gave some replies: the next listing is refused, the reply to
 -- it ends a session, or these were more than there can be directories

@@ -82,7 +82,7 @@ pub use image::{OpenedImage, format_image, migrate_image, open_image};
 pub use import::{import_folder, import_part, part_of};
 pub use outcome::{Outcome, outcome_of, outcome_planned};
 pub use planning::plan_import;
-pub use preview::{SessionPreview, plan_between};
+pub use preview::plan_between;
 pub use progress::SessionProgress;
 pub use progress_mode::ProgressMode;
 pub use sending::send_edits;

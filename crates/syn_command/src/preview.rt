@@ -7,10 +7,8 @@ ghost use Rattle.syn_model.specs.Plan.{plan};
 ghost use Rattle.syn_model.specs.Refusal.{Memory};
 ghost use Rattle.syn_refusal.specs.Refusals.{cause_of};
 ghost use Rattle.syn_command.specs.Listings.{IsScanned, IsUnlisted, NotScanned};
-ghost use Rattle.syn_command.specs.inner.Asking.{IsAsked};
 ghost use Rattle.syn_recon.specs.Items.{items_of};
-ghost use Rattle.syn_scan.specs.Found.{IsWhole, scan_of};
-ghost use Rattle.syn_session.specs.Scanning.{found_of};
+ghost use Rattle.syn_scan.specs.Found.{scan_of};
 ghost use Rattle.syn_user.specs.Sides.{IsReplied, side_line};
 
 use std::alloc::Global;
@@ -18,19 +16,11 @@ use std::io::{Read, Write};
 use syn_mark::{MOST_NODES, MarkTree};
 use syn_message::Reply;
 use syn_path::{Path, Side};
-use syn_recon::{Item, plan};
+use syn_recon::{Compared, plan};
 use syn_refusal::Refusal;
+use syn_scan::Scan;
 use syn_session::SideScan;
 use syn_user::SideConnection;
-
-/// What a session would do, and what both sides showed.
-#[derive(Debug, Drop)]
-pub struct SessionPreview {
-    pub left: SideScan,
-    pub right: SideScan,
-    /// What would be done, in path order.
-    pub items: Vec<Item>,
-}
 
 /// The plan of a session of both sides with an archive of these marks, which prefers a side or
 /// none.
@@ -44,15 +34,15 @@ pub fn plan_between<R: Read, W: Write>(
     right: &mut SideConnection<R, W>,
     archive: &MarkTree,
     preference: Option<Side>,
-) -> Result<SessionPreview, Refusal>
-    ensures items { IfOk result (λ planned. items_of planned.items.items
-        ≡ plan (option_map which_of preference) (scan_of (found_of planned.left))
-        (scan_of (found_of planned.right)) archive.now) }
-    ensures left { IfOk result (λ planned.
-        IsScanned (side_line R.remaining W.contents left.old) planned.left
+) -> Result<Compared, Refusal>
+    ensures items { IfOk result (λ compared. items_of compared.items.items
+        ≡ plan (option_map which_of preference) (scan_of compared.left) (scan_of compared.right)
+        archive.now) }
+    ensures left { IfOk result (λ compared.
+        IsScanned (side_line R.remaining W.contents left.old) compared.left
         (side_line R.remaining W.contents left.new)) }
-    ensures right { IfOk result (λ planned.
-        IsScanned (side_line R.remaining W.contents right.old) planned.right
+    ensures right { IfOk result (λ compared.
+        IsScanned (side_line R.remaining W.contents right.old) compared.right
         (side_line R.remaining W.contents right.new)) }
 
     // Which side is not scanned, and why. The right is asked nothing where the left is not.
@@ -64,8 +54,8 @@ pub fn plan_between<R: Read, W: Write>(
 {
     let left = scan_side(alloc, left)?;
     let right = scan_side(alloc, right)?;
-    match plan(alloc, left.scan(), right.scan(), archive, preference) {
-        Ok(items) => Ok(SessionPreview { left, right, items }),
+    match plan(alloc, &left, &right, archive, preference) {
+        Ok(items) => Ok(Compared { left, right, items }),
         Err(error) => Err(error.refusal()),
     }
 }
@@ -74,10 +64,10 @@ pub fn plan_between<R: Read, W: Write>(
 fn scan_side<R: Read, W: Write>(
     alloc: Global,
     side: &mut SideConnection<R, W>,
-) -> Result<SideScan, Refusal>
-    ensures asked { IfOk result (λ scan. IsAsked (side_line R.remaining W.contents side.old) scan
+) -> Result<Scan, Refusal>
+    ensures scanned { IfOk result (λ scan.
+        IsScanned (side_line R.remaining W.contents side.old) scan
         (side_line R.remaining W.contents side.new)) }
-    ensures whole { IfOk result (λ scan. IsWhole (found_of scan)) }
     ensures cause { IfErr result (λ why. (cause_of why ≡ Memory)
         ⊎ NotScanned (side_line R.remaining W.contents side.old) (cause_of why)
         (side_line R.remaining W.contents side.new)) }
@@ -92,7 +82,7 @@ fn scan_side<R: Read, W: Write>(
                 let reply = list_side(alloc, side, &path)?;
                 scan.take(alloc, &path, reply)?;
             }
-            Ok(None) => return Ok(scan),
+            Ok(None) => return Ok(scan.into_scan()),
             Err(_) => return Err(Refusal::Memory),
         }
     }

@@ -14,7 +14,7 @@ use syn_disk::{Access, Disk, OpenError};
 use syn_mark::MarkTree;
 use syn_path::Side;
 use syn_print::{counts_of, show_plan};
-use syn_recon::{Compared, Item, compare};
+use syn_recon::{Compared, compare};
 use syn_replica::{Replica, ReplicaError};
 use syn_user::SideConnection;
 
@@ -43,16 +43,8 @@ pub fn print_plan<H: Net<Stream = TcpStream> + Threads + Sync, N: NamedDisks, O:
             let (left, right) = (reach(rt, left)?, reach(rt, right)?);
             let mut left = SideConnection::new(alloc, &left, &left);
             let mut right = SideConnection::new(alloc, &right, &right);
-            let planned = plan_between(alloc, &mut left, &mut right, archive.tree(), preference)?;
-            let (on_left, on_right) = (planned.left.scan().tree(), planned.right.scan().tree());
-            print_items(
-                alloc,
-                &planned.items,
-                on_left,
-                on_right,
-                archive.tree(),
-                output,
-            )
+            let compared = plan_between(alloc, &mut left, &mut right, archive.tree(), preference)?;
+            print_compared(alloc, &compared, archive.tree(), output)
         }
         Between::Files { left, right } => {
             if left == right {
@@ -94,7 +86,7 @@ fn check_begin<D: Disk>(replica: &Replica<D>, archive: &Archive<D>) -> Result<()
     Ok(())
 }
 
-/// Prints the plan of two trees with the marks that both agreed on, and answers what there is to
+/// Prints the plan of two sides with the marks that both agreed on, and answers what there is to
 /// do.
 pub(crate) fn print_compared<O: Write>(
     alloc: Global,
@@ -102,20 +94,7 @@ pub(crate) fn print_compared<O: Write>(
     archive: &MarkTree,
     output: &mut O,
 ) -> Result<Outcome, CommandError> {
-    let (on_left, on_right) = (compared.left.tree(), compared.right.tree());
-    print_items(alloc, &compared.items, on_left, on_right, archive, output)
-}
-
-/// Prints the items of a plan with the marks of both sides and of the archive, and answers what
-/// there is to do.
-fn print_items<O: Write>(
-    alloc: Global,
-    items: &[Item],
-    left: &MarkTree,
-    right: &MarkTree,
-    archive: &MarkTree,
-    output: &mut O,
-) -> Result<Outcome, CommandError> {
-    show_plan(alloc, items, left, right, archive, output)?;
+    let Compared { left, right, items } = compared;
+    show_plan(alloc, items, left.tree(), right.tree(), archive, output)?;
     Ok(outcome_planned(items.len(), counts_of(items).conflicts))
 }

@@ -104,4 +104,15 @@ impl SideScan {
     {
         self.scanner.scan()
     }
+
+    /// The scan, once each directory was answered. It takes no memory.
+    pub fn into_scan(self) -> Scan
+        requires { IsWhole (found_of self) }
+        ensures found { result ≡ found_of self }
+        ensures scan { (side : Which) (taken : Exchanges) → IsFoundIn (found_of self) side taken
+            → IsScanBy (WasListedAt taken side) (WasNoDirectoryAt taken side) (scan_of result)
+            (position_of result) }
+    {
+        self.scanner.finish()
+    }
 }

@@ -1,8 +1,11 @@
-use Rattle.std.proofs.Common.{arith, inr, refl}
+use Rattle.std.proofs.Common.{arith, inr, refl, subst, sym}
 use Rattle.std.proofs.lemmas.Result.{err_from_is_err_and}
 use Rattle.syn_headline.specs.Network.{Left}
 use Rattle.syn_command.proofs.AskedLemmas.{ended_so, endless_so, none_asked, one_asked, refused_so}
+use Rattle.syn_command.proofs.AskedLemmas.{scanned}
 use Rattle.syn_command.specs.Listings.{exchanges_of}
+use Rattle.syn_scan.specs.Found.{Found}
+use Rattle.syn_session.specs.Scanning.{IsFoundIn}
 use Rattle.syn_user.specs.Sides.{side_line}
 use Rattle.syn_command.proofs.preview.scan_side.Goals as goal
 
@@ -21,6 +24,13 @@ loop-preserved g c =
     c.in-Ok-Some.ensures.found out c.in_ok-reply-in-Ok-Some.ensures.listed
     (λ side before waits found. (c.in_ok-take-in-Ok-Some.ensures.step side before 0 waits found).1)
     c.in_ok-take-in-Ok-Some.ensures.out
+
+pub returns-in-Ok-None-clause-scanned : goal.returns-in-Ok-None-clause-scanned
+returns-in-Ok-None-clause-scanned g c =
+    let line = side_line g.R.Read.remaining g.W.Write.contents in
+    scanned (line c.args.side.now) (line c.loop.side) c.loop.scan c.into_scan.result
+    c.loop.invariant.asked (λ side taken found. c.into_scan.ensures.scan side taken
+    (subst (λ (f : Found). IsFoundIn f side taken) (sym c.in-Ok-None.ensures.found) found))
 
 pub returns-in_err-reply-in-Ok-Some-clause-cause : goal.returns-in_err-reply-in-Ok-Some-clause-cause
 returns-in_err-reply-in-Ok-Some-clause-cause g c =
