@@ -23,6 +23,16 @@ use syn_path::Path;
 use syn_replica::Replica;
 use syn_tree::{Edit, Tree};
 
+/// What a folder is imported as.
+#[derive(Clone, Copy, Debug)]
+pub struct Import<'a> {
+    /// Whose edits the folder's changes are.
+    pub user: u32,
+    /// Where in the replica the folder goes.
+    pub path: &'a Path,
+    pub on_stranger: OnStranger,
+}
+
 /// Makes what is at and below the path what stands in the folder, by edits of the user, all of them
 /// or none. Where it is that already, no edit is made. Where something that can stand in no replica
 /// is skipped, the replica keeps what it has there. What is skipped is told to `errors`, and then
@@ -33,31 +43,30 @@ use syn_tree::{Edit, Tree};
 pub fn import_folder<D: Disk, F: Folder, E: Write>(
     alloc: Global,
     replica: Replica<D>,
-    user: u32,
-    path: &Path,
+    import: Import<'_>,
     folder: &F,
-    on_stranger: OnStranger,
     progress: ProgressMode,
     errors: &mut E,
 ) -> Result<Replica<D>, (CommandError, D)>
-    ensures known { on_stranger ≡ OnStranger.Refuse → OnOk result (F.strangers folder.now ≡ []) }
+    ensures known { import.entry.on_stranger ≡ OnStranger.Refuse
+        → OnOk result (F.strangers folder.now ≡ []) }
     ensures part { (history : History) → Stands replica history → F.strangers folder.now ≡ []
-        → IfOk result (λ new. subtree (tree_shown new) path.now ≡ F.tree folder.now) }
+        → IfOk result (λ new. subtree (tree_shown new) import.entry.path.now ≡ F.tree folder.now) }
     ensures imported { (history : History) → Stands replica history
-        → IfOk result (IsImported history user path.now
-        (skipped (directory_at (tree_shown replica) path.now) (F.tree folder.now)
+        → IfOk result (IsImported history import.entry.user import.entry.path.now
+        (skipped (directory_at (tree_shown replica) import.entry.path.now) (F.tree folder.now)
         (F.strangers folder.now))) }
 
     // Whenever the machine stops, the disk has the history, or that with all of the edits.
     ensures any_moment { (history : History) → Stands replica history
         → LeavesOnly D.moment D.left_since (disk_of replica) (disk_left result)
-        (LeavesImport (pair_of replica) history user path.now
-        (skipped (directory_at (tree_shown replica) path.now) (F.tree folder.now)
+        (LeavesImport (pair_of replica) history import.entry.user import.entry.path.now
+        (skipped (directory_at (tree_shown replica) import.entry.path.now) (F.tree folder.now)
         (F.strangers folder.now))) }
 
     // Where it is what the folder is already, no edit is made.
     ensures none { (history : History) → Stands replica history → F.strangers folder.now ≡ []
-        → subtree (tree_shown replica) path.now ≡ F.tree folder.now
+        → subtree (tree_shown replica) import.entry.path.now ≡ F.tree folder.now
         → IfOk result (λ new. Stands new history) }
 
     // Where it is refused otherwise than 9, no edit is made: a stop leaves the history then, too.
@@ -67,8 +76,23 @@ pub fn import_folder<D: Disk, F: Folder, E: Write>(
         → refused.1 ≡ disk_of replica) }
     ensures refusals { IfErr result (λ refused. IsOfFolder refused.0 ⊎ IsOfEdits refused.0) }
 {
-    match part_of(alloc, folder, on_stranger, replica.tree(), path, errors) {
-        Ok(part) => import_part(alloc, replica, user, path, &part, progress, errors),
+    match part_of(
+        alloc,
+        folder,
+        import.on_stranger,
+        replica.tree(),
+        import.path,
+        errors,
+    ) {
+        Ok(part) => import_part(
+            alloc,
+            replica,
+            import.user,
+            import.path,
+            &part,
+            progress,
+            errors,
+        ),
         Err(error) => Err((CommandError::from(error), replica.into_disk())),
     }
 }

@@ -79,7 +79,7 @@ pub use error::CommandError;
 pub use export::export_part;
 pub use failure::Failure;
 pub use image::{OpenedImage, format_image, migrate_image, open_image};
-pub use import::{import_folder, import_part, part_of};
+pub use import::{Import, import_folder, import_part, part_of};
 pub use outcome::{Outcome, outcome_of, outcome_planned};
 pub use planning::plan_import;
 pub use preview::plan_between;

@@ -11,9 +11,10 @@ use std::fs::Files;
 use std::io::Write;
 use std::net::{Net, TcpStream};
 use std::thread::Threads;
-use syn_cli::{ExportCommand, ImportCommand, OnStranger, ReplicaLocation};
+use syn_cli::{ExportCommand, ImportCommand, ReplicaLocation};
 use syn_command::{
-    CommandError, ProgressMode, export_part, import_folder, part_of, plan_import, send_edits,
+    CommandError, Import, ProgressMode, export_part, import_folder, part_of, plan_import,
+    send_edits,
 };
 use syn_daemon::reach;
 use syn_folder::{ExportedFolder, Folder, FolderError, SystemFolder};
@@ -77,35 +78,21 @@ pub fn import<H: Net<Stream = TcpStream>, N: NamedDisks, F: Files, E: Write>(
 {
     let path = path_of(alloc, command.path)?;
     let folder = SystemFolder::open(alloc, files, command.folder, &path)?;
-    let user = command.user;
+    let asked = Import {
+        user: command.user,
+        path: &path,
+        on_stranger: command.on_stranger,
+    };
     match command.location {
         ReplicaLocation::File(name) => {
             let replica = replica_in(alloc, disks, name)?;
-            let imported = import_folder(
-                alloc,
-                replica,
-                user,
-                &path,
-                &folder,
-                command.on_stranger,
-                progress,
-                errors,
-            );
+            let imported = import_folder(alloc, replica, asked, &folder, progress, errors);
             let replica = imported.map_err(|(error, _)| error)?;
             Ok(replica.position())
         }
         ReplicaLocation::Served(address) => {
             let stream = reach(rt, address)?;
-            import_over(
-                alloc,
-                &stream,
-                user,
-                &path,
-                &folder,
-                command.on_stranger,
-                progress,
-                errors,
-            )
+            import_over(alloc, &stream, asked, &folder, progress, errors)
         }
     }
 }
@@ -123,26 +110,23 @@ fn path_of(alloc: Global, text: Option<&str>) -> Result<Path, CommandError>
     }
 }
 
-/// Makes what is at the path of the replica that is served over the stream what stands in the
-/// folder.
+/// Imports the folder into the replica that is served over the stream.
 fn import_over<F: Folder, E: Write>(
     alloc: Global,
     stream: &TcpStream,
-    user: u32,
-    path: &Path,
+    asked: Import<'_>,
     folder: &F,
-    on_stranger: OnStranger,
     progress: ProgressMode,
     errors: &mut E,
 ) -> Result<u64, CommandError> {
     let (position, tree) = tree_over(alloc, stream)?;
-    let part = part_of(alloc, folder, on_stranger, &tree, path, errors)?;
-    let edits = plan_import(alloc, &tree, path, &part, errors)?;
+    let part = part_of(alloc, folder, asked.on_stranger, &tree, asked.path, errors)?;
+    let edits = plan_import(alloc, &tree, asked.path, &part, errors)?;
     let mut connection = UserConnection::new(alloc, stream, stream);
     send_edits(
         alloc,
         &mut connection,
-        user,
+        asked.user,
         position,
         edits,
         progress,

@@ -11,7 +11,7 @@ use Rattle.syn_command.proofs.import.import_folder.Goals as goal
 
 pub returns-in-Ok-clause-part : goal.returns-in-Ok-clause-part
 returns-in-Ok-clause-part g c history stands none =
-    let path = c.args.path.now in
+    let path = c.args.import.path.now in
     let tree = g.F.Folder.tree c.args.folder.now in
     let whole = c.in-Ok.ensures.part
     ∙ ap (skipped (directory_at c.tree.result.now path) tree) none in
@@ -21,18 +21,18 @@ returns-in-Ok-clause-part g c history stands none =
 pub returns-in-Ok-clause-any_moment : goal.returns-in-Ok-clause-any_moment
 returns-in-Ok-clause-any_moment g c history stands =
     let old = c.args.replica in
-    let path = c.args.path.now in
+    let path = c.args.import.path.now in
     let tree = g.F.Folder.tree c.args.folder.now in
     let strangers = g.F.Folder.strangers c.args.folder.now in
     let whole = c.in-Ok.ensures.part
     ∙ ap (λ (t : Tree). skipped (directory_at t path) tree strangers) c.tree.ensures in
     subst (λ part. Leaves g.D.Disk (disk_of old) (disk_left c.import_part.result)
-    (LeavesImport (pair_of old) history c.args.user path part))
+    (LeavesImport (pair_of old) history c.args.import.user path part))
     whole (c.import_part.ensures.any_moment history stands)
 
 pub returns-in-Ok-clause-none : goal.returns-in-Ok-clause-none
 returns-in-Ok-clause-none g c history stands none same =
-    let path = c.args.path.now in
+    let path = c.args.import.path.now in
     let tree = g.F.Folder.tree c.args.folder.now in
     let whole = c.in-Ok.ensures.part
     ∙ ap (skipped (directory_at c.tree.result.now path) tree) none in
@@ -41,12 +41,12 @@ returns-in-Ok-clause-none g c history stands none same =
 pub returns-in-Err-clause-any_moment : goal.returns-in-Err-clause-any_moment
 returns-in-Err-clause-any_moment g c history stands =
     let old = c.args.replica in
-    let path = c.args.path.now in
+    let path = c.args.import.path.now in
     let part = skipped (directory_at (tree_shown old) path) (g.F.Folder.tree c.args.folder.now)
     (g.F.Folder.strangers c.args.folder.now) in
     subst (λ left. Leaves g.D.Disk (disk_of old) left
-    (LeavesImport (pair_of old) history c.args.user path part)) (sym c.into_disk.ensures)
-    (leaves_before old (disk_of old) c.args.user path part history stands
+    (LeavesImport (pair_of old) history c.args.import.user path part)) (sym c.into_disk.ensures)
+    (leaves_before old (disk_of old) c.args.import.user path part history stands
     (still g.met.D.Disk.only_now old history stands))
 
 pub returns-in-Err-clause-unmade : goal.returns-in-Err-clause-unmade
