@@ -96,8 +96,8 @@ impl Agent {
             Request::Stage {
                 item,
                 offset,
-                bytes,
-            } => self.stage(Token { session, item }, offset, bytes),
+                piece,
+            } => self.stage(Token { session, item }, offset, piece.into_bytes()),
             Request::Replace {
                 item,
                 path,

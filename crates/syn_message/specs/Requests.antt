@@ -17,7 +17,7 @@ abbrev pub request_of : Request → model.Request
 request_of (has.Begin pair) = model.Begin pair
 request_of (has.List path) = model.ListAt path
 request_of (has.Fetch path since offset) = model.Fetch path since offset
-request_of (has.Stage item offset bytes) = model.Stage item offset bytes.items
+request_of (has.Stage item offset piece) = model.Stage item offset piece
 request_of (has.Replace item path since size) = model.Replace item path since size
 
 -- a request with its session and its number in it

@@ -7,7 +7,8 @@
 //!
 //! - `decode_request` gives the request that a whole body spells, and none exactly where the body
 //!   spells no request (`IsWholeReading`). In a request nothing follows the last field, the session
-//!   is not 0, and what is staged has 1 to 32,768 bytes. `encode_request` writes that one body.
+//!   is not 0, and what is staged has 1 to 32,768 bytes, which its type says (`StagedPiece`).
+//!   `encode_request` writes that one body.
 //! - `decode_reply` and `encode_reply` are the same for what a side answers. A listing has at most
 //!   256 names in strict byte order, a piece at most 32,768 bytes, and a refusal one of the
 //!   product's numbers.
@@ -29,6 +30,7 @@ mod reply;
 mod reply_reading;
 mod request;
 mod request_reading;
+mod staged_piece;
 mod user;
 mod user_reading;
 mod user_reply;
@@ -39,6 +41,7 @@ pub use reply::{Reply, ReplyMessage, encode_reply};
 pub use reply_reading::decode_reply;
 pub use request::{Request, RequestMessage, encode_request};
 pub use request_reading::decode_request;
+pub use staged_piece::StagedPiece;
 pub use syn_wire::LONGEST_PIECE;
 pub use user::{UserRequest, UserRequestMessage, encode_user_request};
 pub use user_reading::decode_user_request;

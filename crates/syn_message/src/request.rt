@@ -1,11 +1,11 @@
 //! What a coordinator asks of a side.
 ghost use Rattle.std.specs.Prelude.{◌≡◌, ◌++◌, IfOk, OnOk};
-ghost use Rattle.syn_headline.specs.Side.{IsLawfulBody};
-ghost use Rattle.syn_message.specs.Requests.{IsLawfulAsking, asking_of, asking_spelling};
+ghost use Rattle.syn_message.specs.Requests.{asking_of, asking_spelling};
 ghost use Rattle.syn_message.specs.Requests.{fields_spelling, kind_of, request_of};
 
 use crate::head::write_head;
 use crate::kind::{BEGIN, FETCH, LIST, REPLACE, STAGE};
+use crate::staged_piece::StagedPiece;
 use std::alloc::{AllocError, Global};
 use syn_path::Path;
 use syn_wire::{WireError, write_file, write_path, write_u32, write_u64};
@@ -28,11 +28,11 @@ pub enum Request {
         since: u64,
         offset: u32,
     },
-    /// From 1 to 32,768 bytes of what the item is to put, from that byte on.
+    /// A piece of what the item is to put, from that byte on.
     Stage {
         item: u32,
         offset: u32,
-        bytes: Vec<u8>,
+        piece: StagedPiece,
     },
     /// What is staged for the item, of so many bytes, goes to the path, unless an event touched the
     /// path at the position `since` or later.
@@ -83,13 +83,13 @@ impl Request {
             Request::Stage {
                 item,
                 offset,
-                bytes,
+                piece,
             } => {
-                let bytes = bytes.clone()?;
+                let piece = piece.copy()?;
                 Ok(Request::Stage {
                     item: *item,
                     offset: *offset,
-                    bytes,
+                    piece,
                 })
             }
             Request::Replace {
@@ -122,7 +122,6 @@ pub struct RequestMessage {
 ///
 /// Refused 11 where memory is refused.
 pub fn encode_request(alloc: Global, asked: &RequestMessage) -> Result<Vec<u8>, WireError>
-    requires { IsLawfulAsking (asking_of asked.now) }
     ensures { IfOk result (λ body. body.items ≡ asking_spelling (asking_of asked.now)) }
 {
     let mut body = Vec::new(alloc);
@@ -133,7 +132,6 @@ pub fn encode_request(alloc: Global, asked: &RequestMessage) -> Result<Vec<u8>, 
 
 /// Adds what the request has.
 fn write_fields(body: &mut Vec<u8>, request: &Request) -> Result<(), WireError>
-    requires { IsLawfulBody (request_of request.now) }
     ensures { OnOk result (body.new.items
         ≡ body.old.items ++ fields_spelling (request_of request.now)) }
 {
@@ -152,11 +150,11 @@ fn write_fields(body: &mut Vec<u8>, request: &Request) -> Result<(), WireError>
         Request::Stage {
             item,
             offset,
-            bytes,
+            piece,
         } => {
             write_u32(body, *item)?;
             write_u32(body, *offset)?;
-            write_file(body, bytes)
+            write_file(body, piece.as_slice())
         }
         Request::Replace {
             item,

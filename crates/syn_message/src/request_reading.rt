@@ -10,6 +10,7 @@ ghost use Rattle.syn_wire.specs.Events.{file_spelling};
 use crate::head::read_head;
 use crate::kind::{BEGIN, FETCH, LIST, REPLACE, STAGE};
 use crate::request::{Request, RequestMessage};
+use crate::staged_piece::StagedPiece;
 use std::alloc::Global;
 use syn_wire::{LONGEST_PIECE, ReadError, Reader, WireError, or_none, spelling_laws};
 
@@ -91,7 +92,7 @@ fn read_stage(reader: &mut Reader<'_>, alloc: Global) -> Result<Request, ReadErr
     Ok(Request::Stage {
         item,
         offset,
-        bytes,
+        piece: StagedPiece::new(bytes),
     })
 }
 

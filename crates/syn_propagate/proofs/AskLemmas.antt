@@ -69,8 +69,7 @@ module _ (c : TransferSpec) (taken : Exchanges) where
 
   pub asks_stage : (number offset total end : ℕ) (known : Option ℕ) (bytes : Bytes)
       → HasReached c taken offset known → fits_piece known offset total (length bytes) ≡ true
-      → 1 ≤ length bytes
-      → (length bytes ≤ 32768 → IsLawfulBody (Stage c.item offset bytes))
+      → 1 ≤ length bytes → IsLawfulBody (Stage c.item offset bytes)
       → end ≡ offset + length bytes
       → Asks (record { spec = c; progress = Staging end total })
       (with_answer taken (source_of c) number (Fetch c.path c.source_since offset)
@@ -87,7 +86,7 @@ module _ (c : TransferSpec) (taken : Exchanges) where
       record {
         may = (refl, refl, total, fetched);
         new = new_stage c more (suc offset) offset bytes earlier;
-        lawful = lawful (omega (arith, means.2));
+        lawful = lawful;
         waits = record {
           offset = offset;
           bytes = bytes;

@@ -17,7 +17,7 @@ use crate::error::TransferError;
 use crate::next::Next;
 use crate::transfer_spec::TransferSpec;
 use std::alloc::Global;
-use syn_message::{LONGEST_PIECE, Reply};
+use syn_message::{LONGEST_PIECE, Reply, StagedPiece};
 
 /// How far a transfer has come.
 #[derive(Clone, Copy, Debug)]
@@ -192,7 +192,7 @@ impl Transfer {
         }
         let end = offset + bytes.len() as u32;
         self.progress = Progress::Staging { end, total };
-        Ok(self.spec.stage(offset, bytes))
+        Ok(self.spec.stage(offset, StagedPiece::new(bytes)))
     }
 
     /// Goes on after a piece that is staged.

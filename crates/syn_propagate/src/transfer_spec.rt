@@ -1,14 +1,13 @@
 //! What a transfer carries, and what it asks for that.
-ghost use Rattle.std.specs.Prelude.{◌≡◌, ◌≤◌, length, IfErr, IfOk};
+ghost use Rattle.std.specs.Prelude.{◌≡◌, IfErr, IfOk};
 ghost use Rattle.syn_headline.specs.Side.{IsLawfulBody, Fetch, Stage, Replace};
-ghost use Rattle.syn_model.specs.Limits.{greatest_piece};
 ghost use Rattle.syn_model.specs.Path.{IsPath};
 
 use crate::error::TransferError;
 use crate::next::{Next, SideRequest};
 use std::alloc::{AllocError, Global};
-use syn_message::Request;
-use syn_model::{are_bytes, is_long, is_short};
+use syn_message::{Request, StagedPiece};
+use syn_model::{is_long, is_short};
 use syn_path::{Path, Side};
 
 /// An item that a session carries: what stands at the path on one side is put there on the other.
@@ -52,20 +51,18 @@ impl TransferSpec {
     }
 
     /// Asks the other side to stage a piece.
-    pub(crate) fn stage(&self, offset: u32, bytes: Vec<u8>) -> Next
-        ensures asks { AsksFor result (target_of self.now)
-            (Stage self.now.item offset bytes.items) }
-        ensures lawful { 1 ≤ length bytes.items → length bytes.items ≤ greatest_piece
-            → IsLawfulBody (Stage self.now.item offset bytes.items) }
+    pub(crate) fn stage(&self, offset: u32, piece: StagedPiece) -> Next
+        ensures asks { AsksFor result (target_of self.now) (Stage self.now.item offset piece) }
+        ensures lawful { IsLawfulBody (Stage self.now.item offset piece) }
     {
         let item = self.item;
         is_short(item);
         is_short(offset);
-        are_bytes(&bytes);
+        let _ = piece.as_slice();
         let request = Request::Stage {
             item,
             offset,
-            bytes,
+            piece,
         };
         Next::Ask(SideRequest {
             to: self.source.other(),

@@ -45,7 +45,6 @@
 #![tactic(auto)]
 
 mod driver;
-mod lawful;
 mod readiness;
 mod session_connection;
 mod watch;

@@ -6,7 +6,6 @@ ghost use Rattle.syn_message.specs.Requests.{asking_of, asking_spelling};
 ghost use Rattle.syn_sync.specs.Lines.{Hears, held_by, is_open, line_of, reader_of, writer_of};
 ghost use Rattle.syn_sync.specs.Outlets.{Adds, Writes, outlet_of};
 
-use crate::lawful::has_body;
 use std::alloc::Global;
 use std::io::{Read, Write};
 use syn_link::Connection;
@@ -75,9 +74,6 @@ impl<R: Read, W: Write> SessionConnection<R, W> {
             (W.contents (writer_of self.new)) (frame_of (asking_spelling (asking_of asked.now))) }
         ensures line { line_of R.remaining self.new ≡ line_of R.remaining self.old }
     {
-        if !has_body(asked) {
-            return false;
-        }
         match encode_request(alloc, asked) {
             Ok(body) => self.connection.send(&body).is_ok(),
             Err(_) => false,

@@ -64,8 +64,8 @@ fn asked(alloc: Global, session: u64, request: &Request) -> Result<String, Alloc
         Request::Stage {
             item,
             offset,
-            bytes,
-        } => format!(in alloc; "stage {item} at {offset}: {}", bytes.len()),
+            piece,
+        } => format!(in alloc; "stage {item} at {offset}: {}", piece.as_slice().len()),
         Request::Replace { item, path, .. } => format!(in alloc; "replace {item} {path}"),
     }
 }

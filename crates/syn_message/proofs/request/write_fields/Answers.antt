@@ -37,9 +37,9 @@ returns-in_ok-write_u32-in-Stage-2 c =
     ≡ c.args.body.now.items ++ fields_spelling (request_of r))) (sym c.in-Stage.is)
     (subst (λ b. OnOk c.write_file.result (c.write_file.new.out.items ≡ c.args.body.now.items
     ++ (to_be_bytes w32 c.in-Stage.item ++ (to_be_bytes w32 c.in-Stage.offset
-    ++ file_spelling b)))) c.deref.ensures.value
+    ++ file_spelling b)))) c.as_slice.ensures.bytes
     (three c.write_file.result _ _ _ _ (to_be_bytes w32 c.in-Stage.item)
-    (to_be_bytes w32 c.in-Stage.offset) (file_spelling c.deref.result.now)
+    (to_be_bytes w32 c.in-Stage.offset) (file_spelling c.as_slice.result.now)
     c.in_ok-write_u32-in-Stage.ensures.added c.in_ok-write_u32-in-Stage-2.ensures.added
     c.write_file.ensures.added))
 
