@@ -6,7 +6,6 @@ use std::alloc::Global;
 use std::io::Write;
 use std::net::{Net, TcpStream};
 use std::thread::Threads;
-use syn_archive::Archive;
 use syn_cli::{Between, Pairing};
 use syn_command::{CommandError, Outcome, outcome_planned, plan_between};
 use syn_daemon::reach;
@@ -15,7 +14,6 @@ use syn_mark::MarkTree;
 use syn_path::Side;
 use syn_print::{counts_of, show_plan};
 use syn_recon::{Compared, compare};
-use syn_replica::{Replica, ReplicaError};
 use syn_user::SideConnection;
 
 /// Prints what a session of the replicas and their archive would do, and answers what there is to
@@ -23,8 +21,8 @@ use syn_user::SideConnection;
 ///
 /// Refused as an opening to read is, left first and the archive last. Of servers it is refused 9
 /// where an address cannot be reached, and as a session ends early that scans both sides. Of files
-/// it is refused 12 where both are one, 11 where memory is refused, and 14 and 20 as the session
-/// would be; a server does not tell the last two before it begins.
+/// it is refused 12 where both are one, 11 where memory is refused, and 7, 14 and 20 as the session
+/// would be; a server does not tell the last three before it begins.
 pub fn print_plan<H: Net<Stream = TcpStream> + Threads + Sync, N: NamedDisks, O: Write>(
     rt: &H,
     alloc: Global,
@@ -68,22 +66,11 @@ fn print_plan_of_images<D: Disk, O: Write>(
         right,
         archive,
     } = images;
-    check_begin(left, archive)?;
-    check_begin(right, archive)?;
+    let session = archive.last_session().saturating_add(1);
+    left.check_begin(archive.pair(), session)?;
+    right.check_begin(archive.pair(), session)?;
     let compared = compare(alloc, left.tree(), right.tree(), archive.tree(), preference)?;
     print_compared(alloc, &compared, archive.tree(), output)
-}
-
-/// Refuses what the replica would refuse the next session of the archive: 14 where it has seen a
-/// later one, and 20 where it is of another pair.
-fn check_begin<D: Disk>(replica: &Replica<D>, archive: &Archive<D>) -> Result<(), ReplicaError> {
-    if replica.pair() != archive.pair() {
-        return Err(ReplicaError::WrongPair);
-    }
-    if replica.last_session() > archive.last_session().saturating_add(1) {
-        return Err(ReplicaError::OldSession);
-    }
-    Ok(())
 }
 
 /// Prints the plan of two sides with the marks that both agreed on, and answers what there is to
